@@ -1,0 +1,10 @@
+use Rattle.std.proofs.Common.{◌≡◌, length}
+use Rattle.ofx_types.specs.TextRules.{trim_end}
+use Rattle.ofx_types.proofs.text.trim_back.Given as goal
+
+-- what is trimmed so far makes no difference
+abbrev pub invariant-loop-rest : goal.invariant-loop-rest
+invariant-loop-rest l = trim_end l.rest ≡ trim_end l.bytes
+
+abbrev pub decreases-loop-rest : goal.decreases-loop-rest
+decreases-loop-rest l = length l.rest

@@ -1,0 +1,12 @@
+pub mod TextRules
+pub mod TextOutcome
+pub mod Calendar
+pub mod Digits
+pub mod AmountForm
+pub mod DateForm
+pub mod AccountForm
+pub mod Sheet
+pub mod ReplyForm
+pub mod ValueForm
+pub mod StrictForm
+pub mod Printable

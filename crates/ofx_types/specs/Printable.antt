@@ -1,0 +1,33 @@
+-- Replies that may be printed.
+use Rattle.std.specs.Prelude.{◌≡◌, ◌≢◌, ℕ, None, Some, Option}
+use Rattle.std.specs.Option.{IfSome}
+use Rattle.std.specs.List.{AllByRecursion}
+use Rattle.ofx_types.specs.Calendar.{IsMoment}
+use Rattle.ofx_types.specs.declared.reply.StatementLine.{StatementLine}
+use Rattle.ofx_types.specs.declared.reply.StatementList.{StatementList}
+use Rattle.ofx_types.specs.declared.reply.StatementBody.{StatementBody}
+use Rattle.ofx_types.specs.declared.reply.AskReply.{AskReply}
+use Rattle.ofx_types.specs.declared.reply.AskReply.TheVariants.{Statement}
+use Rattle.ofx_types.specs.declared.reply.ReplyFile.{ReplyFile}
+
+pub record IsPrintableList (list : StatementList) : Type 0 where
+  pub start : IsMoment list.start.0
+  pub end : IsMoment list.end.0
+  pub lines : AllByRecursion (λ (line : StatementLine). IsMoment line.posted.0) list.lines
+
+pub record IsPrintableBody (body : StatementBody) : Type 0 where
+  pub list : IfSome body.list IsPrintableList
+  pub moment : IsMoment body.moment.0
+
+-- A statement has a body exactly where its code is 0.
+abbrev pub HasBodyByCode : ℕ → Option StatementBody → Type 0
+HasBodyByCode code None = code ≢ 0
+HasBodyByCode code (Some body) = (code ≡ 0) × IsPrintableBody body
+
+abbrev pub IsPrintableReply : AskReply → Type 0
+IsPrintableReply (Statement trnuid code body) = HasBodyByCode code body
+
+-- The moments of a printed reply lie in the years 1900 to 9999.
+pub record IsPrintable (reply : ReplyFile) : Type 0 where
+  pub moment : IsMoment reply.moment.0
+  pub replies : AllByRecursion IsPrintableReply reply.replies

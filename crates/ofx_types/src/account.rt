@@ -1,0 +1,39 @@
+//! Accounts as files name them: BANKACCTFROM and BANKACCTTO (OFX 1.6, "Banking Account").
+
+use crate::duplicate::Duplicate;
+use crate::memory::OutOfMemory;
+use crate::text::Text;
+
+/// The kind of a bank account (ACCTTYPE).
+#[derive(Clone, Copy, Debug, PartialEq, Eq)]
+pub enum AcctKind {
+    /// `CHECKING`
+    Checking,
+    /// `SAVINGS`
+    Savings,
+    /// `MONEYMRKT`
+    MoneyMarket,
+    /// `CREDITLINE`
+    CreditLine,
+}
+
+/// What names an account: bank id, number and kind together.
+#[derive(Debug, Drop, PartialEq, Eq)]
+pub struct AcctName {
+    /// The bank (BANKID), 1 to 32 bytes.
+    pub bank: Text,
+    /// The account's number at that bank (ACCTID), 1 to 32 bytes.
+    pub number: Text,
+    /// The account's kind (ACCTTYPE).
+    pub kind: AcctKind,
+}
+
+impl Duplicate for AcctName {
+    fn copy(&self) -> Result<AcctName, OutOfMemory> {
+        Ok(AcctName {
+            bank: self.bank.copy()?,
+            number: self.number.copy()?,
+            kind: self.kind,
+        })
+    }
+}

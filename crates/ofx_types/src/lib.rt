@@ -1,0 +1,30 @@
+//! The values of the Open Financial Exchange profile that every other crate speaks of.
+//!
+//! Texts and uids, amounts and moments, accounts, request files and reply files. What a written file looks
+//! like, and which bytes spell one, stands in `specs/` as definitions over these values.
+#![tactic(auto)]
+
+mod account;
+mod duplicate;
+mod memory;
+mod number;
+mod reply;
+mod request;
+mod sequence;
+mod text;
+mod uid;
+
+pub use account::{AcctKind, AcctName};
+pub use duplicate::Duplicate;
+pub use memory::OutOfMemory;
+pub use number::{AcctId, Cents, Day, Moment, Status, UserId};
+pub use reply::{
+    AskReplies, AskReply, Lines, ReplyFile, StatementBody, StatementLine, StatementList,
+};
+pub use request::{Ask, Asks, Period, RequestFile};
+pub use sequence::Sequence;
+pub use text::{Text, TextFault, is_white_space, trim};
+pub use uid::{FileUid, TrnUid};
+
+#[cfg(test)]
+mod tests;

@@ -1,0 +1,34 @@
+//! Numbers that mean something: amounts, days, moments, and the numbers of users and accounts.
+
+use crate::duplicate::Duplicate;
+use crate::memory::OutOfMemory;
+
+/// An amount of US dollars in cents, negative where money leaves.
+#[derive(Clone, Copy, Debug, PartialEq, Eq, PartialOrd, Ord)]
+pub struct Cents(pub i64);
+
+/// A day of the Gregorian calendar, counted from 1 January 1970. Days of the years 1900 to 9999 are used.
+#[derive(Clone, Copy, Debug, PartialEq, Eq, PartialOrd, Ord)]
+pub struct Day(pub i32);
+
+/// A moment in seconds since midnight of 1 January 1970, GMT. Moments of the years 1900 to 9999 are used.
+#[derive(Clone, Copy, Debug, PartialEq, Eq, PartialOrd, Ord)]
+pub struct Moment(pub i64);
+
+/// An account of a setup, by its place among the account lines, from 0.
+#[derive(Clone, Copy, Debug, PartialEq, Eq, PartialOrd, Ord)]
+pub struct AcctId(pub u32);
+
+/// A user of a setup, by the place among the user lines, from 0.
+#[derive(Clone, Copy, Debug, PartialEq, Eq, PartialOrd, Ord)]
+pub struct UserId(pub u32);
+
+/// The status with which a run of a program ends.
+#[derive(Clone, Copy, Debug, PartialEq, Eq)]
+pub struct Status(pub u8);
+
+impl Duplicate for UserId {
+    fn copy(&self) -> Result<UserId, OutOfMemory> {
+        Ok(*self)
+    }
+}

@@ -1,0 +1,10 @@
+pub mod AmountLemmas
+pub mod CivilLemmas
+pub mod DateLemmas
+pub mod DayLemmas
+pub mod DigitLemmas
+pub mod MomentLemmas
+pub mod PartLemmas
+pub mod PrintedLemmas
+pub mod TimeLemmas
+pub mod ZoneLemmas

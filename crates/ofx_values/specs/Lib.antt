@@ -1,0 +1,4 @@
+pub mod AmountReading
+pub mod Civil
+pub mod DateReading
+pub mod Reading

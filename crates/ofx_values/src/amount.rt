@@ -1,0 +1,162 @@
+//! Amounts as they stand in a file: a sign, dollars, and cents behind a mark.
+
+ghost use Rattle.std.specs.Prelude.{◌≡◌, ◌==◌, ◌<◌, ◌≤◌, ◌^◌, ℤ, length, drop, IsTrue, IfSome, IfOk, IfErr, OnErr};
+ghost use Rattle.std.specs.List.{list_all};
+ghost use Rattle.std.specs.Char.{is_ascii_digit};
+ghost use Rattle.std.specs.Str.Parse.{digits_value};
+ghost use Rattle.ofx_types.specs.AmountForm as form;
+ghost use Rattle.ofx_types.specs.AmountForm.{IsAmount};
+ghost use Rattle.ofx_values.specs.Reading.{Gives};
+ghost use Rattle.ofx_values.specs.AmountReading as reading;
+
+use crate::digits::sign_at;
+use crate::fault::ValueFault;
+use ofx_types::{Cents, trim};
+
+/// The most bytes of an amount.
+const AMOUNT_BYTES: usize = 32;
+
+/// The most cents of an amount, either way.
+const MOST_CENTS: u128 = 9_999_999_999_999;
+
+/// The amount that the bytes spell, after trimming.
+///
+/// An amount has an optional sign and digits with at most one point or comma among, before or behind them: at most 32
+/// bytes, only zeros behind the second digit behind the mark, and a magnitude of at most 99,999,999,999.99 dollars.
+/// `ValueFault::Amount` where the bytes spell none.
+pub fn read_amount(raw: &[u8]) -> Result<Cents, ValueFault>
+    ensures found { IfOk result (λ c. IsAmount raw.now c.0) }
+    ensures fault { IfErr result (λ e. e ≡ ValueFault.Amount) }
+    ensures nothing { OnErr result ((c : ℤ) → IsAmount raw.now c → ⊥) }
+{
+    match amount_at(trim(raw)) {
+        Some(cents) => Ok(cents),
+        None => Err(ValueFault::Amount),
+    }
+}
+
+/// The amount that trimmed bytes spell.
+#[tactic(auto, unfolding(crate::specs::AmountReading::amount_at))]
+fn amount_at(text: &[u8]) -> Option<Cents>
+    ensures { Gives (λ c. c.0) result (reading.amount_at text.now) }
+{
+    if text.len() > AMOUNT_BYTES {
+        return None;
+    }
+    let (negative, rest) = sign_at(text);
+    let magnitude = magnitude_at(rest)?;
+    let cents = magnitude as i64;
+    Some(Cents(if negative { -cents } else { cents }))
+}
+
+/// The cents that digits with at most one mark stand for.
+#[tactic(auto, unfolding(crate::specs::AmountReading::magnitude_at))]
+fn magnitude_at(text: &[u8]) -> Option<u64>
+    requires { length text.now ≤ AMOUNT_BYTES }
+    ensures gives { Gives (λ n. n) result (reading.magnitude_at text.now) }
+    ensures range { IfSome result (λ n. n ≤ MOST_CENTS) }
+{
+    let (dollars, rest) = split_digits(text);
+    let behind = behind_mark(rest)?;
+    magnitude_of(dollars, behind)
+}
+
+/// The digits at the front, and the bytes behind them.
+#[tactic(auto, using(crate::proofs::DigitLemmas::front_all, crate::proofs::DigitLemmas::front_take))]
+fn split_digits(text: &[u8]) -> (&[u8], &[u8])
+    ensures front { result.0.now ≡ reading.front_digits text.now }
+    ensures behind { result.1.now ≡ reading.behind_digits text.now }
+    ensures are { IsTrue (list_all is_ascii_digit result.0.now) }
+    ensures front_short { length result.0.now ≤ length text.now }
+    ensures behind_short { length result.1.now ≤ length text.now }
+{
+    text.split_at(digits_at(text))
+}
+
+/// How many digits stand at the front.
+fn digits_at(text: &[u8]) -> usize
+    ensures count { result ≡ length (reading.front_digits text.now) }
+    ensures within { result ≤ length text.now }
+{
+    text.iter().take_while(|b| b.is_ascii_digit()).count()
+}
+
+/// The digits behind a mark, or none where there is no mark.
+#[tactic(auto, unfolding(crate::specs::AmountReading::behind_mark))]
+fn behind_mark(text: &[u8]) -> Option<&[u8]>
+    ensures gives { Gives (λ x. x.now) result (reading.behind_mark text.now) }
+    ensures digits { IfSome result (λ x. IsTrue (list_all is_ascii_digit x.now)) }
+    ensures within { IfSome result (λ x. length x.now ≤ length text.now) }
+{
+    match text {
+        [] => Some(text),
+        [b'.' | b',', digits @ ..] if are_digits(digits) => Some(digits),
+        _ => None,
+    }
+}
+
+fn are_digits(text: &[u8]) -> bool
+    ensures { result ≡ list_all is_ascii_digit text.now }
+{
+    text.iter().all(|b| b.is_ascii_digit())
+}
+
+/// The cents of the digits before and behind a mark.
+#[tactic(auto, unfolding(crate::specs::AmountReading::magnitude_of))]
+fn magnitude_of(dollars: &[u8], behind: &[u8]) -> Option<u64>
+    requires dollars_short { length dollars.now ≤ AMOUNT_BYTES }
+    requires behind_short { length behind.now ≤ AMOUNT_BYTES }
+    requires dollars_are { IsTrue (list_all is_ascii_digit dollars.now) }
+    requires behind_are { IsTrue (list_all is_ascii_digit behind.now) }
+    ensures gives { Gives (λ n. n) result (reading.magnitude_of dollars.now behind.now) }
+    ensures range { IfSome result (λ n. n ≤ MOST_CENTS) }
+{
+    let total = 100 * number(dollars) + cents_behind(behind) as u128;
+    if dollars.len() + behind.len() == 0 || !is_whole_cents(behind) || total > MOST_CENTS {
+        return None;
+    }
+    Some(total as u64)
+}
+
+/// The number that digits stand for.
+fn number(digits: &[u8]) -> u128
+    requires short { length digits.now ≤ AMOUNT_BYTES }
+    requires are { IsTrue (list_all is_ascii_digit digits.now) }
+    ensures value { result ≡ digits_value 10 digits.now }
+    ensures bound { result < 10 ^ 32 }
+{
+    let mut value: u128 = 0;
+    for digit in digits {
+        value = 10 * value + (*digit - b'0') as u128;
+    }
+    value
+}
+
+/// The cents of the first two digits behind a mark.
+fn cents_behind(digits: &[u8]) -> u8
+    requires { IsTrue (list_all is_ascii_digit digits.now) }
+    ensures value { result ≡ form.cents_behind digits.now }
+    ensures bound { result < 100 }
+{
+    match digits {
+        [] => 0,
+        [tens] => 10 * (*tens - b'0'),
+        [tens, units, ..] => 10 * (*tens - b'0') + (*units - b'0'),
+    }
+}
+
+/// Whether only zeros stand behind the first two digits.
+fn is_whole_cents(digits: &[u8]) -> bool
+    ensures { result ≡ list_all (λ b. b == 48) (drop 2 digits.now) }
+{
+    match digits {
+        [_, _, rest @ ..] => are_zeros(rest),
+        _ => true,
+    }
+}
+
+fn are_zeros(digits: &[u8]) -> bool
+    ensures { result ≡ list_all (λ b. b == 48) digits.now }
+{
+    digits.iter().all(|b| *b == b'0')
+}

@@ -1,0 +1,24 @@
+//! Amounts, dates and numbers of the Open Financial Exchange format, read from the values of elements and printed
+//! into replies, and the calendar days of moments.
+#![tactic(auto)]
+
+mod amount;
+mod date;
+mod day;
+mod digits;
+mod fault;
+mod laws;
+mod print;
+#[cfg(test)]
+mod tests;
+mod zone;
+
+pub use amount::read_amount;
+pub use date::read_moment;
+pub use day::{day_of, midnight};
+pub use fault::ValueFault;
+pub use laws::{
+    amounts_differ, moments_differ, numbers_differ, one_amount, one_moment, printed_amount,
+    printed_moment,
+};
+pub use print::{print_amount, print_moment, print_number};
