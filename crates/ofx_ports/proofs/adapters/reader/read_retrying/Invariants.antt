@@ -1,0 +1,6 @@
+-- A read that was cut short has lost no byte.
+use Rattle.std.specs.Io.KnownBytes.{Keeps}
+use Rattle.ofx_ports.proofs.adapters.reader.read_retrying.Given as goal
+
+abbrev pub invariant-loop : goal.invariant-loop
+invariant-loop g l = Keeps (g.R.Read.remaining l.initial.reader) (g.R.Read.remaining l.reader)

@@ -1,0 +1,6 @@
+-- A write that was cut short has taken no byte.
+use Rattle.std.specs.Io.KnownBytes.{Keeps}
+use Rattle.ofx_ports.proofs.adapters.writer.write_retrying.Given as goal
+
+abbrev pub invariant-loop : goal.invariant-loop
+invariant-loop g l = Keeps (g.W.Write.contents l.initial.writer) (g.W.Write.contents l.writer)

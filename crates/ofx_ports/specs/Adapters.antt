@@ -1,0 +1,27 @@
+-- What the adapters stand over.
+use Rattle.std.specs.Prelude.{ℕ, List, Option, None, Some, Result, IsErr}
+use Rattle.std.specs.Io.KnownBytes.{ReadConsumes}
+use Rattle.ofx_ports.specs.declared.adapters.reader.ReaderSource.{ReaderSource}
+use Rattle.ofx_ports.specs.declared.adapters.writer.WriterSink.{WriterSink}
+
+-- the reader, if it was ever opened
+abbrev pub source_reader : {R : Type 0} → ReaderSource R → Option R
+source_reader source = source.reader
+
+-- the number of reads that failed
+abbrev pub source_faults : {R : Type 0} → ReaderSource R → ℕ
+source_faults source = source.faults
+
+-- the writer
+abbrev pub sink_writer : {W : Type 0} → WriterSink W → W
+sink_writer sink = sink.writer
+
+-- the number of writes that failed
+abbrev pub sink_faults : {W : Type 0} → WriterSink W → ℕ
+sink_faults sink = sink.faults
+
+-- A read gives what the reader loses. Where there is no reader it fails.
+abbrev pub ReadsThrough : {R E : Type 0} → (R → Option (List ℕ)) → Option R → Option R → Result ℕ E → List ℕ → Type 0
+ReadsThrough remaining None new r into = IsErr r
+ReadsThrough remaining (Some old) None r into = ⊥
+ReadsThrough remaining (Some old) (Some new) r into = ReadConsumes (remaining old) (remaining new) r into

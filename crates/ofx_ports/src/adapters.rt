@@ -1,0 +1,8 @@
+//! The adapters: they stand over the standard library's readers, writers and clocks, and tell nothing of what those hold.
+
+pub mod reader;
+pub mod system_clock;
+pub mod writer;
+
+// How often a call that a signal cut short is made again before it counts as a fault.
+const TRIES: u32 = 64;

@@ -1,0 +1,80 @@
+//! Where records are kept for good.
+
+ghost use Rattle.std.specs.Prelude.{◌≡◌, ℕ, ◌-◌, ◌≤◌, Bool, false, List, [], Option, length, slice_get, Some, is_ok, IfOk, IfSome, OnOk, OnErr, IsErr, IsErrOf};
+ghost use Rattle.ofx_ports.specs.Faults.{CountsFaults};
+ghost use Rattle.ofx_ports.specs.Told.{Stays};
+ghost use Rattle.ofx_ports.specs.Kept.{Appended, TellsLanding, counted};
+
+use crate::fault::{Failed, FetchFault, PutFault};
+
+/// Records in the order in which they were appended, numbered from 1. A record is any bytes.
+///
+/// After an append that failed the record may stand or not. This is then to be settled, and until it is, only
+/// `settle` and `faults` may be called.
+pub trait Keeper: Drop + Send {
+    // the records that stand, oldest first, where they are told
+    ghost records: { Self → Option (List (List ℕ)) };
+
+    // the number of records, without one that is to be settled
+    ghost size: { Self → ℕ };
+
+    // whether an append failed and is not settled
+    ghost unsettled: { Self → Bool };
+
+    // whether the record that is to be settled stands at the end, where this is told
+    ghost landed: { Self → Option Bool };
+
+    // how many of its calls failed
+    ghost faults: { Self → ℕ };
+
+    /// Appends a record.
+    ///
+    /// - `Failed` only where the count of faults rose in this call. The records are as before or have this one at
+    ///   their end, and this is to be settled.
+    /// - `OutOfMemory`: the records are as before, and nothing is to be settled.
+    fn append(&mut self, rec: &[u8]) -> Result<(), PutFault>
+        requires { unsettled self.old ≡ false }
+        ensures list { Appended (records self.old) (records self.new) (landed self.new) (unsettled self.new) rec.now result }
+        ensures size { size self.new ≡ counted (size self.old) (is_ok result) }
+        ensures faults { CountsFaults (faults self.old) (faults self.new) (IsErrOf result PutFault.Failed) };
+
+    /// Answers whether the record of the append that failed stands, and from then on nothing is to be settled. Where
+    /// nothing was to be settled the answer is `false`.
+    ///
+    /// `Failed` only where the count of faults rose in this call. It is then still to be settled.
+    fn settle(&mut self) -> Result<bool, Failed>
+        ensures list { Stays (records self.old) (records self.new) }
+        ensures answer { IfOk result (TellsLanding (unsettled self.old) (landed self.old)) }
+        ensures settled { OnOk result (unsettled self.new ≡ false) }
+        ensures size { IfOk result (λ stands. size self.new ≡ counted (size self.old) stands) }
+        ensures open { OnErr result (unsettled self.new ≡ unsettled self.old) }
+        ensures kept { OnErr result ((landed self.new ≡ landed self.old) × (size self.new ≡ size self.old)) }
+        ensures faults { CountsFaults (faults self.old) (faults self.new) (IsErr result) };
+
+    /// Puts the record of this number into `into`, in place of what it held.
+    ///
+    /// - `Failed` only where the count of faults rose in this call.
+    /// - `OutOfMemory`.
+    ///
+    /// After a refusal `into` is empty.
+    fn fetch(&mut self, number: u64, into: &mut Vec<u8>) -> Result<(), FetchFault>
+        requires settled { unsettled self.old ≡ false }
+        requires first { 1 ≤ number }
+        requires last { number ≤ size self.old }
+        ensures found { OnOk result (IfSome (records self.old) (λ rs. slice_get rs (number - 1) ≡ Some into.new.items)) }
+        ensures refused { OnErr result (into.new.items ≡ []) }
+        ensures list { Stays (records self.old) (records self.new) }
+        ensures size { size self.new ≡ size self.old }
+        ensures settled { unsettled self.new ≡ false }
+        ensures faults { CountsFaults (faults self.old) (faults self.new) (IsErrOf result FetchFault.Failed) };
+
+    /// The number of records.
+    fn len(&self) -> u64
+        requires { unsettled self.now ≡ false }
+        ensures size { result ≡ size self.now }
+        ensures told { IfSome (records self.now) (λ rs. result ≡ length rs) };
+
+    /// How many calls failed so far. The count stands still at 2^64 - 1.
+    fn faults(&self) -> u64
+        ensures { result ≡ faults self.now };
+}

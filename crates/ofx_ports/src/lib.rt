@@ -1,0 +1,29 @@
+//! What a bank and a client ask of the outside: bytes to read and to write, records to keep, and the time. Each is a
+//! trait whose clauses say what a call does to what the outside tells of itself, and count its faults. The memory
+//! forms tell all that they hold and fail where they are told to. The adapters stand over the standard library's
+//! readers, writers and clocks, and tell nothing.
+#![tactic(auto)]
+
+mod adapters;
+mod clock;
+mod fault;
+mod keeper;
+mod memory;
+mod sink;
+mod source;
+
+pub use adapters::reader::ReaderSource;
+pub use adapters::system_clock::SystemClock;
+pub use adapters::writer::WriterSink;
+pub use clock::Clock;
+pub use fault::{Failed, FetchFault, PutFault};
+pub use keeper::Keeper;
+pub use memory::clock::MemClock;
+pub use memory::keeper::MemKeeper;
+pub use memory::sink::MemSink;
+pub use memory::source::MemSource;
+pub use sink::Sink;
+pub use source::Source;
+
+#[cfg(test)]
+mod tests;

@@ -1,0 +1,7 @@
+//! The memory forms: they tell all that they hold, and fail at the calls that they are told to.
+
+pub mod clock;
+pub mod keeper;
+mod schedule;
+pub mod sink;
+pub mod source;
