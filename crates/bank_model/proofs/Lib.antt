@@ -1,0 +1,5 @@
+pub mod SetupWords
+pub mod SetupNumbers
+pub mod SetupLines
+pub mod SetupParts
+pub mod SetupLaws

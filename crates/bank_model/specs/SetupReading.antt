@@ -1,0 +1,234 @@
+-- Reading a setup from left to right, line by line. What is read is nothing where a line has no form or passes a limit.
+use Rattle.std.specs.Prelude.{◌≡◌, ℕ, ◌+◌, ◌-◌, ◌*◌, pos, ◌+ℤ◌, Bool, false, ◌==◌, nat_le, nat_lt, int_le, not, List, [], ◌∷◌, ◌++◌, length, map, take, slice_index, codes, Option, None, Some, Result, Ok, Err, position, if◌then◌else◌}
+use Rattle.std.specs.Str.{bytes_eq}
+use Rattle.std.specs.Char.{is_ascii_digit}
+use Rattle.std.specs.Str.Parse.{digits_value}
+use Rattle.std.specs.List.{list_any, list_all, slice_split}
+use Rattle.ofx_types.specs.declared.account.AcctKind.{AcctKind}
+use Rattle.ofx_types.specs.declared.account.AcctKind.TheVariants.{Checking, Savings, MoneyMarket, CreditLine}
+use Rattle.ofx_types.specs.declared.account.AcctName.{AcctName}
+use Rattle.ofx_types.specs.declared.number.UserId.{UserId}
+use Rattle.ofx_types.specs.declared.number.Cents.{Cents}
+use Rattle.ofx_types.specs.AccountForm.{same_account}
+use Rattle.bank_model.specs.declared.setup.User.{User}
+use Rattle.bank_model.specs.declared.setup.AccountLine.{AccountLine}
+use Rattle.bank_model.specs.declared.setup.Setup.{Setup}
+use Rattle.bank_model.specs.declared.setup.SetupFault.{SetupFault}
+use Rattle.bank_model.specs.declared.setup.SetupFault.TheVariants as faults
+use Rattle.bank_model.specs.declared.setup.draft.Draft.{Draft}
+use Rattle.bank_model.specs.SetupForm.{is_word_byte}
+
+infixl 10 ◌>>=◌
+abbrev pub ◌>>=◌ : {A B : Type 0} → Option A → (A → Option B) → Option B
+None >>= f = None
+(Some x) >>= f = f x
+
+-- nothing where the test holds
+abbrev pub unless : {A : Type 0} → Bool → Option A → Option A
+unless test found = if test then None else found
+
+-- Memory may be refused without a cause. A fault has one.
+abbrev pub Refuses : SetupFault → Type 0 → Type 0
+Refuses (faults.SetupLine k) cause = cause
+Refuses faults.OutOfMemory cause = Unit {0}
+
+-- What a function returned, seen by view, is what reading gives, unless memory was refused.
+abbrev pub Gives : {X Y : Type 0} → (X → Y) → Result X SetupFault → Option Y → Type 0
+Gives view (Ok x) read = read ≡ Some (view x)
+Gives view (Err fault) read = Refuses fault (read ≡ None)
+
+-- the bytes before and behind the first byte that is the mark
+unfoldable pub cut : ℕ → List ℕ → Option (List ℕ × List ℕ)
+cut mark [] = None
+cut mark (b ∷ bs) = if b == mark then Some ([], bs) else (cut mark bs >>= λ parts. Some (b ∷ parts.0, parts.1))
+
+-- what stands behind the key and a space
+unfoldable pub behind_key : List ℕ → List ℕ → Option (List ℕ)
+behind_key key line = do
+  parts ← cut 32 line
+  if bytes_eq parts.0 key then Some parts.1 else None
+
+abbrev pub is_word_form : List ℕ → Bool
+is_word_form bytes =
+    if length bytes == 0 then false
+    else (if nat_lt 32 (length bytes) then false else list_all is_word_byte bytes)
+
+-- 1 to 13 digits without leading zeros
+abbrev pub is_number_form : List ℕ → Bool
+is_number_form word =
+    if length word == 0 then false
+    else (if nat_lt 13 (length word) then false
+    else (if slice_index word 0 == 48 then length word == 1 else list_all is_ascii_digit word))
+
+unfoldable pub number_of : List ℕ → Option ℕ
+number_of word = if is_number_form word then Some (digits_value 10 word) else None
+
+unfoldable pub number_within : ℕ → ℕ → List ℕ → Option ℕ
+number_within lowest highest word = do
+  n ← number_of word
+  unless (nat_lt n lowest) (unless (nat_lt highest n) (Some n))
+
+-- a line without the CR at its end
+abbrev pub without_return : List ℕ → List ℕ
+without_return line =
+    if length line == 0 then line
+    else (if slice_index line (length line - 1) == 13 then take (length line - 1) line else line)
+
+-- the first line without its end, and what stands behind it
+unfoldable pub line_at : List ℕ → Option (List ℕ × List ℕ)
+line_at bytes = do
+  parts ← cut 10 bytes
+  Some (without_return parts.0, parts.1)
+
+unfoldable pub bank_at : List ℕ → Option (List ℕ)
+bank_at line = do
+  bank ← behind_key (codes "BANK") line
+  unless (not (is_word_form bank)) (Some bank)
+
+unfoldable pub user_at : List ℕ → Option User
+user_at fields = do
+  parts ← cut 32 fields
+  unless (not (is_word_form parts.0)) (unless (not (is_word_form parts.1)) (Some (record { name = parts.0; pass = parts.1 })))
+
+abbrev pub kind_at : List ℕ → Option AcctKind
+kind_at word =
+    if bytes_eq word (codes "CHECKING") then Some Checking
+    else (if bytes_eq word (codes "SAVINGS") then Some Savings
+    else (if bytes_eq word (codes "MONEYMRKT") then Some MoneyMarket
+    else (if bytes_eq word (codes "CREDITLINE") then Some CreditLine else None)))
+
+abbrev pub user_at_place : Option ℕ → Option UserId
+user_at_place None = None
+user_at_place (Some place) = Some (record { 0 = place })
+
+abbrev pub user_named : List User → List ℕ → Option UserId
+user_named users name = user_at_place (position (λ (user : User). bytes_eq user.name name) users)
+
+abbrev pub is_listed : UserId → List UserId → Bool
+is_listed owner owners = list_any (λ (other : UserId). other.0 == owner.0) owners
+
+-- an owner more, who is a user and not among the owners so far
+abbrev pub owner_more : List User → List UserId → List ℕ → Option (List UserId)
+owner_more users owners name = user_named users name >>= λ owner. unless (is_listed owner owners) (Some (owners ++ owner ∷ []))
+
+-- the owners so far, and those of the names
+unfoldable pub owners_from : List User → List UserId → List (List ℕ) → Option (List UserId)
+owners_from users owners [] = Some owners
+owners_from users owners (name ∷ names) = do
+  more ← owner_more users owners name
+  owners_from users more names
+
+-- the words of a line, one space between each two
+abbrev pub words_of : List ℕ → List (List ℕ)
+words_of bytes = slice_split (λ b. b == 32) bytes
+
+abbrev pub owners_at : List User → List ℕ → Option (List UserId)
+owners_at users names = owners_from users [] (words_of names)
+
+unfoldable pub account_at : List ℕ → List User → List ℕ → Option AccountLine
+account_at bank users fields = do
+  number ← cut 32 fields
+  kind_word ← cut 32 number.1
+  opening_word ← cut 32 kind_word.1
+  kind ← unless (not (is_word_form number.0)) (kind_at kind_word.0)
+  opening ← number_of opening_word.0
+  owners ← owners_at users opening_word.1
+  Some (record { name = record { bank = bank; number = number.0; kind = kind }; opening = record { 0 = pos opening }; owners = owners })
+
+abbrev pub is_taken : List ℕ → List User → Bool
+is_taken name users = list_any (λ (user : User). bytes_eq user.name name) users
+
+abbrev pub is_repeated : AcctName → List AccountLine → Bool
+is_repeated name accounts = list_any (λ (line : AccountLine). same_account line.name name) accounts
+
+abbrev pub openings_with : Cents → Cents → Option Cents
+openings_with openings opening =
+    if int_le (openings.0 +ℤ opening.0) (pos 9999999999999) then Some (record { 0 = openings.0 +ℤ opening.0 }) else None
+
+-- a user more: before the first account, no more than 1,000, none with a name that stands already
+unfoldable pub with_user : Draft → List ℕ → Option Draft
+with_user draft fields =
+    unless (nat_lt 0 (length draft.setup.accounts)) (unless (nat_le 1000 (length draft.setup.users)) (user_at fields >>= λ user.
+    unless (is_taken user.name draft.setup.users) (Some (record draft { setup = record draft.setup { users = draft.setup.users ++ user ∷ [] } }))))
+
+-- an account more: behind the first user, no more than 1,000, none with a name that stands already
+unfoldable pub with_account : Draft → List ℕ → Option Draft
+with_account draft fields =
+    unless (length draft.setup.users == 0) (unless (nat_lt 1000 (length draft.setup.users)) (unless (nat_le 1000 (length draft.setup.accounts))
+    (account_at draft.setup.bank draft.setup.users fields >>= λ account.
+    unless (is_repeated account.name draft.setup.accounts) (openings_with draft.openings account.opening >>= λ openings.
+    Some (record { setup = record draft.setup { accounts = draft.setup.accounts ++ account ∷ [] }; openings = openings })))))
+
+-- what stands behind `USER`, and otherwise the line
+abbrev pub with_user_or_account : Draft → Option (List ℕ) → List ℕ → Option Draft
+with_user_or_account draft (Some fields) line = with_user draft fields
+with_user_or_account draft None line = behind_key (codes "ACCT") line >>= with_account draft
+
+-- a line more, which is a user or an account
+unfoldable pub with_line : Draft → List ℕ → Option Draft
+with_line draft line = with_user_or_account draft (behind_key (codes "USER") line) line
+
+unfoldable pub first_at : List ℕ → Option (List ℕ)
+first_at bytes = do
+  parts ← line_at bytes
+  if bytes_eq parts.0 (codes "OFXBANK 1") then Some parts.1 else None
+
+unfoldable pub bank_line_at : List ℕ → Option (List ℕ × List ℕ)
+bank_line_at bytes = do
+  parts ← line_at bytes
+  bank ← bank_at parts.0
+  Some (bank, parts.1)
+
+unfoldable pub limit_line_at : List ℕ → ℕ → ℕ → List ℕ → Option (ℕ × List ℕ)
+limit_line_at key lowest highest bytes = do
+  parts ← line_at bytes
+  word ← behind_key key parts.0
+  n ← number_within lowest highest word
+  Some (n, parts.1)
+
+-- the first five lines
+unfoldable pub head_at : List ℕ → Option (Draft × List ℕ)
+head_at bytes = do
+  rest ← first_at bytes
+  bank ← bank_line_at rest
+  lead ← limit_line_at (codes "LEAD") 0 30 bank.1
+  window ← limit_line_at (codes "WINDOW") 1 10000 lead.1
+  entries ← limit_line_at (codes "ENTRIES") 1 9999999999 window.1
+  Some (record { setup = record { bank = bank.0; users = []; accounts = []; lead = lead.0; window = window.0; entries = entries.0 }; openings = record { 0 = pos 0 } }, entries.1)
+
+abbrev pub onto_line : ℕ → Option (List (List ℕ)) → Option (List (List ℕ))
+onto_line b None = None
+onto_line b (Some []) = None
+onto_line b (Some (line ∷ lines)) = Some ((b ∷ line) ∷ lines)
+
+-- the lines of the bytes without their LF, where each has one
+unfoldable pub lines_in : List ℕ → Option (List (List ℕ))
+lines_in [] = Some []
+lines_in (b ∷ bs) = if b == 10 then (lines_in bs >>= λ lines. Some ([] ∷ lines)) else onto_line b (lines_in bs)
+
+-- the lines of the bytes without their ends
+abbrev pub lines_at : List ℕ → Option (List (List ℕ))
+lines_at bytes = lines_in bytes >>= λ lines. Some (map without_return lines)
+
+-- the draft with the lines
+unfoldable pub with_lines : Draft → List (List ℕ) → Option Draft
+with_lines draft [] = Some draft
+with_lines draft (line ∷ lines) = do
+  next ← with_line draft line
+  with_lines next lines
+
+abbrev pub body_at : Draft → List ℕ → Option Draft
+body_at draft bytes = lines_at bytes >>= with_lines draft
+
+unfoldable pub draft_at : List ℕ → Option Draft
+draft_at bytes = do
+  head ← head_at bytes
+  body_at head.0 head.1
+
+abbrev pub objects_fit : Setup → Bool
+objects_fit setup = nat_le (setup.window * (3 * length setup.accounts + length setup.users)) 1000000
+
+-- the whole setup
+unfoldable pub setup_at : List ℕ → Option Setup
+setup_at bytes = unless (nat_lt 262144 (length bytes)) (draft_at bytes >>= λ draft.
+    unless (length draft.setup.accounts == 0) (unless (not (objects_fit draft.setup)) (Some draft.setup)))

@@ -1,0 +1,37 @@
+-- Request files and events that may be handed to a bank.
+use Rattle.std.specs.Prelude.{◌≡◌, ◌≢◌, ℕ, ◌<◌, ◌≤◌, ◌⊎◌, List, length, codes, Option, None, Some}
+use Rattle.std.specs.Option.{IfSome}
+use Rattle.std.specs.List.{AllByRecursion}
+use Rattle.ofx_types.specs.Calendar.{IsMoment}
+use Rattle.ofx_types.specs.declared.number.Moment.{Moment}
+use Rattle.ofx_types.specs.declared.account.AcctName.{AcctName}
+use Rattle.ofx_types.specs.declared.request.Period.{Period}
+use Rattle.ofx_types.specs.declared.request.Ask.{Ask}
+use Rattle.ofx_types.specs.declared.request.Ask.TheVariants.{Statement}
+use Rattle.ofx_types.specs.declared.request.RequestFile.{RequestFile}
+
+-- a text of 1 byte up to the limit
+abbrev pub HasLength : ℕ → List ℕ → Type 0
+HasLength most text = (0 < length text) × (length text ≤ most)
+
+abbrev pub IsSoundAccount : AcctName → Type 0
+IsSoundAccount account = HasLength 32 account.bank × HasLength 32 account.number
+
+-- Both moments lie in the years 1900 to 9999.
+abbrev pub IsSoundPeriod : Period → Type 0
+IsSoundPeriod period = IfSome period.start (λ (start : Moment). IsMoment start.0) × IfSome period.end (λ (end : Moment). IsMoment end.0)
+
+-- No TRNUID is `0`, which marks what the bank does by itself.
+abbrev pub IsSoundAsk : Ask → Type 0
+IsSoundAsk (Statement trnuid account period) = (trnuid ≢ codes "0") × IsSoundAccount account × IfSome period IsSoundPeriod
+
+-- the versions of the header
+abbrev pub IsVersion : ℕ → Type 0
+IsVersion version = (version ≡ 102) ⊎ ((version ≡ 103) ⊎ ((version ≡ 151) ⊎ (version ≡ 160)))
+
+-- A file is sound where all its values are within their bounds. The user's name and password aren't looked at, since
+-- a file that has become an event doesn't need them.
+pub record IsSound (file : RequestFile) : Type 0 where
+  pub version : IsVersion file.version
+  pub few : length file.asks ≤ 65535
+  pub asks : AllByRecursion IsSoundAsk file.asks

@@ -1,0 +1,15 @@
+//! The rules of the bank, as definitions over plain lists, and the setup of a bank's life.
+//!
+//! A `Setup` names the bank, its users and its accounts. What a bank in a state answers to an event, and the
+//! state that it is in afterwards, are definitions in `specs/`; the crates above are proved against them.
+#![tactic(auto)]
+
+mod event;
+mod printer;
+mod setup;
+#[cfg(test)]
+mod tests;
+
+pub use event::{Event, State};
+pub use printer::Printer;
+pub use setup::{AccountLine, Accounts, Owners, Setup, SetupFault, User, Users, one_setup};

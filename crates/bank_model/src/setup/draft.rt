@@ -1,0 +1,109 @@
+//! A setup of which the first lines are read, and how one more line is taken.
+
+ghost use Rattle.std.specs.Prelude.{◌≡◌, ◌+ℤ◌, ◌≤ℤ◌, ◌≤◌, pos, int_le, length, Some, None, IfOk, if◌then◌else◌};
+ghost use Rattle.bank_model.specs.SetupReading.{with_line, with_user, with_account, openings_with, is_repeated};
+
+use crate::setup::lines::{account_of, is_user, user_of};
+use crate::setup::lookups::has_account_name;
+use crate::setup::words::behind;
+use crate::setup::{AccountLine, Setup};
+use ofx_types::{AcctName, Cents, OutOfMemory};
+use std::alloc::Global;
+
+/// The most users, and the most accounts.
+const MOST: usize = 1000;
+
+/// The most that all accounts open with together, in cents.
+const MOST_OPENINGS: i64 = 9_999_999_999_999;
+
+/// A setup of which the first lines are read.
+#[derive(Debug, Drop)]
+pub(super) struct Draft {
+    /// The setup with the users and accounts that are read.
+    pub setup: Setup,
+    /// What these accounts open with together.
+    pub openings: Cents,
+}
+
+fn is_account(accounts: &[AccountLine], name: &AcctName) -> bool
+    ensures { result ≡ is_repeated name.now accounts.now }
+{
+    accounts.iter().any(|line| has_account_name(line, name))
+}
+
+/// The openings with one more, where they are no more than the greatest.
+fn sum_of(openings: Cents, opening: Cents) -> Option<Cents>
+    requires { pos 0 ≤ℤ opening.0 }
+    ensures { result ≡ openings_with openings opening }
+{
+    let sum = openings.0.checked_add(opening.0)?;
+    if sum <= MOST_OPENINGS {
+        Some(Cents(sum))
+    } else {
+        None
+    }
+}
+
+impl Draft {
+    /// Takes one more line. False where it has no form here, and then the draft is of no more use.
+    #[tactic(auto, unfolding(crate::specs::SetupReading::with_line))]
+    pub(super) fn take(&mut self, alloc: Global, line: &[u8]) -> Result<bool, OutOfMemory>
+        ensures { IfOk result (λ taken. with_line self.old line.now ≡ (if taken then Some self.new else None)) }
+    {
+        if let Some(fields) = behind(line, b"USER") {
+            return self.take_user(alloc, fields);
+        }
+        match behind(line, b"ACCT") {
+            Some(fields) => self.take_account(alloc, fields),
+            None => Ok(false),
+        }
+    }
+
+    #[tactic(auto, unfolding(crate::specs::SetupReading::with_user))]
+    fn take_user(&mut self, alloc: Global, fields: &[u8]) -> Result<bool, OutOfMemory>
+        ensures { IfOk result (λ taken. with_user self.old fields.now ≡ (if taken then Some self.new else None)) }
+    {
+        if !self.setup.accounts.items().is_empty() {
+            return Ok(false);
+        }
+        if self.setup.users.items().len() >= MOST {
+            return Ok(false);
+        }
+        let Some(user) = user_of(alloc, fields)? else {
+            return Ok(false);
+        };
+        if is_user(self.setup.users.items(), &user.name) {
+            return Ok(false);
+        }
+        self.setup.users.push(user)?;
+        Ok(true)
+    }
+
+    #[tactic(auto, unfolding(crate::specs::SetupReading::with_account))]
+    fn take_account(&mut self, alloc: Global, fields: &[u8]) -> Result<bool, OutOfMemory>
+        ensures { IfOk result (λ taken. with_account self.old fields.now ≡ (if taken then Some self.new else None)) }
+    {
+        let users = self.setup.users.items();
+        if users.is_empty() {
+            return Ok(false);
+        }
+        if users.len() > MOST {
+            return Ok(false);
+        }
+        if self.setup.accounts.items().len() >= MOST {
+            return Ok(false);
+        }
+        let Some(account) = account_of(alloc, &self.setup.bank, users, fields)? else {
+            return Ok(false);
+        };
+        if is_account(self.setup.accounts.items(), &account.name) {
+            return Ok(false);
+        }
+        let Some(openings) = sum_of(self.openings, account.opening) else {
+            return Ok(false);
+        };
+        self.setup.accounts.push(account)?;
+        self.openings = openings;
+        Ok(true)
+    }
+}

@@ -1,0 +1,194 @@
+//! Each kind of line of a setup, read from its bytes.
+
+ghost use Rattle.std.specs.Prelude.{position, ◌∷◌, ◌≡◌, ◌<◌, ◌≤◌, ◌≤ℤ◌, pos, length, IfOk, IfSome, if◌then◌else◌};
+ghost use Rattle.std.specs.Option.{option_map};
+ghost use Rattle.std.specs.Str.{bytes_eq};
+ghost use Rattle.bank_model.specs.SetupReading.{owner_more, is_taken, is_listed, without_return, line_at, bank_at, user_at, kind_at, user_named, owners_at, account_at};
+
+use crate::setup::lookups::is_among;
+use crate::setup::words::{behind, cut_at, is_word, number, word_text};
+use crate::setup::{AccountLine, Owners, User};
+use ofx_types::{AcctKind, AcctName, Cents, Duplicate, OutOfMemory, Sequence, Text, UserId};
+use std::alloc::Global;
+
+/// The line without a CR at its end.
+fn without_cr(line: &[u8]) -> &[u8]
+    ensures { result.now ≡ without_return line.now }
+{
+    if line.is_empty() {
+        return line;
+    }
+    let last = line.len() - 1;
+    if line[last] == b'\r' {
+        return &line[..last];
+    }
+    line
+}
+
+/// The first line without its end, and the bytes behind it. None where no LF ends a line.
+#[tactic(auto, unfolding(crate::specs::SetupReading::line_at))]
+pub(super) fn first_line(bytes: &[u8]) -> Option<(&[u8], &[u8])>
+    ensures exact { option_map (λ parts. (parts.0.now, parts.1.now)) result ≡ line_at bytes.now }
+    ensures less { IfSome result (λ parts. length parts.1.now < length bytes.now) }
+{
+    let (line, rest) = cut_at(bytes, b'\n')?;
+    Some((without_cr(line), rest))
+}
+
+/// The bank of a line `BANK bank`.
+#[tactic(auto, unfolding(crate::specs::SetupReading::bank_at))]
+pub(super) fn bank_of(alloc: Global, line: &[u8]) -> Result<Option<Text>, OutOfMemory>
+    ensures { IfOk result (λ bank. bank ≡ bank_at line.now) }
+{
+    let Some(bank) = behind(line, b"BANK") else {
+        return Ok(None);
+    };
+    if !is_word(bank) {
+        return Ok(None);
+    }
+    Ok(Some(word_text(alloc, bank)?))
+}
+
+/// The user of `name password`.
+#[tactic(auto, unfolding(crate::specs::SetupReading::user_at))]
+pub(super) fn user_of(alloc: Global, fields: &[u8]) -> Result<Option<User>, OutOfMemory>
+    ensures { IfOk result (λ user. user ≡ user_at fields.now) }
+{
+    let Some((name, pass)) = cut_at(fields, b' ') else {
+        return Ok(None);
+    };
+    if !is_word(name) {
+        return Ok(None);
+    }
+    if !is_word(pass) {
+        return Ok(None);
+    }
+    let name = word_text(alloc, name)?;
+    let pass = word_text(alloc, pass)?;
+    Ok(Some(User { name, pass }))
+}
+
+fn kind_of(word: &[u8]) -> Option<AcctKind>
+    ensures { result ≡ kind_at word.now }
+{
+    if word == b"CHECKING".as_slice() {
+        return Some(AcctKind::Checking);
+    }
+    if word == b"SAVINGS".as_slice() {
+        return Some(AcctKind::Savings);
+    }
+    if word == b"MONEYMRKT".as_slice() {
+        return Some(AcctKind::MoneyMarket);
+    }
+    if word == b"CREDITLINE".as_slice() {
+        return Some(AcctKind::CreditLine);
+    }
+    None
+}
+
+fn has_name(user: &User, name: &[u8]) -> bool
+    ensures { result ≡ bytes_eq user.now.name name.now }
+{
+    user.name.as_bytes() == name
+}
+
+/// The place of the user of that name.
+fn place_of(users: &[User], name: &[u8]) -> Option<usize>
+    ensures { result ≡ position (λ user. bytes_eq user.name name.now) users.now }
+{
+    users.iter().position(|user| has_name(user, name))
+}
+
+/// The number of the user of that name. There are at most 1,000 users.
+fn user_of_name(users: &[User], name: &[u8]) -> Option<UserId>
+    requires { length users.now ≤ 1000 }
+    ensures { result ≡ user_named users.now name.now }
+{
+    match place_of(users, name) {
+        Some(place) => Some(UserId(place as u32)),
+        None => None,
+    }
+}
+
+/// Whether a user has that name.
+pub(super) fn is_user(users: &[User], name: &Text) -> bool
+    ensures { result ≡ is_taken name.now users.now }
+{
+    users.iter().any(|user| has_name(user, name.as_bytes()))
+}
+
+/// Adds the user of that name. False where there is none, or where the owners have the user already.
+fn add_owner(users: &[User], owners: &mut Owners, name: &[u8]) -> Result<bool, OutOfMemory>
+    requires { length users.now ≤ 1000 }
+    ensures { IfOk result (λ added. owner_more users.now owners.old name.now ≡ (if added then Some owners.new else None)) }
+{
+    let Some(owner) = user_of_name(users, name) else {
+        return Ok(false);
+    };
+    if is_among(owner, owners.items()) {
+        return Ok(false);
+    }
+    owners.push(owner)?;
+    Ok(true)
+}
+
+/// The owners whose names stand in a row, one space between each two.
+fn owners_of(alloc: Global, users: &[User], names: &[u8]) -> Result<Option<Owners>, OutOfMemory>
+    requires { length users.now ≤ 1000 }
+    ensures { IfOk result (λ owners. owners ≡ owners_at users.now names.now) }
+{
+    let mut owners = Sequence::new(alloc);
+    let mut rest = names;
+    while let Some((name, others)) = cut_at(rest, b' ') {
+        if !add_owner(users, &mut owners, name)? {
+            return Ok(None);
+        }
+        rest = others;
+    }
+    if !add_owner(users, &mut owners, rest)? {
+        return Ok(None);
+    }
+    Ok(Some(owners))
+}
+
+/// The account of `number kind opening owners`, at that bank.
+#[tactic(auto, unfolding(crate::specs::SetupReading::account_at))]
+pub(super) fn account_of(
+    alloc: Global,
+    bank: &Text,
+    users: &[User],
+    fields: &[u8],
+) -> Result<Option<AccountLine>, OutOfMemory>
+    requires { length users.now ≤ 1000 }
+    ensures exact { IfOk result (λ account. account ≡ account_at bank.now users.now fields.now) }
+    ensures opened { IfOk result (λ account. IfSome account (λ line. pos 0 ≤ℤ line.opening.0)) }
+{
+    let Some((number_word, fields)) = cut_at(fields, b' ') else {
+        return Ok(None);
+    };
+    let Some((kind_word, fields)) = cut_at(fields, b' ') else {
+        return Ok(None);
+    };
+    let Some((opening_word, names)) = cut_at(fields, b' ') else {
+        return Ok(None);
+    };
+    if !is_word(number_word) {
+        return Ok(None);
+    }
+    let Some(kind) = kind_of(kind_word) else {
+        return Ok(None);
+    };
+    let Some(opening) = number(opening_word) else {
+        return Ok(None);
+    };
+    let Some(owners) = owners_of(alloc, users, names)? else {
+        return Ok(None);
+    };
+    let number = word_text(alloc, number_word)?;
+    let bank = bank.copy()?;
+    Ok(Some(AccountLine {
+        name: AcctName { bank, number, kind },
+        opening: Cents(opening as i64),
+        owners,
+    }))
+}
