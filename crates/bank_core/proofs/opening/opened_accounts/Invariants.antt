@@ -1,0 +1,12 @@
+use Rattle.std.proofs.Common.{◌≡◌, ℕ, ◌<◌, length, get_or}
+use Rattle.bank_model.specs.Rules.{opening_state}
+use Rattle.bank_core.specs.AccountView.{AccountView}
+use Rattle.bank_core.specs.HeldAccounts.{AreBalanced}
+use Rattle.bank_core.proofs.opening.opened_accounts.Given as goal
+
+abbrev pub invariant-loop-place : goal.invariant-loop-place
+invariant-loop-place l = record {
+  count : length l.accounts.items ≡ l.place;
+  numbered : (k : ℕ) (d : AccountView) → k < length l.accounts.items → (get_or l.accounts.items k d).number.0 ≡ k;
+  balanced : AreBalanced l.setup opening_state l.accounts.items;
+}

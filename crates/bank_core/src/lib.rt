@@ -1,0 +1,17 @@
+//! The book of the bank: what an event is answered, and the step to the next state.
+//!
+//! A `Book` answers an event from the accounts that are held meanwhile, and takes the step once the answer is
+//! kept. Until then nothing has changed.
+#![tactic(auto)]
+
+mod account;
+mod book;
+mod held;
+mod opening;
+mod prepared;
+mod statement;
+
+pub use account::Account;
+pub use book::Book;
+pub use held::{Held, HeldFault};
+pub use prepared::Prepared;
