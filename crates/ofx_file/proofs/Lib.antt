@@ -1,0 +1,6 @@
+pub mod Plain
+pub mod Joined
+pub mod Decoding
+pub mod Dates
+pub mod StrictLaws
+pub mod StrictFiles
