@@ -1,0 +1,96 @@
+-- The first line of a frame is found where it stands.
+use Rattle.std.proofs.Common.{◌≡◌, ◌≢◌, ℕ, zero, suc, ◌<◌, ◌≤◌, ◌+◌, List, [], ◌∷◌, ◌++◌, length, take, codes, get_or, arith, refl, sym, ap, ◌∙◌, append_assoc, length-append, add-zero}
+use Rattle.std.specs.Fmt.{decimal}
+use Rattle.std.proofs.lemmas.List.{get_or_at, get_or_append_left, take_at, take-append-le, take_more}
+use Rattle.std.proofs.lemmas.Fmt.{length-decimal-le, digits_decimal}
+use Rattle.std.proofs.lemmas.Str.Parse.{not_in_digits}
+use Rattle.bank_session.specs.Frames.{IsLength, length_line, frame_head, frame, BeginsNoFrame}
+use Rattle.bank_session.specs.Heads.{EndsLine, HasNoLineEnd}
+use Rattle.bank_session.specs.HeadOf.{BeginsFrame}
+use Rattle.bank_session.proofs.Lengths.{own}
+
+-- no LF stands in the line of a length
+no_line_feed : (n k : ℕ) → IsLength n → k < length (length_line n) → get_or (length_line n) k 0 ≢ 10
+no_line_feed n zero small h e = absurd (omega (arith, e))
+no_line_feed n (suc zero) small h e = absurd (omega (arith, e))
+no_line_feed n (suc (suc zero)) small h e = absurd (omega (arith, e))
+no_line_feed n (suc (suc (suc zero))) small h e = absurd (omega (arith, e))
+no_line_feed n (suc (suc (suc (suc zero)))) small h e = absurd (omega (arith, e))
+no_line_feed n (suc (suc (suc (suc (suc k))))) small h e =
+    not_in_digits own (decimal n) 10 (digits_decimal own n (omega arith)) (λ within. omega (arith, within)) k (omega (arith, h)) e
+
+pub line_is_short : (n : ℕ) → IsLength n → length (length_line n) < 12
+line_is_short n small = omega (arith, length-decimal-le 6 n (omega arith) (omega arith) (omega arith))
+
+-- a line without LF, ended by one
+line_ended : (line rest : List ℕ) → length line < 12 → ((k : ℕ) → k < length line → get_or line k 0 ≢ 10) → EndsLine (line ++ 10 ∷ rest) (length line)
+line_ended line rest short clean = record {
+  near = short;
+  there = omega (arith, length-append line (10 ∷ rest));
+  is_end = get_or_at line 10 rest 0 (length line) refl;
+  is_first = λ k h e. clean k h (sym (get_or_append_left line (10 ∷ rest) 0 k h) ∙ e);
+}
+
+-- a first line is the line of its length and an LF
+pub head_regrouped : (n : ℕ) (rest : List ℕ) → frame_head n ++ rest ≡ length_line n ++ 10 ∷ rest
+unfolding frame_head
+head_regrouped n rest = simp append_assoc
+
+pub head_ends_line : (n : ℕ) (rest : List ℕ) → IsLength n → EndsLine (frame_head n ++ rest) (length (length_line n))
+head_ends_line n rest small =
+    rw (head_regrouped n rest) (line_ended (length_line n) rest (line_is_short n small) (λ k h. no_line_feed n k small h))
+
+regrouped : (file rest : List ℕ) → frame file ++ rest ≡ frame_head (length file) ++ (file ++ rest)
+regrouped file rest = append_assoc (frame_head (length file)) file rest
+
+-- where a frame begins the line of its length ends
+pub ends_line : (bytes file rest : List ℕ) → IsLength (length file) → bytes ≡ frame file ++ rest → EndsLine bytes (length (length_line (length file)))
+ends_line bytes file rest small e = rw (e ∙ regrouped file rest) (head_ends_line (length file) (file ++ rest) small)
+
+-- the first LF is found once
+pub one_end : (bytes : List ℕ) (i j : ℕ) → EndsLine bytes i → EndsLine bytes j → i ≡ j
+one_end bytes i j a b =
+    let not_less : i < j → ⊥ = λ h. b.is_first i h a.is_end in
+    let not_more : j < i → ⊥ = λ h. a.is_first j h b.is_end in
+    omega (arith, not_less, not_more)
+
+-- what follows makes no difference to a line that has ended
+extended : (bytes more : List ℕ) (end : ℕ) → EndsLine bytes end → EndsLine (bytes ++ more) end
+extended bytes more end a = record {
+  near = a.near;
+  there = omega (arith, a.there, length-append bytes more);
+  is_end = get_or_append_left bytes more 0 end a.there ∙ a.is_end;
+  is_first = λ k h e. a.is_first k h (sym (get_or_append_left bytes more 0 k (omega (arith, a.there))) ∙ e);
+}
+
+-- without an LF in its place no frame begins
+pub no_frame_without_end : (bytes : List ℕ) → HasNoLineEnd bytes → BeginsNoFrame bytes
+no_frame_without_end bytes none file rest small e =
+    let ends = ends_line bytes file rest small e in
+    none _ ends.near ends.there ends.is_end
+
+-- nor with whatever follows, once the places of an LF are all there
+pub no_frame_later : (bytes : List ℕ) → HasNoLineEnd bytes → 12 ≤ length bytes → (more : List ℕ) → BeginsNoFrame (bytes ++ more)
+no_frame_later bytes none long more file rest small e =
+    let ends = ends_line (bytes ++ more) file rest small e in
+    let near : length (length_line (length file)) < length bytes = omega (arith, ends.near) in
+    none _ ends.near near (sym (get_or_append_left bytes more 0 _ near) ∙ ends.is_end)
+
+-- where the line is no line of a length no frame begins, whatever follows
+pub no_frame_behind : (bytes : List ℕ) (end : ℕ) → EndsLine bytes end → ((n : ℕ) → IsLength n → take end bytes ≡ length_line n → ⊥) → (more : List ℕ) → BeginsNoFrame (bytes ++ more)
+no_frame_behind bytes end ends none more file rest small e =
+    let here = ends_line (bytes ++ more) file rest small e in
+    let same : end ≡ length (length_line (length file)) = one_end (bytes ++ more) _ _ (extended bytes more end ends) here in
+    let front : take end (bytes ++ more) ≡ take end bytes = take-append-le end bytes more (omega (arith, ends.there)) in
+    let line : take end (bytes ++ more) ≡ length_line (length file) =
+    ap (take end) (e ∙ (regrouped file rest ∙ head_regrouped (length file) (file ++ rest))) ∙ take_at (length_line (length file)) (10 ∷ (file ++ rest)) end (sym same) in
+    none (length file) small (sym front ∙ line)
+
+-- a line of a length and its LF are the first line of a frame
+pub begins_frame : (bytes : List ℕ) (end n : ℕ) → EndsLine bytes end → IsLength n → take end bytes ≡ length_line n → BeginsFrame bytes (record { head = end + 1; file = n })
+unfolding frame_head
+begins_frame bytes end n ends small line = record {
+  length_fits = small;
+  head_there = omega (arith, ends.there);
+  head = take_more bytes end 0 ends.there ∙ (ap (λ (l : List ℕ). l ++ get_or bytes end 0 ∷ []) line ∙ ap (λ (b : ℕ). length_line n ++ b ∷ []) ends.is_end);
+}

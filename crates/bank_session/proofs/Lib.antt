@@ -1,0 +1,13 @@
+pub mod Standing
+pub mod Lengths
+pub mod HeadLines
+pub mod Agreement
+pub mod Windows
+pub mod Coming
+pub mod Writing
+pub mod CommandWords
+pub mod DeskLemmas
+pub mod TurnLemmas
+pub mod RunLemmas
+pub mod ExactLemmas
+pub mod LineLemmas

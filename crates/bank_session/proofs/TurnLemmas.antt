@@ -1,0 +1,96 @@
+-- How the steps of a turn join.
+use Rattle.std.proofs.Common.{◌≡◌, ℕ, ◌<◌, ◌≤◌, ◌+◌, ◌-◌, List, [], ◌∷◌, ◌++◌, length, length-append, take, drop, Option, None, Some, IfSome, Result, Ok, Err, arith, refl, sym, ap, ◌∙◌, append_assoc, length-drop}
+use Rattle.std.specs.Io.KnownBytes.{Keeps, Consumes, Appends, IsAtEnd, prepend_known}
+use Rattle.std.proofs.KnownBytes.{Keeps-refl, Keeps-trans, prepend_known-read}
+use Rattle.std.proofs.lemmas.List.{drop-drop, take-append-drop, length-take-le}
+use Rattle.ofx_ports.specs.Faults.{Rose}
+use Rattle.ofx_types.specs.declared.number.Moment.{Moment}
+use Rattle.bank_core.specs.BookView.{BookView}
+use Rattle.bank_session.specs.Frames.{IsLength, length_line, frame, frame_head}
+use Rattle.bank_session.specs.Coming.{HoldsFrame}
+use Rattle.bank_session.specs.Turns.{TurnMade, NoTurn, WriteBroke, TurnStops}
+use Rattle.bank_session.specs.TurnResult.{FrameWritten, FrameBroke, FrameResult, TurnResult}
+use Rattle.bank_session.specs.declared.frame_head.FrameSize.{FrameSize}
+use Rattle.bank_session.specs.declared.stop.Stop.{Stop}
+use Rattle.bank_session.specs.declared.stop.Stop.TheVariants as stops
+use Rattle.bank_session.proofs.Agreement.{parted}
+
+-- the file in a frame that is ahead, as a slice gives it
+abbrev pub file_in : List ℕ → FrameSize → List ℕ
+file_in ahead size = take (size.head + size.file - size.head) (drop size.head ahead)
+
+file_length : (ahead : List ℕ) (size : FrameSize) → HoldsFrame ahead size → length (file_in ahead size) ≡ size.file
+file_length ahead size holds =
+    length-take-le (size.head + size.file - size.head) (drop size.head ahead) (omega (arith, holds.whole, length-drop size.head ahead)) ∙ omega arith
+
+pub file_fits : (ahead : List ℕ) (size : FrameSize) → HoldsFrame ahead size → IsLength (length (file_in ahead size))
+file_fits ahead size holds = omega (arith, file_length ahead size holds, holds.begins.length_fits)
+
+-- what is ahead is the frame, and what follows it
+pub frame_ahead : (ahead : List ℕ) (size : FrameSize) → HoldsFrame ahead size → ahead ≡ frame (file_in ahead size) ++ drop (size.head + size.file) ahead
+frame_ahead ahead size holds =
+    let same : size.head + (size.head + size.file - size.head) ≡ size.head + size.file = omega arith in
+    let behind : drop size.head ahead ≡ file_in ahead size ++ drop (size.head + size.file) ahead =
+    sym (take-append-drop (size.head + size.file - size.head) (drop size.head ahead))
+    ∙ ap (λ (l : List ℕ). file_in ahead size ++ l) (drop-drop (size.head + size.file - size.head) size.head ahead ∙ ap (λ (k : ℕ). drop k ahead) same) in
+    parted ahead size holds.begins
+    ∙ (ap (λ (l : List ℕ). frame_head size.file ++ l) behind
+    ∙ (ap (λ (n : ℕ). frame_head n ++ (file_in ahead size ++ drop (size.head + size.file) ahead)) (sym (file_length ahead size holds))
+    ∙ sym (append_assoc (frame_head (length (file_in ahead size))) (file_in ahead size) (drop (size.head + size.file) ahead))))
+
+head_there : (n : ℕ) → 0 < length (frame_head n)
+unfolding frame_head
+head_there n = omega (arith, length-append (length_line n) (10 ∷ []))
+
+-- a frame has bytes
+pub frame_there : (ahead : List ℕ) (size : FrameSize) → HoldsFrame ahead size → 0 < length ahead
+frame_there ahead size holds =
+    omega (arith, ap length (parted ahead size holds.begins), length-append (frame_head size.file) (drop size.head ahead), head_there size.file)
+
+-- a frame that is used up is consumed of what was to come
+pub frame_consumed : (coming left : Option (List ℕ)) (ahead later bytes : List ℕ) → Keeps coming (prepend_known ahead left) → ahead ≡ bytes ++ later → Consumes coming (prepend_known later left) bytes
+frame_consumed coming left ahead later bytes kept e = (prepend_known-read coming left ahead later bytes ⊥ kept e (λ h. absurd h)).0
+
+-- what is ahead begins what is to come
+begins_coming : (left : Option (List ℕ)) (ahead later bytes tail : List ℕ) → later ≡ ahead → ahead ≡ bytes ++ tail → IfSome (prepend_known later left) (λ rest. (more : List ℕ) × (rest ≡ bytes ++ more))
+begins_coming None ahead later bytes tail same e = tt
+begins_coming (Some xs) ahead later bytes tail same e = (tail ++ xs, ap (λ (l : List ℕ). l ++ xs) (same ∙ e) ∙ append_assoc bytes tail xs)
+
+still_coming : (coming left : Option (List ℕ)) (ahead later : List ℕ) → Keeps coming (prepend_known ahead left) → later ≡ ahead → Keeps coming (prepend_known later left)
+still_coming coming left ahead later kept same = rw same kept
+
+-- a frame that was answered makes the turn
+pub turn_made : (at : Moment) (before after : BookView) (coming left held now : Option (List ℕ)) (ahead later : List ℕ) → Keeps coming (prepend_known ahead left) → FrameWritten at before after ahead later held now → TurnMade at before after coming (prepend_known later left) held now
+turn_made at before after coming left held now ahead later kept written = record {
+  file = written.file;
+  line = written.line;
+  fits = written.fits;
+  says = written.says;
+  setup = written.setup;
+  read = frame_consumed coming left ahead later (frame written.file) kept written.read;
+  written = written.written;
+}
+
+-- a frame that wasn't stops the run
+pub turn_stopped : (at : Moment) (before after : BookView) (coming left held now : Option (List ℕ)) (ahead later : List ℕ) (reads reads' writes writes' : ℕ) (stop : Stop) → Keeps coming (prepend_known ahead left) → FrameResult at before after ahead later held now writes writes' (Err stop) →
+    TurnStops at before coming later left held now reads reads' writes writes' stop
+turn_stopped at before after coming left held now ahead later reads reads' writes writes' stops.WriteFailed kept h = (
+  record {
+    file = h.0.file;
+    line = h.0.line;
+    next = after;
+    count = h.0.count;
+    fits = h.0.fits;
+    says = h.0.says;
+    kept = still_coming coming left ahead later kept h.0.kept;
+    begins = begins_coming left ahead later (frame h.0.file) h.0.tail h.0.kept h.0.begins;
+    written = h.0.written;
+  },
+  h.1,
+)
+turn_stopped at before after coming left held now ahead later reads reads' writes writes' stops.NoMemory kept h =
+    record { kept = still_coming coming left ahead later kept h.0; unwritten = h.1 }
+turn_stopped at before after coming left held now ahead later reads reads' writes writes' stops.ReadFailed kept h = absurd h
+turn_stopped at before after coming left held now ahead later reads reads' writes writes' stops.Frame kept h = absurd h
+turn_stopped at before after coming left held now ahead later reads reads' writes writes' stops.Usage kept h = absurd h
+turn_stopped at before after coming left held now ahead later reads reads' writes writes' stops.Setup kept h = absurd h

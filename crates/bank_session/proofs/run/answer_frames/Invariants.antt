@@ -1,0 +1,16 @@
+use Rattle.std.proofs.Common.{◌-◌, ◌≤◌}
+use Rattle.std.specs.Io.KnownBytes.{prepend_known}
+use Rattle.bank_session.proofs.Standing.{Standing}
+use Rattle.bank_session.proofs.run.answer_frames.Given as goal
+
+-- so many turns are taken, and no count of faults has fallen
+abbrev pub invariant-loop-turns : goal.invariant-loop-turns
+invariant-loop-turns g l = record {
+  standing : Standing l.fn.setup l.at (g.B.Source.left l.fn.input) (g.W.Sink.held l.fn.out) l.turns l.desk (prepend_known l.ahead (g.B.Source.left l.input)) (g.W.Sink.held l.out);
+  few : l.turns ≤ 1000000;
+  reads : g.B.Source.faults l.fn.input ≤ g.B.Source.faults l.input;
+  writes : g.W.Sink.faults l.fn.out ≤ g.W.Sink.faults l.out;
+}
+
+abbrev pub decreases-loop-turns : goal.decreases-loop-turns
+decreases-loop-turns g l = 1000000 - l.turns

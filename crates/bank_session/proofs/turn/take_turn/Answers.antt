@@ -1,0 +1,13 @@
+use Rattle.std.proofs.Common.{◌∙◌}
+use Rattle.std.proofs.lemmas.Result.{err_from_is_err_and}
+use Rattle.bank_session.proofs.TurnLemmas.{turn_made, turn_stopped}
+use Rattle.bank_session.proofs.turn.take_turn.Goals as goal
+
+pub returns-in_err-answer_frame-in-Ok-Frame-clause-turn : goal.returns-in_err-answer_frame-in-Ok-Frame-clause-turn
+returns-in_err-answer_frame-in-Ok-Frame-clause-turn g c =
+    let p = err_from_is_err_and c.from_residual.result c.from_residual.ensures.1 in
+    rw (p.1, p.2) (turn_stopped c.args.at c.args.desk.now c.answer_frame.new.desk _ _ _ _ _ _ _ _ _ _ c.in_err-answer_frame-in-Ok-Frame.field-0.0 c.in-Ok-Frame.ensures.kept c.in_err-answer_frame-in-Ok-Frame.ensures.turn)
+
+pub returns-in_ok-answer_frame-in-Ok-Frame-clause-turn : goal.returns-in_ok-answer_frame-in-Ok-Frame-clause-turn
+returns-in_ok-answer_frame-in-Ok-Frame-clause-turn g c =
+    turn_made c.args.at c.args.desk.now c.answer_frame.new.desk _ _ _ _ _ _ c.in-Ok-Frame.ensures.kept c.in_ok-answer_frame-in-Ok-Frame.ensures.turn
