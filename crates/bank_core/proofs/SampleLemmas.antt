@@ -13,7 +13,7 @@ use Rattle.bank_model.specs.declared.setup.Setup.{Setup}
 use Rattle.bank_model.specs.Rules.{account_named}
 use Rattle.bank_core.specs.AccountView.{AccountView}
 use Rattle.bank_core.specs.HeldAccounts.{IsHeld, AreHeld}
-use Rattle.bank_model.specs.SetupForm.{is_word_byte, IsWord, IsUser, IsAccountOf, IsWithinLimits}
+use Rattle.bank_model.specs.SetupForm.{is_word_byte, IsWord, IsUser, IsAccountOf, KeepsLineLimits, IsWithinLimits}
 use Rattle.bank_core.specs.Sample.{account_name, alice, bob, sample}
 
 word : (bytes : List ℕ) → 0 < length bytes → length bytes ≤ 32 → list_all is_word_byte bytes ≡ true → IsWord bytes
@@ -45,9 +45,9 @@ savings = record {
   once = ((refl, tt), (tt, tt));
 }
 
-pub sample_within : IsWithinLimits sample
+sample_lines : KeepsLineLimits sample
 unfolding IsDistinct
-sample_within = record {
+sample_lines = record {
   bank = word (codes "121099999") (lit< tt) (lit≤ tt) refl;
   lead = lit≤ tt;
   window_low = lit≤ tt;
@@ -66,8 +66,10 @@ sample_within = record {
   accounts = (checking, (savings, tt));
   numbers = ((refl, tt), (tt, tt));
   sum = omega (arith, ints);
-  objects = lit≤ tt;
 }
+
+pub sample_within : IsWithinLimits sample
+sample_within = record { lines = sample_lines; objects = lit≤ tt }
 
 -- Where the first account is held and one ask names it, each account named is held.
 pub held_checking : (setup : Setup) (accounts : List AccountView) (amount : Cents) (ask : Ask) (asks : List Ask) → setup ≡ sample → accounts ≡ record { number = record { 0 = 0 }; balance = amount } ∷ [] → asks ≡ ask ∷ [] → account_named sample ask ≡ Some (record { 0 = 0 }) → AreHeld accounts (map (account_named setup) asks)

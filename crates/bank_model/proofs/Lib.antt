@@ -2,4 +2,6 @@ pub mod SetupWords
 pub mod SetupNumbers
 pub mod SetupLines
 pub mod SetupParts
+pub mod SetupGrowth
+pub mod SetupSpelled
 pub mod SetupLaws

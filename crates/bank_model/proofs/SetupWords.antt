@@ -1,7 +1,8 @@
 -- Bytes that are cut at a mark, lines and their ends, and words.
 use Rattle.std.proofs.Common.{◌≡◌, ℕ, suc, ◌+◌, ◌-◌, ◌<◌, ◌≤◌, ◌⊎◌, Bool, true, false, cond, not, ◌&&◌, eqb, ltb, leb, List, [], ◌∷◌, ◌++◌, length, get_or, take, drop, reverse, Option, Some, None, refl, sym, ap, ◌∙◌, append_assoc, arith, inl, inr}
 use Rattle.std.specs.Str.{bytes_eq}
-use Rattle.std.specs.List.{position_or_len, list_all, onto_first}
+use Rattle.std.specs.Str.Lines.{strip_carriage_return}
+use Rattle.std.specs.List.{position_or_len, list_all, onto_first, slice_split}
 use Rattle.std.proofs.lemmas.Bool.{eqb-true, eq-eqb, ne_eqb, lt-ltb, le-ltb, ltb-true, ltb-false, leb-true, and_parts, and_from, not-true, not_from_false}
 use Rattle.std.proofs.lemmas.List.Folds.{list_all-append}
 use Rattle.ofx_types.specs.TextRules.{is_white, trim_start, trim_end, trimmed}
@@ -9,7 +10,7 @@ use Rattle.std.proofs.lemmas.List.{reverse-append, reverse-reverse, length-appen
 use Rattle.std.proofs.lemmas.List.Recursion.{and_at}
 use Rattle.std.proofs.lemmas.Slice.Eq.{bytes_eq-Decides}
 use Rattle.bank_model.specs.SetupForm.{is_word_byte, IsWord}
-use Rattle.bank_model.specs.SetupReading.{◌>>=◌, unless, cut, behind_key, is_word_form, without_return, line_at, words_of}
+use Rattle.bank_model.specs.SetupReading.{◌>>=◌, unless, cut, behind_key, is_word_form, line_at, words_of}
 
 eqb_self : (n : ℕ) → eqb n n ≡ true
 eqb_self n = eq-eqb n n refl
@@ -121,31 +122,40 @@ cut_joined mark (b ∷ bs) = by_cases (eqb b mark) refl (cut_joined mark bs)
 pub cut_back : (mark : ℕ) (bytes : List ℕ) (parts : List ℕ × List ℕ) → cut mark bytes ≡ Some parts → bytes ≡ parts.0 ++ mark ∷ parts.1
 cut_back mark bytes parts h = let all = cut_joined mark bytes in rw h at all
 
--- ---- the words of a line
+-- ---- the parts between marks
 
--- the words, where the line is cut at a space
-abbrev AreWords : List (List ℕ) → List ℕ → Option (List ℕ × List ℕ) → Type 0
-AreWords words bytes None = words ≡ bytes ∷ []
-AreWords words bytes (Some parts) = words ≡ parts.0 ∷ words_of parts.1
+abbrev pub parts_of : ℕ → List ℕ → List (List ℕ)
+parts_of mark bytes = slice_split (λ (b : ℕ). eqb b mark) bytes
 
-words_behind : (b : ℕ) (bs : List ℕ) (words : List (List ℕ)) (found : Option (List ℕ × List ℕ)) → AreWords words bs found → AreWords (onto_first b words) (b ∷ bs) (found >>= λ parts. Some (b ∷ parts.0, parts.1))
-words_behind b bs words None h = ap (onto_first b) h
-words_behind b bs words (Some parts) h = ap (onto_first b) h
+-- the parts, where the bytes are cut at the first mark
+abbrev AreParts : ℕ → List (List ℕ) → List ℕ → Option (List ℕ × List ℕ) → Type 0
+AreParts mark all bytes None = all ≡ bytes ∷ []
+AreParts mark all bytes (Some parts) = all ≡ parts.0 ∷ parts_of mark parts.1
 
-words_cut : (bytes : List ℕ) → AreWords (words_of bytes) bytes (cut 32 bytes)
+parts_behind_byte : (mark b : ℕ) (bs : List ℕ) (all : List (List ℕ)) (found : Option (List ℕ × List ℕ)) → AreParts mark all bs found → AreParts mark (onto_first b all) (b ∷ bs) (found >>= λ parts. Some (b ∷ parts.0, parts.1))
+parts_behind_byte mark b bs all None h = ap (onto_first b) h
+parts_behind_byte mark b bs all (Some parts) h = ap (onto_first b) h
+
+parts_cut : (mark : ℕ) (bytes : List ℕ) → AreParts mark (parts_of mark bytes) bytes (cut mark bytes)
 unfolding cut
-words_cut [] = refl
-words_cut (b ∷ bs) =
-    elim (eqb b 32) as (λ t. AreWords (cond t ([] ∷ words_of bs) (onto_first b (words_of bs))) (b ∷ bs) (cond t (Some ([], bs)) (cut 32 bs >>= λ parts. Some (b ∷ parts.0, parts.1)))) [
+parts_cut mark [] = refl
+parts_cut mark (b ∷ bs) =
+    elim (eqb b mark) as (λ t. AreParts mark (cond t ([] ∷ parts_of mark bs) (onto_first b (parts_of mark bs))) (b ∷ bs) (cond t (Some ([], bs)) (cut mark bs >>= λ parts. Some (b ∷ parts.0, parts.1)))) [
       | true ↦ refl
-      | false ↦ words_behind b bs (words_of bs) (cut 32 bs) (words_cut bs)
+      | false ↦ parts_behind_byte mark b bs (parts_of mark bs) (cut mark bs) (parts_cut mark bs)
     ]
 
+pub parts_next : (mark : ℕ) (bytes front rest : List ℕ) → Some (front, rest) ≡ cut mark bytes → parts_of mark bytes ≡ front ∷ parts_of mark rest
+parts_next mark bytes front rest h = let all = parts_cut mark bytes in rw (← h) at all
+
+pub parts_last : (mark : ℕ) (bytes : List ℕ) → None ≡ cut mark bytes → parts_of mark bytes ≡ bytes ∷ []
+parts_last mark bytes h = let all = parts_cut mark bytes in rw (← h) at all
+
 pub words_next : (bytes front rest : List ℕ) → Some (front, rest) ≡ cut 32 bytes → words_of bytes ≡ front ∷ words_of rest
-words_next bytes front rest h = let all = words_cut bytes in rw (← h) at all
+words_next bytes front rest h = parts_next 32 bytes front rest h
 
 pub words_last : (bytes : List ℕ) → None ≡ cut 32 bytes → words_of bytes ≡ bytes ∷ []
-words_last bytes h = let all = words_cut bytes in rw (← h) at all
+words_last bytes h = parts_last 32 bytes h
 
 -- ---- a key, and what stands behind it
 
@@ -171,38 +181,33 @@ behind_other key other rest h differs = rw (cut_there 32 other rest h, differs) 
 free_at : (mark : ℕ) (bytes : List ℕ) (i : ℕ) → i < length bytes → is_free mark bytes ≡ true → eqb (get_or bytes i 0) mark ≡ false
 free_at mark bytes i lt h = not-true _ (and_at (is_free mark) (λ b. not (eqb b mark)) refl (λ _ _. refl) bytes i 0 lt h)
 
--- the last byte decides
-return_at : (b : ℕ) (bs : List ℕ) → without_return (b ∷ bs) ≡ cond (eqb (get_or (b ∷ bs) (length (b ∷ bs) - 1) 0) 13) (take (length (b ∷ bs) - 1) (b ∷ bs)) (b ∷ bs)
-return_at b bs = rw (some_bytes b bs) refl
-
-pub return_kept : (line : List ℕ) → is_free 13 line ≡ true → without_return line ≡ line
+pub return_kept : (line : List ℕ) → is_free 13 line ≡ true → strip_carriage_return line ≡ line
 return_kept [] h = refl
 return_kept (b ∷ bs) h =
     let last : eqb (get_or (b ∷ bs) (length (b ∷ bs) - 1) 0) 13 ≡ false = free_at 13 (b ∷ bs) (length (b ∷ bs) - 1) (omega arith) h in
-    return_at b bs ∙ rw last refl
+    rw last refl
 
-pub return_dropped : (line : List ℕ) → without_return (line ++ 13 ∷ []) ≡ line
+pub return_dropped : (line : List ℕ) → strip_carriage_return (line ++ 13 ∷ []) ≡ line
 return_dropped line =
     let long : length (line ++ 13 ∷ []) ≡ length line + 1 = length-append line (13 ∷ []) in
-    let some : eqb (length (line ++ 13 ∷ [])) 0 ≡ false = ne_eqb _ _ (λ e. omega (arith, long, e)) in
     let last : length (line ++ 13 ∷ []) - 1 ≡ length line = omega (arith, long) in
     let byte : get_or (line ++ 13 ∷ []) (length line) 0 ≡ 13 = get_or_at line 13 [] 0 (length line) refl in
-    rw (some, last, byte) (take_at line (13 ∷ []) (length line) refl)
+    rw (last, byte) (take_at line (13 ∷ []) (length line) refl)
 
 -- a line is what it is without the CR at its end, or that and a CR
-pub return_back : (line : List ℕ) → (line ≡ without_return line) ⊎ (line ≡ without_return line ++ 13 ∷ [])
+pub return_back : (line : List ℕ) → (line ≡ strip_carriage_return line) ⊎ (line ≡ strip_carriage_return line ++ 13 ∷ [])
 return_back [] = inl refl
 return_back (b ∷ bs) = by_cases (eqb (get_or (b ∷ bs) (length (b ∷ bs) - 1) 0) 13) refl
   where
-    by_cases : (t : Bool) → eqb (get_or (b ∷ bs) (length (b ∷ bs) - 1) 0) 13 ≡ t → (b ∷ bs ≡ without_return (b ∷ bs)) ⊎ (b ∷ bs ≡ without_return (b ∷ bs) ++ 13 ∷ [])
-    by_cases false h =
-        let kept : without_return (b ∷ bs) ≡ b ∷ bs = return_at b bs ∙ ap (λ (t : Bool). cond t (take (length (b ∷ bs) - 1) (b ∷ bs)) (b ∷ bs)) h in
-        inl (sym kept)
+    chosen : (t : Bool) → eqb (get_or (b ∷ bs) (length (b ∷ bs) - 1) 0) 13 ≡ t → strip_carriage_return (b ∷ bs) ≡ cond t (take (length (b ∷ bs) - 1) (b ∷ bs)) (b ∷ bs)
+    chosen t h = ap (λ (t : Bool). cond t (take (length (b ∷ bs) - 1) (b ∷ bs)) (b ∷ bs)) h
+
+    by_cases : (t : Bool) → eqb (get_or (b ∷ bs) (length (b ∷ bs) - 1) 0) 13 ≡ t → (b ∷ bs ≡ strip_carriage_return (b ∷ bs)) ⊎ (b ∷ bs ≡ strip_carriage_return (b ∷ bs) ++ 13 ∷ [])
+    by_cases false h = inl (sym (chosen false h))
     by_cases true h =
-        let dropped : without_return (b ∷ bs) ≡ take (length (b ∷ bs) - 1) (b ∷ bs) = return_at b bs ∙ ap (λ (t : Bool). cond t (take (length (b ∷ bs) - 1) (b ∷ bs)) (b ∷ bs)) h in
         let all : take (length (b ∷ bs) - 1 + 1) (b ∷ bs) ≡ b ∷ bs = take_all _ _ (omega arith) in
         let more : take (length (b ∷ bs) - 1 + 1) (b ∷ bs) ≡ take (length (b ∷ bs) - 1) (b ∷ bs) ++ get_or (b ∷ bs) (length (b ∷ bs) - 1) 0 ∷ [] = take_more (b ∷ bs) (length (b ∷ bs) - 1) 0 (omega arith) in
-        inr (sym all ∙ more ∙ ap (λ (x : ℕ). take (length (b ∷ bs) - 1) (b ∷ bs) ++ x ∷ []) (eqb-true _ 13 h) ∙ ap (λ (l : List ℕ). l ++ 13 ∷ []) (sym dropped))
+        inr (sym all ∙ more ∙ ap (λ (x : ℕ). take (length (b ∷ bs) - 1) (b ∷ bs) ++ x ∷ []) (eqb-true _ 13 h) ∙ ap (λ (l : List ℕ). l ++ 13 ∷ []) (sym (chosen true h)))
 
 pub line_there_lf : (line rest : List ℕ) → is_free 10 line ≡ true → is_free 13 line ≡ true → line_at (line ++ 10 ∷ rest) ≡ Some (line, rest)
 unfolding line_at
@@ -223,9 +228,9 @@ line_there_crlf line rest no_lf =
 pub line_back : (bytes : List ℕ) (line rest : List ℕ) → line_at bytes ≡ Some (line, rest) → (bytes ≡ line ++ 10 ∷ rest) ⊎ (bytes ≡ line ++ 13 ∷ 10 ∷ rest)
 unfolding line_at
 line_back bytes line rest h =
-    let a = bind_some (cut 10 bytes) (λ parts. Some (without_return parts.0, parts.1)) (line, rest) h in
-    let e : (without_return a.0.0, a.0.1) ≡ (line, rest) = some_is (without_return a.0.0, a.0.1) (line, rest) a.2 in
-    let line_is : without_return a.0.0 ≡ line = ap (λ (p : List ℕ × List ℕ). p.0) e in
+    let a = bind_some (cut 10 bytes) (λ parts. Some (strip_carriage_return parts.0, parts.1)) (line, rest) h in
+    let e : (strip_carriage_return a.0.0, a.0.1) ≡ (line, rest) = some_is (strip_carriage_return a.0.0, a.0.1) (line, rest) a.2 in
+    let line_is : strip_carriage_return a.0.0 ≡ line = ap (λ (p : List ℕ × List ℕ). p.0) e in
     let rest_is : a.0.1 ≡ rest = ap (λ (p : List ℕ × List ℕ). p.1) e in
     let whole : bytes ≡ a.0.0 ++ 10 ∷ rest = cut_back 10 bytes a.0 a.1 ∙ ap (λ (l : List ℕ). a.0.0 ++ 10 ∷ l) rest_is in
     elim (return_back a.0.0) [

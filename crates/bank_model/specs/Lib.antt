@@ -1,4 +1,5 @@
 pub mod SetupForm
+pub mod SetupFault
 pub mod SetupLookups
 pub mod SetupOutcome
 pub mod SetupReading

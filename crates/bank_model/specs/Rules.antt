@@ -1,13 +1,11 @@
 -- What a bank answers to an event, and the state that it leaves.
-use Rattle.std.specs.Prelude.{◌≡◌, ℕ, ◌<◌, ℤ, pos, negsuc, ◌≤ℤ◌, Bool, List, [], ◌∷◌, length, map, Option, None, Some, unwrap_or, if◌then◌else◌}
-use Rattle.std.specs.List.{flat_map}
+use Rattle.std.specs.Prelude.{ℕ, ◌<◌, pos, negsuc, List, [], length, map, Option, None, Some, unwrap_or, if◌then◌else◌}
 use Rattle.std.specs.Int.{int_max}
 use Rattle.ofx_types.specs.Calendar.{day_of}
 use Rattle.ofx_types.specs.ReplyForm.{reply_text}
 use Rattle.ofx_types.specs.declared.number.AcctId.{AcctId}
 use Rattle.ofx_types.specs.declared.number.UserId.{UserId}
 use Rattle.ofx_types.specs.declared.number.Cents.{Cents}
-use Rattle.ofx_types.specs.declared.number.Day.{Day}
 use Rattle.ofx_types.specs.declared.number.Moment.{Moment}
 use Rattle.ofx_types.specs.declared.account.AcctName.{AcctName}
 use Rattle.ofx_types.specs.declared.request.Period.{Period}

@@ -69,8 +69,8 @@ pub record IsUser (user : User) : Type 0 where
   pub name : IsWord user.name
   pub pass : IsWord user.pass
 
--- The limits of a setup.
-pub record IsWithinLimits (setup : Setup) : Type 0 where
+-- The limits that the lines of a setup keep one by one.
+pub record KeepsLineLimits (setup : Setup) : Type 0 where
   pub bank : IsWord setup.bank
   pub lead : setup.lead ≤ 30
   pub window_low : 1 ≤ setup.window
@@ -86,8 +86,16 @@ pub record IsWithinLimits (setup : Setup) : Type 0 where
   pub accounts : AllByRecursion (IsAccountOf setup.bank setup.users) setup.accounts
   pub numbers : IsDistinct (λ (a b : AccountLine). same_account a.name b.name) setup.accounts
   pub sum : openings setup.accounts ≤ℤ pos 9999999999999
-  -- each account has three objects and each user one
-  pub objects : setup.window * (3 * length setup.accounts + length setup.users) ≤ 1000000
+
+-- The most entries kept for synchronisation: a window for each object. Each account has three objects and each user
+-- one.
+abbrev pub kept : Setup → ℕ
+kept setup = setup.window * (3 * length setup.accounts + length setup.users)
+
+-- The limits of a setup.
+pub record IsWithinLimits (setup : Setup) : Type 0 where
+  pub lines : KeepsLineLimits setup
+  pub objects : kept setup ≤ 1000000
 
 -- The bytes spell the setup.
 pub record SpellsSetup (bytes : List ℕ) (setup : Setup) : Type 0 where

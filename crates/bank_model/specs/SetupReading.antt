@@ -1,7 +1,9 @@
--- Reading a setup from left to right, line by line. What is read is nothing where a line has no form or passes a limit.
-use Rattle.std.specs.Prelude.{◌≡◌, ℕ, ◌+◌, ◌-◌, ◌*◌, pos, ◌+ℤ◌, Bool, false, ◌==◌, nat_le, nat_lt, int_le, not, List, [], ◌∷◌, ◌++◌, length, map, take, slice_index, codes, Option, None, Some, Result, Ok, Err, position, if◌then◌else◌}
+-- Reading a setup from left to right, line by line. A line that has no form or passes a limit is read as nothing, and
+-- the setup's fault is there.
+use Rattle.std.specs.Prelude.{◌≡◌, ℕ, ◌+◌, ◌≤◌, pos, ◌+ℤ◌, Bool, false, ◌||◌, ◌==◌, nat_le, nat_lt, int_le, not, List, [], ◌∷◌, ◌++◌, length, take, slice_index, codes, Option, None, Some, Result, Ok, Err, position, if◌then◌else◌}
 use Rattle.std.specs.Str.{bytes_eq}
 use Rattle.std.specs.Char.{is_ascii_digit}
+use Rattle.std.specs.Str.Lines.{strip_carriage_return}
 use Rattle.std.specs.Str.Parse.{digits_value}
 use Rattle.std.specs.List.{list_any, list_all, slice_split}
 use Rattle.ofx_types.specs.declared.account.AcctKind.{AcctKind}
@@ -16,7 +18,8 @@ use Rattle.bank_model.specs.declared.setup.Setup.{Setup}
 use Rattle.bank_model.specs.declared.setup.SetupFault.{SetupFault}
 use Rattle.bank_model.specs.declared.setup.SetupFault.TheVariants as faults
 use Rattle.bank_model.specs.declared.setup.draft.Draft.{Draft}
-use Rattle.bank_model.specs.SetupForm.{is_word_byte}
+use Rattle.bank_model.specs.SetupForm.{is_word_byte, kept}
+use Rattle.bank_model.specs.SetupFault.{lines_within}
 
 infixl 10 ◌>>=◌
 abbrev pub ◌>>=◌ : {A B : Type 0} → Option A → (A → Option B) → Option B
@@ -27,15 +30,15 @@ None >>= f = None
 abbrev pub unless : {A : Type 0} → Bool → Option A → Option A
 unless test found = if test then None else found
 
--- Memory may be refused without a cause. A fault has one.
-abbrev pub Refuses : SetupFault → Type 0 → Type 0
-Refuses (faults.SetupLine k) cause = cause
-Refuses faults.OutOfMemory cause = Unit {0}
+-- Memory may be refused without a cause. A line is named where reading has its fault there.
+abbrev pub Names : {Y : Type 0} → SetupFault → Result Y ℕ → Type 0
+Names (faults.SetupLine k) read = read ≡ Err k
+Names faults.OutOfMemory read = Unit {0}
 
 -- What a function returned, seen by view, is what reading gives, unless memory was refused.
-abbrev pub Gives : {X Y : Type 0} → (X → Y) → Result X SetupFault → Option Y → Type 0
-Gives view (Ok x) read = read ≡ Some (view x)
-Gives view (Err fault) read = Refuses fault (read ≡ None)
+abbrev pub Gives : {X Y : Type 0} → (X → Y) → Result X SetupFault → Result Y ℕ → Type 0
+Gives view (Ok x) read = read ≡ Ok (view x)
+Gives view (Err fault) read = Names fault read
 
 -- the bytes before and behind the first byte that is the mark
 unfoldable pub cut : ℕ → List ℕ → Option (List ℕ × List ℕ)
@@ -68,17 +71,11 @@ number_within lowest highest word = do
   n ← number_of word
   unless (nat_lt n lowest) (unless (nat_lt highest n) (Some n))
 
--- a line without the CR at its end
-abbrev pub without_return : List ℕ → List ℕ
-without_return line =
-    if length line == 0 then line
-    else (if slice_index line (length line - 1) == 13 then take (length line - 1) line else line)
-
 -- the first line without its end, and what stands behind it
 unfoldable pub line_at : List ℕ → Option (List ℕ × List ℕ)
 line_at bytes = do
   parts ← cut 10 bytes
-  Some (without_return parts.0, parts.1)
+  Some (strip_carriage_return parts.0, parts.1)
 
 unfoldable pub bank_at : List ℕ → Option (List ℕ)
 bank_at line = do
@@ -164,71 +161,82 @@ abbrev pub with_user_or_account : Draft → Option (List ℕ) → List ℕ → O
 with_user_or_account draft (Some fields) line = with_user draft fields
 with_user_or_account draft None line = behind_key (codes "ACCT") line >>= with_account draft
 
--- a line more, which is a user or an account
-unfoldable pub with_line : Draft → List ℕ → Option Draft
-with_line draft line = with_user_or_account draft (behind_key (codes "USER") line) line
+-- a line behind the first five, which is a user or an account
+unfoldable pub with_body_line : Draft → List ℕ → Option Draft
+with_body_line draft line = with_user_or_account draft (behind_key (codes "USER") line) line
 
-unfoldable pub first_at : List ℕ → Option (List ℕ)
-first_at bytes = do
-  parts ← line_at bytes
-  if bytes_eq parts.0 (codes "OFXBANK 1") then Some parts.1 else None
+-- the line of the format
+abbrev pub with_format : Draft → List ℕ → Option Draft
+with_format draft line = if bytes_eq line (codes "OFXBANK 1") then Some draft else None
 
-unfoldable pub bank_line_at : List ℕ → Option (List ℕ × List ℕ)
-bank_line_at bytes = do
-  parts ← line_at bytes
-  bank ← bank_at parts.0
-  Some (bank, parts.1)
+unfoldable pub with_bank : Draft → List ℕ → Option Draft
+with_bank draft line = bank_at line >>= λ bank. Some (record draft { setup = record draft.setup { bank = bank } })
 
-unfoldable pub limit_line_at : List ℕ → ℕ → ℕ → List ℕ → Option (ℕ × List ℕ)
-limit_line_at key lowest highest bytes = do
-  parts ← line_at bytes
-  word ← behind_key key parts.0
-  n ← number_within lowest highest word
-  Some (n, parts.1)
+-- the number behind the key, from the lowest to the highest
+unfoldable pub limit_at : List ℕ → ℕ → ℕ → List ℕ → Option ℕ
+limit_at key lowest highest line = behind_key key line >>= number_within lowest highest
 
--- the first five lines
-unfoldable pub head_at : List ℕ → Option (Draft × List ℕ)
-head_at bytes = do
-  rest ← first_at bytes
-  bank ← bank_line_at rest
-  lead ← limit_line_at (codes "LEAD") 0 30 bank.1
-  window ← limit_line_at (codes "WINDOW") 1 10000 lead.1
-  entries ← limit_line_at (codes "ENTRIES") 1 9999999999 window.1
-  Some (record { setup = record { bank = bank.0; users = []; accounts = []; lead = lead.0; window = window.0; entries = entries.0 }; openings = record { 0 = pos 0 } }, entries.1)
+unfoldable pub with_lead : Draft → List ℕ → Option Draft
+with_lead draft line = limit_at (codes "LEAD") 0 30 line >>= λ lead. Some (record draft { setup = record draft.setup { lead = lead } })
 
-abbrev pub onto_line : ℕ → Option (List (List ℕ)) → Option (List (List ℕ))
-onto_line b None = None
-onto_line b (Some []) = None
-onto_line b (Some (line ∷ lines)) = Some ((b ∷ line) ∷ lines)
+unfoldable pub with_window : Draft → List ℕ → Option Draft
+with_window draft line = limit_at (codes "WINDOW") 1 10000 line >>= λ window. Some (record draft { setup = record draft.setup { window = window } })
 
--- the lines of the bytes without their LF, where each has one
-unfoldable pub lines_in : List ℕ → Option (List (List ℕ))
-lines_in [] = Some []
-lines_in (b ∷ bs) = if b == 10 then (lines_in bs >>= λ lines. Some ([] ∷ lines)) else onto_line b (lines_in bs)
+unfoldable pub with_entries : Draft → List ℕ → Option Draft
+with_entries draft line = limit_at (codes "ENTRIES") 1 9999999999 line >>= λ entries. Some (record draft { setup = record draft.setup { entries = entries } })
 
--- the lines of the bytes without their ends
-abbrev pub lines_at : List ℕ → Option (List (List ℕ))
-lines_at bytes = lines_in bytes >>= λ lines. Some (map without_return lines)
+-- the line of that number more, from 1
+unfoldable pub with_line : ℕ → Draft → List ℕ → Option Draft
+with_line number draft line =
+    if number == 1 then with_format draft line
+    else (if number == 2 then with_bank draft line
+    else (if number == 3 then with_lead draft line
+    else (if number == 4 then with_window draft line
+    else (if number == 5 then with_entries draft line else with_body_line draft line))))
 
--- the draft with the lines
-unfoldable pub with_lines : Draft → List (List ℕ) → Option Draft
-with_lines draft [] = Some draft
-with_lines draft (line ∷ lines) = do
-  next ← with_line draft line
-  with_lines next lines
+-- no line is read
+abbrev pub unread : Draft
+unread = record { setup = record { bank = []; users = []; accounts = []; lead = 0; window = 0; entries = 0 }; openings = record { 0 = pos 0 } }
 
-abbrev pub body_at : Draft → List ℕ → Option Draft
-body_at draft bytes = lines_at bytes >>= with_lines draft
+-- on with the draft, and otherwise a fault at the line of that number
+abbrev pub or_fault_at : ℕ → Option Draft → (Draft → Result Draft ℕ) → Result Draft ℕ
+or_fault_at number None further = Err number
+or_fault_at number (Some draft) further = further draft
 
-unfoldable pub draft_at : List ℕ → Option Draft
-draft_at bytes = do
-  head ← head_at bytes
-  body_at head.0 head.1
+-- the draft with the lines, of which the first has that number
+unfoldable pub with_lines : ℕ → Draft → List (List ℕ) → Result Draft ℕ
+with_lines number draft [] = Ok draft
+with_lines number draft (line ∷ lines) = or_fault_at number (with_line number draft line) (λ next. with_lines (number + 1) next lines)
+
+abbrev pub last_part : List (List ℕ) → List ℕ
+last_part [] = []
+last_part (part ∷ []) = part
+last_part (part ∷ next ∷ parts) = last_part (next ∷ parts)
+
+-- what stands behind the last LF
+unfoldable pub left_in : List ℕ → List ℕ
+left_in bytes = last_part (slice_split (λ b. b == 10) bytes)
+
+-- so far the window and the numbers of users and accounts are within their limits
+pub record IsBounded (s : Setup) : Type 0 where
+  pub window : s.window ≤ 10000
+  pub users : length s.users ≤ 1000
+  pub accounts : length s.accounts ≤ 1000
 
 abbrev pub objects_fit : Setup → Bool
-objects_fit setup = nat_le (setup.window * (3 * length setup.accounts + length setup.users)) 1000000
+objects_fit setup = nat_le (kept setup) 1000000
+
+-- whether a line is missing behind those of the draft, isn't ended, or goes on behind the most bytes
+abbrev pub lacks_line : List ℕ → List ℕ → Draft → Bool
+lacks_line bytes left draft = nat_lt 262144 (length bytes) || nat_lt 0 (length left) || (length draft.setup.accounts == 0)
+
+-- the setup of a draft of all lines, or a fault behind the last line or at it
+abbrev pub judged : List ℕ → Result Draft ℕ → Result Setup ℕ
+judged bytes (Err k) = Err k
+judged bytes (Ok draft) =
+    if lacks_line bytes (left_in (take 262144 bytes)) draft then Err (length (lines_within bytes) + 1)
+    else (if objects_fit draft.setup then Ok draft.setup else Err (length (lines_within bytes)))
 
 -- the whole setup
-unfoldable pub setup_at : List ℕ → Option Setup
-setup_at bytes = unless (nat_lt 262144 (length bytes)) (draft_at bytes >>= λ draft.
-    unless (length draft.setup.accounts == 0) (unless (not (objects_fit draft.setup)) (Some draft.setup)))
+unfoldable pub setup_at : List ℕ → Result Setup ℕ
+setup_at bytes = judged bytes (with_lines 1 unread (lines_within bytes))

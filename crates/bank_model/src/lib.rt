@@ -12,4 +12,6 @@ mod tests;
 
 pub use event::{Event, State};
 pub use printer::Printer;
-pub use setup::{AccountLine, Accounts, Owners, Setup, SetupFault, User, Users, one_setup};
+pub use setup::{
+    AccountLine, Accounts, Owners, Setup, SetupFault, User, Users, one_fault, one_setup,
+};

@@ -8,7 +8,7 @@ mod reading;
 mod words;
 
 use ofx_types::{AcctName, Cents, OutOfMemory, Sequence, Text, UserId};
-pub use reading::one_setup;
+pub use reading::{one_fault, one_setup};
 
 /// A user of the bank.
 #[derive(Debug, Drop)]

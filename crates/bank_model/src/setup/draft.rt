@@ -1,14 +1,17 @@
 //! A setup of which the first lines are read, and how one more line is taken.
 
 ghost use Rattle.std.specs.Prelude.{◌≡◌, ◌+ℤ◌, ◌≤ℤ◌, ◌≤◌, pos, int_le, length, Some, None, IfOk, if◌then◌else◌};
-ghost use Rattle.bank_model.specs.SetupReading.{with_line, with_user, with_account, openings_with, is_repeated};
+ghost use Rattle.bank_model.specs.SetupReading.{unread, with_line, with_format, with_bank, with_lead, with_window, with_entries, with_body_line, with_user, with_account, openings_with, is_repeated};
 
-use crate::setup::lines::{account_of, is_user, user_of};
+use crate::setup::lines::{account_of, bank_of, is_user, limit_of, user_of};
 use crate::setup::lookups::has_account_name;
-use crate::setup::words::behind;
+use crate::setup::words::{behind, no_word};
 use crate::setup::{AccountLine, Setup};
-use ofx_types::{AcctName, Cents, OutOfMemory};
+use ofx_types::{AcctName, Cents, OutOfMemory, Sequence};
 use std::alloc::Global;
+
+/// The first line, which names the format and its version.
+const FORMAT: &[u8; 9] = b"OFXBANK 1";
 
 /// The most users, and the most accounts.
 const MOST: usize = 1000;
@@ -45,10 +48,92 @@ fn sum_of(openings: Cents, opening: Cents) -> Option<Cents>
 }
 
 impl Draft {
-    /// Takes one more line. False where it has no form here, and then the draft is of no more use.
+    /// A setup of which no line is read.
+    pub(super) fn new(alloc: Global) -> Result<Draft, OutOfMemory>
+        ensures { IfOk result (λ draft. draft ≡ unread) }
+    {
+        let setup = Setup {
+            bank: no_word(alloc)?,
+            users: Sequence::new(alloc),
+            accounts: Sequence::new(alloc),
+            lead: 0,
+            window: 0,
+            entries: 0,
+        };
+        Ok(Draft {
+            setup,
+            openings: Cents(0),
+        })
+    }
+
+    /// Takes the line of that number, from 1. False where it has no form there, and then the draft is of no
+    /// more use.
     #[tactic(auto, unfolding(crate::specs::SetupReading::with_line))]
-    pub(super) fn take(&mut self, alloc: Global, line: &[u8]) -> Result<bool, OutOfMemory>
-        ensures { IfOk result (λ taken. with_line self.old line.now ≡ (if taken then Some self.new else None)) }
+    pub(super) fn take(
+        &mut self,
+        alloc: Global,
+        number: u64,
+        line: &[u8],
+    ) -> Result<bool, OutOfMemory>
+        ensures { IfOk result (λ taken. with_line number self.old line.now ≡ (if taken then Some self.new else None)) }
+    {
+        match number {
+            1 => Ok(line == FORMAT.as_slice()),
+            2 => self.take_bank(alloc, line),
+            3 => Ok(self.take_lead(line)),
+            4 => Ok(self.take_window(line)),
+            5 => Ok(self.take_entries(line)),
+            _ => self.take_user_or_account(alloc, line),
+        }
+    }
+
+    #[tactic(auto, unfolding(crate::specs::SetupReading::with_bank))]
+    fn take_bank(&mut self, alloc: Global, line: &[u8]) -> Result<bool, OutOfMemory>
+        ensures { IfOk result (λ taken. with_bank self.old line.now ≡ (if taken then Some self.new else None)) }
+    {
+        let Some(bank) = bank_of(alloc, line)? else {
+            return Ok(false);
+        };
+        self.setup.bank = bank;
+        Ok(true)
+    }
+
+    #[tactic(auto, unfolding(crate::specs::SetupReading::with_lead))]
+    fn take_lead(&mut self, line: &[u8]) -> bool
+        ensures { with_lead self.old line.now ≡ (if result then Some self.new else None) }
+    {
+        let Some(lead) = limit_of(line, b"LEAD", 0, 30) else {
+            return false;
+        };
+        self.setup.lead = lead as u32;
+        true
+    }
+
+    #[tactic(auto, unfolding(crate::specs::SetupReading::with_window))]
+    fn take_window(&mut self, line: &[u8]) -> bool
+        ensures { with_window self.old line.now ≡ (if result then Some self.new else None) }
+    {
+        let Some(window) = limit_of(line, b"WINDOW", 1, 10_000) else {
+            return false;
+        };
+        self.setup.window = window as u32;
+        true
+    }
+
+    #[tactic(auto, unfolding(crate::specs::SetupReading::with_entries))]
+    fn take_entries(&mut self, line: &[u8]) -> bool
+        ensures { with_entries self.old line.now ≡ (if result then Some self.new else None) }
+    {
+        let Some(entries) = limit_of(line, b"ENTRIES", 1, 9_999_999_999) else {
+            return false;
+        };
+        self.setup.entries = entries;
+        true
+    }
+
+    #[tactic(auto, unfolding(crate::specs::SetupReading::with_body_line))]
+    fn take_user_or_account(&mut self, alloc: Global, line: &[u8]) -> Result<bool, OutOfMemory>
+        ensures { IfOk result (λ taken. with_body_line self.old line.now ≡ (if taken then Some self.new else None)) }
     {
         if let Some(fields) = behind(line, b"USER") {
             return self.take_user(alloc, fields);

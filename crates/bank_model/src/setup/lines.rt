@@ -3,17 +3,18 @@
 ghost use Rattle.std.specs.Prelude.{position, ◌∷◌, ◌≡◌, ◌<◌, ◌≤◌, ◌≤ℤ◌, pos, length, IfOk, IfSome, if◌then◌else◌};
 ghost use Rattle.std.specs.Option.{option_map};
 ghost use Rattle.std.specs.Str.{bytes_eq};
-ghost use Rattle.bank_model.specs.SetupReading.{owner_more, is_taken, is_listed, without_return, line_at, bank_at, user_at, kind_at, user_named, owners_at, account_at};
+ghost use Rattle.std.specs.Str.Lines.{strip_carriage_return};
+ghost use Rattle.bank_model.specs.SetupReading.{owner_more, is_taken, is_listed, line_at, bank_at, limit_at, user_at, kind_at, user_named, owners_at, account_at};
 
 use crate::setup::lookups::is_among;
-use crate::setup::words::{behind, cut_at, is_word, number, word_text};
+use crate::setup::words::{behind, cut_at, is_word, number, number_in, word_text};
 use crate::setup::{AccountLine, Owners, User};
 use ofx_types::{AcctKind, AcctName, Cents, Duplicate, OutOfMemory, Sequence, Text, UserId};
 use std::alloc::Global;
 
 /// The line without a CR at its end.
 fn without_cr(line: &[u8]) -> &[u8]
-    ensures { result.now ≡ without_return line.now }
+    ensures { result.now ≡ strip_carriage_return line.now }
 {
     if line.is_empty() {
         return line;
@@ -47,6 +48,16 @@ pub(super) fn bank_of(alloc: Global, line: &[u8]) -> Result<Option<Text>, OutOfM
         return Ok(None);
     }
     Ok(Some(word_text(alloc, bank)?))
+}
+
+/// The number of a line `KEY number`, from the lowest to the highest.
+#[tactic(auto, unfolding(crate::specs::SetupReading::limit_at))]
+pub(super) fn limit_of(line: &[u8], key: &[u8], lowest: u64, highest: u64) -> Option<u64>
+    ensures exact { result ≡ limit_at key.now lowest highest line.now }
+    ensures high { IfSome result (λ n. n ≤ highest) }
+{
+    let word = behind(line, key)?;
+    number_in(word, lowest, highest)
 }
 
 /// The user of `name password`.

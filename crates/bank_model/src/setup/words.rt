@@ -1,6 +1,6 @@
 //! The words of a setup's lines: their form, and how a line is cut into them.
 
-ghost use Rattle.std.specs.Prelude.{◌≡◌, ◌<◌, ◌≤◌, ◌^◌, ◌==◌, true, length, position, IfOk, IfSome};
+ghost use Rattle.std.specs.Prelude.{◌≡◌, ◌<◌, ◌≤◌, ◌^◌, ◌==◌, true, [], length, position, IfOk, IfSome};
 ghost use Rattle.std.specs.Option.{option_map};
 ghost use Rattle.std.specs.Char.{is_ascii_digit};
 ghost use Rattle.std.specs.List.{list_all};
@@ -137,6 +137,16 @@ pub(super) fn word_text(alloc: Global, word: &[u8]) -> Result<Text, OutOfMemory>
     ensures { IfOk result (λ text. text ≡ word.now) }
 {
     match Text::new(alloc, word, MOST_OF_WORD as u32) {
+        Ok(text) => Ok(text),
+        Err(_) => Err(OutOfMemory),
+    }
+}
+
+/// The text of no bytes, in the place of a word that is still to be read.
+pub(super) fn no_word(alloc: Global) -> Result<Text, OutOfMemory>
+    ensures { IfOk result (λ text. text ≡ []) }
+{
+    match Text::new(alloc, b"", 0) {
         Ok(text) => Ok(text),
         Err(_) => Err(OutOfMemory),
     }
