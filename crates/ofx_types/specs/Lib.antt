@@ -8,5 +8,14 @@ pub mod AccountForm
 pub mod Sheet
 pub mod ReplyForm
 pub mod ValueForm
-pub mod StrictForm
 pub mod Printable
+pub mod HeaderForm
+pub mod TagNames
+pub mod TagForm
+pub mod TagFault
+pub mod Nodes
+pub mod FormWords
+pub mod RequestForm
+pub mod RequestReading
+pub mod FileForm
+pub mod StrictForm

@@ -1,5 +1,5 @@
 -- What making a text or a uid answers, and why.
-use Rattle.std.specs.Prelude.{◌≡◌, ℕ, Bool, ◌==◌, nat_lt, List, [], ◌∷◌, length, position, Option, None, Some, Result, MatchResult, codes, if◌then◌else◌}
+use Rattle.std.specs.Prelude.{◌≡◌, ℕ, Bool, ◌==◌, nat_lt, List, length, position, Option, None, Some, Result, MatchResult, codes, if◌then◌else◌}
 use Rattle.std.specs.Str.{bytes_eq}
 use Rattle.ofx_types.specs.declared.text.TextFault.{TextFault}
 use Rattle.ofx_types.specs.declared.text.TextFault.TheVariants.{Empty, TooLong, BadByte, OutOfMemory}

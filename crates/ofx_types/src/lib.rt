@@ -6,6 +6,7 @@
 
 mod account;
 mod duplicate;
+mod fault;
 mod memory;
 mod number;
 mod reply;
@@ -16,6 +17,7 @@ mod uid;
 
 pub use account::{AcctKind, AcctName};
 pub use duplicate::Duplicate;
+pub use fault::{FileFault, HeaderFault, TapeFault, TreeFault};
 pub use memory::OutOfMemory;
 pub use number::{AcctId, Cents, Day, Moment, Status, UserId};
 pub use reply::{

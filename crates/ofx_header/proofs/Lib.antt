@@ -1,0 +1,5 @@
+pub mod Lines
+pub mod Meanings
+pub mod Headers
+pub mod Outcomes
+pub mod Written

@@ -1,0 +1,22 @@
+//! The header of a file: its nine lines, read and written.
+//!
+//! `read_header` reads the lines that a file begins with and answers what they say, or the first fault, and takes no
+//! memory. `write_header` appends the one written form.
+#![tactic(auto)]
+
+mod laws;
+mod line;
+mod reading;
+mod values;
+mod writing;
+
+pub use laws::{
+    body_is_behind, faultless_is_spelled, one_header, spelled_is_faultless, written_is_spelled,
+};
+pub use ofx_types::HeaderFault;
+pub use reading::read_header;
+pub use values::Header;
+pub use writing::write_header;
+
+#[cfg(test)]
+mod tests;

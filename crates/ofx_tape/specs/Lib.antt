@@ -1,0 +1,8 @@
+pub mod Slices
+pub mod NodeView
+pub mod TapeOutcome
+pub mod NodeCounts
+pub mod TagScan
+pub mod Standing
+pub mod NamesOfLength
+pub mod TagReading

@@ -1,0 +1,36 @@
+-- Where the parts of nodes lie in the body.
+use Rattle.std.specs.Prelude.{◌≡◌, ℕ, ◌+◌, ◌-◌, ◌<◌, ◌≤◌, List, [], ◌∷◌, length, take, drop}
+use Rattle.ofx_types.specs.Nodes.{TagNode, AreNodesOf}
+
+-- The name is the slice of the body behind the `<` at the node's place, and the text the slice behind the `>`.
+pub record IsSliced (body : List ℕ) (node : TagNode) : Type 0 where
+  pub name : node.name ≡ take (length node.name) (drop (node.place + 1) body)
+  pub text : node.text ≡ take (length node.text) (drop (node.place + length node.name + 2) body)
+  pub inside : node.place + length node.name + 2 + length node.text ≤ length body
+
+-- Places rise: each node stands behind this many bytes, and behind the nodes before it.
+abbrev pub ArePlaced : ℕ → List ℕ → List TagNode → Type 0
+ArePlaced from body [] = Unit {0}
+ArePlaced from body (n ∷ nodes) =
+    (from ≤ n.place) × IsSliced body n × ArePlaced (n.place + length n.name + 2 + length n.text) body nodes
+
+-- Inner nodes lie inside their parent: each of the nodes, of which the first has this index, ends behind itself and not
+-- behind the end of the parent.
+abbrev pub AreInside : ℕ → ℕ → List TagNode → Type 0
+AreInside index end [] = Unit {0}
+AreInside index end (n ∷ nodes) = (index < n.after) × (n.after ≤ end) × AreInside (index + 1) end nodes
+
+-- So do the inner nodes of each node.
+abbrev pub AreInsideEach : ℕ → List TagNode → Type 0
+AreInsideEach index [] = Unit {0}
+AreInsideEach index (n ∷ nodes) =
+    AreInside (index + 1) n.after (take (n.after - (index + 1)) nodes) × AreInsideEach (index + 1) nodes
+
+-- The nodes of a tape are slices of the body, in order, each inside its parent.
+pub record AreSlices (body : List ℕ) (nodes : List TagNode) : Type 0 where
+  pub placed : ArePlaced 0 body nodes
+  pub inside_all : AreInside 0 (length nodes) nodes
+  pub inside_each : AreInsideEach 0 nodes
+
+abbrev pub NodesAreSlices : Type 0
+NodesAreSlices = (body : List ℕ) (nodes : List TagNode) → AreNodesOf body nodes → AreSlices body nodes

@@ -1,0 +1,115 @@
+//! Entities: `&lt;`, `&gt;` and `&amp;` in the values of elements.
+
+ghost use Rattle.std.specs.Prelude.{◌≡◌, ◌≤◌, ◌∷◌, ◌==◌, length, position, bytes_eq, IfOk};
+ghost use Rattle.std.specs.List.{list_any};
+ghost use Rattle.ofx_types.specs.TextRules.{is_refused_in_text};
+ghost use Rattle.ofx_types.specs.ValueForm.{decoded};
+
+use ofx_types::{OutOfMemory, is_white_space};
+use std::alloc::Global;
+
+/// Whether a `&` stands among the bytes; without one they stand for themselves.
+pub(crate) fn has_ampersand(raw: &[u8]) -> bool
+    ensures { result ≡ list_any (λ b. b == 38) raw.now }
+{
+    raw.iter().any(|byte| *byte == b'&')
+}
+
+/// The bytes that raw bytes stand for.
+#[tactic(auto, unfolding(ofx_types::specs::ValueForm::decoded_past))]
+pub(crate) fn decode(alloc: Global, raw: &[u8]) -> Result<Vec<u8>, OutOfMemory>
+    ensures { IfOk result (λ value. value.items ≡ decoded raw.now) }
+{
+    let mut value = Vec::with_capacity(alloc, raw.len())?;
+    let mut rest = raw;
+    while let [first, behind @ ..] = rest {
+        let (byte, tail) = decoded_first(*first, behind);
+        value.push(byte)?;
+        rest = tail;
+    }
+    Ok(value)
+}
+
+/// Whether raw bytes stand for just these bytes.
+#[tactic(auto, using(crate::proofs::Decoding::decoded_ends))]
+pub(crate) fn decodes_to(raw: &[u8], text: &[u8]) -> bool
+    ensures { result ≡ bytes_eq (decoded raw.now) text.now }
+{
+    let mut rest = raw;
+    let mut wanted = text;
+    while let [first, behind @ ..] = rest {
+        let (byte, tail) = decoded_first(*first, behind);
+        let [next, more @ ..] = wanted else {
+            return false;
+        };
+        if byte != *next {
+            return false;
+        }
+        rest = tail;
+        wanted = more;
+    }
+    wanted.is_empty()
+}
+
+/// How many bytes raw bytes stand for.
+#[tactic(auto, using(crate::proofs::Decoding::decoded_ends))]
+pub(crate) fn decoded_len(raw: &[u8]) -> usize
+    ensures { result ≡ length (decoded raw.now) }
+{
+    let mut rest = raw;
+    let mut count = 0;
+    while let [first, behind @ ..] = rest {
+        let (_byte, tail) = decoded_first(*first, behind);
+        count += 1;
+        rest = tail;
+    }
+    count
+}
+
+/// The place, among the bytes that raw bytes stand for, of the first control byte but tab, LF and CR.
+#[tactic(auto, using(crate::proofs::Decoding::decoded_ends))]
+pub(crate) fn first_refused(raw: &[u8]) -> Option<usize>
+    ensures { result ≡ position is_refused_in_text (decoded raw.now) }
+{
+    let mut rest = raw;
+    let mut count = 0;
+    while let [first, behind @ ..] = rest {
+        let (byte, tail) = decoded_first(*first, behind);
+        if byte < 0x20 && !is_white_space(byte) {
+            return Some(count);
+        }
+        count += 1;
+        rest = tail;
+    }
+    None
+}
+
+/// The byte that the first bytes stand for, and the bytes behind those.
+#[tactic(auto, using(crate::proofs::Decoding::decoded_front))]
+fn decoded_first(first: u8, behind: &[u8]) -> (u8, &[u8])
+    ensures value { decoded (first ∷ behind.now) ≡ result.0 ∷ decoded result.1.now }
+    ensures shorter { length result.1.now ≤ length behind.now }
+{
+    if first == b'&' {
+        return decoded_entity(behind);
+    }
+    (first, behind)
+}
+
+/// The byte that a `&` and the first bytes behind it stand for, and the bytes behind those.
+#[tactic(auto, using(crate::proofs::Decoding::decoded_front))]
+fn decoded_entity(behind: &[u8]) -> (u8, &[u8])
+    ensures value { decoded (38 ∷ behind.now) ≡ result.0 ∷ decoded result.1.now }
+    ensures shorter { length result.1.now ≤ length behind.now }
+{
+    if behind.starts_with(b"lt;") {
+        return (b'<', behind.split_at(3).1);
+    }
+    if behind.starts_with(b"gt;") {
+        return (b'>', behind.split_at(3).1);
+    }
+    if behind.starts_with(b"amp;") {
+        return (b'&', behind.split_at(4).1);
+    }
+    (b'&', behind)
+}

@@ -1,0 +1,95 @@
+//! Outside cases: a body's nodes, the fault of each kind at its place, and values.
+
+use crate::{Node, Tape, TapeFault, value_eq, value_into};
+use ofx_types::TextFault;
+use std::process::Abort;
+use std::test::Fail;
+
+const BODY: &[u8] =
+    b"\r\n<OFX>\r\n<SONRQ>\r\n<USERID>alice\r\n<X.Y>1</X.Y>\r\n</SONRQ>\r\n</OFX>\r\n";
+
+fn assert_node(rt: &impl Abort, node: &Node, element: bool, name: &[u8], value: &[u8]) {
+    assert_eq!(rt; node.element, element);
+    assert_eq!(rt; node.name, name);
+    assert_eq!(rt; node.value, value);
+}
+
+fn assert_span(rt: &impl Abort, node: &Node, at: usize, after: usize) {
+    assert_eq!(rt; node.at, at);
+    assert_eq!(rt; node.after, after);
+}
+
+#[test]
+fn nodes_of_a_body(rt: HostRuntime) -> Result<(), Fail> {
+    let tape = Tape::read(rt.alloc(), BODY)?;
+    let [ofx, sonrq, userid, unknown] = tape.nodes() else {
+        assert!(rt; false, "four start tags stand in the body");
+        return Ok(());
+    };
+    assert_node(&rt, ofx, false, b"OFX", b"\r\n");
+    assert_span(&rt, ofx, 2, 4);
+    assert_node(&rt, sonrq, false, b"SONRQ", b"\r\n");
+    assert_span(&rt, sonrq, 9, 4);
+    assert_node(&rt, userid, true, b"USERID", b"alice\r\n");
+    assert_span(&rt, userid, 18, 3);
+    assert_node(&rt, unknown, true, b"X.Y", b"1");
+    assert_span(&rt, unknown, 33, 4);
+    Ok(())
+}
+
+#[test]
+fn each_fault_at_its_place(rt: HostRuntime) {
+    for (body, fault) in [
+        (b" \r\n".as_slice(), TapeFault::Cut(3)),
+        (b" x<OFX></OFX>".as_slice(), TapeFault::Tag(1)),
+        (b"<FI></FI>".as_slice(), TapeFault::Tag(0)),
+        (b"<OFX></FI></OFX>".as_slice(), TapeFault::Mismatch(5)),
+        (b"<OFX></OFX></OFX>".as_slice(), TapeFault::Mismatch(11)),
+        (b"<OFX></OFX><OFX>".as_slice(), TapeFault::Tag(11)),
+        (b"<OFX></OFX><A".as_slice(), TapeFault::Cut(13)),
+        (b"<OFX><USERID>a</OF".as_slice(), TapeFault::Cut(18)),
+        (b"<OFX><FI>\x01</FI></OFX>".as_slice(), TapeFault::Tag(9)),
+        (b"<OFX><USERID>a\x01</OFX>".as_slice(), TapeFault::Tag(14)),
+        (b"<OFX><MEMO>a</MEMO>b</OFX>".as_slice(), TapeFault::Tag(19)),
+        (
+            b"<OFX><MEMO>a</MEMO></MEMO></OFX>".as_slice(),
+            TapeFault::Mismatch(19),
+        ),
+        (b"<OFX><A B></OFX>".as_slice(), TapeFault::Tag(5)),
+    ] {
+        assert!(rt; Tape::read(rt.alloc(), body).err() == Some(fault));
+    }
+}
+
+#[test]
+fn names_of_32_bytes_and_16_aggregates(rt: HostRuntime) {
+    for (body, fault) in [
+        (
+            b"<OFX><ABCDEFGHIJKLMNOPQRSTUVWXYZ012345".as_slice(),
+            TapeFault::Cut(38),
+        ),
+        (
+            b"<OFX><ABCDEFGHIJKLMNOPQRSTUVWXYZ0123456".as_slice(),
+            TapeFault::Tag(5),
+        ),
+        (
+            b"<OFX><A><A><A><A><A><A><A><A><A><A><A><A><A><A><A><A></A>".as_slice(),
+            TapeFault::Depth(50),
+        ),
+    ] {
+        assert!(rt; Tape::read(rt.alloc(), body).err() == Some(fault));
+    }
+}
+
+#[test]
+fn values_are_trimmed_and_decoded_once(rt: HostRuntime) -> Result<(), Fail> {
+    assert!(rt; value_eq(b"\r\n &amp;lt;&lt;&AMP;\t", b"&lt;<&AMP;"));
+    assert!(rt; !value_eq(b"a", b"ab"));
+    let text = value_into(rt.alloc(), b" a&gt;b\r\n", 3)
+        .ok()
+        .ok_or("three bytes")?;
+    assert_eq!(rt; text.as_bytes(), b"a>b".as_slice());
+    assert!(rt; value_into(rt.alloc(), b"a&gt;b", 2).err() == Some(TextFault::TooLong(3)));
+    assert!(rt; value_into(rt.alloc(), b"&gt;\x02", 9).err() == Some(TextFault::BadByte(1)));
+    Ok(())
+}

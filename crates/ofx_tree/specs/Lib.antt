@@ -1,0 +1,5 @@
+pub mod ItemView
+pub mod Standing
+pub mod Marks
+pub mod PrintedForm
+pub mod Root

@@ -1,0 +1,190 @@
+//! An element or aggregate of a tape, and its children by name.
+
+ghost use Rattle.std.specs.Prelude.{◌≡◌, ◌+◌, ◌<◌, ◌^◌, length, bytes_eq};
+ghost use Rattle.std.specs.List.{list_all};
+ghost use Rattle.ofx_types.specs.TextRules.{is_white};
+ghost use Rattle.ofx_types.specs.Nodes.{children};
+ghost use Rattle.ofx_types.specs.FormWords.{one, maybe, is_absent, text_in, text_at, flag_in, flag_at, Gives};
+ghost use Rattle.ofx_types.specs.ValueForm.{value_of};
+ghost use Rattle.ofx_types.specs.RequestForm.{IsRoot};
+ghost use Rattle.ofx_tree.specs.ItemView.{item_view};
+ghost use Rattle.ofx_tree.specs.Standing.{stands};
+ghost use Rattle.ofx_tree.specs.Root.{AreRead};
+
+use crate::children::Children;
+use ofx_tape::{Node, Tape, value_eq, value_into};
+use ofx_types::{Text, TextFault, TreeFault, is_white_space};
+use std::alloc::Global;
+use std::marker::Model;
+
+/// An element or an aggregate of a tape (OFX 1.6, "SGML Basics").
+#[derive(Debug, Drop)]
+pub struct Cursor<'t> {
+    node: &'t Node<'t>,
+    first: usize,
+    inner: &'t [Node<'t>],
+}
+
+impl<'t> Model for Cursor<'t> {
+    ghost use Rattle.std.specs.Prelude.{◌+◌, ◌<◌, ◌^◌, length};
+    ghost use Rattle.ofx_types.specs.Nodes.{Item};
+    ghost use Rattle.ofx_tree.specs.ItemView.{item_view};
+
+    ghost Value = { Item };
+
+    ghost view = { λ c. item_view c.node.now c.first c.inner.now };
+
+    ghost invariant = { λ c. c.first + length c.inner.now < 2 ^ 64 };
+}
+
+impl<'t> Cursor<'t> {
+    /// The aggregate OFX of a tape that was read, with all that stands in it.
+    #[tactic(auto, using(crate::proofs::Root::first_node))]
+    pub fn root(tape: &'t Tape<'_>) -> Cursor<'t>
+        requires { AreRead tape.now }
+        ensures { IsRoot tape.now result }
+    {
+        let (first, inner) = tape.nodes().split_at(1);
+        Cursor::new(&first[0], 1, inner)
+    }
+
+    /// A node, the index of its first inner node, and those nodes.
+    pub(crate) fn new(node: &'t Node<'t>, first: usize, inner: &'t [Node<'t>]) -> Cursor<'t>
+        requires { first + length inner.now < 2 ^ 64 }
+        ensures { result ≡ item_view node.now first inner.now }
+    {
+        Cursor { node, first, inner }
+    }
+
+    /// Its name.
+    pub fn name(&self) -> &'t [u8]
+        ensures { result.now ≡ self.now.node.name }
+    {
+        self.node.name
+    }
+
+    /// The place of its start tag: the number of the body's bytes in front of it.
+    pub fn place(&self) -> usize
+        ensures { result ≡ self.now.node.place }
+    {
+        self.node.at
+    }
+
+    /// The bytes between its start tag and the next `<`: an element's value as it stands in the body.
+    pub fn value(&self) -> &'t [u8]
+        ensures { result.now ≡ self.now.node.text }
+    {
+        self.node.value
+    }
+
+    /// Its children, in the order of the body.
+    pub fn children(&self) -> Children<'t>
+        ensures { result ≡ children self.now }
+    {
+        Children::new(self.first, self.inner)
+    }
+
+    /// The child of this name, which stands once.
+    ///
+    /// `Missing` at this aggregate's place where none stands, `Repeated` at the second one's where several do. An element
+    /// whose trimmed value is empty counts as absent.
+    pub fn one(&self, name: &[u8]) -> Result<Cursor<'t>, TreeFault>
+        ensures { result ≡ one name.now self.now }
+    {
+        match self.maybe(name)? {
+            Some(child) => Ok(child),
+            None => Err(TreeFault::Missing(self.node.at as u64)),
+        }
+    }
+
+    /// The child of this name, which may stand once.
+    ///
+    /// `Repeated` at the second one's place where several stand. An element whose trimmed value is empty counts as
+    /// absent.
+    pub fn maybe(&self, name: &[u8]) -> Result<Option<Cursor<'t>>, TreeFault>
+        ensures { result ≡ maybe name.now self.now }
+    {
+        let mut children = self.children();
+        let Some(child) = children.next_named(name) else {
+            return Ok(None);
+        };
+        match children.next_named(name) {
+            Some(second) => Err(TreeFault::Repeated(second.node.at as u64)),
+            None => Ok(Some(child)),
+        }
+    }
+
+    /// The text of the child of this name, which stands once: 1 byte up to the limit, trimmed and with its entities
+    /// decoded.
+    ///
+    /// The faults of `one`; `Value` at the child's place where its value is no such text; `OutOfMemory` where memory for
+    /// it is refused.
+    #[tactic(auto, unfolding(ofx_types::specs::FormWords::text_in))]
+    pub fn text(&self, alloc: Global, name: &[u8], most: u32) -> Result<Text, TreeFault>
+        ensures { Gives result (text_in name.now most self.now) }
+    {
+        let child = self.one(name)?;
+        child.own_text(alloc, most)
+    }
+
+    /// The flag of the child of this name, which stands once: `Y` or `N`.
+    ///
+    /// The faults of `one`; `Value` at the child's place where its value is any other.
+    #[tactic(auto, unfolding(ofx_types::specs::FormWords::flag_in))]
+    pub fn flag(&self, name: &[u8]) -> Result<bool, TreeFault>
+        ensures { result ≡ flag_in name.now self.now }
+    {
+        let child = self.one(name)?;
+        child.own_flag()
+    }
+
+    /// Whether its value, trimmed and with its entities decoded, is just this text.
+    pub fn value_eq(&self, text: &[u8]) -> bool
+        ensures { result ≡ bytes_eq (value_of self.now.node.text) text.now }
+    {
+        value_eq(self.node.value, text)
+    }
+
+    fn own_text(&self, alloc: Global, most: u32) -> Result<Text, TreeFault>
+        ensures { Gives result (text_at most self.now.node) }
+    {
+        match value_into(alloc, self.node.value, most) {
+            Ok(text) if !text.as_bytes().is_empty() => Ok(text),
+            Err(TextFault::OutOfMemory) => Err(TreeFault::OutOfMemory),
+            _ => Err(TreeFault::Value(self.node.at as u64)),
+        }
+    }
+
+    fn own_flag(&self) -> Result<bool, TreeFault>
+        ensures { result ≡ flag_at self.now.node }
+    {
+        if self.value_eq(b"Y") {
+            return Ok(true);
+        }
+        if self.value_eq(b"N") {
+            return Ok(false);
+        }
+        Err(TreeFault::Value(self.node.at as u64))
+    }
+
+    /// Whether it has this name and isn't absent.
+    pub(crate) fn stands(&self, name: &[u8]) -> bool
+        ensures { result ≡ stands name.now self.now }
+    {
+        self.node.name == name && !self.is_absent()
+    }
+
+    /// Whether it is an element whose trimmed value is empty.
+    fn is_absent(&self) -> bool
+        ensures { result ≡ is_absent self.now.node }
+    {
+        self.node.element && is_blank(self.node.value)
+    }
+}
+
+/// Whether white space alone stands in the bytes.
+fn is_blank(bytes: &[u8]) -> bool
+    ensures { result ≡ list_all is_white bytes.now }
+{
+    bytes.iter().all(|byte| is_white_space(*byte))
+}

@@ -1,0 +1,80 @@
+//! A sample body, written and read.
+
+use crate::{Cursor, Sheet, TreeFault};
+use ofx_tape::Tape;
+use ofx_types::{Cents, Moment, Text};
+use std::test::Fail;
+
+const BODY: &[u8; 153] = b"\
+    <OFX>\r\n\
+    <STATUS>\r\n\
+    <CODE>2000\r\n\
+    </STATUS>\r\n\
+    <MEMO>rent &amp; tea\r\n\
+    <TRNAMT>-12.05\r\n\
+    <DTDUE>20240131120000\r\n\
+    <INCLUDE>Y\r\n\
+    <REFRESH>N\r\n\
+    <TOKEN>1\r\n\
+    <TOKEN>2\r\n\
+    </OFX>\r\n";
+
+#[test]
+fn writes_lines(rt: HostRuntime) -> Result<(), Fail> {
+    let memo = Text::new(rt.alloc(), b" rent & tea ", 10)?;
+    let mut sheet = Sheet::new(rt.alloc());
+    sheet.start(b"OFX")?;
+    sheet.start(b"STATUS")?;
+    sheet.number(b"CODE", 2000)?;
+    sheet.element(b"SEVERITY", b"")?;
+    sheet.end(b"STATUS")?;
+    let mut sheet = Sheet::from_vec(sheet.into_bytes());
+    sheet.text(b"MEMO", &memo)?;
+    sheet.amount(b"TRNAMT", Cents(-1205))?;
+    sheet.moment(b"DTDUE", Moment(1_706_702_400))?;
+    sheet.element(b"INCLUDE", b"Y")?;
+    sheet.element(b"REFRESH", b"N")?;
+    sheet.number(b"TOKEN", 1)?;
+    sheet.number(b"TOKEN", 2)?;
+    sheet.end(b"OFX")?;
+    assert_eq!(rt; sheet.into_bytes().as_slice(), BODY.as_slice());
+    Ok(())
+}
+
+#[test]
+fn reads_children(rt: HostRuntime) -> Result<(), Fail> {
+    let tape = Tape::read(rt.alloc(), BODY)?;
+    let ofx = Cursor::root(&tape);
+    assert_eq!(rt; ofx.name(), b"OFX".as_slice());
+    let mut last = 0;
+    for child in ofx.children() {
+        last = child.place();
+    }
+    assert_eq!(rt; last, 135);
+    let status = ofx.one(b"STATUS")?;
+    assert_eq!(rt; status.place(), 7);
+    assert!(rt; status.one(b"CODE")?.value_eq(b"2000"));
+    assert!(rt; ofx.maybe(b"CODE")?.is_none());
+    assert_eq!(rt;
+        ofx.text(rt.alloc(), b"MEMO", 10)?.as_bytes(),
+        b"rent & tea".as_slice()
+    );
+    assert!(rt; ofx.flag(b"INCLUDE")?);
+    assert!(rt; !ofx.flag(b"REFRESH")?);
+    Ok(())
+}
+
+#[test]
+fn finds_faults(rt: HostRuntime) -> Result<(), Fail> {
+    let tape = Tape::read(rt.alloc(), BODY)?;
+    let ofx = Cursor::root(&tape);
+    let status = ofx.one(b"STATUS")?;
+    assert_eq!(rt; status.one(b"MEMO").err(), Some(TreeFault::Missing(7)));
+    assert_eq!(rt; ofx.maybe(b"TOKEN").err(), Some(TreeFault::Repeated(135)));
+    assert_eq!(rt; ofx.flag(b"MEMO").err(), Some(TreeFault::Value(40)));
+    assert_eq!(rt;
+        ofx.text(rt.alloc(), b"MEMO", 9).err(),
+        Some(TreeFault::Value(40))
+    );
+    Ok(())
+}

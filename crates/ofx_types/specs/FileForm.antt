@@ -1,0 +1,103 @@
+-- A whole request file as bytes, and why bytes are none.
+use Rattle.std.specs.Prelude.{◌≡◌, ℕ, ◌+◌, List, drop, Option, None, Some, Err}
+use Rattle.ofx_types.specs.HeaderForm.{SpellsHeader, header_fault}
+use Rattle.ofx_types.specs.TagFault.{tag_fault}
+use Rattle.ofx_types.specs.Nodes.{TagNode, Item, AreNodesOf}
+use Rattle.ofx_types.specs.RequestForm.{IsRequest, IsRoot}
+use Rattle.ofx_types.specs.RequestReading.{request_of}
+use Rattle.ofx_types.specs.declared.fault.HeaderFault.{HeaderFault}
+use Rattle.ofx_types.specs.declared.fault.HeaderFault.TheVariants as headers
+use Rattle.ofx_types.specs.declared.fault.TapeFault.{TapeFault}
+use Rattle.ofx_types.specs.declared.fault.TapeFault.TheVariants as tags
+use Rattle.ofx_types.specs.declared.fault.TreeFault.{TreeFault}
+use Rattle.ofx_types.specs.declared.fault.TreeFault.TheVariants as forms
+use Rattle.ofx_types.specs.declared.fault.FileFault.{FileFault}
+use Rattle.ofx_types.specs.declared.fault.FileFault.TheVariants.{Header, Syntax, Form, OutOfMemory}
+use Rattle.ofx_types.specs.declared.request.RequestFile.{RequestFile}
+
+-- The bytes begin with a header, and the body behind it, whose first byte has the number `size` of the bytes in front
+-- of it, has these nodes, of which the root is OFX.
+pub record HasBody (bytes : List ℕ) (size : ℕ) (nodes : List TagNode) (ofx : Item) : Type 0 where
+  pub are_nodes : AreNodesOf (drop size bytes) nodes
+  pub is_root : IsRoot nodes ofx
+
+-- The bytes spell a request file: a header, and behind it the nodes of a request.
+pub record SpellsFile (bytes : List ℕ) (file : RequestFile) : Type 0 where
+  pub size : ℕ
+  pub nodes : List TagNode
+  pub ofx : Item
+  pub header : SpellsHeader bytes file.version file.older file.newer size
+  pub body : HasBody bytes size nodes ofx
+  pub form : IsRequest ofx file.user file.pass file.asks
+
+-- where a fault of the header stands
+abbrev pub header_place : HeaderFault → ℕ
+header_place (headers.Line number at) = at
+header_place (headers.Value number at) = at
+header_place (headers.Cut at) = at
+
+-- where a fault of the tags stands, from the body's first byte; want of memory stands nowhere
+abbrev pub tag_place : TapeFault → Option ℕ
+tag_place (tags.Tag at) = Some at
+tag_place (tags.Mismatch at) = Some at
+tag_place (tags.Depth at) = Some at
+tag_place (tags.Cut at) = Some at
+tag_place tags.OutOfMemory = None
+
+-- where a fault of the forms stands, from the body's first byte
+abbrev pub form_place : TreeFault → Option ℕ
+form_place (forms.Missing at) = Some at
+form_place (forms.Repeated at) = Some at
+form_place (forms.Value at) = Some at
+form_place forms.OutOfMemory = None
+
+-- A header stands, of this size.
+pub record HasHeader (bytes : List ℕ) (size : ℕ) : Type 0 where
+  pub version : ℕ
+  pub older : Option (List ℕ)
+  pub newer : Option (List ℕ)
+  pub spelled : SpellsHeader bytes version older newer size
+
+-- the fault of the header
+abbrev pub IsHeaderFault : List ℕ → ℕ → Type 0
+IsHeaderFault bytes at = (fault : HeaderFault) × (header_fault bytes ≡ Some fault) × (at ≡ header_place fault)
+
+-- behind a header, the leftmost fault of the tags
+pub record IsSyntaxFault (bytes : List ℕ) (at : ℕ) : Type 0 where
+  pub size : ℕ
+  pub fault : TapeFault
+  pub place : ℕ
+  pub header : HasHeader bytes size
+  pub is_fault : tag_fault (drop size bytes) ≡ Some fault
+  pub has_place : tag_place fault ≡ Some place
+  pub at_is : at ≡ size + place
+
+-- behind a header and in tags without a fault, the first fault of the forms
+pub record IsFormFault (bytes : List ℕ) (at : ℕ) : Type 0 where
+  pub size : ℕ
+  pub nodes : List TagNode
+  pub ofx : Item
+  pub fault : TreeFault
+  pub place : ℕ
+  pub header : HasHeader bytes size
+  pub body : HasBody bytes size nodes ofx
+  pub is_fault : request_of ofx ≡ Err fault
+  pub has_place : form_place fault ≡ Some place
+  pub at_is : at ≡ size + place
+
+-- Why the bytes spell no request file: a kind and a place.
+abbrev pub IsFaultOf : List ℕ → FileFault → Type 0
+IsFaultOf bytes (Header at) = IsHeaderFault bytes at
+IsFaultOf bytes (Syntax at) = IsSyntaxFault bytes at
+IsFaultOf bytes (Form at) = IsFormFault bytes at
+IsFaultOf bytes OutOfMemory = ⊥
+
+-- No bytes spell two files, bytes that spell one have no fault, and no bytes have two faults.
+abbrev pub OneFile : Type 0
+OneFile = (bytes : List ℕ) (a b : RequestFile) → SpellsFile bytes a → SpellsFile bytes b → a ≡ b
+
+abbrev pub FaultsSpellNothing : Type 0
+FaultsSpellNothing = (bytes : List ℕ) (file : RequestFile) (fault : FileFault) → SpellsFile bytes file → IsFaultOf bytes fault → ⊥
+
+abbrev pub OneFault : Type 0
+OneFault = (bytes : List ℕ) (a b : FileFault) → IsFaultOf bytes a → IsFaultOf bytes b → a ≡ b

@@ -1,0 +1,112 @@
+-- How the forms of a request file are read: form by form, the named children of each in order, and the first fault.
+use Rattle.std.specs.Prelude.{ℕ, List, [], ◌∷◌, codes, Option, None, Some, Result, Ok, Err, if◌then◌else◌}
+use Rattle.std.specs.Str.{bytes_eq}
+use Rattle.ofx_types.specs.ValueForm.{value_of}
+use Rattle.ofx_types.specs.Nodes.{TagNode, Item, children}
+use Rattle.ofx_types.specs.FormWords.{has_name, ◌>>=◌, one, maybe, text_in, flag_in}
+use Rattle.ofx_types.specs.RequestForm.{is_named_one_of, unread_bank_names, unread_mail_names}
+use Rattle.ofx_types.specs.declared.fault.TreeFault.{TreeFault}
+use Rattle.ofx_types.specs.declared.fault.TreeFault.TheVariants.{Value}
+use Rattle.ofx_types.specs.declared.account.AcctKind.{AcctKind}
+use Rattle.ofx_types.specs.declared.account.AcctKind.TheVariants.{Checking, Savings, MoneyMarket, CreditLine}
+use Rattle.ofx_types.specs.declared.account.AcctName.{AcctName}
+use Rattle.ofx_types.specs.declared.request.Period.{Period}
+use Rattle.ofx_types.specs.declared.request.Ask.{Ask}
+use Rattle.ofx_types.specs.declared.request.Ask.TheVariants.{Statement}
+
+-- what a request says
+pub record RequestParts : Type 0 where
+  pub user : List ℕ
+  pub pass : List ℕ
+  pub asks : List Ask
+
+abbrev pub kind_named : List ℕ → ℕ → Result AcctKind TreeFault
+kind_named word place =
+    if bytes_eq word (codes "CHECKING") then Ok Checking
+    else (if bytes_eq word (codes "SAVINGS") then Ok Savings
+    else (if bytes_eq word (codes "MONEYMRKT") then Ok MoneyMarket
+    else (if bytes_eq word (codes "CREDITLINE") then Ok CreditLine else Err (Value place))))
+
+abbrev pub kind_at : TagNode → Result AcctKind TreeFault
+kind_at node = kind_named (value_of node.text) node.place
+
+unfoldable pub account_of : Item → Result AcctName TreeFault
+account_of aggregate = do
+  bank ← text_in (codes "BANKID") 32 aggregate
+  number ← text_in (codes "ACCTID") 32 aggregate
+  kind ← one (codes "ACCTTYPE") aggregate
+  word ← kind_at kind.node
+  Ok (record { bank = bank; number = number; kind = word })
+
+-- `0` isn't let pass.
+abbrev pub unless_zero : ℕ → List ℕ → Result (List ℕ) TreeFault
+unless_zero place trnuid = if bytes_eq trnuid (codes "0") then Err (Value place) else Ok trnuid
+
+unfoldable pub trnuid_of : Item → Result (List ℕ) TreeFault
+trnuid_of wrapper = do
+  text ← text_in (codes "TRNUID") 36 wrapper
+  child ← one (codes "TRNUID") wrapper
+  unless_zero child.node.place text
+
+-- An element that may stand once and isn't read yet.
+abbrev pub unread : Option Item → Result (Unit {0}) TreeFault
+unread None = Ok tt
+unread (Some child) = Err (Value child.node.place)
+
+unfoldable pub period_of : Item → Result Period TreeFault
+period_of inctran = do
+  start ← maybe (codes "DTSTART") inctran
+  no_start ← unread start
+  end ← maybe (codes "DTEND") inctran
+  no_end ← unread end
+  include ← flag_in (codes "INCLUDE") inctran
+  Ok (record { start = None; end = None; include = include })
+
+abbrev pub period_in : Option Item → Result (Option Period) TreeFault
+period_in None = Ok None
+period_in (Some inctran) = period_of inctran >>= λ period. Ok (Some period)
+
+unfoldable pub statement_of : Item → Result Ask TreeFault
+statement_of stmttrnrq = do
+  trnuid ← trnuid_of stmttrnrq
+  stmtrq ← one (codes "STMTRQ") stmttrnrq
+  bankacctfrom ← one (codes "BANKACCTFROM") stmtrq
+  account ← account_of bankacctfrom
+  inctran ← maybe (codes "INCTRAN") stmtrq
+  period ← period_in inctran
+  Ok (Statement trnuid account period)
+
+-- the requests among the children of the bank's message set, in the order of the file
+abbrev pub onto : Ask → List Ask → Result (List Ask) TreeFault
+onto ask asks = Ok (ask ∷ asks)
+
+unfoldable pub bank_asks_of : List Item → Result (List Ask) TreeFault
+bank_asks_of [] = Ok []
+bank_asks_of (child ∷ more) =
+    if has_name (codes "STMTTRNRQ") child then (statement_of child >>= λ ask. bank_asks_of more >>= onto ask)
+    else (if is_named_one_of unread_bank_names child then Err (Value child.node.place) else bank_asks_of more)
+
+abbrev pub bank_asks_in : Option Item → Result (List Ask) TreeFault
+bank_asks_in None = Ok []
+bank_asks_in (Some bank) = bank_asks_of (children bank)
+
+unfoldable pub no_mail_in : List Item → Result (Unit {0}) TreeFault
+no_mail_in [] = Ok tt
+no_mail_in (child ∷ more) =
+    if is_named_one_of unread_mail_names child then Err (Value child.node.place) else no_mail_in more
+
+abbrev pub no_mail_of : Option Item → Result (Unit {0}) TreeFault
+no_mail_of None = Ok tt
+no_mail_of (Some mail) = no_mail_in (children mail)
+
+unfoldable pub request_of : Item → Result RequestParts TreeFault
+request_of ofx = do
+  signon_set ← one (codes "SIGNONMSGSRQV1") ofx
+  sonrq ← one (codes "SONRQ") signon_set
+  user ← text_in (codes "USERID") 32 sonrq
+  pass ← text_in (codes "USERPASS") 64 sonrq
+  bank ← maybe (codes "BANKMSGSRQV1") ofx
+  asks ← bank_asks_in bank
+  mail ← maybe (codes "EMAILMSGSRQV1") ofx
+  no_mail ← no_mail_of mail
+  Ok (record { user = user; pass = pass; asks = asks })
