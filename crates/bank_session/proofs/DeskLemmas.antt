@@ -1,16 +1,14 @@
 -- What a desk's accounts and answers rest on.
-use Rattle.std.proofs.Common.{◌≡◌, ℕ, ◌<◌, ◌≤◌, ◌+◌, Bool, true, false, ◌&&◌, List, [], ◌∷◌, ◌++◌, length, map, get_or, position, nat_lt, not, pos, Option, None, Some, IfSome, is_some, arith, refl, sym, ap, ◌∙◌, subst, append_assoc, Contains, All}
+use Rattle.std.proofs.Common.{◌≡◌, ℕ, ◌<◌, ◌+◌, Bool, ◌&&◌, List, [], ◌∷◌, length, map, get_or, position, nat_lt, not, pos, Option, None, Some, IfSome, arith, refl, sym, ap, ◌∙◌, subst}
 use Rattle.std.specs.Option.{option_map}
-use Rattle.std.specs.List.{list_all, prefix_len}
+use Rattle.std.specs.List.{prefix_len}
 use Rattle.std.proofs.lemmas.Option.{cond_some, none-some}
 use Rattle.std.proofs.lemmas.Bool.{ltb-true}
-use Rattle.std.specs.Fmt.{decimal}
 use Rattle.std.proofs.lemmas.List.{length-map, get_or-map}
 use Rattle.std.proofs.lemmas.List.Elements.{All-from_recursion}
 use Rattle.std.specs.List.{AllByRecursion}
 use Rattle.ofx_types.specs.AccountForm.{same_account}
-use Rattle.ofx_types.specs.StrictForm.{SpellsStrict}
-use Rattle.ofx_types.specs.declared.account.AcctName.{AcctName}
+use Rattle.ofx_types.specs.FileForm.{SpellsFile}
 use Rattle.ofx_types.specs.declared.number.AcctId.{AcctId}
 use Rattle.ofx_types.specs.declared.number.UserId.{UserId}
 use Rattle.ofx_types.specs.declared.request.Ask.{Ask}
@@ -20,15 +18,15 @@ use Rattle.bank_model.specs.declared.setup.Setup.{Setup}
 use Rattle.bank_model.specs.declared.setup.AccountLine.{AccountLine}
 use Rattle.bank_model.specs.declared.event.Event.{Event}
 use Rattle.bank_model.specs.declared.event.Event.TheVariants.{File}
-use Rattle.bank_model.specs.SetupLookups.{account_of, signed_on}
-use Rattle.bank_model.specs.Rules.{named, account_named, balance, opening_state}
+use Rattle.bank_model.specs.SetupLookups.{signed_on}
+use Rattle.bank_model.specs.Rules.{named, account_named, opening_state}
 use Rattle.bank_core.specs.AccountView.{AccountView}
 use Rattle.bank_core.specs.BookView.{BookView}
 use Rattle.bank_core.specs.HeldAccounts.{AreHeld, IsHeld, AreBalanced, NumbersRise}
 use Rattle.bank_core.specs.Opened.{AreOpened}
 use Rattle.bank_session.specs.Desk.{HasAccounts}
-use Rattle.bank_session.specs.Answers.{IsAnswered, asks_own}
-use Rattle.bank_session.specs.Asked.{IsSignedEvent, IsEventOf}
+use Rattle.bank_session.specs.Answers.{IsAnswered, uid_line}
+use Rattle.bank_session.specs.Asked.{IsEventBy, IsFileEvent}
 use Rattle.bank_model.specs.Sound.{IsSound}
 use Rattle.bank_model.specs.declared.setup.User.{User}
 use Rattle.std.specs.Str.{bytes_eq}
@@ -108,13 +106,10 @@ signed_within setup name pass user e = by_place _ refl e
         let same : place ≡ user.0 = cc in
         omega (arith, within, same)
 
--- what the one file that the bytes spell is, the bytes are
-pub event_of_bytes : (setup : Setup) (bytes : List ℕ) (file : RequestFile) (found : Option Event) → SpellsStrict bytes file → IsSound file → ((other : RequestFile) → SpellsStrict bytes other → other ≡ file) → IsSignedEvent setup file found → IsEventOf setup bytes found
-event_of_bytes setup bytes file None spells sound only none = λ other user answered.
-    let same : other ≡ file = only other answered.spelled in
-    none user (subst (λ (f : RequestFile). signed_on setup f.user f.pass ≡ Some user) same answered.signed) (subst (λ (f : RequestFile). list_all (asks_own setup user) f.asks ≡ true) same answered.owned)
-event_of_bytes setup bytes file (Some (File user own)) spells sound only event =
+-- a sound file of a user that names no uid is a legal event
+pub own_event : (setup : Setup) (bytes : List ℕ) (file : RequestFile) (event : Event) → SpellsFile bytes file → IsSound file → uid_line file.older file.newer ≡ None → IsEventBy setup file event → IsFileEvent setup bytes event
+own_event setup bytes file (File user own) spells sound no_uid by =
     let P : RequestFile → Type 0 = λ f. IsAnswered setup bytes f user × (user.0 < length setup.users) × IsSound f in
-    let there : P file = (record { spelled = spells; signed = event.1; owned = event.2 }, signed_within setup file.user file.pass user event.1, sound) in
-    let back : P own = subst P (sym event.0) there in
+    let there : P file = (record { spelled = spells; no_uid = no_uid; own = by.1 }, signed_within setup file.user file.pass user by.1.signed, sound) in
+    let back : P own = subst P (sym by.0) there in
     (back.0, (back.1, back.2))

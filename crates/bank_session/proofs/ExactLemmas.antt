@@ -1,9 +1,8 @@
 -- An input is split into frames in one way, so each end of a run comes exactly where it should.
-use Rattle.std.proofs.Common.{◌≡◌, ◌≢◌, ℕ, ◌<◌, ◌≤◌, ◌+◌, List, [], ◌∷◌, ◌++◌, length, map, Option, None, Some, IfSome, Result, Ok, Err, ◌⊎◌, inl, inr, arith, refl, sym, ap, ◌∙◌, subst, append_assoc, append-nil, length-append, take, suc}
-use Rattle.std.specs.List.{flat_map, AllByRecursion}
+use Rattle.std.proofs.Common.{◌≡◌, ◌≢◌, ℕ, ◌≤◌, List, [], ◌∷◌, ◌++◌, length, Option, None, Some, IfSome, Result, Ok, Err, ◌⊎◌, inl, inr, arith, refl, sym, ap, ◌∙◌, subst, append_assoc, length-append, take, suc}
+use Rattle.std.specs.List.{flat_map}
 use Rattle.std.specs.Io.KnownBytes.{Consumes, IsAtEnd, prepend_known}
 use Rattle.std.proofs.lemmas.List.{append_cancel_left, take_at}
-use Rattle.ofx_ports.specs.Faults.{Rose}
 use Rattle.ofx_types.specs.declared.number.Moment.{Moment}
 use Rattle.bank_model.specs.SetupForm.{SpellsSetup}
 use Rattle.bank_model.specs.declared.setup.Setup.{Setup}
@@ -12,9 +11,9 @@ use Rattle.bank_session.specs.Frames.{IsLength, frame, frame_head, BeginsNoFrame
 use Rattle.bank_session.specs.Answers.{Turn, AreTurns, read_in}
 use Rattle.bank_session.specs.Determined.{Lengths, OneSplit, goes_on, falls_short, files_of}
 use Rattle.bank_session.specs.RunEnd.{Taken, Finished, StoppedAtFrame}
-use Rattle.bank_session.specs.Run.{Outside, EndsWith, EndsWithSetup, EndsWithoutSetup, EndsSo, status_of}
+use Rattle.bank_session.specs.Run.{Outside, EndsSo, status_of}
 use Rattle.bank_session.specs.SetupRead.{IsSetupOf, IsNoSetup}
-use Rattle.bank_session.specs.Exact.{GaveUp, RefusesSetup, Gives, AnswersAll, RefusesFrame, IsRun}
+use Rattle.bank_session.specs.Exact.{RefusesSetup, Gives, AnswersAll, RefusesFrame, IsRun}
 use Rattle.bank_session.specs.declared.stop.Stop.{Stop}
 use Rattle.bank_session.specs.declared.stop.Stop.TheVariants as stops
 use Rattle.bank_session.proofs.Agreement.{heads_agree}

@@ -10,4 +10,6 @@ pub mod DeskLemmas
 pub mod TurnLemmas
 pub mod RunLemmas
 pub mod ExactLemmas
+pub mod LinePlaces
+pub mod HeaderLines
 pub mod LineLemmas

@@ -1,8 +1,7 @@
 -- How the turns of a run join.
-use Rattle.std.proofs.Common.{◌≡◌, ◌≢◌, ℕ, ◌<◌, ◌≤◌, ◌+◌, ◌-◌, ◌^◌, List, [], ◌∷◌, ◌++◌, length, take, Option, None, Some, IfSome, Result, Ok, Err, ◌⊎◌, inl, inr, arith, refl, sym, ap, ◌∙◌, subst, append-nil, length-append}
-use Rattle.std.specs.Io.KnownBytes.{Keeps, Consumes, Appends, IsAtEnd, prepend_known}
-use Rattle.std.proofs.KnownBytes.{Consumes-nil, Appends-nil, Appends-trans, Consumes-trans, Consumes-kept, Appends-kept}
-use Rattle.std.specs.List.{flat_map}
+use Rattle.std.proofs.Common.{◌≡◌, ◌≢◌, ℕ, ◌<◌, ◌≤◌, ◌+◌, List, [], ◌∷◌, ◌++◌, length, Option, None, Some, IfSome, Result, Ok, Err, ◌⊎◌, inl, inr, arith, refl, sym, ◌∙◌, subst, length-append}
+use Rattle.std.specs.Io.KnownBytes.{Keeps, Consumes, prepend_known}
+use Rattle.std.proofs.KnownBytes.{Appends-nil, Appends-trans, Consumes-trans, Consumes-kept, Appends-kept}
 use Rattle.std.proofs.lemmas.List.{flat_map_more}
 use Rattle.ofx_ports.specs.Faults.{Rose}
 use Rattle.ofx_types.specs.declared.number.Moment.{Moment}
@@ -13,8 +12,8 @@ use Rattle.bank_core.specs.BookView.{BookView}
 use Rattle.bank_session.specs.Frames.{IsLength, frame, BeginsNoFrame}
 use Rattle.bank_session.specs.Answers.{Says, Turn, AreTurns, read_in, written_in}
 use Rattle.bank_session.specs.Coming.{IsNoFrame}
-use Rattle.bank_session.specs.Turns.{TurnMade, NoTurn, WriteBroke, TurnStops}
-use Rattle.bank_session.specs.RunEnd.{Taken, Finished, StoppedBetween, StoppedInRead, StoppedAtFrame, StoppedInLine, RunEnds}
+use Rattle.bank_session.specs.Turns.{TurnMade, TurnStops}
+use Rattle.bank_session.specs.RunEnd.{Taken, StoppedBetween, RunEnds}
 use Rattle.bank_session.proofs.Standing.{Standing}
 use Rattle.bank_session.specs.EndOrStop.{EndOrStop}
 use Rattle.bank_session.specs.declared.stop.Stop.{Stop}

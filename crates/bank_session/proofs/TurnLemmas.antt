@@ -1,15 +1,14 @@
 -- How the steps of a turn join.
-use Rattle.std.proofs.Common.{◌≡◌, ℕ, ◌<◌, ◌≤◌, ◌+◌, ◌-◌, List, [], ◌∷◌, ◌++◌, length, length-append, take, drop, Option, None, Some, IfSome, Result, Ok, Err, arith, refl, sym, ap, ◌∙◌, append_assoc, length-drop}
-use Rattle.std.specs.Io.KnownBytes.{Keeps, Consumes, Appends, IsAtEnd, prepend_known}
-use Rattle.std.proofs.KnownBytes.{Keeps-refl, Keeps-trans, prepend_known-read}
+use Rattle.std.proofs.Common.{◌≡◌, ℕ, ◌<◌, ◌+◌, ◌-◌, List, [], ◌∷◌, ◌++◌, length, length-append, take, drop, Option, None, Some, IfSome, Err, arith, sym, ap, ◌∙◌, append_assoc, length-drop}
+use Rattle.std.specs.Io.KnownBytes.{Keeps, Consumes, prepend_known}
+use Rattle.std.proofs.KnownBytes.{prepend_known-read}
 use Rattle.std.proofs.lemmas.List.{drop-drop, take-append-drop, length-take-le}
-use Rattle.ofx_ports.specs.Faults.{Rose}
 use Rattle.ofx_types.specs.declared.number.Moment.{Moment}
 use Rattle.bank_core.specs.BookView.{BookView}
 use Rattle.bank_session.specs.Frames.{IsLength, length_line, frame, frame_head}
 use Rattle.bank_session.specs.Coming.{HoldsFrame}
-use Rattle.bank_session.specs.Turns.{TurnMade, NoTurn, WriteBroke, TurnStops}
-use Rattle.bank_session.specs.TurnResult.{FrameWritten, FrameBroke, FrameResult, TurnResult}
+use Rattle.bank_session.specs.Turns.{TurnMade, TurnStops}
+use Rattle.bank_session.specs.TurnResult.{FrameWritten, FrameResult}
 use Rattle.bank_session.specs.declared.frame_head.FrameSize.{FrameSize}
 use Rattle.bank_session.specs.declared.stop.Stop.{Stop}
 use Rattle.bank_session.specs.declared.stop.Stop.TheVariants as stops

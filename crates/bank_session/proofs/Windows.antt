@@ -1,5 +1,5 @@
 -- The part of a buffer that is in use.
-use Rattle.std.proofs.Common.{◌≡◌, ℕ, ◌<◌, ◌≤◌, ◌+◌, ◌-◌, List, ◌++◌, length, length-drop, Option, take, drop, arith, refl, sym, ap, ◌∙◌}
+use Rattle.std.proofs.Common.{◌≡◌, ℕ, ◌<◌, ◌≤◌, ◌+◌, ◌-◌, List, ◌++◌, length, length-drop, Option, take, drop, arith, sym, ap, ◌∙◌}
 use Rattle.std.proofs.lemmas.List.{drop-take, drop-drop, length-take-le}
 use Rattle.std.specs.Io.KnownBytes.{Consumes, IsAtEnd}
 use Rattle.bank_session.specs.Reads.{ReadsMore}

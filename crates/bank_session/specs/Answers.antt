@@ -1,7 +1,11 @@
 -- What a run writes for a file.
-use Rattle.std.specs.Prelude.{◌≡◌, ℕ, List, [], ◌∷◌, ◌++◌, length, codes, Bool, true, Option, None, Some, is_some, ◌⊎◌}
-use Rattle.std.specs.List.{list_all, flat_map}
-use Rattle.ofx_types.specs.StrictForm.{SpellsStrict}
+use Rattle.std.specs.Prelude.{◌≡◌, ℕ, zero, suc, ◌-◌, List, [], ◌∷◌, ◌++◌, length, codes, Bool, true, Option, None, Some, is_some, ◌⊎◌}
+use Rattle.std.specs.List.{list_all, flat_map, after_first}
+use Rattle.std.specs.Fmt.{decimal}
+use Rattle.ofx_types.specs.HeaderForm.{is_line_feed}
+use Rattle.ofx_types.specs.FileForm.{SpellsFile, IsFaultOf}
+use Rattle.ofx_types.specs.declared.fault.FileFault.{FileFault}
+use Rattle.ofx_types.specs.declared.fault.FileFault.TheVariants.{Header, Syntax, Form, OutOfMemory}
 use Rattle.ofx_types.specs.declared.number.UserId.{UserId}
 use Rattle.ofx_types.specs.declared.number.Moment.{Moment}
 use Rattle.ofx_types.specs.declared.account.AcctName.{AcctName}
@@ -12,7 +16,7 @@ use Rattle.bank_model.specs.declared.setup.Setup.{Setup}
 use Rattle.bank_model.specs.declared.event.State.{State}
 use Rattle.bank_model.specs.declared.event.Event.TheVariants.{File}
 use Rattle.bank_model.specs.SetupLookups.{signed_on}
-use Rattle.bank_model.specs.Rules.{own_account, answer_to, state_after, opening_state}
+use Rattle.bank_model.specs.Rules.{own_account, answer_to, state_after}
 use Rattle.bank_session.specs.Frames.{IsLength, frame}
 
 -- the account that an ask names
@@ -23,16 +27,64 @@ account_in (Statement trnuid name period) = name
 abbrev pub asks_own : Setup → UserId → Ask → Bool
 asks_own setup user ask = is_some (own_account setup user (account_in ask))
 
--- A file is answered where its bytes spell a request in the strict form, by a user of the setup with this user's
--- password, about accounts of this user.
-pub record IsAnswered (setup : Setup) (bytes : List ℕ) (file : RequestFile) (user : UserId) : Type 0 where
-  pub spelled : SpellsStrict bytes file
+-- The file is a user's where the setup has this user with this password, and each account in it is this user's.
+pub record IsOwnOf (setup : Setup) (user : UserId) (file : RequestFile) : Type 0 where
   pub signed : signed_on setup file.user file.pass ≡ Some user
   pub owned : list_all (asks_own setup user) file.asks ≡ true
 
--- The line for every other file.
-abbrev pub bad_line : List ℕ
-bad_line = codes "BAD 0" ++ 10 ∷ []
+-- The line of the header that names a uid: the eighth is OLDFILEUID, and otherwise the ninth is NEWFILEUID.
+abbrev pub uid_line : Option (List ℕ) → Option (List ℕ) → Option ℕ
+uid_line (Some older) newer = Some 8
+uid_line None (Some newer) = Some 9
+uid_line None None = None
+
+-- A file is answered where its bytes spell a request file that names no uid and is a user's.
+pub record IsAnswered (setup : Setup) (bytes : List ℕ) (file : RequestFile) (user : UserId) : Type 0 where
+  pub spelled : SpellsFile bytes file
+  pub no_uid : uid_line file.older file.newer ≡ None
+  pub own : IsOwnOf setup user file
+
+-- The place of a fault is told. Want of memory has none.
+abbrev pub fault_place : FileFault → Option ℕ
+fault_place (Header at) = Some at
+fault_place (Syntax at) = Some at
+fault_place (Form at) = Some at
+fault_place OutOfMemory = None
+
+-- Bytes that spell no file aren't answered: the place is that of their fault.
+pub record IsDamaged (bytes : List ℕ) (place : ℕ) : Type 0 where
+  pub fault : FileFault
+  pub is_fault : IsFaultOf bytes fault
+  pub has_place : fault_place fault ≡ Some place
+
+-- what stands behind this many LFs
+unfoldable pub behind_lines : ℕ → List ℕ → List ℕ
+behind_lines zero bytes = bytes
+behind_lines (suc lines) bytes = behind_lines lines (after_first is_line_feed bytes)
+
+-- Line k begins behind LF number k-1. Its place is the number of bytes in front of it.
+abbrev pub line_place : ℕ → List ℕ → ℕ
+line_place k bytes = length bytes - length (behind_lines (k - 1) bytes)
+
+-- A file that names a uid isn't answered yet: the place is that of the line that names it.
+pub record NamesUid (bytes : List ℕ) (place : ℕ) : Type 0 where
+  pub file : RequestFile
+  pub line : ℕ
+  pub spelled : SpellsFile bytes file
+  pub has_uid : uid_line file.older file.newer ≡ Some line
+  pub place_is : place ≡ line_place line bytes
+
+-- Nor is a file that names no uid and is no user's: the place is 0.
+pub record IsNobodys (setup : Setup) (bytes : List ℕ) (place : ℕ) : Type 0 where
+  pub file : RequestFile
+  pub spelled : SpellsFile bytes file
+  pub no_uid : uid_line file.older file.newer ≡ None
+  pub not_own : (user : UserId) → IsOwnOf setup user file → ⊥
+  pub place_is : place ≡ 0
+
+-- A file isn't answered, for one of these three causes.
+abbrev pub IsRefused : Setup → List ℕ → ℕ → Type 0
+IsRefused setup bytes place = IsDamaged bytes place ⊎ (NamesUid bytes place ⊎ IsNobodys setup bytes place)
 
 -- An answered file is an event: its reply is written in a frame.
 pub record Replies (setup : Setup) (at : Moment) (before : State) (bytes line : List ℕ) (after : State) : Type 0 where
@@ -42,10 +94,15 @@ pub record Replies (setup : Setup) (at : Moment) (before : State) (bytes line : 
   pub reply : line ≡ frame (answer_to setup before at (File user file))
   pub state : after ≡ state_after setup before at (File user file)
 
--- Every other file changes nothing.
+-- `BAD`, a space and the place
+abbrev pub bad_line : ℕ → List ℕ
+bad_line place = codes "BAD " ++ decimal place ++ 10 ∷ []
+
+-- For any other file the line tells the place, and nothing changes.
 pub record IsBad (setup : Setup) (before : State) (bytes line : List ℕ) (after : State) : Type 0 where
-  pub unanswered : (file : RequestFile) (user : UserId) → IsAnswered setup bytes file user → ⊥
-  pub bad : line ≡ bad_line
+  pub place : ℕ
+  pub refused : IsRefused setup bytes place
+  pub bad : line ≡ bad_line place
   pub state : after ≡ before
 
 -- what is written for the bytes of a file, and the state that it leaves

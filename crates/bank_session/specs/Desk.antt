@@ -1,7 +1,5 @@
 -- A bank's book with its accounts.
-use Rattle.std.specs.Prelude.{◌≡◌, ℕ, List, length}
-use Rattle.std.specs.List.{slice_index_or}
-use Rattle.bank_model.specs.declared.setup.Setup.{Setup}
+use Rattle.std.specs.Prelude.{List, length}
 use Rattle.bank_core.specs.AccountView.{AccountView}
 use Rattle.bank_core.specs.BookView.{BookView}
 use Rattle.bank_core.specs.HeldAccounts.{AreBalanced, IsHeld}

@@ -1,5 +1,5 @@
 -- Exactly where a run ends with each status, as far as nothing of the outside fails and memory is there.
-use Rattle.std.specs.Prelude.{◌≡◌, ◌≢◌, ℕ, ◌≤◌, List, [], ◌++◌, length, Option, Some, ◌⊎◌}
+use Rattle.std.specs.Prelude.{◌≡◌, ◌≢◌, ℕ, ◌≤◌, List, [], ◌++◌, length, Some, ◌⊎◌}
 use Rattle.std.specs.List.{flat_map, AllByRecursion}
 use Rattle.ofx_ports.specs.Faults.{Rose}
 use Rattle.bank_model.specs.SetupForm.{SpellsSetup}

@@ -6,6 +6,7 @@ pub mod Window
 pub mod Coming
 pub mod Writes
 pub mod Answers
+pub mod HeaderLines
 pub mod Words
 pub mod SetupRead
 pub mod Desk

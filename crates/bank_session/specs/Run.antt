@@ -1,13 +1,8 @@
 -- A whole run: the words, the setup, the frames, and the status with which it ends.
-use Rattle.std.specs.Prelude.{◌≡◌, ◌≢◌, ℕ, ◌≤◌, List, [], ◌++◌, length, map, Option, Result, Ok, Err, ◌⊎◌}
-use Rattle.std.specs.Option.{IfSome}
-use Rattle.std.specs.List.{flat_map, AllByRecursion}
+use Rattle.std.specs.Prelude.{◌≡◌, ℕ, List, Option, Result, Ok, Err, ◌⊎◌}
 use Rattle.std.specs.Io.KnownBytes.{Keeps}
-use Rattle.ofx_ports.specs.Faults.{Rose}
 use Rattle.ofx_types.specs.declared.number.Moment.{Moment}
-use Rattle.bank_model.specs.SetupForm.{SpellsSetup}
 use Rattle.bank_model.specs.declared.setup.Setup.{Setup}
-use Rattle.bank_session.specs.Frames.{IsLength, frame, BeginsNoFrame}
 use Rattle.bank_session.specs.Words.{AreWords}
 use Rattle.bank_session.specs.SetupRead.{IsSetupOf, StopsSetup}
 use Rattle.bank_session.specs.RunEnd.{RunEnds}

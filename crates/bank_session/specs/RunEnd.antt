@@ -1,5 +1,5 @@
 -- A run over the frames of an input, and why it ended.
-use Rattle.std.specs.Prelude.{◌≡◌, ◌≢◌, ℕ, ◌<◌, ◌≤◌, List, [], ◌++◌, length, take, Option, None, Some, Result, Ok, Err, ◌⊎◌}
+use Rattle.std.specs.Prelude.{◌≡◌, ◌≢◌, ℕ, ◌<◌, ◌≤◌, List, [], ◌++◌, length, take, Option, Result, Ok, Err, ◌⊎◌}
 use Rattle.std.specs.Option.{IfSome}
 use Rattle.std.specs.Io.KnownBytes.{Consumes, Appends, IsAtEnd, prepend_known}
 use Rattle.ofx_ports.specs.Faults.{Rose}
@@ -7,7 +7,6 @@ use Rattle.ofx_types.specs.declared.number.Moment.{Moment}
 use Rattle.bank_model.specs.Rules.{opening_state}
 use Rattle.bank_model.specs.declared.setup.Setup.{Setup}
 use Rattle.bank_model.specs.declared.event.State.{State}
-use Rattle.bank_core.specs.BookView.{BookView}
 use Rattle.bank_session.specs.Frames.{IsLength, frame, BeginsNoFrame}
 use Rattle.bank_session.specs.Answers.{Says, Turn, AreTurns, read_in, written_in}
 use Rattle.bank_session.specs.declared.stop.Stop.{Stop}

@@ -51,6 +51,15 @@ fn status(end: Result<(), Stop>) -> Status
 /// The words are `answer`, the path of the setup, `-` for records that aren't kept, `--at` and the moment of every
 /// frame in 14 digits. The setup is read whole; then each frame of the input is answered in turn.
 ///
+/// A request file of a user of the setup (OFX 1.6, "Signon") about this user's accounts is answered by the reply in its
+/// frame. Any other file gets the line `BAD` with a place, in bytes from the file's first, and changes nothing:
+///
+/// | Place | Where |
+/// |---|---|
+/// | that of the fault | the bytes spell no request file |
+/// | that of the header's line with the uid, of OLDFILEUID where both are given | the file names a uid ("File-Based Error Recovery"), which isn't answered yet |
+/// | 0 | no user has this name and password, or an account isn't this user's |
+///
 /// | Status | Where |
 /// |---|---|
 /// | 0 | the input was read to its end and every frame answered |

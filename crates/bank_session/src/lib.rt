@@ -9,7 +9,9 @@ mod answer;
 mod desk;
 mod frame_head;
 mod frames;
+mod judge;
 mod laws;
+mod lines;
 mod output;
 mod run;
 mod setup_source;
@@ -18,7 +20,7 @@ mod turn;
 mod words;
 
 pub use answer::answer_files;
-pub use laws::{one_line, one_output, one_splitting};
+pub use laws::{exact_lines, one_line, one_output, one_refusal, one_splitting, uid_lines_begin};
 pub use words::moment_of_words;
 
 #[cfg(test)]

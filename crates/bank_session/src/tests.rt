@@ -2,7 +2,7 @@
 
 mod sample;
 
-use self::sample::{SETUP, WORDS, replies, requests};
+use self::sample::{SETUP, WORDS, changed_request, replies, requests};
 use crate::answer_files;
 use ofx_ports::{MemClock, MemKeeper, MemSink, MemSource};
 use ofx_types::{Moment, Status, Text};
@@ -166,12 +166,12 @@ fn single_bytes_are_answered_the_same(rt: HostRuntime) -> Result<(), Fail> {
     Ok(())
 }
 
-/// Inputs without a request that is answered: the status and the output.
+/// Inputs without a request that is answered: the status and the output. A file without an LF is a cut header.
 const INPUTS: [(&[u8], u8, &[u8]); 10] = [
     (b"", 0, b""),
     (b"FILE 0\n", 0, b"BAD 0\n"),
-    (b"FILE 5\nhello", 0, b"BAD 0\n"),
-    (b"FILE 5\nhelloFILE 0\n", 0, b"BAD 0\nBAD 0\n"),
+    (b"FILE 5\nhello", 0, b"BAD 5\n"),
+    (b"FILE 5\nhelloFILE 0\n", 0, b"BAD 5\nBAD 0\n"),
     (b"FILE 0\nFILE", 4, b"BAD 0\n"),
     (b"FILE 0\nFILE 5\nhell", 4, b"BAD 0\n"),
     (b"FILE 0\n\n", 4, b"BAD 0\n"),
@@ -191,6 +191,67 @@ fn inputs_at_the_edges(rt: HostRuntime) -> Result<(), Fail> {
         assert_eq!(rt; status, Status(expected), "for {bytes:?}");
         assert_eq!(rt; written.as_slice(), output, "for {bytes:?}");
     }
+    Ok(())
+}
+
+/// Changes of the sample's request, and the place to tell. Its header has 143 bytes; line 3 begins at 29, line 8 at
+/// 107 and line 9 at 124. BANKACCTFROM begins at 358, and the end tag of OFX at 521.
+const REFUSED: [(&str, &str, &str); 10] = [
+    ("VERSION:160", "VERSION:161", "BAD 29\n"),
+    ("</OFX>\r\n", "</OFX", "BAD 526\n"),
+    ("</SONRQ>", "</SONRS>", "BAD 278\n"),
+    ("</OFX>", SIXTEEN_MORE, "BAD 566\n"),
+    ("<ACCTID>1001\r\n", "", "BAD 358\n"),
+    ("OLDFILEUID:NONE", "OLDFILEUID:f1", "BAD 107\n"),
+    ("NEWFILEUID:NONE", "NEWFILEUID:f2", "BAD 124\n"),
+    (
+        "OLDFILEUID:NONE\r\nNEWFILEUID:NONE",
+        "OLDFILEUID:f1\r\nNEWFILEUID:f2",
+        "BAD 107\n",
+    ),
+    ("<USERPASS>secret", "<USERPASS>hunter", "BAD 0\n"),
+    (
+        "<USERID>alice\r\n<USERPASS>secret",
+        "<USERID>bob\r\n<USERPASS>hunter",
+        "BAD 0\n",
+    ),
+];
+
+/// Fifteen aggregates in OFX, which makes sixteen that are open.
+const FIFTEEN_MORE: &str = "\
+    <A><A><A><A><A><A><A><A><A><A><A><A><A><A><A>\
+    </A></A></A></A></A></A></A></A></A></A></A></A></A></A></A></OFX>";
+
+/// One more than may be open. The sixteenth begins 45 bytes behind the first.
+const SIXTEEN_MORE: &str = "\
+    <A><A><A><A><A><A><A><A><A><A><A><A><A><A><A><A>\
+    </A></A></A></A></A></A></A></A></A></A></A></A></A></A></A></A></OFX>";
+
+#[test]
+fn a_refused_file_is_told_its_place(rt: HostRuntime) -> Result<(), Fail> {
+    let alloc = rt.alloc();
+    for (old, new, expected) in REFUSED {
+        let setup = MemSource::new(alloc, SETUP)?;
+        let bytes = changed_request(alloc, old, new)?;
+        let input = MemSource::new(alloc, bytes.as_bytes())?;
+        let out = MemSink::new(alloc, ROOM)?;
+        let (status, written) = run(alloc, setup, input, out)?;
+        assert_eq!(rt; status, Status(0), "for {new}");
+        assert_eq!(rt; written.as_slice(), expected.as_bytes(), "for {new}");
+    }
+    Ok(())
+}
+
+#[test]
+fn sixteen_open_aggregates_are_answered(rt: HostRuntime) -> Result<(), Fail> {
+    let alloc = rt.alloc();
+    let setup = MemSource::new(alloc, SETUP)?;
+    let bytes = changed_request(alloc, "</OFX>", FIFTEEN_MORE)?;
+    let input = MemSource::new(alloc, bytes.as_bytes())?;
+    let out = MemSink::new(alloc, ROOM)?;
+    let (status, written) = run(alloc, setup, input, out)?;
+    assert_eq!(rt; status, Status(0));
+    assert_eq!(rt; written, replies(alloc, &[b"s1"])?);
     Ok(())
 }
 

@@ -1,14 +1,13 @@
 -- What is appended piece by piece is appended as a whole.
-use Rattle.std.proofs.Common.{◌≡◌, ℕ, List, [], ◌∷◌, ◌++◌, Option, None, Result, OnOk, codes, length, ◌<◌, true, false, nat_eq, refl, sym, ap, ◌∙◌, append_assoc, arith}
+use Rattle.std.proofs.Common.{◌≡◌, ℕ, List, [], ◌∷◌, ◌++◌, Result, OnOk, length, ◌<◌, true, false, nat_eq, refl, sym, ap, ◌∙◌, append_assoc, arith}
 use Rattle.std.proofs.lemmas.List.{append-nil}
 use Rattle.std.proofs.lemmas.Grind.{common_steps}
 use Rattle.std.specs.List.{flat_map}
 use Rattle.ofx_types.specs.ReplyForm.{ask_reply}
 use Rattle.ofx_types.specs.declared.reply.AskReply.{AskReply}
 use Rattle.ofx_types.specs.declared.reply.AskReply.TheVariants.{Statement}
-use Rattle.std.specs.Fmt.{decimal}
 use Rattle.std.proofs.lemmas.Result.{on_ok_weaker}
-use Rattle.ofx_types.specs.Sheet.{start_line, end_line, aggregate, aggregate_of_some, ended, header_line, header_text, uid_text}
+use Rattle.ofx_types.specs.Sheet.{start_line, end_line, aggregate, aggregate_of_some}
 
 five : (o a b c d e : List ℕ) → ((((o ++ a) ++ b) ++ c) ++ d) ++ e ≡ o ++ (a ++ (b ++ (c ++ (d ++ e))))
 five o a b c d e = simp append_assoc
@@ -26,36 +25,6 @@ pub aggregate_of_three : {T E : Type 0} (r : Result T E) (o0 o1 o2 o3 o4 o5 name
     OnOk r (o5 ≡ o0 ++ aggregate name (a ++ (b ++ c)))
 aggregate_of_three r o0 o1 o2 o3 o4 o5 name a b c p q s t ends =
     on_ok_weaker r (λ e. joined o0 o1 o2 o3 o4 o5 (start_line name) a b c (end_line name) p q s t e ∙ ap (λ x. o0 ++ x) (three_parts name a b c)) ends
-
-line_before : (name value rest : List ℕ) → header_line name value ++ rest ≡ name ++ 58 ∷ (value ++ 13 ∷ 10 ∷ rest)
-line_before name value rest = simp append_assoc
-
--- the fixed text in front of the version
-abbrev before_version : List ℕ
-before_version = header_line (codes "OFXHEADER") (codes "100") ++ (header_line (codes "DATA") (codes "OFXSGML") ++ codes "VERSION:")
-
--- the fixed text between the version and the uid
-abbrev before_uid : List ℕ → List ℕ
-before_uid rest =
-    header_line (codes "SECURITY") (codes "NONE") ++ (header_line (codes "ENCODING") (codes "USASCII")
-    ++ (header_line (codes "CHARSET") (codes "1252") ++ (header_line (codes "COMPRESSION") (codes "NONE")
-    ++ (header_line (codes "OLDFILEUID") (codes "NONE") ++ rest))))
-
-header_form : (version : ℕ) (newer : Option (List ℕ)) →
-    header_text version None newer ≡ before_version ++ (decimal version ++ ((13 ∷ 10 ∷ before_uid (codes "NEWFILEUID:")) ++ (uid_text newer ++ 13 ∷ 10 ∷ 13 ∷ 10 ∷ [])))
-unfolding header_text
-header_form version newer =
-    ap (λ (t : List ℕ). header_line (codes "OFXHEADER") (codes "100") ++ (header_line (codes "DATA") (codes "OFXSGML") ++ t))
-    (line_before (codes "VERSION") (decimal version) _
-    ∙ ap (λ (t : List ℕ). codes "VERSION:" ++ (decimal version ++ 13 ∷ 10 ∷ before_uid t)) (line_before (codes "NEWFILEUID") (uid_text newer) (ended [])))
-
--- a header in its five pieces
-pub header_pieces : (o0 o1 o2 o3 o4 o5 : List ℕ) (version : ℕ) (newer : Option (List ℕ)) →
-    o1 ≡ o0 ++ before_version → o2 ≡ o1 ++ decimal version → o3 ≡ o2 ++ (13 ∷ 10 ∷ before_uid (codes "NEWFILEUID:")) →
-    o4 ≡ o3 ++ uid_text newer → o5 ≡ o4 ++ 13 ∷ 10 ∷ 13 ∷ 10 ∷ [] → o5 ≡ o0 ++ header_text version None newer
-header_pieces o0 o1 o2 o3 o4 o5 version newer p q r s t =
-    joined o0 o1 o2 o3 o4 o5 before_version (decimal version) (13 ∷ 10 ∷ before_uid (codes "NEWFILEUID:")) (uid_text newer) (13 ∷ 10 ∷ 13 ∷ 10 ∷ []) p q r s t
-    ∙ ap (λ x. o0 ++ x) (sym (header_form version newer))
 
 -- the answer to an ask is something
 ask_reply_is_there : (reply : AskReply) (rest : List ℕ) → 0 < length (ask_reply reply ++ rest)

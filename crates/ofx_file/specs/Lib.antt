@@ -1,7 +1,4 @@
-pub mod Marks
-pub mod StrictReading
-pub mod StrictFile
-pub mod Values
-pub mod RawValues
-pub mod Reading
 pub mod ReplyParts
+pub mod RequestOutcome
+pub mod RequestSteps
+pub mod FaultPlaces

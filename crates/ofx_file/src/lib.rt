@@ -1,18 +1,15 @@
 //! Files as bytes: replies are printed in their one printed form, and request files are read.
 //!
-//! A reply is printed by `OfxPrinter`, which the bank is given. A request file is read by `read_strict`,
-//! which takes the strict form of a statement request and no other bytes.
+//! A request file is read by `read_request`, which answers the file that the bytes spell, or the place of their one
+//! fault. A reply is printed by `write_reply`, and by `OfxPrinter`, which the bank is given.
 #![tactic(auto)]
 
-mod entities;
-mod header;
-mod kind;
+mod laws;
 mod reply;
-mod sheet;
-mod statement;
-mod strict;
+mod request;
 #[cfg(test)]
 mod tests;
 
-pub use reply::OfxPrinter;
-pub use strict::{read_strict, strict_form_is_unambiguous};
+pub use laws::{each_is_judged, faults_spell_nothing, one_fault, one_file};
+pub use reply::{OfxPrinter, write_reply};
+pub use request::read_request;

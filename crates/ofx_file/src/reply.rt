@@ -1,6 +1,6 @@
 //! The printed form of a reply file.
 
-ghost use Rattle.std.specs.Prelude.{◌≡◌, ◌==◌, ◌++◌, OnOk, IfOk, codes, if◌then◌else◌};
+ghost use Rattle.std.specs.Prelude.{◌≡◌, ◌==◌, ◌++◌, OnOk, IfOk, codes, None, if◌then◌else◌};
 ghost use Rattle.std.specs.Option.{ForSome};
 ghost use Rattle.std.specs.List.{flat_map, AllByRecursion};
 ghost use Rattle.ofx_types.specs.Sheet.{element};
@@ -10,11 +10,13 @@ ghost use Rattle.ofx_types.specs.ReplyForm.{reply_text};
 ghost use Rattle.ofx_types.specs.Calendar.{IsMoment};
 ghost use Rattle.ofx_types.specs.Printable.{IsPrintable, IsPrintableBody, IsPrintableReply};
 
-use crate::header::header;
-use crate::sheet::{element_of, element_of_moment, element_of_number, end, start};
-use crate::statement::statement_body;
+mod statement;
+
 use bank_model::Printer;
-use ofx_types::{AskReply, Moment, OutOfMemory, ReplyFile, StatementBody, TrnUid};
+use ofx_header::{Header, write_header};
+use ofx_tree::Sheet;
+use ofx_types::{AskReply, Duplicate, Moment, OutOfMemory, ReplyFile, StatementBody, TrnUid};
+use statement::statement_body;
 use std::alloc::Global;
 
 /// The room that a reply is given at first, in bytes. A reply of one statement has some 750.
@@ -26,53 +28,66 @@ pub struct OfxPrinter;
 
 impl Printer for OfxPrinter {
     fn print(&self, alloc: Global, reply: &ReplyFile) -> Result<Vec<u8>, OutOfMemory> {
-        let mut out = Vec::with_capacity(alloc, ROOM)?;
-        reply_file(reply, &mut out)?;
-        Ok(out)
+        write_reply(alloc, reply)
     }
 }
 
+/// The bytes of a reply file, in its one printed form (OFX 1.6, "Open Financial Exchange Headers", "SGML Basics").
 #[tactic(auto, unfolding(ofx_types::specs::ReplyForm::reply_text))]
-fn reply_file(reply: &ReplyFile, out: &mut Vec<u8>) -> Result<(), OutOfMemory>
+pub fn write_reply(alloc: Global, reply: &ReplyFile) -> Result<Vec<u8>, OutOfMemory>
     requires { IsPrintable reply.now }
-    ensures { OnOk result (out.new.items ≡ out.old.items ++ reply_text reply.now) }
+    ensures { IfOk result (λ out. out.items ≡ reply_text reply.now) }
 {
-    header(reply.version, &reply.newer, out)?;
-    body(reply, out)
+    let mut out = Vec::with_capacity(alloc, ROOM)?;
+    write_header(&header_of(reply)?, &mut out)?;
+    let mut sheet = Sheet::from_vec(out);
+    body(reply, &mut sheet)?;
+    Ok(sheet.into_bytes())
+}
+
+/// The header of a reply, which names no older file.
+fn header_of(reply: &ReplyFile) -> Result<Header, OutOfMemory>
+    ensures { IfOk result (λ header. header ≡ record { version = reply.now.version; older = None; newer = reply.now.newer }) }
+{
+    Ok(Header {
+        version: reply.version,
+        older: None,
+        newer: reply.newer.copy()?,
+    })
 }
 
 /// Appends what stands behind the header.
 #[tactic(auto, unfolding(ofx_types::specs::Sheet::aggregate))]
-fn body(reply: &ReplyFile, out: &mut Vec<u8>) -> Result<(), OutOfMemory>
+fn body(reply: &ReplyFile, sheet: &mut Sheet) -> Result<(), OutOfMemory>
     requires { IsPrintable reply.now }
-    ensures { OnOk result (out.new.items ≡ out.old.items ++ parts.reply_body reply.now) }
+    ensures { OnOk result (sheet.new ≡ sheet.old ++ parts.reply_body reply.now) }
 {
-    start(b"OFX", out)?;
-    signon_set(reply.signon, reply.moment, out)?;
-    bank_set_of_some(reply.replies.items(), out)?;
-    end(b"OFX", out)
+    sheet.start(b"OFX")?;
+    signon_set(reply.signon, reply.moment, sheet)?;
+    bank_set_of_some(reply.replies.items(), sheet)?;
+    sheet.end(b"OFX")
 }
 
 /// Appends the message set of the signon.
 #[tactic(auto, unfolding(ofx_types::specs::Sheet::aggregate))]
-fn signon_set(code: u16, moment: Moment, out: &mut Vec<u8>) -> Result<(), OutOfMemory>
+fn signon_set(code: u16, moment: Moment, sheet: &mut Sheet) -> Result<(), OutOfMemory>
     requires { IsMoment moment.0 }
-    ensures { OnOk result (out.new.items ≡ out.old.items ++ parts.signon_set code moment) }
+    ensures { OnOk result (sheet.new ≡ sheet.old ++ parts.signon_set code moment) }
 {
-    start(b"SIGNONMSGSRSV1", out)?;
-    signon_reply(code, moment, out)?;
-    end(b"SIGNONMSGSRSV1", out)
+    sheet.start(b"SIGNONMSGSRSV1")?;
+    signon_reply(code, moment, sheet)?;
+    sheet.end(b"SIGNONMSGSRSV1")
 }
 
 /// Appends a status: code 0 is information, every other code an error.
 #[tactic(auto, unfolding(ofx_types::specs::ReplyForm::status, ofx_types::specs::Sheet::aggregate))]
-fn status(code: u16, out: &mut Vec<u8>) -> Result<(), OutOfMemory>
-    ensures { OnOk result (out.new.items ≡ out.old.items ++ form.status code) }
+fn status(code: u16, sheet: &mut Sheet) -> Result<(), OutOfMemory>
+    ensures { OnOk result (sheet.new ≡ sheet.old ++ form.status code) }
 {
-    start(b"STATUS", out)?;
-    element_of_number(b"CODE", code as u64, out)?;
-    element_of(b"SEVERITY", severity(code), out)?;
-    end(b"STATUS", out)
+    sheet.start(b"STATUS")?;
+    sheet.number(b"CODE", code as u64)?;
+    sheet.element(b"SEVERITY", severity(code))?;
+    sheet.end(b"STATUS")
 }
 
 fn severity(code: u16) -> &'static [u8]
@@ -83,56 +98,56 @@ fn severity(code: u16) -> &'static [u8]
 
 /// Appends the answer to the signon.
 #[tactic(auto, unfolding(ofx_types::specs::ReplyForm::signon_reply, ofx_types::specs::Sheet::aggregate))]
-fn signon_reply(code: u16, moment: Moment, out: &mut Vec<u8>) -> Result<(), OutOfMemory>
+fn signon_reply(code: u16, moment: Moment, sheet: &mut Sheet) -> Result<(), OutOfMemory>
     requires { IsMoment moment.0 }
-    ensures { OnOk result (out.new.items ≡ out.old.items ++ form.signon_reply code moment) }
+    ensures { OnOk result (sheet.new ≡ sheet.old ++ form.signon_reply code moment) }
 {
-    start(b"SONRS", out)?;
-    status(code, out)?;
-    element_of_moment(b"DTSERVER", moment, out)?;
-    element_of(b"LANGUAGE", b"ENG", out)?;
-    end(b"SONRS", out)
+    sheet.start(b"SONRS")?;
+    status(code, sheet)?;
+    sheet.moment(b"DTSERVER", moment)?;
+    sheet.element(b"LANGUAGE", b"ENG")?;
+    sheet.end(b"SONRS")
 }
 
 /// Appends the message set of the bank, where there is an answer.
-fn bank_set_of_some(replies: &[AskReply], out: &mut Vec<u8>) -> Result<(), OutOfMemory>
+fn bank_set_of_some(replies: &[AskReply], sheet: &mut Sheet) -> Result<(), OutOfMemory>
     requires { AllByRecursion IsPrintableReply replies.now }
-    ensures { OnOk result (out.new.items ≡ out.old.items ++ parts.bank_set_of_some replies.now) }
+    ensures { OnOk result (sheet.new ≡ sheet.old ++ parts.bank_set_of_some replies.now) }
 {
     if replies.is_empty() {
         return Ok(());
     }
-    bank_set(replies, out)
+    bank_set(replies, sheet)
 }
 
 /// Appends the message set of the bank.
 #[tactic(auto, unfolding(ofx_types::specs::Sheet::aggregate))]
-fn bank_set(replies: &[AskReply], out: &mut Vec<u8>) -> Result<(), OutOfMemory>
+fn bank_set(replies: &[AskReply], sheet: &mut Sheet) -> Result<(), OutOfMemory>
     requires { AllByRecursion IsPrintableReply replies.now }
-    ensures { OnOk result (out.new.items ≡ out.old.items ++ parts.bank_set replies.now) }
+    ensures { OnOk result (sheet.new ≡ sheet.old ++ parts.bank_set replies.now) }
 {
-    start(b"BANKMSGSRSV1", out)?;
-    ask_replies(replies, out)?;
-    end(b"BANKMSGSRSV1", out)
+    sheet.start(b"BANKMSGSRSV1")?;
+    ask_replies(replies, sheet)?;
+    sheet.end(b"BANKMSGSRSV1")
 }
 
-fn ask_replies(replies: &[AskReply], out: &mut Vec<u8>) -> Result<(), OutOfMemory>
+fn ask_replies(replies: &[AskReply], sheet: &mut Sheet) -> Result<(), OutOfMemory>
     requires { AllByRecursion IsPrintableReply replies.now }
-    ensures { OnOk result (out.new.items ≡ out.old.items ++ flat_map form.ask_reply replies.now) }
+    ensures { OnOk result (sheet.new ≡ sheet.old ++ flat_map form.ask_reply replies.now) }
 {
     for reply in replies {
-        ask_reply(reply, out)?;
+        ask_reply(reply, sheet)?;
     }
     Ok(())
 }
 
 /// Appends the answer to one ask.
-fn ask_reply(reply: &AskReply, out: &mut Vec<u8>) -> Result<(), OutOfMemory>
+fn ask_reply(reply: &AskReply, sheet: &mut Sheet) -> Result<(), OutOfMemory>
     requires { IsPrintableReply reply.now }
-    ensures { OnOk result (out.new.items ≡ out.old.items ++ form.ask_reply reply.now) }
+    ensures { OnOk result (sheet.new ≡ sheet.old ++ form.ask_reply reply.now) }
 {
     match reply {
-        AskReply::Statement(trnuid, code, body) => statement_reply(trnuid, *code, body, out),
+        AskReply::Statement(trnuid, code, body) => statement_reply(trnuid, *code, body, sheet),
     }
 }
 
@@ -141,21 +156,21 @@ fn statement_reply(
     trnuid: &TrnUid,
     code: u16,
     body: &Option<StatementBody>,
-    out: &mut Vec<u8>,
+    sheet: &mut Sheet,
 ) -> Result<(), OutOfMemory>
     requires { ForSome body.now IsPrintableBody }
-    ensures { OnOk result (out.new.items ≡
-        out.old.items ++ form.ask_reply (AskReply.Statement trnuid.now code body.now)) }
+    ensures { OnOk result (sheet.new ≡
+        sheet.old ++ form.ask_reply (AskReply.Statement trnuid.now code body.now)) }
 {
-    start(b"STMTTRNRS", out)?;
-    element_of_trnuid(trnuid, out)?;
-    status(code, out)?;
-    statement_body(body, out)?;
-    end(b"STMTTRNRS", out)
+    sheet.start(b"STMTTRNRS")?;
+    element_of_trnuid(trnuid, sheet)?;
+    status(code, sheet)?;
+    statement_body(body, sheet)?;
+    sheet.end(b"STMTTRNRS")
 }
 
-fn element_of_trnuid(trnuid: &TrnUid, out: &mut Vec<u8>) -> Result<(), OutOfMemory>
-    ensures { OnOk result (out.new.items ≡ out.old.items ++ element (codes "TRNUID") trnuid.now) }
+fn element_of_trnuid(trnuid: &TrnUid, sheet: &mut Sheet) -> Result<(), OutOfMemory>
+    ensures { OnOk result (sheet.new ≡ sheet.old ++ element (codes "TRNUID") trnuid.now) }
 {
-    element_of(b"TRNUID", trnuid.as_bytes(), out)
+    sheet.element(b"TRNUID", trnuid.as_bytes())
 }

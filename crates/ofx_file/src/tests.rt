@@ -1,10 +1,10 @@
 //! The sample files of the format byte for byte, and edges that no clause says.
 
-use crate::{OfxPrinter, read_strict};
+use crate::{OfxPrinter, read_request, write_reply};
 use bank_model::Printer;
 use ofx_types::{
-    AcctKind, AcctName, Ask, AskReplies, AskReply, Cents, Lines, Moment, ReplyFile, RequestFile,
-    StatementBody, StatementList, Text, TrnUid,
+    AcctKind, AcctName, Ask, AskReplies, AskReply, Cents, FileFault, Lines, Moment, Period,
+    ReplyFile, RequestFile, StatementBody, StatementList, Text, TrnUid,
 };
 use std::test::Fail;
 
@@ -124,20 +124,23 @@ fn the_sample_reply_is_printed(rt: HostRuntime) -> Result<(), Fail> {
         moment: NOON,
         replies,
     };
-    let printed = OfxPrinter.print(rt.alloc(), &reply)?;
+    let printed = write_reply(rt.alloc(), &reply)?;
     assert_eq!(rt;
         printed.as_slice().strip_prefix(HEADER),
         Some(REPLY_BODY.as_slice())
     );
+    let again = OfxPrinter.print(rt.alloc(), &reply)?;
+    assert_eq!(rt; again.as_slice(), printed.as_slice());
     Ok(())
 }
 
 /// The sample request, with other text in place of the first that is this text.
 fn sample(rt: &HostRuntime, text: &[u8], other: &[u8]) -> Result<Vec<u8>, Fail> {
-    let mut bytes = HEADER.to_vec(rt.alloc())?;
-    let body = REQUEST_BODY.as_slice();
-    for (at, byte) in body.iter().enumerate() {
-        if let Some(tail) = body[at..].strip_prefix(text) {
+    let mut bytes = Vec::new(rt.alloc());
+    let whole = whole_sample(rt)?;
+    let whole = whole.as_slice();
+    for (at, byte) in whole.iter().enumerate() {
+        if let Some(tail) = whole[at..].strip_prefix(text) {
             bytes.extend_from_slice(other)?;
             bytes.extend_from_slice(tail)?;
             return Ok(bytes);
@@ -147,64 +150,120 @@ fn sample(rt: &HostRuntime, text: &[u8], other: &[u8]) -> Result<Vec<u8>, Fail> 
     Ok(bytes)
 }
 
-fn read(rt: &HostRuntime, text: &[u8], other: &[u8]) -> Result<Option<RequestFile>, Fail> {
-    Ok(read_strict(rt.alloc(), sample(rt, text, other)?.as_slice())?)
+fn whole_sample(rt: &HostRuntime) -> Result<Vec<u8>, Fail> {
+    let mut bytes = HEADER.to_vec(rt.alloc())?;
+    bytes.extend_from_slice(REQUEST_BODY)?;
+    Ok(bytes)
+}
+
+/// What is read of the sample with other text.
+fn read(rt: &HostRuntime, text: &[u8], other: &[u8]) -> Result<RequestFile, Fail> {
+    Ok(read_request(rt.alloc(), sample(rt, text, other)?.as_slice())?)
+}
+
+/// The one statement of a file.
+fn statement(file: &RequestFile) -> Result<(&TrnUid, &AcctName, &Option<Period>), Fail> {
+    match file.asks.items() {
+        [Ask::Statement(trnuid, account, period)] => Ok((trnuid, account, period)),
+        _ => Err(Fail::new("not one statement")),
+    }
 }
 
 #[test]
 fn the_sample_request_is_read(rt: HostRuntime) -> Result<(), Fail> {
-    let Some(file) = read(&rt, b"", b"")? else {
-        return Err(Fail::new("not read"));
-    };
+    let file = read(&rt, b"", b"")?;
     assert_eq!(rt; file.version, 160);
+    assert!(rt; file.older.is_none() && file.newer.is_none());
     assert_eq!(rt; file.user.as_bytes(), b"alice".as_slice());
     assert_eq!(rt; file.pass.as_bytes(), b"secret".as_slice());
-    let [Ask::Statement(trnuid, account, Some(period))] = file.asks.items() else {
-        return Err(Fail::new("not one statement"));
-    };
+    let (trnuid, account, period) = statement(&file)?;
     assert_eq!(rt; trnuid.as_bytes(), b"s1".as_slice());
     assert_eq!(rt; account.bank.as_bytes(), b"121099999".as_slice());
     assert_eq!(rt; account.number.as_bytes(), b"1001".as_slice());
     assert_eq!(rt; account.kind, AcctKind::Checking);
-    assert_eq!(rt;
-        (period.start, period.end, period.include),
-        (None, None, true)
-    );
+    let whole = Period {
+        start: None,
+        end: None,
+        include: true,
+    };
+    assert_eq!(rt; *period, Some(whole));
     Ok(())
 }
 
 #[test]
-fn white_space_round_values_is_let_pass(rt: HostRuntime) -> Result<(), Fail> {
-    let Some(file) = read(&rt, b"alice", b"\t alice \r")? else {
-        return Err(Fail::new("not read"));
-    };
+fn what_means_the_same_is_read(rt: HostRuntime) -> Result<(), Fail> {
+    let file = read(
+        &rt,
+        b"<USERID>alice\r\n",
+        b"<USERID> alice</USERID><X-A>1<USERID>\r\n",
+    )?;
     assert_eq!(rt; file.user.as_bytes(), b"alice".as_slice());
-    assert!(rt; read(&rt, b"CHECKING", b" SAVINGS ")?.is_some());
-    assert!(rt; read(&rt, b"20240131120000", b" 20240131 ")?.is_some());
+    let file = read(&rt, b"s1", b"a&amp;lt;&lt;&x")?;
+    assert_eq!(rt; statement(&file)?.0.as_bytes(), b"a&lt;<&x".as_slice());
+    let file = read(&rt, b"CHECKING", b" SAVINGS ")?;
+    assert_eq!(rt; statement(&file)?.1.kind, AcctKind::Savings);
+    let file = read(&rt, b"<INCTRAN>\r\n<INCLUDE>Y\r\n</INCTRAN>\r\n", b"")?;
+    assert!(rt; statement(&file)?.2.is_none());
     Ok(())
 }
 
-#[test]
-fn entities_are_decoded_once(rt: HostRuntime) -> Result<(), Fail> {
-    let Some(file) = read(&rt, b"s1", b"a&amp;lt;&lt;&x")? else {
-        return Err(Fail::new("not read"));
-    };
-    let [Ask::Statement(trnuid, _, _)] = file.asks.items() else {
-        return Err(Fail::new("not one statement"));
-    };
-    assert_eq!(rt; trnuid.as_bytes(), b"a&lt;<&x".as_slice());
-    Ok(())
+/// The fault of the sample with other text, and the last place where a tag stands in it.
+fn refused(
+    rt: &HostRuntime,
+    text: &[u8],
+    other: &[u8],
+    tag: &[u8],
+) -> Result<(FileFault, u64), Fail> {
+    let bytes = sample(rt, text, other)?;
+    match read_request(rt.alloc(), bytes.as_slice()) {
+        Ok(_) => Err(Fail::new("read")),
+        Err(fault) => Ok((fault, last_place(bytes.as_slice(), tag))),
+    }
+}
+
+fn last_place(bytes: &[u8], tag: &[u8]) -> u64 {
+    let mut place = 0;
+    for (at, _) in bytes.iter().enumerate() {
+        if bytes[at..].starts_with(tag) {
+            place = at as u64;
+        }
+    }
+    place
 }
 
 #[test]
-fn what_has_no_form_is_refused(rt: HostRuntime) -> Result<(), Fail> {
-    assert!(rt; read(&rt, b"s1", b"0")?.is_none());
-    assert!(rt; read(&rt, b"s1", b"")?.is_none());
-    assert!(rt; read(&rt, b"CHECKING", b"CHEQUE")?.is_none());
-    assert!(rt; read(&rt, b"20240131120000", b"20240230")?.is_none());
-    assert!(rt; read(&rt, b"20240131120000", b"20240131[0:\x01]")?.is_none());
-    assert!(rt; read(&rt, b"</OFX>\r\n", b"</OFX>\r")?.is_none());
-    assert!(rt; read(&rt, b"</OFX>\r\n", b"</OFX>\r\n\n")?.is_none());
-    assert!(rt; read(&rt, b"1001", b"1001<")?.is_none());
+fn faults_stand_where_they_are(rt: HostRuntime) -> Result<(), Fail> {
+    let (fault, place) = refused(&rt, b"VERSION:160", b"VERSION:161", b"VERSION")?;
+    assert_eq!(rt; fault, FileFault::Header(place));
+    let (fault, place) = refused(&rt, b"</SONRQ>\r\n", b"", b"</SIGNONMSGSRQV1>")?;
+    assert_eq!(rt; fault, FileFault::Syntax(place));
+    for (text, other, tag) in [
+        (
+            b"<USERID>alice\r\n".as_slice(),
+            b"".as_slice(),
+            b"<SONRQ>".as_slice(),
+        ),
+        (b"<LANGUAGE>ENG", b"<USERPASS>other", b"<USERPASS>"),
+        (b"s1", b"0", b"<TRNUID>"),
+        (b"CHECKING", b"CHEQUE", b"<ACCTTYPE>"),
+        (
+            b"<INCLUDE>",
+            b"<DTSTART>20240101\r\n<INCLUDE>",
+            b"<DTSTART>",
+        ),
+        (
+            b"<STMTTRNRQ>",
+            b"<INTRATRNRQ></INTRATRNRQ><STMTTRNRQ>",
+            b"<INTRATRNRQ>",
+        ),
+        (
+            b"</OFX>",
+            b"<EMAILMSGSRQV1><MAILTRNRQ></MAILTRNRQ></EMAILMSGSRQV1></OFX>",
+            b"<MAILTRNRQ>",
+        ),
+    ] {
+        let (fault, place) = refused(&rt, text, other, tag)?;
+        assert_eq!(rt; fault, FileFault::Form(place));
+    }
     Ok(())
 }

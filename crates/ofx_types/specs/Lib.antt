@@ -18,4 +18,3 @@ pub mod FormWords
 pub mod RequestForm
 pub mod RequestReading
 pub mod FileForm
-pub mod StrictForm

@@ -1,6 +1,7 @@
 //! The sample's words, setup, requests and replies, byte for byte.
 
 use std::alloc::{AllocError, Global};
+use std::test::Fail;
 
 pub const WORDS: [&str; 5] = ["answer", "setup", "-", "--at", "20240131120000"];
 
@@ -118,6 +119,17 @@ const REPLY_BACK: &[u8; 420] = b"\r\n\
 /// The sample's request in its frame, once for each transaction's name. A name has two bytes.
 pub fn requests(alloc: Global, names: &[&[u8; 2]]) -> Result<Vec<u8>, AllocError> {
     joined(alloc, REQUEST_FRONT, names, REQUEST_BACK)
+}
+
+/// The sample's request with the first `old` in it turned into `new`, in its frame.
+pub fn changed_request(alloc: Global, old: &str, new: &str) -> Result<String, Fail> {
+    let framed = requests(alloc, &[b"s1"])?;
+    let text = str::from_utf8(&framed)?;
+    let file = text
+        .strip_prefix("FILE 529\n")
+        .unwrap_or(text)
+        .replacen(alloc, old, new, 1)?;
+    Ok(format!(in alloc; "FILE {}\n{file}", file.len())?)
 }
 
 /// The sample's reply in its frame, once for each transaction's name. A name has two bytes.

@@ -1,4 +1,4 @@
-use Rattle.std.proofs.Common.{arith, rules}
+use Rattle.std.proofs.Common.{rules}
 use Rattle.bank_session.proofs.Windows.{reads_more}
 use Rattle.bank_session.proofs.ahead.read_window.Goals as goal
 

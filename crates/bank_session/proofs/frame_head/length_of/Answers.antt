@@ -1,4 +1,4 @@
-use Rattle.std.proofs.Common.{◌≡◌, ◌≤◌, arith, sym, ◌∙◌, ap, IsTrue}
+use Rattle.std.proofs.Common.{◌≤◌, arith, sym, ◌∙◌, ap, IsTrue}
 use Rattle.std.proofs.lemmas.Option.{cond_some}
 use Rattle.std.specs.Fmt.{decimal}
 use Rattle.bank_session.specs.Heads.{number_from}

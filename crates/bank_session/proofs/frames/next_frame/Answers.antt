@@ -1,5 +1,3 @@
-use Rattle.std.proofs.Common.{◌≡◌, ap, ◌∙◌}
-use Rattle.bank_session.specs.Coming.{ShowsFront}
 use Rattle.bank_session.proofs.Coming.{no_frame_ahead}
 use Rattle.bank_session.proofs.frames.next_frame.Goals as goal
 

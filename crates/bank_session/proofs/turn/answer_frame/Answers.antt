@@ -1,4 +1,4 @@
-use Rattle.std.proofs.Common.{◌≡◌, List, ◌++◌, ◌∙◌, ap, sym, refl}
+use Rattle.std.proofs.Common.{List, ◌++◌, ◌∙◌, ap, sym, refl}
 use Rattle.bank_session.specs.Frames.{frame}
 use Rattle.bank_session.proofs.TurnLemmas.{file_in, file_fits, frame_ahead}
 use Rattle.bank_session.proofs.turn.answer_frame.Goals as goal

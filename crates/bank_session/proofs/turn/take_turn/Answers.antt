@@ -1,4 +1,3 @@
-use Rattle.std.proofs.Common.{◌∙◌}
 use Rattle.std.proofs.lemmas.Result.{err_from_is_err_and}
 use Rattle.bank_session.proofs.TurnLemmas.{turn_made, turn_stopped}
 use Rattle.bank_session.proofs.turn.take_turn.Goals as goal

@@ -1,4 +1,3 @@
-use Rattle.std.proofs.Common.{arith, rules, ◌≡◌, ◌∙◌, get_or}
 use Rattle.bank_session.proofs.CommandWords.{words_of_stamp, no_stamp, only_stamp}
 use Rattle.bank_session.proofs.words.moment_of_words.Goals as goal
 

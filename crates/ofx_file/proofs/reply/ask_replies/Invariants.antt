@@ -5,4 +5,4 @@ use Rattle.ofx_file.proofs.reply.ask_replies.Given as goal
 
 -- the answers so far are appended
 abbrev pub invariant-loop-reply : goal.invariant-loop-reply
-invariant-loop-reply l = l.out.items ≡ l.fn.out.items ++ flat_map ask_reply (take l.reply-index l.replies)
+invariant-loop-reply l = l.sheet ≡ l.fn.sheet ++ flat_map ask_reply (take l.reply-index l.replies)

@@ -8,4 +8,4 @@ returns-then-is_empty c = set_of_none _ _ _ (sym c.is_empty.ensures ∙ c.if-is_
 
 pub returns : goal.returns
 returns c =
-    on_ok_weaker c.bank_set.result (λ e. e ∙ ap (λ x. c.args.out.now.items ++ x) (sym (set_of_some _ _ (sym c.is_empty.ensures ∙ c.if-is_empty.false)))) c.bank_set.ensures
+    on_ok_weaker c.bank_set.result (λ e. e ∙ ap (λ x. c.args.sheet.now ++ x) (sym (set_of_some _ _ (sym c.is_empty.ensures ∙ c.if-is_empty.false)))) c.bank_set.ensures

@@ -1,4 +1,4 @@
-use Rattle.std.proofs.Common.{◌≡◌, ◌≤◌, ◌-◌, arith, length, take, drop, ap, ◌∙◌}
+use Rattle.std.proofs.Common.{◌≤◌, ◌-◌, arith, length, drop, ap, ◌∙◌}
 use Rattle.std.proofs.lemmas.List.{length-take}
 use Rattle.bank_session.proofs.Windows.{used_up}
 use Rattle.bank_session.proofs.ahead.Ahead.consume.Goals as goal

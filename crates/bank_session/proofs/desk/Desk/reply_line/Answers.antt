@@ -1,7 +1,5 @@
-use Rattle.std.proofs.Common.{◌≡◌, sym, ◌∙◌, ap, subst, rules}
-use Rattle.bank_model.specs.Rules.{named}
+use Rattle.std.proofs.Common.{◌∙◌, ap}
 use Rattle.bank_core.specs.BookView.{BookView}
-use Rattle.bank_session.specs.Desk.{HasAccounts}
 use Rattle.bank_session.proofs.DeskLemmas.{all_held, still_held}
 use Rattle.bank_session.proofs.desk.Desk.reply_line.Goals as goal
 

@@ -1,0 +1,76 @@
+"""The pieces in which cases are written, and the bytes that they stand for.
+
+    TEXT                       each character is one byte (Latin-1)
+    {"request": N}             N copies of the frame in samples/statement.request
+    {"reply": N}               N copies of the frame in samples/statement.reply
+    {"request": CHANGES}       one frame, of the file in samples/statement.request with changes
+    {"reply": CHANGES}         one frame, of the file in samples/statement.reply with changes
+    {"header": CHANGES}        the header of the sample files, with its empty line, with changes
+    {"frame": PIECES}          one frame, of the file that the pieces make
+    {"repeat": [PIECES, N]}    the pieces, N times
+    {"prefixes": [A, B]}       frames of the sample request's prefixes, from A bytes to B - 1 bytes long
+    {"left out": [A, B]}       frames of the sample request, in each of which one byte is left out, from byte A to B - 1
+    {"doubled": [A, B]}        the same with one byte doubled
+    {"set": [TEXT, A, B]}      the same with one byte replaced by the text
+
+PIECES is one piece or a list of them. CHANGES is a list of pairs, flat: a text that stands exactly once in what the
+pairs before have left, and the pieces that take its place.
+"""
+import os
+
+from frames import frame
+
+SAMPLES = os.path.join(os.path.dirname(os.path.abspath(__file__)), "..", "samples")
+
+
+def sample(name):
+    with open(os.path.join(SAMPLES, name), "rb") as f:
+        return f.read()
+
+
+FRAMES = {"request": sample("statement.request"), "reply": sample("statement.reply")}
+# The files in the frames, without the line FILE.
+FILES = {name: framed.split(b"\n", 1)[1] for name, framed in FRAMES.items()}
+HEADER = FILES["request"][:FILES["request"].index(b"<OFX>")]
+
+
+def whole(pieces):
+    """The bytes that the pieces stand for."""
+    if isinstance(pieces, str):
+        return pieces.encode("latin-1")
+    if isinstance(pieces, list):
+        return b"".join(whole(piece) for piece in pieces)
+    (kind, what), = pieces.items()
+    return KINDS[kind](what)
+
+
+def changed(file, changes):
+    for old, new in zip(changes[::2], changes[1::2], strict=True):
+        old = old.encode("latin-1")
+        if file.count(old) != 1:
+            raise ValueError("%r stands %d times" % (old, file.count(old)))
+        file = file.replace(old, whole(new))
+    return file
+
+
+def sample_frame(name):
+    return lambda what: FRAMES[name] * what if isinstance(what, int) else frame(changed(FILES[name], what))
+
+
+def each_byte(put, first, last):
+    """Frames of the sample request, in each of which `put` replaces one byte, from the first to the one before last."""
+    file = FILES["request"]
+    return b"".join(frame(file[:at] + put(file[at:at + 1]) + file[at + 1:]) for at in range(first, last))
+
+
+KINDS = {
+    "request": sample_frame("request"),
+    "reply": sample_frame("reply"),
+    "header": lambda changes: changed(HEADER, changes),
+    "frame": lambda pieces: frame(whole(pieces)),
+    "repeat": lambda what: whole(what[0]) * what[1],
+    "prefixes": lambda what: b"".join(frame(FILES["request"][:size]) for size in range(*what)),
+    "left out": lambda what: each_byte(lambda byte: b"", *what),
+    "doubled": lambda what: each_byte(lambda byte: byte * 2, *what),
+    "set": lambda what: each_byte(lambda byte: whole(what[0]), *what[1:]),
+}

@@ -1,0 +1,89 @@
+"""Request files: what they ask. Each function reads one form, its named children in the order of the format's page."""
+from typing import NamedTuple
+
+from .children import all_of, maybe, one, text, word
+from .fault import Fault
+from .header import Header, read_header
+from .tags import read_tags
+
+KINDS = (b"CHECKING", b"SAVINGS", b"MONEYMRKT", b"CREDITLINE")
+
+# The forms of the message sets that aren't read yet.
+UNBUILT_BANK = (b"INTRATRNRQ", b"RECINTRATRNRQ", b"BANKMAILTRNRQ", b"INTRASYNCRQ", b"RECINTRASYNCRQ", b"BANKMAILSYNCRQ")
+UNBUILT_MAIL = (b"MAILTRNRQ", b"MAILSYNCRQ")
+
+
+class Account(NamedTuple):
+    bank: bytes
+    number: bytes
+    kind: bytes
+
+
+class Statement(NamedTuple):
+    trnuid: bytes
+    account: Account
+    listed: bool  # whether the transactions are asked for
+
+
+class Request(NamedTuple):
+    header: Header
+    user: bytes
+    password: bytes
+    asks: tuple
+
+
+def read_request(file):
+    """The request that the bytes spell; a Fault where they spell none."""
+    header = read_header(file)
+    ofx = read_tags(file, header.size)
+    user, password = signon(one(one(ofx, b"SIGNONMSGSRQV1"), b"SONRQ"))
+    asks = bank_messages(maybe(ofx, b"BANKMSGSRQV1")) + mail_messages(maybe(ofx, b"EMAILMSGSRQV1"))
+    return Request(header, user, password, tuple(asks))
+
+
+def signon(sonrq):
+    return text(sonrq, b"USERID", 32), text(sonrq, b"USERPASS", 64)
+
+
+def bank_messages(messages):
+    asks = []
+    for child in all_of(messages, (b"STMTTRNRQ",) + UNBUILT_BANK) if messages else ():
+        if child.name in UNBUILT_BANK:
+            raise Fault("Unbuilt", child.at)
+        asks.append(statement(child))
+    return asks
+
+
+def mail_messages(messages):
+    for child in all_of(messages, UNBUILT_MAIL) if messages else ():
+        raise Fault("Unbuilt", child.at)
+    return []
+
+
+def transaction_uid(node):
+    """A TRNUID. `0` marks what the bank does by itself, so it has no form in a request."""
+    trnuid = text(node, b"TRNUID", 36)
+    if trnuid == b"0":
+        raise Fault("Value", one(node, b"TRNUID").at)
+    return trnuid
+
+
+def statement(stmttrnrq):
+    trnuid = transaction_uid(stmttrnrq)
+    stmtrq = one(stmttrnrq, b"STMTRQ")
+    account = bank_account(one(stmtrq, b"BANKACCTFROM"))
+    inctran = maybe(stmtrq, b"INCTRAN")
+    return Statement(trnuid, account, inctran is not None and transactions(inctran))
+
+
+def transactions(inctran):
+    """INCTRAN, as long as no period is read."""
+    for name in (b"DTSTART", b"DTEND"):
+        date = maybe(inctran, name)
+        if date is not None:
+            raise Fault("Unbuilt", date.at)
+    return word(inctran, b"INCLUDE", (b"Y", b"N")) == b"Y"
+
+
+def bank_account(node):
+    return Account(text(node, b"BANKID", 32), text(node, b"ACCTID", 32), word(node, b"ACCTTYPE", KINDS))

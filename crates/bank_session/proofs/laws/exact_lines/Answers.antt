@@ -1,0 +1,11 @@
+use Rattle.bank_session.proofs.LineLemmas.{where_answered, where_refused, only_where_refused}
+use Rattle.bank_session.proofs.laws.exact_lines.Goals as goal
+
+pub returns-clause-answered : goal.returns-clause-answered
+returns-clause-answered c = where_answered c.one_file.ensures c.one_refusal.ensures.unanswered
+
+pub returns-clause-refused : goal.returns-clause-refused
+returns-clause-refused c = where_refused c.one_refusal.ensures.place c.one_refusal.ensures.unanswered
+
+pub returns-clause-only : goal.returns-clause-only
+returns-clause-only c = only_where_refused

@@ -1,0 +1,212 @@
+-- A request has its form exactly where reading finds it, and so each item has one.
+use Rattle.std.proofs.Common.{◌≡◌, ℕ, ◌⊎◌, inl, inr, Bool, true, false, cond, ◌||◌, List, [], ◌∷◌, filter, Option, None, Some, Result, Ok, Err, codes, refl, sym, ap, subst, ◌∙◌}
+use Rattle.std.specs.List.{AllZip, list_any}
+use Rattle.ofx_types.specs.Nodes.{Item, children}
+use Rattle.ofx_types.specs.FormWords.{has_name, one, maybe, text_in}
+use Rattle.ofx_types.specs.TagNames.{is_one_of}
+use Rattle.ofx_types.specs.RequestForm.{IsStatement, unread_bank_names, unread_mail_names, is_named_one_of, AreMaybeBankAsks, IsMaybeMail, IsRequest}
+use Rattle.ofx_types.specs.RequestReading.{RequestParts, statement_of, onto, bank_asks_of, bank_asks_in, no_mail_in, no_mail_of, request_of}
+use Rattle.ofx_types.specs.declared.fault.TreeFault.{TreeFault}
+use Rattle.ofx_types.specs.declared.request.Ask.{Ask}
+use Rattle.ofx_file.proofs.FormLaws.{bind_ok, bind_to, one_value, chosen, bytes_same, one_found, one_again, maybe_none, maybe_some, none_again, some_again, text_in_found, text_in_again}
+use Rattle.ofx_file.proofs.StatementLaws.{statement_found, statement_again}
+
+-- ---- the asks of the bank's message set
+
+abbrev is_statement : Item → Bool
+is_statement item = has_name (codes "STMTTRNRQ") item
+
+abbrev is_unread : Item → Bool
+is_unread item = is_named_one_of unread_bank_names item
+
+-- a statement request is a request that is read
+named_so : (name : List ℕ) → name ≡ codes "STMTTRNRQ" → is_one_of unread_bank_names name ≡ false
+named_so name h = rw h refl
+
+is_read : (item : Item) → is_statement item ≡ true → is_unread item ≡ false
+is_read item h = named_so item.node.name (bytes_same item.node.name (codes "STMTTRNRQ") h)
+
+filter_yes : (child : Item) (more : List Item) → is_statement child ≡ true → filter is_statement (child ∷ more) ≡ child ∷ filter is_statement more
+filter_yes child more h = rw h refl
+
+filter_no : (child : Item) (more : List Item) → is_statement child ≡ false → filter is_statement (child ∷ more) ≡ filter is_statement more
+filter_no child more h = rw h refl
+
+-- What stands among the children: no request without a form, and these asks.
+pub record AreAsks (items : List Item) (asks : List Ask) : Type 0 where
+  pub all_read : list_any is_unread items ≡ false
+  pub each : AllZip IsStatement (filter is_statement items) asks
+
+none_is_unread : (child : Item) (more : List Item) → is_unread child ≡ false → list_any is_unread more ≡ false → list_any is_unread (child ∷ more) ≡ false
+none_is_unread child more h i = rw (h, i) refl
+
+asks_more : (child : Item) (more : List Item) (ask : Ask) (asks : List Ask) → is_statement child ≡ true → IsStatement child ask → AreAsks more asks →
+    AreAsks (child ∷ more) (ask ∷ asks)
+asks_more child more ask asks is statement rest = record {
+  all_read = none_is_unread child more (is_read child is) rest.all_read;
+  each = let P : List Item → Type 0 = λ items. AllZip IsStatement items (ask ∷ asks) in subst P (sym (filter_yes child more is)) (statement, rest.each);
+}
+
+asks_past : (child : Item) (more : List Item) (asks : List Ask) → is_statement child ≡ false → is_unread child ≡ false → AreAsks more asks → AreAsks (child ∷ more) asks
+asks_past child more asks other read rest = record {
+  all_read = none_is_unread child more read rest.all_read;
+  each = let P : List Item → Type 0 = λ items. AllZip IsStatement items asks in subst P (sym (filter_no child more other)) rest.each;
+}
+
+let_pass : (b : Bool) (e : TreeFault) (r : Result (List Ask) TreeFault) (asks : List Ask) → cond b (Err e) r ≡ Ok asks → (b ≡ false) × (r ≡ Ok asks)
+let_pass true e r asks h = cc
+let_pass false e r asks h = (refl, h)
+
+pub asks_found : (items : List Item) (asks : List Ask) → bank_asks_of items ≡ Ok asks → AreAsks items asks
+unfolding bank_asks_of
+asks_found [] asks h =
+    let P : List Ask → Type 0 = λ a. AreAsks [] a in subst P (one_value (Ok []) [] asks refl h) (record { all_read = refl; each = tt })
+asks_found (child ∷ more) asks h = elim (chosen (is_statement child) _ _ _ h) [
+  | inl (is, read) ↦
+      let ask = bind_ok (statement_of child) _ asks read in
+      let rest = bind_ok (bank_asks_of more) (onto ask.0) asks ask.2 in
+      let P : List Ask → Type 0 = λ a. AreAsks (child ∷ more) a in
+      subst P (one_value (onto ask.0 rest.0) (ask.0 ∷ rest.0) asks refl rest.2)
+      (asks_more child more ask.0 rest.0 is (statement_found child ask.0 ask.1) (asks_found more rest.0 rest.1))
+  | inr (other, passed) ↦
+      let read = let_pass (is_unread child) _ (bank_asks_of more) asks passed in
+      asks_past child more asks other read.0 (asks_found more asks read.1)
+]
+
+any_cons : (child : Item) (more : List Item) → list_any is_unread (child ∷ more) ≡ false → (is_unread child ≡ false) × (list_any is_unread more ≡ false)
+any_cons child more h = both (is_unread child) (list_any is_unread more) h
+  where
+    both : (a b : Bool) → (a || b) ≡ false → (a ≡ false) × (b ≡ false)
+    both true b e = cc
+    both false b e = (refl, e)
+
+first_ask : (child : Item) (more : List Item) (asks : List Ask) → AllZip IsStatement (child ∷ more) asks →
+    (ask : Ask) × (rest : List Ask) × (asks ≡ ask ∷ rest) × IsStatement child ask × AllZip IsStatement more rest
+first_ask child more [] h = absurd h
+first_ask child more (ask ∷ rest) h = (ask, rest, refl, h.0, h.1)
+
+read_first : (child : Item) (more : List Item) (ask : Ask) (rest : List Ask) → is_statement child ≡ true → statement_of child ≡ Ok ask → bank_asks_of more ≡ Ok rest →
+    bank_asks_of (child ∷ more) ≡ Ok (ask ∷ rest)
+unfolding bank_asks_of
+read_first child more ask rest is read others = rw (is, read, others) refl
+
+read_past : (child : Item) (more : List Item) (asks : List Ask) → is_statement child ≡ false → is_unread child ≡ false → bank_asks_of more ≡ Ok asks →
+    bank_asks_of (child ∷ more) ≡ Ok asks
+unfolding bank_asks_of
+read_past child more asks other read others = rw (other, read) others
+
+none_left : (asks : List Ask) → AllZip IsStatement [] asks → asks ≡ []
+none_left [] h = refl
+none_left (ask ∷ asks) h = absurd h
+
+yes_or_no : (b : Bool) → (b ≡ true) ⊎ (b ≡ false)
+yes_or_no true = inl refl
+yes_or_no false = inr refl
+
+pub asks_again : (items : List Item) (asks : List Ask) → AreAsks items asks → bank_asks_of items ≡ Ok asks
+unfolding bank_asks_of
+asks_again [] asks a = ap Ok (sym (none_left asks a.each))
+asks_again (child ∷ more) asks a =
+    let read = any_cons child more a.all_read in
+    elim (yes_or_no (is_statement child)) [
+      | inl is ↦
+          let P : List Item → Type 0 = λ items. AllZip IsStatement items asks in
+          let first = first_ask child (filter is_statement more) asks (subst P (filter_yes child more is) a.each) in
+          read_first child more first.0 first.1 is (statement_again child first.0 first.3) (asks_again more first.1 (record { all_read = read.1; each = first.4 }))
+          ∙ ap Ok (sym first.2)
+      | inr other ↦
+          let P : List Item → Type 0 = λ items. AllZip IsStatement items asks in
+          read_past child more asks other read.0 (asks_again more asks (record { all_read = read.1; each = subst P (filter_no child more other) a.each }))
+    ]
+
+maybe_asks_found : (ofx : Item) (found : Option Item) (asks : List Ask) → maybe (codes "BANKMSGSRQV1") ofx ≡ Ok found → bank_asks_in found ≡ Ok asks →
+    AreMaybeBankAsks ofx asks
+maybe_asks_found ofx None asks h i = inl (maybe_none (codes "BANKMSGSRQV1") ofx h, one_value _ asks [] i refl)
+maybe_asks_found ofx (Some bank) asks h i =
+    let a = asks_found (children bank) asks i in
+    inr (bank, maybe_some (codes "BANKMSGSRQV1") ofx bank h, record { all_read = a.all_read; each = a.each })
+
+maybe_asks_again : (ofx : Item) (asks : List Ask) → AreMaybeBankAsks ofx asks →
+    (found : Option Item) × (maybe (codes "BANKMSGSRQV1") ofx ≡ Ok found) × (bank_asks_in found ≡ Ok asks)
+maybe_asks_again ofx asks (inl (none, empty)) = (None, none_again (codes "BANKMSGSRQV1") ofx none, ap Ok (sym empty))
+maybe_asks_again ofx asks (inr (bank, is, are)) =
+    (Some bank, some_again (codes "BANKMSGSRQV1") ofx bank is, asks_again (children bank) asks (record { all_read = are.all_read; each = are.each }))
+
+-- ---- mail
+
+abbrev is_unread_mail : Item → Bool
+is_unread_mail item = is_named_one_of unread_mail_names item
+
+mail_passes : (b : Bool) (e : TreeFault) (r : Result (Unit {0}) TreeFault) (x : Unit {0}) → cond b (Err e) r ≡ Ok x → (b ≡ false) × (r ≡ Ok x)
+mail_passes true e r x h = cc
+mail_passes false e r x h = (refl, h)
+
+no_mail_found : (items : List Item) (x : Unit {0}) → no_mail_in items ≡ Ok x → list_any is_unread_mail items ≡ false
+unfolding no_mail_in
+no_mail_found [] x h = refl
+no_mail_found (child ∷ more) x h =
+    let read = mail_passes (is_unread_mail child) _ (no_mail_in more) x h in
+    rw (read.0, no_mail_found more x read.1) refl
+
+no_mail_again : (items : List Item) → list_any is_unread_mail items ≡ false → no_mail_in items ≡ Ok tt
+unfolding no_mail_in
+no_mail_again [] h = refl
+no_mail_again (child ∷ more) h =
+    let parts = both (is_unread_mail child) (list_any is_unread_mail more) h in
+    rw parts.0 (no_mail_again more parts.1)
+  where
+    both : (a b : Bool) → (a || b) ≡ false → (a ≡ false) × (b ≡ false)
+    both true b e = cc
+    both false b e = (refl, e)
+
+maybe_mail_found : (ofx : Item) (found : Option Item) (x : Unit {0}) → maybe (codes "EMAILMSGSRQV1") ofx ≡ Ok found → no_mail_of found ≡ Ok x → IsMaybeMail ofx
+maybe_mail_found ofx None x h i = inl (maybe_none (codes "EMAILMSGSRQV1") ofx h)
+maybe_mail_found ofx (Some mail) x h i = inr (mail, maybe_some (codes "EMAILMSGSRQV1") ofx mail h, no_mail_found (children mail) x i)
+
+maybe_mail_again : (ofx : Item) → IsMaybeMail ofx → (found : Option Item) × (maybe (codes "EMAILMSGSRQV1") ofx ≡ Ok found) × (no_mail_of found ≡ Ok tt)
+maybe_mail_again ofx (inl none) = (None, none_again (codes "EMAILMSGSRQV1") ofx none, refl)
+maybe_mail_again ofx (inr (mail, is, none)) = (Some mail, some_again (codes "EMAILMSGSRQV1") ofx mail is, no_mail_again (children mail) none)
+
+-- ---- the whole request
+
+abbrev pub parts_with : List ℕ → List ℕ → List Ask → RequestParts
+parts_with user pass asks = record { user = user; pass = pass; asks = asks }
+
+pub request_found : (ofx : Item) (parts : RequestParts) → request_of ofx ≡ Ok parts → IsRequest ofx parts.user parts.pass parts.asks
+unfolding request_of
+request_found ofx parts h =
+    let set = bind_ok (one (codes "SIGNONMSGSRQV1") ofx) _ parts h in
+    let sonrq = bind_ok (one (codes "SONRQ") set.0) _ parts set.2 in
+    let user = bind_ok (text_in (codes "USERID") 32 sonrq.0) _ parts sonrq.2 in
+    let pass = bind_ok (text_in (codes "USERPASS") 64 sonrq.0) _ parts user.2 in
+    let bank = bind_ok (maybe (codes "BANKMSGSRQV1") ofx) _ parts pass.2 in
+    let asks = bind_ok (bank_asks_in bank.0) _ parts bank.2 in
+    let mail = bind_ok (maybe (codes "EMAILMSGSRQV1") ofx) _ parts asks.2 in
+    let no_mail = bind_ok (no_mail_of mail.0) _ parts mail.2 in
+    let P : RequestParts → Type 0 = λ p. IsRequest ofx p.user p.pass p.asks in
+    subst P (one_value _ _ parts refl no_mail.2) (record {
+      signon_set = set.0;
+      has_signon_set = one_found (codes "SIGNONMSGSRQV1") ofx set.0 set.1;
+      sonrq = sonrq.0;
+      has_sonrq = one_found (codes "SONRQ") set.0 sonrq.0 sonrq.1;
+      is_signon = record {
+        has_user = text_in_found (codes "USERID") 32 sonrq.0 user.0 user.1;
+        has_pass = text_in_found (codes "USERPASS") 64 sonrq.0 pass.0 pass.1;
+      };
+      are_bank_asks = maybe_asks_found ofx bank.0 asks.0 bank.1 asks.1;
+      is_mail = maybe_mail_found ofx mail.0 no_mail.0 mail.1 no_mail.1;
+    })
+
+pub request_again : (ofx : Item) (user pass : List ℕ) (asks : List Ask) → IsRequest ofx user pass asks → request_of ofx ≡ Ok (parts_with user pass asks)
+unfolding request_of
+request_again ofx user pass asks r =
+    let bank = maybe_asks_again ofx asks r.are_bank_asks in
+    let mail = maybe_mail_again ofx r.is_mail in
+    bind_to _ _ r.signon_set (one_again (codes "SIGNONMSGSRQV1") ofx r.signon_set r.has_signon_set)
+    ∙ bind_to _ _ r.sonrq (one_again (codes "SONRQ") r.signon_set r.sonrq r.has_sonrq)
+    ∙ bind_to _ _ user (text_in_again (codes "USERID") 32 r.sonrq user r.is_signon.has_user)
+    ∙ bind_to _ _ pass (text_in_again (codes "USERPASS") 64 r.sonrq pass r.is_signon.has_pass)
+    ∙ bind_to _ _ bank.0 bank.1
+    ∙ bind_to _ _ asks bank.2
+    ∙ bind_to _ _ mail.0 mail.1
+    ∙ bind_to _ _ tt mail.2
