@@ -1,0 +1,219 @@
+"""Request files at random, most of them damaged. Each file comes from its seed and its number alone."""
+import random
+import re
+
+from pieces import FILES
+from reference.names import AGGREGATES, ELEMENTS
+from spelled import FORMS, LEAVES, ONE_LINE, VALUES, spelled, stranger
+
+IN_A_BATCH = 500
+# Well spelled files that a batch does its damage to.
+BASES = 40
+MOST_BYTES = 262144
+
+TAG = re.compile(rb"</?[A-Za-z0-9._-]+>")
+START_TAG = re.compile(rb"<([A-Za-z0-9._-]+)>")
+ELEMENT = re.compile(rb"<([A-Za-z0-9._-]+)>([^<>]+)(?=<)")
+
+KNOWN = sorted(ELEMENTS | AGGREGATES)
+NAMES = [b"A", b"X", b"INTU.BID", b"X-C_d.9", b"ofx", b"Sonrq", b"N" * 32, b"N" * 33, b""]
+LIMITS = {b"USERID": 32, b"USERPASS": 64, b"TRNUID": 36, b"BANKID": 32, b"ACCTID": 32}
+BYTES = b"\x00\x01\x08\t\n\x0b\x0c\r\x1f <>&/;:.-_0AZaz\x7f\x80\xff"
+ENTITIES = [b"&lt;", b"&gt;", b"&amp;", b"&amp;lt;", b"&", b"&lt", b"&LT;", b"&#60;"]
+BEGINNINGS = [b"<", b"<", b"</", b"</", b"<!", b"< "]
+UNITS = [
+    b"<A>", b"<A>1", b"<A></A>", b"<MEMO>", b"<", b" ", b"\x00", b"x", b"&amp;", b"</A>", b"<A>" * 12 + b"</A>" * 12,
+]
+
+
+def cut_points(r, file, count):
+    return sorted(r.randrange(len(file) + 1) for _ in range(count))
+
+
+def a_byte(r, file):
+    """One byte is replaced, left out, doubled or put in."""
+    at = r.randrange(len(file))
+    other = bytes([r.choice(BYTES) if r.random() < 0.7 else r.randrange(256)])
+    kept = file[at:at + 1]
+    return file[:at] + r.choice((other, b"", kept + kept, other + kept)) + file[at + 1:]
+
+
+def a_cut(r, file):
+    """The end of the file is left out, or what could be the beginning of a tag stands there."""
+    end = len(file) if r.random() < 0.5 else r.randrange(len(file) + 1)
+    tag = r.choice(BEGINNINGS) + b"N" * r.choice((0, 1, 3, 31, 32, 33)) if r.random() < 0.5 else b""
+    return file[:end].rstrip(r.choice((b"", b" \r\n"))) + tag
+
+
+def a_span(r, file):
+    """A span is left out, doubled, or put elsewhere."""
+    start, end, place = cut_points(r, file, 3)
+    end = min(end, start + r.choice((2, 10, 50, 500)))
+    span = file[start:end]
+    return r.choice((
+        file[:start] + file[end:],
+        file[:end] + span + file[end:],
+        file[:start] + file[end:place] + span + file[max(end, place):],
+    ))
+
+
+def two_spans(r, file):
+    a, b, c, d = cut_points(r, file, 4)
+    return file[:a] + file[c:d] + file[b:c] + file[a:b] + file[d:]
+
+
+def a_name(r):
+    return r.choice(KNOWN) if r.random() < 0.6 else r.choice(NAMES)
+
+
+def new_tag(r):
+    name = a_name(r)
+    return r.choice((
+        b"<%s>", b"</%s>", b"<%s>", b"</%s>", b"<%s", b"</%s", b"<%s >", b"< %s>", b"<%s/>", b"<<%s>", b"<!--%s-->",
+    )) % name
+
+
+def a_tag(r, file):
+    """A tag is put in, left out, renamed, doubled or closed."""
+    tags = list(TAG.finditer(file))
+    if not tags:
+        return file + new_tag(r)
+    tag = r.choice(tags)
+    start, end = tag.span()
+    text = tag[0]
+    closing = text[:2] == b"</"
+    name = text[2:-1] if closing else text[1:-1]
+    other = b"</%s>" if closing else b"<%s>"
+    new = r.choice((
+        new_tag(r) + text, text + new_tag(r), b"", b"", other % a_name(r), other % name.swapcase(), other % name[:-1],
+        text + text, b"<%s>" % name if closing else b"</%s>" % name, text[:-1], text + b"x", text + b"</%s>" % name,
+    ))
+    return file[:start] + new + file[end:]
+
+
+def between_tags(r, file):
+    """What stands from one tag to another is left out, doubled, or put elsewhere."""
+    places = [tag.start() for tag in TAG.finditer(file)]
+    if len(places) < 4:
+        return a_span(r, file)
+    first = r.randrange(len(places) - 2)
+    last = min(first + r.choice((1, 1, 2, 3, 5, 8)), len(places) - 1)
+    start, end, place = places[first], places[last], r.choice(places)
+    span, rest = file[start:end], file[:start] + file[end:]
+    place -= (end - start) if place >= end else max(0, place - start)
+    return r.choice((rest, file[:end] + span * r.choice((1, 1, 2)) + file[end:], rest[:place] + span + rest[place:]))
+
+
+def a_value(r, file):
+    """A value is replaced, filled up to its limit, or gets an entity or white space."""
+    elements = list(ELEMENT.finditer(file))
+    if not elements:
+        return a_byte(r, file)
+    element = r.choice(elements)
+    start, end = element.span(2)
+    old, at = element[2], r.randrange(end - start + 1)
+    size = LIMITS.get(element[1], 300) + r.choice((-1, 0, 1))
+    new = r.choice((
+        r.choice(VALUES), r.choice(VALUES), r.choice((b"x", b"&amp;", b"&gt;", b"\xe9", b"&")) * size,
+        b" " * size + b"x", old[:at] + r.choice(ENTITIES) + old[at:], r.choice((b" ", b"\t", b"\r\n")) + old,
+        old + b" \r\n", old.swapcase(),
+    ))
+    return file[:start] + new + file[end:]
+
+
+def an_aggregate(r, file):
+    """An aggregate is left out, emptied, put into another, or stands twice or three times."""
+    starts = [tag for tag in START_TAG.finditer(file) if tag[1] in AGGREGATES]
+    if not starts:
+        return a_tag(r, file)
+    tag = r.choice(starts)
+    closing = b"</%s>" % tag[1]
+    end = file.find(closing, tag.end()) + len(closing)
+    if end < len(closing):
+        return a_tag(r, file)
+    whole = file[tag.start():end]
+    empty = tag[0] + closing
+    new = r.choice((
+        b"", empty, b"<X>" + whole + b"</X>", whole + whole, whole + empty, empty + whole, empty + whole + empty,
+        tag[0] + whole + closing,
+    ))
+    return file[:tag.start()] + new + file[end:]
+
+
+def a_nest(r, file):
+    """Aggregates inside one another, about as many as may be open."""
+    places = [tag.start() for tag in TAG.finditer(file)] or [len(file)]
+    at, count, name = r.choice(places), r.randrange(8, 18), r.choice((b"A", b"STATUS", b"X"))
+    inner = r.choice((b"", b"", b"<MEMO>", b"<B>x", b"<B>", b"<B>\x00", b"x"))
+    ends = count if r.random() < 0.8 else r.randrange(20)
+    return file[:at] + b"<%s>" % name * count + inner + b"</%s>" % name * ends + file[at:]
+
+
+def an_insert(r, file):
+    places = [tag.start() for tag in TAG.finditer(file)] or [len(file)]
+    at = r.choice(places)
+    new = r.choice((
+        stranger(r), b"<%s></%s>" % ((r.choice(FORMS),) * 2), b"<%s>%s" % (r.choice(LEAVES), r.choice(VALUES)),
+        b" \r\n", b"x", b"<OFX></OFX>",
+    ))
+    return file[:at] + new + file[at:]
+
+
+def a_header_line(r, file):
+    lines = file.split(b"\n", 9)
+    if len(lines) < 10:
+        return a_byte(r, file)
+    k, other = r.randrange(9), r.randrange(9)
+    line = lines[k]
+    tag, colon, value = line.partition(b":")
+    deed = r.randrange(9)
+    if deed == 0:
+        lines[k], lines[other] = lines[other], line
+    elif deed == 1:
+        del lines[k]
+    elif deed == 2:
+        lines.insert(k, r.choice((line, b"", b"\r", b"X:1")))
+    elif deed == 3:
+        values = (b"NONE", b"100", b"102", b"1252", b"u1", b"", b"x" * 36, b"x" * 37, b"a\x1fb")
+        lines[k] = tag + colon + r.choice(values)
+    elif deed == 4:
+        lines[k] = r.choice((b" ", b"\t", b"\r")) + line
+    elif deed == 5:
+        lines[k] = tag + r.choice((b" :", b"", b"::", b": ")) + value
+    elif deed == 6:
+        lines[k] = line + r.choice((b"\r", b" ", b"x", b"\x00", b"\x0b"))
+    elif deed == 7:
+        lines[k] = r.choice((tag.lower(), tag[:-1], tag + b"S")) + colon + value
+    else:
+        lines[k] = tag + colon + value.swapcase()
+    return b"\n".join(lines)
+
+
+def a_filling(r, file):
+    """Many bytes of one thing, now and then as many as a file may have."""
+    if r.random() < 0.98:
+        return a_value(r, file)
+    places = [tag.start() for tag in TAG.finditer(file)] or [len(file)]
+    at, unit, room = r.choice(places), r.choice(UNITS), r.choice((2000, 20000, MOST_BYTES - len(file)))
+    return file[:at] + unit * (room // len(unit)) + file[at:]
+
+
+DEEDS = (
+    a_byte, a_byte, a_byte, a_cut, a_span, two_spans, a_tag, a_tag, between_tags, between_tags, a_value, a_value,
+    a_value, an_aggregate, an_aggregate, a_nest, an_insert, an_insert, a_header_line, a_filling,
+)
+COUNTS = (0, 1, 1, 1, 1, 1, 1, 2, 2, 3, 6)
+
+
+def damaged(r, file):
+    for _ in range(r.choice(COUNTS)):
+        if file:
+            file = r.choice(DEEDS)(r, file)
+    return file[:MOST_BYTES]
+
+
+def batch(seed, number):
+    """The files of one batch; batch 0 has the files 0 to 499."""
+    r = random.Random("%d/%d" % (seed, number))
+    bases = [FILES["request"], ONE_LINE] * 4 + [spelled(r) for _ in range(BASES - 8)]
+    return [damaged(r, r.choice(bases)) for _ in range(IN_A_BATCH)]

@@ -1,0 +1,113 @@
+"""Request files at random that are well spelled."""
+from pieces import HEADER
+from reference.names import ELEMENTS
+
+LEAVES = sorted(ELEMENTS)
+# The forms of bank and mail messages that stand beside the statement request.
+FORMS = [
+    b"INTRATRNRQ", b"RECINTRATRNRQ", b"BANKMAILTRNRQ", b"INTRASYNCRQ", b"RECINTRASYNCRQ", b"BANKMAILSYNCRQ",
+    b"MAILTRNRQ", b"MAILSYNCRQ",
+]
+VALUES = [
+    b"", b" ", b"\r\n", b"0", b"00", b" 0 ", b"1", b"Y", b"N", b"y", b"YES", b"CHECKING", b"SAVINGS", b"checking",
+    b"alice", b"bob", b"secret", b"hunter", b"1001", b"1002", b"121099999", b"&lt;", b"&amp;lt;", b"&", b"a>b",
+    b"\xe9\xff\x7f", b"20240131", b"a\tb", b"a\r\nb",
+]
+
+# A realistic file of a finance program: a few long lines, elements without end tags, children that no form names.
+ONE_LINE = HEADER + (
+    b"<OFX><SIGNONMSGSRQV1><SONRQ><DTCLIENT>20240131070000.000[-5:EST]\r\n"
+    b"<USERID>alice<USERPASS>secret<LANGUAGE>ENG<FI><ORG>Example<FID>1</FI>\r\n"
+    b"<APPID>QWIN<APPVER>0900<INTU.BID>3000</SONRQ></SIGNONMSGSRQV1>\r\n"
+    b"<BANKMSGSRQV1><STMTTRNRQ><TRNUID>s2<CLTCOOKIE>4<STMTRQ><BANKACCTFROM>\r\n"
+    b"<BANKID>121099999<ACCTID>1001<ACCTTYPE>CHECKING</BANKACCTFROM>\r\n"
+    b"<INCTRAN><INCLUDE>Y</INCTRAN></STMTRQ></STMTTRNRQ>\r\n"
+    b"</BANKMSGSRQV1><X.NOTE><X.A>1</X.NOTE></OFX>"
+)
+
+
+class Style:
+    """How one file is spelled."""
+
+    def __init__(self, r):
+        self.r = r
+        self.line_end = r.choice((b"\r\n", b"\r\n", b"\n", b"", b" \t"))
+        self.end_tags = r.choice((0, 0, 1, 0.5))
+        self.blanks = r.choice((0, 0, 0.2))
+        self.shuffled = r.random() < 0.4
+        self.strangers = r.choice((0, 0, 0.1, 0.3))
+
+    def blank(self):
+        return self.r.choice((b" ", b"\t", b"\r\n", b"  ")) if self.r.random() < self.blanks else b""
+
+    def element(self, name, value):
+        end = b"</" + name + b">" if self.r.random() < self.end_tags else b""
+        return b"<" + name + b">" + self.blank() + value + self.blank() + end + self.line_end
+
+    def aggregate(self, name, children):
+        """An aggregate of children that are spelled already."""
+        if self.shuffled:
+            self.r.shuffle(children)
+        if self.r.random() < self.strangers:
+            children.insert(self.r.randrange(len(children) + 1), stranger(self.r))
+        return b"<" + name + b">" + self.line_end + b"".join(children) + b"</" + name + b">" + self.line_end
+
+
+def stranger(r):
+    """A child that no form names."""
+    return r.choice((
+        b"<X.NOTE>some text", b"<INTU.BID>3000</INTU.BID>", b"<CLTCOOKIE>4", b"<MEMO></MEMO>", b"<X></X>",
+        b"<X><TRNUID>0<USERID>bob</X>", b"<X><X>1</X></X>", b"<A>" * 6 + b"</A>" * 6, b"<FI><ORG>x<FID>1</FI>",
+        b"<STMTTRNRS><TRNUID>0</STMTTRNRS>", b"<X><%s>%s</X>" % (r.choice(LEAVES), r.choice(VALUES)),
+    ))
+
+
+def request_header(r):
+    lines = [line + b"\r\n" for line in HEADER.split(b"\r\n")[:9]]
+    lines[2] = b"VERSION:%s\r\n" % r.choice((b"102", b"103", b"151", b"160"))
+    lines[5] = b"CHARSET:%s\r\n" % r.choice((b"1252", b"ISO-8859-1", b"NONE"))
+    for k in (7, 8):
+        if r.random() < 0.04:
+            lines[k] = lines[k].replace(b"NONE", r.choice((b"u1", b"u" * 36, b"none", b"\xe9:<&", b"a b")))
+    if r.random() < 0.2:
+        lines = [line.replace(b":", r.choice((b":", b": ", b":\t")), 1) for line in lines]
+    if r.random() < 0.2:
+        end = r.choice((b"\n", b"\r\r\n", b" \r\n"))
+        lines = [line.replace(b"\r\n", end) for line in lines]
+    return b"".join(lines) + r.choice((b"\r\n", b"\n", b"", b" \r\n\r\n"))
+
+
+def spelled(r):
+    """A request file that spells, though perhaps with a child that isn't read yet."""
+    style = Style(r)
+    element, aggregate = style.element, style.aggregate
+    user, password = r.choice(((b"alice", b"secret"), (b"alice", b"secret"), (b"bob", b"hunter")))
+    if r.random() < 0.03:
+        password = b"wrong"
+    sonrq = [element(b"DTCLIENT", b"20240131120000"), element(b"USERID", user), element(b"USERPASS", password)]
+    sonrq += [element(b"LANGUAGE", b"ENG"), element(b"APPID", b"QWIN"), element(b"APPVER", b"0900")]
+    asks = [statement(r, style, user) for _ in range(r.choice((0, 1, 1, 1, 2, 3, 6)))]
+    if r.random() < 0.05:
+        asks.append(aggregate(r.choice(FORMS), []))
+    sets = [aggregate(b"SIGNONMSGSRQV1", [aggregate(b"SONRQ", sonrq)])]
+    if asks or r.random() < 0.5:
+        sets.append(aggregate(b"BANKMSGSRQV1", asks))
+    if r.random() < 0.1:
+        mails = [aggregate(r.choice(FORMS), [])] if r.random() < 0.4 else []
+        sets.append(aggregate(b"EMAILMSGSRQV1", mails))
+    return request_header(r) + aggregate(b"OFX", sets)
+
+
+def statement(r, style, user):
+    element, aggregate = style.element, style.aggregate
+    number, kind = (b"1001", b"CHECKING") if user == b"alice" and r.random() < 0.7 else (b"1002", b"SAVINGS")
+    account = [element(b"BANKID", b"121099999"), element(b"ACCTID", number), element(b"ACCTTYPE", kind)]
+    body = [aggregate(b"BANKACCTFROM", account)]
+    if r.random() < 0.8:
+        inctran = [element(b"INCLUDE", r.choice((b"Y", b"Y", b"N")))]
+        for name in (b"DTSTART", b"DTEND"):
+            if r.random() < 0.05:
+                inctran.append(element(name, r.choice((b"20240101", b"20240131120000.000[-5:EST]", b"x", b""))))
+        body.append(aggregate(b"INCTRAN", inctran))
+    trnuid = r.choice((b"s%d" % r.randrange(100), b"a&amp;b", b"&lt;>", b"x" * 36, b"00", b"a b"))
+    return aggregate(b"STMTTRNRQ", [element(b"TRNUID", trnuid), aggregate(b"STMTRQ", body)])
