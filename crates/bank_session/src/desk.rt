@@ -99,12 +99,15 @@ fn bad_file_line(alloc: Global, place: u64) -> Result<Vec<u8>, OutOfMemory>
     Ok(line)
 }
 
+/// The most bytes that a frame's head has: its word, a length of twenty digits, and the spaces of the line.
+const HEAD: usize = 26;
+
 /// The bytes of a file in their frame.
 #[tactic(auto, unfolding(crate::specs::Frames::frame_head))]
 fn framed(alloc: Global, bytes: &[u8]) -> Result<Vec<u8>, OutOfMemory>
     ensures { IfOk result (λ line. line.items ≡ frame bytes.now) }
 {
-    let mut line = Vec::with_capacity(alloc, bytes.len())?;
+    let mut line = Vec::with_capacity(alloc, bytes.len().saturating_add(HEAD))?;
     line.extend_from_slice(b"FILE ")?;
     print_number(bytes.len() as u64, &mut line)?;
     line.push(b'\n')?;

@@ -19,8 +19,11 @@ use ofx_types::{AskReply, Duplicate, Moment, OutOfMemory, ReplyFile, StatementBo
 use statement::statement_body;
 use std::alloc::Global;
 
-/// The room that a reply is given at first, in bytes. A reply of one statement has some 750.
-const ROOM: usize = 1024;
+/// The room that the parts of a reply file which stand once are given at first, in bytes.
+const ROOM: usize = 576;
+
+/// The room that each answer is given at first, in bytes. A statement without lines has some 430.
+const ROOM_OF_ONE: usize = 448;
 
 /// Prints replies in their one printed form.
 #[derive(Clone, Copy, Debug)]
@@ -38,7 +41,8 @@ pub fn write_reply(alloc: Global, reply: &ReplyFile) -> Result<Vec<u8>, OutOfMem
     requires { IsPrintable reply.now }
     ensures { IfOk result (λ out. out.items ≡ reply_text reply.now) }
 {
-    let mut out = Vec::with_capacity(alloc, ROOM)?;
+    let room = ROOM.saturating_add(reply.replies.items().len().saturating_mul(ROOM_OF_ONE));
+    let mut out = Vec::with_capacity(alloc, room)?;
     write_header(&header_of(reply)?, &mut out)?;
     let mut sheet = Sheet::from_vec(out);
     body(reply, &mut sheet)?;
