@@ -1,5 +1,5 @@
 -- Decoding from the left, and values in which nothing is to be decoded.
-use Rattle.std.proofs.Common.{◌≡◌, ℕ, ◌<◌, length, zero, suc, true, false, List, [], ◌∷◌, drop, nat_eq, codes, refl, arith}
+use Rattle.std.proofs.Common.{◌≡◌, ℕ, ◌<◌, length, zero, suc, Bool, true, false, cond, List, [], ◌∷◌, drop, nat_eq, codes, refl, arith}
 use Rattle.std.proofs.lemmas.Grind.{common_steps}
 use Rattle.std.specs.List.{list_any, starts_with}
 use Rattle.ofx_types.specs.ValueForm.{decoded_past, decoded}
@@ -59,3 +59,16 @@ decoded_none [] h = decoded-nil
 decoded_none (b ∷ bytes) h = absurd (omega arith)
 
 pub ruleset decoded_ends = (decoded_none)
+
+one_more : (b : ℕ) (bytes : List ℕ) → 0 < length (b ∷ bytes)
+one_more b bytes = omega arith
+
+either_more : (test : Bool) (b : ℕ) (bytes other : List ℕ) → 0 < length other → 0 < length (cond test (b ∷ bytes) other)
+either_more true b bytes other h = one_more b bytes
+either_more false b bytes other h = h
+
+-- and each byte stands for something
+pub decoded_some : (bytes : List ℕ) → 0 < length bytes → 0 < length (decoded bytes)
+unfolding decoded_past
+decoded_some [] h = absurd (omega arith)
+decoded_some (b ∷ bytes) h = search (either_more, one_more)

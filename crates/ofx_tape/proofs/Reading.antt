@@ -34,7 +34,7 @@ start_awaits None name more named = tt
 start_awaits (Some other) name more named = slash_first name more (other ++ 62 ∷ []) named
 
 -- Nor is an end tag with another name.
-other_awaits : (other name more : List ℕ) → is_name other ≡ true → is_name name ≡ true → bytes_eq other name ≡ false → Awaits (Some other) (end_tag name ++ more)
+pub other_awaits : (other name more : List ℕ) → is_name other ≡ true → is_name name ≡ true → bytes_eq other name ≡ false → Awaits (Some other) (end_tag name ++ more)
 other_awaits other name more other_named named differs =
     let all = end_tag name ++ more in
     false_from_ne_true (starts_with nat_eq all (end_tag other)) (λ begins.

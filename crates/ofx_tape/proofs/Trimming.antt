@@ -4,7 +4,7 @@ use Rattle.std.proofs.lemmas.Bool.{eqb-true, eq-eqb}
 use Rattle.std.proofs.lemmas.List.{reverse-append}
 use Rattle.std.proofs.lemmas.List.Folds.{list_all-append}
 use Rattle.std.proofs.lemmas.Slice.Eq.{bytes_eq-Decides}
-use Rattle.std.specs.List.{list_all, starts_with}
+use Rattle.std.specs.List.{list_all, list_any, starts_with}
 use Rattle.ofx_types.specs.TextRules.{is_white, trim_start, trim_end, trimmed}
 use Rattle.ofx_types.specs.ValueForm.{decoded_past, decoded, value_of}
 use Rattle.ofx_tape.proofs.Decoding.{decoded-other, decoded-plain}
@@ -260,5 +260,9 @@ value_of-trimmed raw =
     ∙ trim_end-cut (decoded (trim_start raw))
     ∙ cut_end-decoded_past 0 (trim_start raw) refl
     ∙ ap decoded (sym (trim_end-cut (trim_start raw)))
+
+-- and where no `&` stands in it nothing else is done
+pub value_of-plain : (raw cut : List ℕ) → cut ≡ trimmed raw → list_any (λ b. nat_eq b 38) cut ≡ false → value_of raw ≡ cut
+value_of-plain raw cut e h = value_of-trimmed raw ∙ ap decoded (sym e) ∙ decoded-plain cut h
 
 pub ruleset trimmed_raw = (value_of-trimmed, decoded-plain)

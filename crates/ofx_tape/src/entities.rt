@@ -1,12 +1,15 @@
 //! Entities: `&lt;`, `&gt;` and `&amp;` in the values of elements.
 
-ghost use Rattle.std.specs.Prelude.{◌≡◌, ◌≤◌, ◌∷◌, ◌==◌, length, position, bytes_eq, IfOk};
+ghost use Rattle.std.specs.Prelude.{◌≡◌, ◌<◌, ◌≤◌, ◌∷◌, ◌==◌, length, take, position, bytes_eq, IfOk, IfSome, IfNone};
 ghost use Rattle.std.specs.List.{list_any};
 ghost use Rattle.ofx_types.specs.TextRules.{is_refused_in_text};
 ghost use Rattle.ofx_types.specs.ValueForm.{decoded};
 
 use ofx_types::{OutOfMemory, is_white_space};
 use std::alloc::Global;
+
+/// The most bytes of a short value, which is decoded on the stack.
+pub const SHORT_VALUE: usize = 64;
 
 /// Whether a `&` stands among the bytes; without one they stand for themselves.
 pub(crate) fn has_ampersand(raw: &[u8]) -> bool
@@ -28,6 +31,28 @@ pub(crate) fn decode(alloc: Global, raw: &[u8]) -> Result<Vec<u8>, OutOfMemory>
         rest = tail;
     }
     Ok(value)
+}
+
+/// Puts the bytes that raw bytes stand for at the front of the room, and answers how many they are: `None` where they are
+/// more than the room has.
+#[tactic(auto, using(crate::proofs::Decoding::decoded_ends))]
+pub(crate) fn decode_within(raw: &[u8], room: &mut [u8; SHORT_VALUE]) -> Option<usize>
+    ensures value { IfSome result (λ count. take count room.new ≡ decoded raw.now) }
+    ensures within { IfSome result (λ count. count ≤ SHORT_VALUE) }
+    ensures long { IfNone result (SHORT_VALUE < length (decoded raw.now)) }
+{
+    let mut rest = raw;
+    let mut count = 0;
+    while let [first, behind @ ..] = rest {
+        if count == SHORT_VALUE {
+            return None;
+        }
+        let (byte, tail) = decoded_first(*first, behind);
+        room[count] = byte;
+        count += 1;
+        rest = tail;
+    }
+    Some(count)
 }
 
 /// Whether raw bytes stand for just these bytes.

@@ -1,7 +1,7 @@
 //! The tags of a body as a tape: its elements and aggregates in order, as slices of the body.
 //!
 //! `Tape::read` reads a body in one pass and copies no byte of it. What a value stands for is decoded only where it is
-//! asked for, by `value_eq` and `value_into`.
+//! asked for, by `value_eq`, `value_into` and `short_value`.
 #![tactic(auto)]
 
 mod entities;
@@ -12,13 +12,14 @@ mod scan;
 mod tape;
 mod value;
 
+pub use entities::SHORT_VALUE;
 pub use laws::{
     faultless_tags_are_spelled, nodes_are_slices, nodes_fit_the_body, spelled_tags_have_no_fault,
     tags_are_unambiguous,
 };
 pub use ofx_types::TapeFault;
 pub use tape::{Node, Tape};
-pub use value::{value_eq, value_into};
+pub use value::{short_value, value_eq, value_into};
 
 #[cfg(test)]
 mod tests;

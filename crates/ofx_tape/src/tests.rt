@@ -1,6 +1,6 @@
 //! Outside cases: a body's nodes, the fault of each kind at its place, and values.
 
-use crate::{Node, Tape, TapeFault, value_eq, value_into};
+use crate::{Node, SHORT_VALUE, Tape, TapeFault, short_value, value_eq, value_into};
 use ofx_types::TextFault;
 use std::process::Abort;
 use std::test::Fail;
@@ -91,5 +91,24 @@ fn values_are_trimmed_and_decoded_once(rt: HostRuntime) -> Result<(), Fail> {
     assert_eq!(rt; text.as_bytes(), b"a>b".as_slice());
     assert!(rt; value_into(rt.alloc(), b"a&gt;b", 2).err() == Some(TextFault::TooLong(3)));
     assert!(rt; value_into(rt.alloc(), b"&gt;\x02", 9).err() == Some(TextFault::BadByte(1)));
+    Ok(())
+}
+
+#[test]
+fn short_values_have_64_bytes(rt: HostRuntime) -> Result<(), Fail> {
+    let mut room = [0; SHORT_VALUE];
+    assert!(rt; short_value(b" 20240131\r\n", &mut room) == Some(b"20240131".as_slice()));
+    assert!(rt;
+        short_value(b"\t[-5:a&lt;&amp;gt;b] ", &mut room) == Some(b"[-5:a<&gt;b]".as_slice())
+    );
+    let mut raw = Vec::new(rt.alloc());
+    for _ in 0..32 {
+        raw.extend_from_slice(b"a&gt;")?;
+    }
+    let value = short_value(raw.as_slice(), &mut room).ok_or("64 bytes")?;
+    assert_eq!(rt; value.len(), 64);
+    raw.push(b'a')?;
+    assert!(rt; short_value(raw.as_slice(), &mut room).is_none());
+    assert!(rt; short_value(&[b'a'; 65], &mut room).is_none());
     Ok(())
 }

@@ -1,11 +1,13 @@
 //! What the raw bytes of an element stand for: trimmed, with their entities decoded.
 
-ghost use Rattle.std.specs.Prelude.{◌≡◌, bytes_eq};
+ghost use Rattle.std.specs.Prelude.{◌≡◌, ◌<◌, ◌≤◌, length, bytes_eq, IfSome, IfNone};
 ghost use Rattle.ofx_types.specs.TextOutcome.{IsTextOf, text_fault};
 ghost use Rattle.ofx_types.specs.TextRules.{is_refused_in_text};
 ghost use Rattle.ofx_types.specs.ValueForm.{value_of, decoded};
 
-use crate::entities::{decode, decoded_len, decodes_to, first_refused, has_ampersand};
+use crate::entities::{
+    SHORT_VALUE, decode, decode_within, decoded_len, decodes_to, first_refused, has_ampersand,
+};
 use ofx_types::{Text, TextFault, trim};
 use std::alloc::Global;
 
@@ -15,6 +17,27 @@ pub fn value_eq(raw: &[u8], text: &[u8]) -> bool
     ensures { result ≡ bytes_eq (value_of raw.now) text.now }
 {
     decodes_to(trim(raw), text)
+}
+
+/// What the raw bytes of a value stand for, trimmed and with its entities decoded, where it has at most 64 bytes. It takes
+/// no memory; where an entity may stand in it, it is decoded in the room.
+///
+/// `None` where it has more than 64 bytes.
+#[tactic(auto, using(crate::proofs::Trimming::trimmed_raw))]
+pub fn short_value<'a>(raw: &'a [u8], room: &'a mut [u8; SHORT_VALUE]) -> Option<&'a [u8]>
+    ensures value { IfSome result (λ value. value.now ≡ value_of raw.now) }
+    ensures short { IfSome result (λ value. length value.now ≤ 64) }
+    ensures long { IfNone result (64 < length (value_of raw.now)) }
+{
+    let trimmed = trim(raw);
+    if has_ampersand(trimmed) {
+        let count = decode_within(trimmed, room)?;
+        return Some(&room[..count]);
+    }
+    if trimmed.len() > SHORT_VALUE {
+        return None;
+    }
+    Some(trimmed)
 }
 
 /// The text that the raw bytes of a value stand for, where it has at most `most` bytes.

@@ -4,3 +4,10 @@ pub mod Written
 pub mod Printed
 pub mod Root
 pub mod Fronts
+pub mod FormLaws
+pub mod FormPlaces
+pub mod Chosen
+pub mod Short
+pub mod DocumentTrees
+pub mod DocumentItems
+pub mod Leaves

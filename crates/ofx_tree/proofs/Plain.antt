@@ -19,7 +19,7 @@ abbrev pub IsPlain : List ℕ → Type 0
 IsPlain [] = Unit {0}
 IsPlain (b ∷ bs) = (38 < b) × (b < 60) × IsPlain bs
 
-IsPlain-append : (xs ys : List ℕ) → IsPlain xs → IsPlain ys → IsPlain (xs ++ ys)
+pub IsPlain-append : (xs ys : List ℕ) → IsPlain xs → IsPlain ys → IsPlain (xs ++ ys)
 IsPlain-append [] ys p q = q
 IsPlain-append (x ∷ xs) ys (low, high, p) q = (low, high, IsPlain-append xs ys p q)
 
@@ -52,7 +52,7 @@ plain_element out name value h p =
     let there : nat_eq (length value) 0 ≡ false = grind (arith, common_steps) in
     rw (there, escaped-plain value p) (regrouped out name value)
 
-decimal_plain : (n : ℕ) → n < 2 ^ 64 → IsPlain (decimal n)
+pub decimal_plain : (n : ℕ) → n < 2 ^ 64 → IsPlain (decimal n)
 decimal_plain = decimal_by_steps (λ n ds. IsPlain ds)
     (λ n h. (omega arith, omega arith, tt))
     (λ n ds h p. IsPlain-append ds ((48 + n % 10) ∷ []) p (omega arith, omega arith, tt))
@@ -68,7 +68,7 @@ sign_plain false digits p = p
 two_digits_plain : (n : ℕ) → n < 100 → IsPlain (two_digits n)
 two_digits_plain n h = (omega arith, omega arith, (omega arith, omega arith, tt))
 
-amount_plain : (negative : Bool) (n : ℕ) → n ≤ 2 ^ 63 → IsPlain (cond negative (45 ∷ []) [] ++ (decimal (n / 100) ++ 46 ∷ two_digits (n % 100)))
+pub amount_plain : (negative : Bool) (n : ℕ) → n ≤ 2 ^ 63 → IsPlain (cond negative (45 ∷ []) [] ++ (decimal (n / 100) ++ 46 ∷ two_digits (n % 100)))
 amount_plain negative n h =
     sign_plain negative _ (IsPlain-append (decimal (n / 100)) _ (decimal_plain (n / 100) (omega arith)) (omega arith, omega arith, two_digits_plain (n % 100) (omega arith)))
 
@@ -79,11 +79,15 @@ not_nil (x ∷ xs) ys b = omega arith
 magnitude : (c : ℤ) → FitsSigned w64 c → unsigned_abs c ≤ 2 ^ 63
 magnitude c h = omega (arith, ints)
 
+pub amount_some : (c : ℤ) → 0 < length (amount_text c)
+unfolding amount_text
+amount_some c =
+    rw (← append_assoc) (not_nil (cond (is_negative c) (45 ∷ []) [] ++ decimal (unsigned_abs c / 100)) (two_digits (unsigned_abs c % 100)) 46)
+
 pub amount_element : (out name : List ℕ) (c : ℤ) → FitsSigned w64 c → ended ((out ++ tag name) ++ amount_text c) ≡ out ++ element name (amount_text c)
 unfolding amount_text
 amount_element out name c h =
-    plain_element out name _
-    (rw (← append_assoc) (not_nil (cond (is_negative c) (45 ∷ []) [] ++ decimal (unsigned_abs c / 100)) (two_digits (unsigned_abs c % 100)) 46))
+    plain_element out name _ (amount_some c)
     (amount_plain (is_negative c) (unsigned_abs c) (magnitude c h))
 
 four_digits_plain : (n : ℕ) → n < 10000 → IsPlain (four_digits n)
@@ -122,7 +126,7 @@ second_is : (m : ℤ) → second_of_day m < 86400
 second_is (pos a) = omega arith
 second_is (negsuc a) = omega arith
 
-moment_plain : (m : ℤ) → IsMoment m → IsPlain (moment_text m)
+pub moment_plain : (m : ℤ) → IsMoment m → IsPlain (moment_text m)
 unfolding moment_text
 moment_plain m h = IsPlain-append (date_text (civil_of (day_of m))) (clock_text (second_of_day m)) (civil_plain (day_of m) (day_is m h)) (clock_plain (second_of_day m) (second_is m))
 

@@ -10,7 +10,7 @@ use Rattle.ofx_tree.specs.PrintedForm.{written, ElementsReadBack, AggregatesRead
 use Rattle.ofx_tree.proofs.Written.{value_of-written, written_bytes, written_black}
 
 -- the line of an element in front of more bytes
-element_line : (name value more : List ℕ) → 0 < length value → sheet.element name value ++ more ≡ tag name ++ (written value ++ more)
+pub element_line : (name value more : List ℕ) → 0 < length value → sheet.element name value ++ more ≡ tag name ++ (written value ++ more)
 unfolding sheet.element
 element_line name value more there =
     let full : nat_eq (length value) 0 ≡ false = grind (arith, common_steps) in rw full (simp append_assoc)
@@ -31,7 +31,7 @@ elements size room place name value more rest behind named text there unclosed a
     (([], more, is, at, line, spells), value_of-written value text.is_trimmed there)
 
 -- the lines of an aggregate in front of more bytes
-aggregate_lines : (name inner more : List ℕ) → sheet.aggregate name inner ++ more ≡ tag name ++ (ended [] ++ (inner ++ (end_line name ++ more)))
+pub aggregate_lines : (name inner more : List ℕ) → sheet.aggregate name inner ++ more ≡ tag name ++ (ended [] ++ (inner ++ (end_line name ++ more)))
 unfolding sheet.aggregate
 aggregate_lines name inner more = simp append_assoc
 

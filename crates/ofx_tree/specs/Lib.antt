@@ -3,3 +3,5 @@ pub mod Standing
 pub mod Marks
 pub mod PrintedForm
 pub mod Root
+pub mod Placed
+pub mod Documents

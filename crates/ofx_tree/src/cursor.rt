@@ -1,10 +1,10 @@
 //! An element or aggregate of a tape, and its children by name.
 
-ghost use Rattle.std.specs.Prelude.{◌≡◌, ◌+◌, ◌<◌, ◌^◌, length, bytes_eq};
+ghost use Rattle.std.specs.Prelude.{◌≡◌, ◌+◌, ◌<◌, ◌≤◌, ◌^◌, length, bytes_eq};
 ghost use Rattle.std.specs.List.{list_all};
 ghost use Rattle.ofx_types.specs.TextRules.{is_white};
 ghost use Rattle.ofx_types.specs.Nodes.{children};
-ghost use Rattle.ofx_types.specs.FormWords.{one, maybe, is_absent, text_in, text_at, flag_in, flag_at, Gives};
+ghost use Rattle.ofx_types.specs.FormWords.{one, maybe, is_absent, text_in, text_at, flag_in, flag_at, amount_in, amount_of, moment_in, moment_of, maybe_moment_in, number_in, number_of, Gives};
 ghost use Rattle.ofx_types.specs.ValueForm.{value_of};
 ghost use Rattle.ofx_types.specs.RequestForm.{IsRoot};
 ghost use Rattle.ofx_tree.specs.ItemView.{item_view};
@@ -12,8 +12,9 @@ ghost use Rattle.ofx_tree.specs.Standing.{stands};
 ghost use Rattle.ofx_tree.specs.Root.{AreRead};
 
 use crate::children::Children;
+use crate::raw::{amount_of_raw, moment_of_raw, number_of_raw};
 use ofx_tape::{Node, Tape, value_eq, value_into};
-use ofx_types::{Text, TextFault, TreeFault, is_white_space};
+use ofx_types::{Cents, Moment, Text, TextFault, TreeFault, is_white_space};
 use std::alloc::Global;
 use std::marker::Model;
 
@@ -138,6 +139,51 @@ impl<'t> Cursor<'t> {
         child.own_flag()
     }
 
+    /// The amount of the child of this name, which stands once. It takes no memory.
+    ///
+    /// The faults of `one`; `Value` at the child's place where its value spells no amount.
+    #[tactic(auto, unfolding(ofx_types::specs::FormWords::amount_in))]
+    pub fn amount(&self, name: &[u8]) -> Result<Cents, TreeFault>
+        ensures { result ≡ amount_in name.now self.now }
+    {
+        self.one(name)?.own_amount()
+    }
+
+    /// The moment of the child of this name, which stands once. It takes no memory.
+    ///
+    /// The faults of `one`; `Value` at the child's place where its value spells no date.
+    #[tactic(auto, unfolding(ofx_types::specs::FormWords::moment_in))]
+    pub fn moment(&self, name: &[u8]) -> Result<Moment, TreeFault>
+        ensures { result ≡ moment_in name.now self.now }
+    {
+        self.one(name)?.own_moment()
+    }
+
+    /// The moment of the child of this name, which may stand once. It takes no memory.
+    ///
+    /// The faults of `maybe`; `Value` at the child's place where its value spells no date.
+    #[tactic(auto, unfolding(ofx_types::specs::FormWords::maybe_moment_in))]
+    pub fn maybe_moment(&self, name: &[u8]) -> Result<Option<Moment>, TreeFault>
+        ensures { result ≡ maybe_moment_in name.now self.now }
+    {
+        match self.maybe(name)? {
+            Some(child) => Ok(Some(child.own_moment()?)),
+            None => Ok(None),
+        }
+    }
+
+    /// The number that the child of this name, which stands once, has as its value: 1 digit up to `most` of them, at most
+    /// ten. It takes no memory.
+    ///
+    /// The faults of `one`; `Value` at the child's place where its value is no such number.
+    #[tactic(auto, unfolding(ofx_types::specs::FormWords::number_in))]
+    pub fn number(&self, name: &[u8], most: usize) -> Result<u64, TreeFault>
+        requires { most ≤ 10 }
+        ensures { result ≡ number_in name.now most self.now }
+    {
+        self.one(name)?.own_number(most)
+    }
+
     /// Whether its value, trimmed and with its entities decoded, is just this text.
     pub fn value_eq(&self, text: &[u8]) -> bool
         ensures { result ≡ bytes_eq (value_of self.now.node.text) text.now }
@@ -165,6 +211,34 @@ impl<'t> Cursor<'t> {
             return Ok(false);
         }
         Err(TreeFault::Value(self.node.at as u64))
+    }
+
+    fn own_amount(&self) -> Result<Cents, TreeFault>
+        ensures { result ≡ amount_of self.now.node }
+    {
+        match amount_of_raw(self.node.value) {
+            Some(amount) => Ok(amount),
+            None => Err(TreeFault::Value(self.node.at as u64)),
+        }
+    }
+
+    fn own_moment(&self) -> Result<Moment, TreeFault>
+        ensures { result ≡ moment_of self.now.node }
+    {
+        match moment_of_raw(self.node.value) {
+            Some(moment) => Ok(moment),
+            None => Err(TreeFault::Value(self.node.at as u64)),
+        }
+    }
+
+    fn own_number(&self, most: usize) -> Result<u64, TreeFault>
+        requires { most ≤ 10 }
+        ensures { result ≡ number_of most self.now.node }
+    {
+        match number_of_raw(self.node.value, most) {
+            Some(number) => Ok(number),
+            None => Err(TreeFault::Value(self.node.at as u64)),
+        }
     }
 
     /// Whether it has this name and isn't absent.

@@ -8,11 +8,12 @@ mod children;
 mod cursor;
 mod escape;
 mod laws;
+mod raw;
 mod sheet;
 
 pub use children::Children;
 pub use cursor::Cursor;
-pub use laws::{aggregates_read_back, bodies_read_back, elements_read_back};
+pub use laws::{aggregates_read_back, bodies_read_back, documents_read_back, elements_read_back};
 pub use ofx_types::TreeFault;
 pub use sheet::Sheet;
 

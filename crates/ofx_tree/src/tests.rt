@@ -1,4 +1,4 @@
-//! A sample body, written and read.
+//! Sample bodies, written and read.
 
 use crate::{Cursor, Sheet, TreeFault};
 use ofx_tape::Tape;
@@ -18,6 +18,17 @@ const BODY: &[u8; 153] = b"\
     <TOKEN>1\r\n\
     <TOKEN>2\r\n\
     </OFX>\r\n";
+
+/// Values of each kind, one of them with an entity in it, one that is no date, and one that stands twice.
+const VALUES: &[u8; 127] = b"\
+    <OFX>\r\n\
+    <TRNAMT>-12,5\r\n\
+    <DTDUE>20240131070000[-5:a&lt;b]\r\n\
+    <DTSTART>2024013\r\n\
+    <TOKEN>0012\r\n\
+    <DTEND>20240131\r\n\
+    <DTEND>20240201\r\n\
+    </OFX>";
 
 #[test]
 fn writes_lines(rt: HostRuntime) -> Result<(), Fail> {
@@ -76,5 +87,45 @@ fn finds_faults(rt: HostRuntime) -> Result<(), Fail> {
         ofx.text(rt.alloc(), b"MEMO", 9).err(),
         Some(TreeFault::Value(40))
     );
+    Ok(())
+}
+
+#[test]
+fn reads_amounts_dates_and_numbers(rt: HostRuntime) -> Result<(), Fail> {
+    let tape = Tape::read(rt.alloc(), VALUES)?;
+    let ofx = Cursor::root(&tape);
+    let noon = Moment(1_706_702_400);
+    assert_eq!(rt; ofx.amount(b"TRNAMT")?, Cents(-1250));
+    assert_eq!(rt; ofx.moment(b"DTDUE")?, noon);
+    assert_eq!(rt; ofx.maybe_moment(b"DTDUE")?, Some(noon));
+    assert_eq!(rt; ofx.maybe_moment(b"DTPOSTED")?, None);
+    assert_eq!(rt; ofx.number(b"TOKEN", 4)?, 12);
+    Ok(())
+}
+
+#[test]
+fn finds_faults_of_values(rt: HostRuntime) -> Result<(), Fail> {
+    let tape = Tape::read(rt.alloc(), VALUES)?;
+    let ofx = Cursor::root(&tape);
+    assert_eq!(rt; ofx.amount(b"BALAMT").err(), Some(TreeFault::Missing(0)));
+    assert_eq!(rt; ofx.amount(b"DTEND").err(), Some(TreeFault::Repeated(104)));
+    assert_eq!(rt; ofx.amount(b"DTDUE").err(), Some(TreeFault::Value(22)));
+    assert_eq!(rt; ofx.moment(b"DTPOSTED").err(), Some(TreeFault::Missing(0)));
+    assert_eq!(rt; ofx.moment(b"DTEND").err(), Some(TreeFault::Repeated(104)));
+    assert_eq!(rt; ofx.moment(b"DTSTART").err(), Some(TreeFault::Value(56)));
+    assert_eq!(rt;
+        ofx.maybe_moment(b"DTEND").err(),
+        Some(TreeFault::Repeated(104))
+    );
+    assert_eq!(rt;
+        ofx.maybe_moment(b"DTSTART").err(),
+        Some(TreeFault::Value(56))
+    );
+    assert_eq!(rt; ofx.number(b"CODE", 10).err(), Some(TreeFault::Missing(0)));
+    assert_eq!(rt;
+        ofx.number(b"DTEND", 10).err(),
+        Some(TreeFault::Repeated(104))
+    );
+    assert_eq!(rt; ofx.number(b"TOKEN", 3).err(), Some(TreeFault::Value(74)));
     Ok(())
 }

@@ -1,11 +1,18 @@
 -- How a form names the children of an aggregate, and what each of them answers.
-use Rattle.std.specs.Prelude.{◌≡◌, ℕ, Bool, true, false, not, ◌&&◌, nat_lt, List, [], ◌∷◌, length, filter, codes, Option, None, Some, is_none, Result, Ok, Err, if◌then◌else◌}
+use Rattle.std.specs.Prelude.{◌≡◌, ℕ, ℤ, Bool, true, false, not, ◌&&◌, nat_lt, List, [], ◌∷◌, length, filter, codes, Option, None, Some, is_none, Result, Ok, Err, if◌then◌else◌}
 use Rattle.std.specs.List.{list_all}
 use Rattle.std.specs.Str.{bytes_eq}
 use Rattle.ofx_types.specs.TextRules.{is_white, is_refused_in_text}
 use Rattle.ofx_types.specs.TextOutcome.{text_fault}
 use Rattle.ofx_types.specs.ValueForm.{value_of, StandsFor}
+use Rattle.ofx_types.specs.AmountForm.{IsAmount}
+use Rattle.ofx_types.specs.AmountReading.{amount_at}
+use Rattle.ofx_types.specs.DateForm.{IsDate}
+use Rattle.ofx_types.specs.DateReading.{moment_at}
+use Rattle.ofx_types.specs.NumberReading.{number_at}
 use Rattle.ofx_types.specs.Nodes.{TagNode, Item, children}
+use Rattle.ofx_types.specs.declared.number.Cents.{Cents}
+use Rattle.ofx_types.specs.declared.number.Moment.{Moment}
 use Rattle.ofx_types.specs.declared.fault.TreeFault.{TreeFault}
 use Rattle.ofx_types.specs.declared.fault.TreeFault.TheVariants.{Missing, Repeated, Value, OutOfMemory}
 
@@ -44,6 +51,29 @@ pub record IsFlagIn (name : List ℕ) (parent : Item) (flag : Bool) : Type 0 whe
   pub child : Item
   pub is_only : IsOnly name parent child
   pub stands : value_of child.node.text ≡ flag_word flag
+
+-- The parent has just one child of this name, and its value spells the amount.
+pub record IsAmountIn (name : List ℕ) (parent : Item) (amount : Cents) : Type 0 where
+  pub child : Item
+  pub is_only : IsOnly name parent child
+  pub stands : IsAmount (value_of child.node.text) amount.0
+
+-- The parent has just one child of this name, and its value spells the moment.
+pub record IsMomentIn (name : List ℕ) (parent : Item) (moment : Moment) : Type 0 where
+  pub child : Item
+  pub is_only : IsOnly name parent child
+  pub stands : IsDate (value_of child.node.text) moment.0
+
+-- A date that may stand once.
+abbrev pub IsMaybeMomentIn : List ℕ → Item → Option Moment → Type 0
+IsMaybeMomentIn name parent None = IsNone name parent
+IsMaybeMomentIn name parent (Some moment) = IsMomentIn name parent moment
+
+-- The parent has just one child of this name, and its value is a number of 1 digit up to the limit.
+pub record IsNumberIn (name : List ℕ) (most : ℕ) (parent : Item) (number : ℕ) : Type 0 where
+  pub child : Item
+  pub is_only : IsOnly name parent child
+  pub stands : number_at most (value_of child.node.text) ≡ Some number
 
 -- Reading in order: the first fault is the answer.
 infixl 10 ◌>>=◌
@@ -99,3 +129,44 @@ flag_at node =
 
 unfoldable pub flag_in : List ℕ → Item → Result Bool TreeFault
 flag_in name parent = one name parent >>= λ child. flag_at child.node
+
+-- the amount that a node's value spells
+abbrev pub amount_or : ℕ → Option ℤ → Result Cents TreeFault
+amount_or place None = Err (Value place)
+amount_or place (Some cents) = Ok (record { 0 = cents })
+
+abbrev pub amount_of : TagNode → Result Cents TreeFault
+amount_of node = amount_or node.place (amount_at (value_of node.text))
+
+unfoldable pub amount_in : List ℕ → Item → Result Cents TreeFault
+amount_in name parent = one name parent >>= λ child. amount_of child.node
+
+-- the moment that a node's value spells
+abbrev pub moment_or : ℕ → Option ℤ → Result Moment TreeFault
+moment_or place None = Err (Value place)
+moment_or place (Some seconds) = Ok (record { 0 = seconds })
+
+abbrev pub moment_of : TagNode → Result Moment TreeFault
+moment_of node = moment_or node.place (moment_at (value_of node.text))
+
+unfoldable pub moment_in : List ℕ → Item → Result Moment TreeFault
+moment_in name parent = one name parent >>= λ child. moment_of child.node
+
+-- the moment of a child that may stand once
+abbrev pub moment_if_any : Option Item → Result (Option Moment) TreeFault
+moment_if_any None = Ok None
+moment_if_any (Some child) = moment_of child.node >>= λ moment. Ok (Some moment)
+
+unfoldable pub maybe_moment_in : List ℕ → Item → Result (Option Moment) TreeFault
+maybe_moment_in name parent = maybe name parent >>= moment_if_any
+
+-- the number that a node's value is, of 1 digit up to the limit
+abbrev pub number_or : ℕ → Option ℕ → Result ℕ TreeFault
+number_or place None = Err (Value place)
+number_or place (Some number) = Ok number
+
+abbrev pub number_of : ℕ → TagNode → Result ℕ TreeFault
+number_of most node = number_or node.place (number_at most (value_of node.text))
+
+unfoldable pub number_in : List ℕ → ℕ → Item → Result ℕ TreeFault
+number_in name most parent = one name parent >>= λ child. number_of most child.node

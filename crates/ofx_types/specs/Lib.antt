@@ -4,6 +4,10 @@ pub mod Calendar
 pub mod Digits
 pub mod AmountForm
 pub mod DateForm
+pub mod ValueReading
+pub mod AmountReading
+pub mod DateReading
+pub mod NumberReading
 pub mod AccountForm
 pub mod Sheet
 pub mod ReplyForm
@@ -17,4 +21,7 @@ pub mod Nodes
 pub mod FormWords
 pub mod RequestForm
 pub mod RequestReading
+pub mod RequestText
+pub mod ReplyGrammar
+pub mod ReplyReading
 pub mod FileForm

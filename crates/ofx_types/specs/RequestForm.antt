@@ -5,7 +5,7 @@ use Rattle.ofx_types.specs.AccountForm.{kind_word}
 use Rattle.ofx_types.specs.ValueForm.{value_of}
 use Rattle.ofx_types.specs.TagNames.{is_one_of}
 use Rattle.ofx_types.specs.Nodes.{TagNode, Item, children}
-use Rattle.ofx_types.specs.FormWords.{has_name, IsOnly, IsNone, IsTextIn, IsFlagIn}
+use Rattle.ofx_types.specs.FormWords.{has_name, IsOnly, IsNone, IsTextIn, IsFlagIn, IsMaybeMomentIn}
 use Rattle.ofx_types.specs.declared.account.AcctName.{AcctName}
 use Rattle.ofx_types.specs.declared.request.Period.{Period}
 use Rattle.ofx_types.specs.declared.request.Ask.{Ask}
@@ -29,12 +29,10 @@ pub record IsAccount (aggregate : Item) (account : AcctName) : Type 0 where
   pub has_kind : IsOnly (codes "ACCTTYPE") aggregate kind
   pub is_kind : value_of kind.node.text ≡ kind_word account.kind
 
--- INCTRAN. DTSTART and DTEND aren't read yet, and must not stand.
+-- INCTRAN: the moments between which transactions are listed, and whether they are listed at all.
 pub record IsPeriod (inctran : Item) (period : Period) : Type 0 where
-  pub no_start : IsNone (codes "DTSTART") inctran
-  pub no_end : IsNone (codes "DTEND") inctran
-  pub start : period.start ≡ None
-  pub end : period.end ≡ None
+  pub start : IsMaybeMomentIn (codes "DTSTART") inctran period.start
+  pub end : IsMaybeMomentIn (codes "DTEND") inctran period.end
   pub include : IsFlagIn (codes "INCLUDE") inctran period.include
 
 -- A statement request may have an INCTRAN.

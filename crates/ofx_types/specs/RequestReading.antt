@@ -3,7 +3,7 @@ use Rattle.std.specs.Prelude.{ℕ, List, [], ◌∷◌, codes, Option, None, Som
 use Rattle.std.specs.Str.{bytes_eq}
 use Rattle.ofx_types.specs.ValueForm.{value_of}
 use Rattle.ofx_types.specs.Nodes.{TagNode, Item, children}
-use Rattle.ofx_types.specs.FormWords.{has_name, ◌>>=◌, one, maybe, text_in, flag_in}
+use Rattle.ofx_types.specs.FormWords.{has_name, ◌>>=◌, one, maybe, text_in, flag_in, maybe_moment_in}
 use Rattle.ofx_types.specs.RequestForm.{is_named_one_of, unread_bank_names, unread_mail_names}
 use Rattle.ofx_types.specs.declared.fault.TreeFault.{TreeFault}
 use Rattle.ofx_types.specs.declared.fault.TreeFault.TheVariants.{Value}
@@ -19,6 +19,13 @@ pub record RequestParts : Type 0 where
   pub user : List ℕ
   pub pass : List ℕ
   pub asks : List Ask
+
+-- who signs on: the name and the password
+unfoldable pub signon_of : Item → Result (List ℕ × List ℕ) TreeFault
+signon_of sonrq = do
+  user ← text_in (codes "USERID") 32 sonrq
+  pass ← text_in (codes "USERPASS") 64 sonrq
+  Ok (user, pass)
 
 abbrev pub kind_named : List ℕ → ℕ → Result AcctKind TreeFault
 kind_named word place =
@@ -48,19 +55,12 @@ trnuid_of wrapper = do
   child ← one (codes "TRNUID") wrapper
   unless_zero child.node.place text
 
--- An element that may stand once and isn't read yet.
-abbrev pub unread : Option Item → Result (Unit {0}) TreeFault
-unread None = Ok tt
-unread (Some child) = Err (Value child.node.place)
-
 unfoldable pub period_of : Item → Result Period TreeFault
 period_of inctran = do
-  start ← maybe (codes "DTSTART") inctran
-  no_start ← unread start
-  end ← maybe (codes "DTEND") inctran
-  no_end ← unread end
+  start ← maybe_moment_in (codes "DTSTART") inctran
+  end ← maybe_moment_in (codes "DTEND") inctran
   include ← flag_in (codes "INCLUDE") inctran
-  Ok (record { start = None; end = None; include = include })
+  Ok (record { start = start; end = end; include = include })
 
 abbrev pub period_in : Option Item → Result (Option Period) TreeFault
 period_in None = Ok None
@@ -103,10 +103,9 @@ unfoldable pub request_of : Item → Result RequestParts TreeFault
 request_of ofx = do
   signon_set ← one (codes "SIGNONMSGSRQV1") ofx
   sonrq ← one (codes "SONRQ") signon_set
-  user ← text_in (codes "USERID") 32 sonrq
-  pass ← text_in (codes "USERPASS") 64 sonrq
+  signon ← signon_of sonrq
   bank ← maybe (codes "BANKMSGSRQV1") ofx
   asks ← bank_asks_in bank
   mail ← maybe (codes "EMAILMSGSRQV1") ofx
   no_mail ← no_mail_of mail
-  Ok (record { user = user; pass = pass; asks = asks })
+  Ok (record { user = signon.0; pass = signon.1; asks = asks })

@@ -13,6 +13,7 @@ mod reply;
 mod request;
 mod sequence;
 mod text;
+mod told;
 mod uid;
 
 pub use account::{AcctKind, AcctName};
@@ -26,6 +27,7 @@ pub use reply::{
 pub use request::{Ask, Asks, Period, RequestFile};
 pub use sequence::Sequence;
 pub use text::{Text, TextFault, is_white_space, trim};
+pub use told::{Note, Told};
 pub use uid::{FileUid, TrnUid};
 
 #[cfg(test)]

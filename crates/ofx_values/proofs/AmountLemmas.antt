@@ -9,8 +9,8 @@ use Rattle.std.proofs.lemmas.Option.{cond_some}
 use Rattle.ofx_types.specs.TextRules.{trimmed}
 use Rattle.ofx_types.specs.Digits.{signed}
 use Rattle.ofx_types.specs.AmountForm.{IsAmount, IsFractionPart}
-use Rattle.ofx_values.specs.Reading.{◌>>=◌, sign_at}
-use Rattle.ofx_values.specs.AmountReading.{front_digits, behind_digits, behind_mark, total, is_counted, magnitude_of, magnitude_at, amount_at}
+use Rattle.ofx_types.specs.ValueReading.{◌>>=◌, sign_at}
+use Rattle.ofx_types.specs.AmountReading.{front_digits, behind_digits, behind_mark, total, is_counted, magnitude_of, magnitude_at, amount_at}
 use Rattle.ofx_values.proofs.PartLemmas.{bind_some, some_is, guarded, digit_in, IsUnsigned, sign_takes, sign_again}
 use Rattle.ofx_values.proofs.DigitLemmas.{front_all, front_split, front_again}
 

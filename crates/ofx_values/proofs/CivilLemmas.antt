@@ -13,7 +13,7 @@ use Rattle.jiff_core.proofs.MarchLemmas.{day_count-early}
 use Rattle.jiff_core.proofs.CalendarLemmas.{day_count_bounds, day_count-later_year, day_count-day_of_year, days_from_civil-day_count, days_in_month_bounds, day_count-day, day_count-next_month, day_count-next_year, day_count-last_of_year, day_count-end}
 use Rattle.jiff_core.proofs.DateLemmas.{epoch_day_injective}
 use Rattle.ofx_values.specs.Civil.{IsCivilOf}
-use Rattle.ofx_values.specs.DateReading.{is_civil, day_number}
+use Rattle.ofx_types.specs.DateReading.{is_civil, day_number}
 use Rattle.ofx_types.specs.Calendar.{CivilDate, date_after, date_at, days_of_month, days_since_1900, civil_of, IsDay}
 
 -- a date of the years 1900 to 9999 that lies n days after 1 January 1900

@@ -3,8 +3,8 @@ use Rattle.std.proofs.Common.{◌≡◌, ℕ, List, ◌++◌, Some, None, sym, a
 use Rattle.ofx_types.specs.TextRules.{trimmed}
 use Rattle.ofx_types.specs.Calendar.{IsMoment, civil_of, midnight}
 use Rattle.ofx_types.specs.DateForm.{date_text, IsDate}
-use Rattle.ofx_values.specs.Reading.{◌>>=◌}
-use Rattle.ofx_values.specs.DateReading.{day_at, time_at, zone_at, lawful, moment_at}
+use Rattle.ofx_types.specs.ValueReading.{◌>>=◌}
+use Rattle.ofx_types.specs.DateReading.{day_at, time_at, zone_at, lawful, moment_at}
 use Rattle.ofx_values.proofs.PartLemmas.{bind_some, some_is}
 use Rattle.ofx_values.proofs.DayLemmas.{day_takes, day_again}
 use Rattle.ofx_values.proofs.TimeLemmas.{time_takes, time_again}

@@ -3,8 +3,8 @@ use Rattle.std.proofs.Common.{◌≡◌, ℕ, ◌+◌, ◌*◌, ◌/◌, ◌%◌
 use Rattle.ofx_types.specs.Calendar.{IsDay, civil_of}
 use Rattle.ofx_types.specs.Digits.{two_digits, four_digits}
 use Rattle.ofx_types.specs.DateForm.{date_text}
-use Rattle.ofx_values.specs.Reading.{◌>>=◌, pair_at}
-use Rattle.ofx_values.specs.DateReading.{year_at, day_number, day_at}
+use Rattle.ofx_types.specs.ValueReading.{◌>>=◌, pair_at}
+use Rattle.ofx_types.specs.DateReading.{year_at, day_number, day_at}
 use Rattle.ofx_values.proofs.PartLemmas.{behind_front, bind_some, some_is, pair_takes, pair_again}
 use Rattle.ofx_values.proofs.CivilLemmas.{number_takes, number_again, civil_bounds}
 

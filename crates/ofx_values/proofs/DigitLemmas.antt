@@ -11,7 +11,7 @@ use Rattle.std.proofs.lemmas.Int.Digits.{digits_value_more}
 use Rattle.std.proofs.lemmas.List.{take-append-drop, length-take, take_min}
 use Rattle.std.proofs.lemmas.List.Recursion.{and_at}
 use Rattle.std.proofs.lemmas.List.Sums.{take_while-cons}
-use Rattle.ofx_values.specs.AmountReading.{front_digits, behind_digits}
+use Rattle.ofx_types.specs.AmountReading.{front_digits, behind_digits}
 use Rattle.ofx_values.proofs.PartLemmas.{digit_in}
 
 -- the digits at the front are digits

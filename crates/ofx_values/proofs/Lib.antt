@@ -6,5 +6,6 @@ pub mod DigitLemmas
 pub mod MomentLemmas
 pub mod PartLemmas
 pub mod PrintedLemmas
+pub mod ShortForms
 pub mod TimeLemmas
 pub mod ZoneLemmas

@@ -5,7 +5,7 @@ use Rattle.std.proofs.lemmas.Option.{cond_some}
 use Rattle.std.specs.Prelude.{int_le}
 use Rattle.std.proofs.lemmas.Int.{ints}
 use Rattle.ofx_types.specs.Calendar.{IsMoment}
-use Rattle.ofx_values.specs.DateReading.{lawful}
+use Rattle.ofx_types.specs.DateReading.{lawful}
 
 le_from : (a b : ℤ) → a ≤ℤ b → int_le a b ≡ true
 le_from a b h = grind (arith, ints)

@@ -6,7 +6,7 @@ use Rattle.std.proofs.lemmas.Option.{cond_some}
 use Rattle.std.specs.Char.{is_ascii_digit}
 use Rattle.std.specs.Int.{IsInRange}
 use Rattle.ofx_types.specs.Digits.{IsSign, two_digits}
-use Rattle.ofx_values.specs.Reading.{◌>>=◌, pair_at, sign_at}
+use Rattle.ofx_types.specs.ValueReading.{◌>>=◌, pair_at, sign_at}
 
 -- the value of a step that did not fail
 pub bind_some : {A B : Type 0} (o : Option A) (f : A → Option B) (y : B) → (o >>= f) ≡ Some y → (x : A) × (o ≡ Some x) × (f x ≡ Some y)

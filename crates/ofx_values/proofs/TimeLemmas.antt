@@ -4,8 +4,8 @@ use Rattle.std.proofs.lemmas.Bool.{and_parts, and_from, cond-true, cond-false, c
 use Rattle.std.proofs.lemmas.Option.{cond_some}
 use Rattle.ofx_types.specs.Digits.{two_digits, three_digits}
 use Rattle.ofx_types.specs.DateForm.{IsClock, IsFraction, IsTime}
-use Rattle.ofx_values.specs.Reading.{◌>>=◌, pair_at}
-use Rattle.ofx_values.specs.DateReading.{clock_seconds, clock_at, behind_three, behind_fraction, is_timeless, clock_and_fraction_at, time_at}
+use Rattle.ofx_types.specs.ValueReading.{◌>>=◌, pair_at}
+use Rattle.ofx_types.specs.DateReading.{clock_seconds, clock_at, behind_three, behind_fraction, is_timeless, clock_and_fraction_at, time_at}
 use Rattle.ofx_values.proofs.PartLemmas.{behind_front, bind_some, some_is, pair_takes, pair_again, digit_in, digit_from}
 
 seconds_take : (h m s n : ℕ) → clock_seconds h m s ≡ Some n → (h < 24) × (m < 60) × (s < 60) × (n ≡ 3600 * h + 60 * m + s)

@@ -7,8 +7,8 @@ use Rattle.std.proofs.lemmas.List.{take_more, take_all, take_at, get_or_at, leng
 use Rattle.std.proofs.lemmas.Option.{cond_some}
 use Rattle.ofx_types.specs.Digits.{signed, two_digits}
 use Rattle.ofx_types.specs.DateForm.{IsHours, IsPart, IsName, IsBracketed, IsZone}
-use Rattle.ofx_values.specs.Reading.{◌>>=◌, sign_at}
-use Rattle.ofx_values.specs.DateReading.{hours_behind, hours_at, tenths_behind, tenths_at, part_at, is_name, offset_seconds, offset_at, before_bracket, zone_at, is_timeless}
+use Rattle.ofx_types.specs.ValueReading.{◌>>=◌, sign_at}
+use Rattle.ofx_types.specs.DateReading.{hours_behind, hours_at, tenths_behind, tenths_at, part_at, is_name, offset_seconds, offset_at, before_bracket, zone_at, is_timeless}
 use Rattle.ofx_values.proofs.PartLemmas.{behind_front, bind_some, some_is, digit_in, digit_from, pair_is, IsUnsigned, sign_takes, sign_again}
 
 -- no digit stands here

@@ -1,4 +1,1 @@
-pub mod AmountReading
 pub mod Civil
-pub mod DateReading
-pub mod Reading

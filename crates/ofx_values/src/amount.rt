@@ -1,15 +1,15 @@
 //! Amounts as they stand in a file: a sign, dollars, and cents behind a mark.
 
-ghost use Rattle.std.specs.Prelude.{◌≡◌, ◌==◌, ◌<◌, ◌≤◌, ◌^◌, ℤ, length, drop, IsTrue, IfSome, IfOk, IfErr, OnErr};
+ghost use Rattle.std.specs.Prelude.{◌≡◌, ◌==◌, ◌<◌, ◌≤◌, ℤ, length, drop, IsTrue, None, Some, IfSome, IfOk, IfErr, OnErr, MatchResult};
 ghost use Rattle.std.specs.List.{list_all};
 ghost use Rattle.std.specs.Char.{is_ascii_digit};
-ghost use Rattle.std.specs.Str.Parse.{digits_value};
 ghost use Rattle.ofx_types.specs.AmountForm as form;
 ghost use Rattle.ofx_types.specs.AmountForm.{IsAmount};
-ghost use Rattle.ofx_values.specs.Reading.{Gives};
-ghost use Rattle.ofx_values.specs.AmountReading as reading;
+ghost use Rattle.ofx_types.specs.TextRules.{trimmed};
+ghost use Rattle.ofx_types.specs.ValueReading.{Gives};
+ghost use Rattle.ofx_types.specs.AmountReading as reading;
 
-use crate::digits::sign_at;
+use crate::digits::{are_digits, number, sign_at};
 use crate::fault::ValueFault;
 use ofx_types::{Cents, trim};
 
@@ -28,6 +28,7 @@ pub fn read_amount(raw: &[u8]) -> Result<Cents, ValueFault>
     ensures found { IfOk result (λ c. IsAmount raw.now c.0) }
     ensures fault { IfErr result (λ e. e ≡ ValueFault.Amount) }
     ensures nothing { OnErr result ((c : ℤ) → IsAmount raw.now c → ⊥) }
+    ensures read { MatchResult result (λ c. reading.amount_at (trimmed raw.now) ≡ Some c.0) (λ _. reading.amount_at (trimmed raw.now) ≡ None) }
 {
     match amount_at(trim(raw)) {
         Some(cents) => Ok(cents),
@@ -36,7 +37,7 @@ pub fn read_amount(raw: &[u8]) -> Result<Cents, ValueFault>
 }
 
 /// The amount that trimmed bytes spell.
-#[tactic(auto, unfolding(crate::specs::AmountReading::amount_at))]
+#[tactic(auto, unfolding(ofx_types::specs::AmountReading::amount_at))]
 fn amount_at(text: &[u8]) -> Option<Cents>
     ensures { Gives (λ c. c.0) result (reading.amount_at text.now) }
 {
@@ -50,7 +51,7 @@ fn amount_at(text: &[u8]) -> Option<Cents>
 }
 
 /// The cents that digits with at most one mark stand for.
-#[tactic(auto, unfolding(crate::specs::AmountReading::magnitude_at))]
+#[tactic(auto, unfolding(ofx_types::specs::AmountReading::magnitude_at))]
 fn magnitude_at(text: &[u8]) -> Option<u64>
     requires { length text.now ≤ AMOUNT_BYTES }
     ensures gives { Gives (λ n. n) result (reading.magnitude_at text.now) }
@@ -82,7 +83,7 @@ fn digits_at(text: &[u8]) -> usize
 }
 
 /// The digits behind a mark, or none where there is no mark.
-#[tactic(auto, unfolding(crate::specs::AmountReading::behind_mark))]
+#[tactic(auto, unfolding(ofx_types::specs::AmountReading::behind_mark))]
 fn behind_mark(text: &[u8]) -> Option<&[u8]>
     ensures gives { Gives (λ x. x.now) result (reading.behind_mark text.now) }
     ensures digits { IfSome result (λ x. IsTrue (list_all is_ascii_digit x.now)) }
@@ -95,14 +96,8 @@ fn behind_mark(text: &[u8]) -> Option<&[u8]>
     }
 }
 
-fn are_digits(text: &[u8]) -> bool
-    ensures { result ≡ list_all is_ascii_digit text.now }
-{
-    text.iter().all(|b| b.is_ascii_digit())
-}
-
 /// The cents of the digits before and behind a mark.
-#[tactic(auto, unfolding(crate::specs::AmountReading::magnitude_of))]
+#[tactic(auto, unfolding(ofx_types::specs::AmountReading::magnitude_of))]
 fn magnitude_of(dollars: &[u8], behind: &[u8]) -> Option<u64>
     requires dollars_short { length dollars.now ≤ AMOUNT_BYTES }
     requires behind_short { length behind.now ≤ AMOUNT_BYTES }
@@ -116,20 +111,6 @@ fn magnitude_of(dollars: &[u8], behind: &[u8]) -> Option<u64>
         return None;
     }
     Some(total as u64)
-}
-
-/// The number that digits stand for.
-fn number(digits: &[u8]) -> u128
-    requires short { length digits.now ≤ AMOUNT_BYTES }
-    requires are { IsTrue (list_all is_ascii_digit digits.now) }
-    ensures value { result ≡ digits_value 10 digits.now }
-    ensures bound { result < 10 ^ 32 }
-{
-    let mut value: u128 = 0;
-    for digit in digits {
-        value = 10 * value + (*digit - b'0') as u128;
-    }
-    value
 }
 
 /// The cents of the first two digits behind a mark.

@@ -1,12 +1,13 @@
 //! Dates as they stand in a file: a day, perhaps a time of that day, and perhaps a zone.
 
-ghost use Rattle.std.specs.Prelude.{◌≡◌, ◌<◌, ℤ, pos, ◌+ℤ◌, ◌-ℤ◌, IfSome, IfOk, IfErr, OnErr};
+ghost use Rattle.std.specs.Prelude.{◌≡◌, ◌<◌, ℤ, pos, ◌+ℤ◌, ◌-ℤ◌, None, Some, IfSome, IfOk, IfErr, OnErr, MatchResult};
 ghost use Rattle.jiff_core.specs.Calendar.{IsWithin};
 ghost use Rattle.ofx_types.specs.Calendar as calendar;
 ghost use Rattle.ofx_types.specs.Calendar.{IsDay, IsMoment};
 ghost use Rattle.ofx_types.specs.DateForm.{IsDate};
-ghost use Rattle.ofx_values.specs.Reading.{Gives};
-ghost use Rattle.ofx_values.specs.DateReading as reading;
+ghost use Rattle.ofx_types.specs.TextRules.{trimmed};
+ghost use Rattle.ofx_types.specs.ValueReading.{Gives};
+ghost use Rattle.ofx_types.specs.DateReading as reading;
 
 use crate::day::midnight;
 use crate::digits::pair_at;
@@ -32,6 +33,7 @@ pub fn read_moment(raw: &[u8]) -> Result<Moment, ValueFault>
     ensures range { IfOk result (λ m. IsMoment m.0) }
     ensures fault { IfErr result (λ e. e ≡ ValueFault.Date) }
     ensures nothing { OnErr result ((m : ℤ) → IsDate raw.now m → ⊥) }
+    ensures read { MatchResult result (λ m. reading.moment_at (trimmed raw.now) ≡ Some m.0) (λ _. reading.moment_at (trimmed raw.now) ≡ None) }
 {
     match moment_at(trim(raw)) {
         Some(moment) => Ok(moment),
@@ -40,7 +42,7 @@ pub fn read_moment(raw: &[u8]) -> Result<Moment, ValueFault>
 }
 
 /// The day that eight digits stand for, and the bytes behind them.
-#[tactic(auto, unfolding(crate::specs::DateReading::day_at))]
+#[tactic(auto, unfolding(ofx_types::specs::DateReading::day_at))]
 fn day_at(text: &[u8]) -> Option<(Day, &[u8])>
     ensures gives { Gives (λ x. (x.0.0, x.1.now)) result (reading.day_at text.now) }
     ensures range { IfSome result (λ x. IsDay x.0.0) }
@@ -53,7 +55,7 @@ fn day_at(text: &[u8]) -> Option<(Day, &[u8])>
 }
 
 /// The year that four digits stand for, and the bytes behind them.
-#[tactic(auto, unfolding(crate::specs::DateReading::year_at))]
+#[tactic(auto, unfolding(ofx_types::specs::DateReading::year_at))]
 fn year_at(text: &[u8]) -> Option<(u16, &[u8])>
     ensures gives { Gives (λ x. (x.0, x.1.now)) result (reading.year_at text.now) }
     ensures range { IfSome result (λ x. x.0 < 10000) }
@@ -81,7 +83,7 @@ fn day_number(year: u16, month: u8, day: u8) -> Option<Day>
 }
 
 /// The seconds since midnight that six digits stand for, and the bytes behind them.
-#[tactic(auto, unfolding(crate::specs::DateReading::clock_at))]
+#[tactic(auto, unfolding(ofx_types::specs::DateReading::clock_at))]
 fn clock_at(text: &[u8]) -> Option<(u32, &[u8])>
     ensures gives { Gives (λ x. (x.0, x.1.now)) result (reading.clock_at text.now) }
     ensures range { IfSome result (λ x. x.0 < 86400) }
@@ -94,7 +96,7 @@ fn clock_at(text: &[u8]) -> Option<(u32, &[u8])>
 }
 
 /// The seconds since midnight at a time of day, where a clock shows it.
-#[tactic(auto, unfolding(crate::specs::DateReading::clock_seconds))]
+#[tactic(auto, unfolding(ofx_types::specs::DateReading::clock_seconds))]
 fn clock_seconds(hour: u8, minute: u8, second: u8) -> Option<u32>
     ensures gives { Gives (λ n. n) result (reading.clock_seconds hour minute second) }
     ensures range { IfSome result (λ n. n < 86400) }
@@ -107,7 +109,7 @@ fn clock_seconds(hour: u8, minute: u8, second: u8) -> Option<u32>
 }
 
 /// The bytes behind a point and three digits, or all of them where no point stands.
-#[tactic(auto, unfolding(crate::specs::DateReading::behind_fraction))]
+#[tactic(auto, unfolding(ofx_types::specs::DateReading::behind_fraction))]
 fn behind_fraction(text: &[u8]) -> Option<&[u8]>
     ensures { Gives (λ x. x.now) result (reading.behind_fraction text.now) }
 {
@@ -117,7 +119,7 @@ fn behind_fraction(text: &[u8]) -> Option<&[u8]>
     }
 }
 
-#[tactic(auto, unfolding(crate::specs::DateReading::behind_three))]
+#[tactic(auto, unfolding(ofx_types::specs::DateReading::behind_three))]
 fn behind_three(text: &[u8]) -> Option<&[u8]>
     ensures { Gives (λ x. x.now) result (reading.behind_three text.now) }
 {
@@ -130,7 +132,7 @@ fn behind_three(text: &[u8]) -> Option<&[u8]>
 }
 
 /// The seconds since midnight of the time of day that stands here, or of midnight, and the bytes behind it.
-#[tactic(auto, unfolding(crate::specs::DateReading::time_at))]
+#[tactic(auto, unfolding(ofx_types::specs::DateReading::time_at))]
 fn time_at(text: &[u8]) -> Option<(u32, &[u8])>
     ensures gives { Gives (λ x. (x.0, x.1.now)) result (reading.time_at text.now) }
     ensures range { IfSome result (λ x. x.0 < 86400) }
@@ -141,7 +143,7 @@ fn time_at(text: &[u8]) -> Option<(u32, &[u8])>
     }
 }
 
-#[tactic(auto, unfolding(crate::specs::DateReading::clock_and_fraction_at))]
+#[tactic(auto, unfolding(ofx_types::specs::DateReading::clock_and_fraction_at))]
 fn clock_and_fraction_at(text: &[u8]) -> Option<(u32, &[u8])>
     ensures gives { Gives (λ x. (x.0, x.1.now)) result (reading.clock_and_fraction_at text.now) }
     ensures range { IfSome result (λ x. x.0 < 86400) }
@@ -152,7 +154,7 @@ fn clock_and_fraction_at(text: &[u8]) -> Option<(u32, &[u8])>
 }
 
 /// The moment that trimmed bytes spell.
-#[tactic(auto, unfolding(crate::specs::DateReading::moment_at))]
+#[tactic(auto, unfolding(ofx_types::specs::DateReading::moment_at))]
 fn moment_at(text: &[u8]) -> Option<Moment>
     ensures { Gives (λ m. m.0) result (reading.moment_at text.now) }
 {
@@ -163,7 +165,7 @@ fn moment_at(text: &[u8]) -> Option<Moment>
 }
 
 /// The moment at that many seconds of a day, less the offset, where it lies in the years 1900 to 9999.
-#[tactic(auto, unfolding(crate::specs::DateReading::lawful))]
+#[tactic(auto, unfolding(ofx_types::specs::DateReading::lawful))]
 fn moment_of(day: Day, seconds: u32, offset: i64) -> Option<Moment>
     requires day_in { IsDay day.0 }
     requires seconds_in { seconds < 86400 }

@@ -8,6 +8,7 @@ mod day;
 mod digits;
 mod fault;
 mod laws;
+mod number;
 mod print;
 #[cfg(test)]
 mod tests;
@@ -21,4 +22,5 @@ pub use laws::{
     amounts_differ, moments_differ, numbers_differ, one_amount, one_moment, printed_amount,
     printed_moment,
 };
+pub use number::read_number;
 pub use print::{print_amount, print_moment, print_number};

@@ -6,7 +6,7 @@ use std::alloc::Global;
 use std::test::Fail;
 
 /// Dates and what they are printed as in GMT, or `none` where they spell no moment.
-const DATES: [(&str, &str); 46] = [
+const DATES: [(&str, &str); 47] = [
     ("20240131", "20240131000000"),
     ("20240131070000", "20240131070000"),
     ("20240131070000.000", "20240131070000"),
@@ -37,6 +37,7 @@ const DATES: [(&str, &str); 46] = [
     ("20230229", "none"),
     ("19000229", "none"),
     ("20000229", "20000229000000"),
+    ("20240229", "20240229000000"),
     ("20240631", "none"),
     ("20241301", "none"),
     ("20240001", "none"),
@@ -62,7 +63,7 @@ const DATES: [(&str, &str); 46] = [
 ];
 
 /// Amounts and what they are printed as, or `none` where they spell no amount.
-const AMOUNTS: [(&str, &str); 22] = [
+const AMOUNTS: [(&str, &str); 25] = [
     ("100.00", "100.00"),
     ("100", "100.00"),
     (" +1,5\t", "1.50"),
@@ -76,9 +77,12 @@ const AMOUNTS: [(&str, &str); 22] = [
     ("-99999999999.99", "-99999999999.99"),
     ("000000000000000099999999999.9900", "99999999999.99"),
     ("0000000000000000099999999999.9900", "none"),
+    ("000000000000000000000000000000000", "none"),
     ("100000000000.00", "none"),
+    ("-100000000000", "none"),
     ("1.005", "none"),
     ("1.2.3", "none"),
+    ("1,2,3", "none"),
     ("1,000.00", "none"),
     ("--1", "none"),
     ("1-", "none"),
@@ -133,6 +137,18 @@ fn values_are_the_seconds_and_cents_meant(rt: HostRuntime) {
     assert_eq!(rt; read_moment(b"20240132"), Err(ValueFault::Date));
     assert_eq!(rt; read_amount(b"-1234.5"), Ok(Cents(-123_450)));
     assert_eq!(rt; read_amount(b"12a"), Err(ValueFault::Amount));
+}
+
+#[test]
+fn numbers_are_digits_up_to_a_limit(rt: HostRuntime) {
+    assert_eq!(rt; read_number(b" 7\r\n", 1), Some(7));
+    assert_eq!(rt; read_number(b"0000000012", 10), Some(12));
+    assert_eq!(rt; read_number(b"9999999999", 10), Some(9_999_999_999));
+    assert_eq!(rt; read_number(b"00000000012", 10), None);
+    assert_eq!(rt; read_number(b"12", 1), None);
+    assert_eq!(rt; read_number(b"", 10), None);
+    assert_eq!(rt; read_number(b"1 2", 10), None);
+    assert_eq!(rt; read_number(b"+1", 10), None);
 }
 
 #[test]

@@ -2,10 +2,10 @@
 
 ghost use Rattle.std.specs.Prelude.{◌≡◌, ◌<◌, pos, IfSome};
 ghost use Rattle.jiff_core.specs.Calendar.{IsWithin};
-ghost use Rattle.ofx_values.specs.Reading.{Gives};
+ghost use Rattle.ofx_types.specs.ValueReading.{Gives};
 ghost use Rattle.std.specs.List.{list_all};
 ghost use Rattle.ofx_types.specs.DateForm.{is_name_byte};
-ghost use Rattle.ofx_values.specs.DateReading as reading;
+ghost use Rattle.ofx_types.specs.DateReading as reading;
 
 use crate::digits::sign_at;
 
@@ -13,7 +13,7 @@ use crate::digits::sign_at;
 const NAME_ROOM: usize = 32;
 
 /// The offset in seconds of the zone that the bytes spell, or of GMT where there are none.
-#[tactic(auto, unfolding(crate::specs::DateReading::zone_at))]
+#[tactic(auto, unfolding(ofx_types::specs::DateReading::zone_at))]
 pub(crate) fn zone_at(text: &[u8]) -> Option<i64>
     ensures gives { Gives (λ n. n) result (reading.zone_at text.now) }
     ensures range { IfSome result (λ n. IsWithin 50400 n) }
@@ -26,7 +26,7 @@ pub(crate) fn zone_at(text: &[u8]) -> Option<i64>
 }
 
 /// The bytes before a last `]`.
-#[tactic(auto, unfolding(crate::specs::DateReading::before_bracket))]
+#[tactic(auto, unfolding(ofx_types::specs::DateReading::before_bracket))]
 fn before_bracket(text: &[u8]) -> Option<&[u8]>
     ensures { Gives (λ x. x.now) result (reading.before_bracket text.now) }
 {
@@ -37,7 +37,7 @@ fn before_bracket(text: &[u8]) -> Option<&[u8]>
 }
 
 /// The offset in seconds of what stands between a zone's brackets.
-#[tactic(auto, unfolding(crate::specs::DateReading::offset_at))]
+#[tactic(auto, unfolding(ofx_types::specs::DateReading::offset_at))]
 fn offset_at(text: &[u8]) -> Option<i64>
     ensures gives { Gives (λ n. n) result (reading.offset_at text.now) }
     ensures range { IfSome result (λ n. IsWithin 50400 n) }
@@ -52,7 +52,7 @@ fn offset_at(text: &[u8]) -> Option<i64>
 }
 
 /// Whole hours of one or two digits, and the bytes behind them.
-#[tactic(auto, unfolding(crate::specs::DateReading::hours_at))]
+#[tactic(auto, unfolding(ofx_types::specs::DateReading::hours_at))]
 fn hours_at(text: &[u8]) -> Option<(u8, &[u8])>
     ensures gives { Gives (λ x. (x.0, x.1.now)) result (reading.hours_at text.now) }
     ensures range { IfSome result (λ x. x.0 < 100) }
@@ -67,7 +67,7 @@ fn hours_at(text: &[u8]) -> Option<(u8, &[u8])>
 }
 
 /// Hundredths of an hour behind a point, or none where no point stands, and the bytes behind them.
-#[tactic(auto, unfolding(crate::specs::DateReading::part_at))]
+#[tactic(auto, unfolding(ofx_types::specs::DateReading::part_at))]
 fn part_at(text: &[u8]) -> Option<(u8, &[u8])>
     ensures gives { Gives (λ x. (x.0, x.1.now)) result (reading.part_at text.now) }
     ensures range { IfSome result (λ x. x.0 < 100) }
@@ -78,7 +78,7 @@ fn part_at(text: &[u8]) -> Option<(u8, &[u8])>
     }
 }
 
-#[tactic(auto, unfolding(crate::specs::DateReading::tenths_at))]
+#[tactic(auto, unfolding(ofx_types::specs::DateReading::tenths_at))]
 fn tenths_at(text: &[u8]) -> Option<(u8, &[u8])>
     ensures gives { Gives (λ x. (x.0, x.1.now)) result (reading.tenths_at text.now) }
     ensures range { IfSome result (λ x. x.0 < 100) }
@@ -92,7 +92,7 @@ fn tenths_at(text: &[u8]) -> Option<(u8, &[u8])>
 }
 
 /// Whether the bytes are a colon and a name, or nothing.
-#[tactic(auto, unfolding(crate::specs::DateReading::is_name))]
+#[tactic(auto, unfolding(ofx_types::specs::DateReading::is_name))]
 fn is_name(text: &[u8]) -> bool
     ensures { result ≡ reading.is_name text.now }
 {
@@ -110,7 +110,7 @@ fn are_name_bytes(name: &[u8]) -> bool
 }
 
 /// The seconds of an offset from -12 to +14 hours, where its hundredths are a multiple of five.
-#[tactic(auto, unfolding(crate::specs::DateReading::offset_seconds))]
+#[tactic(auto, unfolding(ofx_types::specs::DateReading::offset_seconds))]
 fn offset_seconds(negative: bool, hour: u8, hundredth: u8) -> Option<i64>
     ensures gives { Gives (λ n. n) result (reading.offset_seconds negative hour hundredth) }
     ensures range { IfSome result (λ n. IsWithin 50400 n) }

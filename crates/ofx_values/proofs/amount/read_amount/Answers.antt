@@ -1,5 +1,5 @@
 use Rattle.std.proofs.Common.{sym, ◌∙◌, ap}
-use Rattle.ofx_values.specs.AmountReading.{amount_at}
+use Rattle.ofx_types.specs.AmountReading.{amount_at}
 use Rattle.ofx_values.proofs.AmountLemmas.{amount_takes, amount_none}
 use Rattle.ofx_values.proofs.amount.read_amount.Goals as goal
 

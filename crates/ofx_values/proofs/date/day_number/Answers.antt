@@ -2,7 +2,7 @@ use Rattle.std.proofs.Common.{◌≡◌, true, false, arith, ap, sym, ◌∙◌}
 use Rattle.jiff_core.proofs.SignedLemmas.{signed_arith, signed_casts}
 use Rattle.jiff_core.specs.Date.{epoch_day}
 use Rattle.ofx_types.specs.Calendar.{IsDay}
-use Rattle.ofx_values.specs.DateReading.{day_number}
+use Rattle.ofx_types.specs.DateReading.{day_number}
 use Rattle.std.proofs.Common.{Some}
 use Rattle.ofx_values.proofs.CivilLemmas.{number_some, number_none, library_has}
 use Rattle.ofx_values.proofs.date.day_number.Goals as goal

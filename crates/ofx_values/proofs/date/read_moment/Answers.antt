@@ -1,6 +1,6 @@
 use Rattle.std.proofs.Common.{◌≡◌, Some, sym, ◌∙◌, ap}
 use Rattle.ofx_types.specs.TextRules.{trimmed}
-use Rattle.ofx_values.specs.DateReading.{moment_at}
+use Rattle.ofx_types.specs.DateReading.{moment_at}
 use Rattle.ofx_values.proofs.DateLemmas.{date_takes, date_none}
 use Rattle.ofx_values.proofs.date.read_moment.Goals as goal
 

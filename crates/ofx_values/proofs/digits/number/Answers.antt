@@ -1,6 +1,6 @@
 use Rattle.std.proofs.Common.{arith}
 use Rattle.ofx_values.proofs.DigitLemmas.{digit_at, number_more, power_more, power_room}
-use Rattle.ofx_values.proofs.amount.number.Goals as goal
+use Rattle.ofx_values.proofs.digits.number.Goals as goal
 
 pub overflow_mul-value : goal.overflow_mul-value
 overflow_mul-value c =

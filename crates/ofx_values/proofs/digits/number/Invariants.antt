@@ -1,6 +1,6 @@
 use Rattle.std.proofs.Common.{◌≡◌, ℕ, ◌<◌, ◌^◌, List, take}
 use Rattle.std.specs.Str.Parse.{digits_value}
-use Rattle.ofx_values.proofs.amount.number.Given as goal
+use Rattle.ofx_values.proofs.digits.number.Given as goal
 
 -- the number of the digits so far
 pub record IsNumberOf (value count : ℕ) (digits : List ℕ) : Type 0 where

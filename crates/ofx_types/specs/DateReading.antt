@@ -6,7 +6,7 @@ use Rattle.jiff_core.specs.Calendar.{days_from_civil}
 use Rattle.ofx_types.specs.Calendar.{days_of_month, midnight}
 use Rattle.ofx_types.specs.Digits.{signed}
 use Rattle.ofx_types.specs.DateForm.{is_name_byte}
-use Rattle.ofx_values.specs.Reading.{◌>>=◌, pair_at, sign_at}
+use Rattle.ofx_types.specs.ValueReading.{◌>>=◌, pair_at, sign_at}
 
 -- the calendar has this day, in a year from 1900 to 9999
 abbrev pub is_civil : ℕ → ℕ → ℕ → Bool

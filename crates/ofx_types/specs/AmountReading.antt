@@ -5,7 +5,7 @@ use Rattle.std.specs.Char.{is_ascii_digit}
 use Rattle.std.specs.Str.Parse.{digits_value}
 use Rattle.ofx_types.specs.Digits.{signed}
 use Rattle.ofx_types.specs.AmountForm.{cents_behind}
-use Rattle.ofx_values.specs.Reading.{◌>>=◌, sign_at}
+use Rattle.ofx_types.specs.ValueReading.{◌>>=◌, sign_at}
 
 -- the digits at the front
 abbrev pub front_digits : List ℕ → List ℕ

@@ -1,0 +1,82 @@
+-- The items of documents: their children by name, and their values.
+use Rattle.std.proofs.Common.{◌≡◌, ℕ, ◌+◌, ◌-◌, min, Bool, true, false, cond, not, ◌&&◌, List, [], ◌∷◌, ◌++◌, length, drop, filter, refl, sym, ap, ◌∙◌, arith}
+use Rattle.std.proofs.lemmas.List.{length-append, take_at, drop_at}
+use Rattle.ofx_types.specs.Sheet.{ended, start_line}
+use Rattle.ofx_types.specs.Sheet as sheet
+use Rattle.ofx_types.specs.TagForm.{nothing}
+use Rattle.ofx_types.specs.Nodes.{TagNode, Item, nodes_from, items_from}
+use Rattle.ofx_types.specs.FormWords.{has_name, is_absent}
+use Rattle.ofx_tree.specs.Documents.{Documents, empty, leaf, branch, printed, AreLawful, tree_of, leaf_item, branch_item, items_of, BranchesHoldTheirDocuments, DocumentsAreFound, LeavesHaveTheirValues}
+use Rattle.ofx_tree.proofs.Items.{first_of}
+use Rattle.ofx_tree.proofs.Written.{value_of-written, written_black}
+
+-- ---- children
+
+-- an item with the nodes in it, in front of other nodes
+whole_item : (index : ℕ) (node : TagNode) (within more : List TagNode) → node.after ≡ index + 1 + length within
+    → items_from index index (node ∷ (within ++ more))
+    ≡ record { node = node; first = index + 1; inner = within } ∷ items_from node.after node.after more
+whole_item index node within more after =
+    let end = index + 1 + length within in
+    let size : length within ≡ min (node.after - (index + 1)) (length (within ++ more)) = omega (arith, length-append within more) in
+    let item : List TagNode → Item = λ nodes. record { node = node; first = index + 1; inner = nodes } in
+    first_of index (length within) node (within ++ more) size
+    ∙ ap (λ (nodes : List TagNode). item nodes ∷ items_from end end (drop (length within) (within ++ more))) (take_at within more (length within) refl)
+    ∙ ap (λ (nodes : List TagNode). item within ∷ items_from end end nodes) (drop_at within more (length within) refl)
+    ∙ ap (λ (i : ℕ). item within ∷ items_from i i more) (sym after)
+
+items_are : (place index : ℕ) (documents : Documents) → items_from index index (nodes_from index (tree_of place documents nothing)) ≡ items_of place index documents
+unfolding items_from
+items_are place index empty = refl
+items_are place index (leaf name value behind) =
+    let item = leaf_item place index name value in
+    let next = place + length (sheet.element name value) in
+    whole_item index item.node [] (nodes_from (index + 1) (tree_of next behind nothing)) (omega arith)
+    ∙ ap (λ (items : List Item). item ∷ items) (items_are next (index + 1) behind)
+items_are place index (branch name inner behind) =
+    let item = branch_item place index name inner in
+    let next = place + length (sheet.aggregate name (printed inner)) in
+    whole_item index item.node item.inner (nodes_from item.node.after (tree_of next behind nothing)) refl
+    ∙ ap (λ (items : List Item). item ∷ items) (items_are next item.node.after behind)
+
+pub children_of_branch : BranchesHoldTheirDocuments
+children_of_branch place index name inner = items_are (place + length (start_line name)) (index + 1) inner
+
+-- ---- values
+
+pub value_of_leaf : LeavesHaveTheirValues
+value_of_leaf place index name value is =
+    (value_of-written value is.is_text.is_trimmed is.is_there, written_black value is.is_text.is_trimmed is.is_there)
+
+-- ---- names
+
+stands_as_named : (named absent : Bool) → absent ≡ false → (named && not absent) ≡ named
+stands_as_named true absent h = rw h refl
+stands_as_named false absent h = refl
+
+abbrev found : List ℕ → List Item → List Item
+found name items = filter (λ item. has_name name item && not (is_absent item.node)) items
+
+abbrev of_name : List ℕ → List Item → List Item
+of_name name items = filter (λ item. has_name name item) items
+
+one_more : (name : List ℕ) (item : Item) (items : List Item) → is_absent item.node ≡ false → found name items ≡ of_name name items → found name (item ∷ items) ≡ of_name name (item ∷ items)
+one_more name item items there again =
+    ap (λ (b : Bool). cond b (item ∷ found name items) (found name items)) (stands_as_named (has_name name item) (is_absent item.node) there)
+    ∙ ap (λ (more : List Item). cond (has_name name item) (item ∷ more) more) again
+
+items_stand : (place index room : ℕ) (name : List ℕ) (documents : Documents) → AreLawful room documents → found name (items_of place index documents) ≡ of_name name (items_of place index documents)
+items_stand place index room name empty lawful = refl
+items_stand place index room name (leaf other value behind) lawful =
+    let next = place + length (sheet.element other value) in
+    one_more name (leaf_item place index other value) (items_of next (index + 1) behind) (value_of_leaf place index other value lawful.0).1
+    (items_stand next (index + 1) room name behind lawful.1)
+items_stand place index room name (branch other inner behind) lawful =
+    let item = branch_item place index other inner in
+    let next = place + length (sheet.aggregate other (printed inner)) in
+    one_more name item (items_of next item.node.after behind) refl (items_stand next item.node.after room name behind lawful.3)
+
+pub named_of_branch : DocumentsAreFound
+named_of_branch place index room own name inner lawful =
+    ap (found name) (children_of_branch place index own inner)
+    ∙ items_stand (place + length (start_line own)) (index + 1) room name inner lawful

@@ -1,0 +1,117 @@
+-- The faults of named children have places among the nodes.
+use Rattle.std.proofs.Common.{ℕ, zero, suc, ◌+◌, ◌-◌, ◌≤◌, Bool, true, false, cond, nat_lt, ℤ, List, [], ◌∷◌, take, Option, None, Some, Result, Ok, Err, codes}
+use Rattle.std.specs.List.{AllByRecursion}
+use Rattle.std.specs.Option.{IfSome}
+use Rattle.std.specs.Str.{bytes_eq}
+use Rattle.ofx_types.specs.ValueForm.{value_of}
+use Rattle.ofx_types.specs.Nodes.{TagNode, Item, items_from, children}
+use Rattle.ofx_types.specs.AmountReading.{amount_at}
+use Rattle.ofx_types.specs.DateReading.{moment_at}
+use Rattle.ofx_types.specs.NumberReading.{number_at}
+use Rattle.ofx_types.specs.FormWords.{◌>>=◌, named, only_of, one, if_any, maybe, is_text_within, text_in, flag_in, amount_or, amount_in, moment_or, moment_of, moment_in, moment_if_any, maybe_moment_in, number_or, number_in}
+use Rattle.ofx_types.specs.declared.fault.TreeFault.{TreeFault}
+use Rattle.ofx_tree.specs.Placed.{Stands, Any, AreWithin, IsWithin}
+use Rattle.ofx_tree.proofs.Chosen.{all_chosen, all_filtered}
+
+pub bound : {A B : Type 0} (most : ℕ) (P : A → Type 0) (Q : B → Type 0) (r : Result A TreeFault) (f : A → Result B TreeFault) →
+    Stands most P r → ((x : A) → P x → Stands most Q (f x)) → Stands most Q (r >>= f)
+bound most P Q (Ok x) f h next = next x h
+bound most P Q (Err e) f h next = h
+
+pub either : {A : Type 0} (most : ℕ) (P : A → Type 0) (b : Bool) (r s : Result A TreeFault) → Stands most P r → Stands most P s → Stands most P (cond b r s)
+either most P true r s h i = h
+either most P false r s h i = i
+
+-- ---- items of which every node stands at most at a place
+
+pub AreWithin-take : (most k : ℕ) (nodes : List TagNode) → AreWithin most nodes → AreWithin most (take k nodes)
+AreWithin-take most zero nodes h = tt
+AreWithin-take most (suc k) [] h = tt
+AreWithin-take most (suc k) (n ∷ nodes) (h, more) = (h, AreWithin-take most k nodes more)
+
+pub items_within : (most index until : ℕ) (nodes : List TagNode) → AreWithin most nodes → AllByRecursion (IsWithin most) (items_from index until nodes)
+unfolding items_from
+items_within most index until [] h = tt
+items_within most index until (n ∷ nodes) (h, more) =
+    all_chosen (IsWithin most) (nat_lt index until) _ _
+    (items_within most (index + 1) until nodes more)
+    (record { place = h; inner = AreWithin-take most (n.after - (index + 1)) nodes more }, items_within most (index + 1) n.after nodes more)
+
+pub children_within : (most : ℕ) (item : Item) → IsWithin most item → AllByRecursion (IsWithin most) (children item)
+children_within most item h = items_within most item.first item.first item.inner h.inner
+
+pub named_within : (most : ℕ) (name : List ℕ) (item : Item) → IsWithin most item → AllByRecursion (IsWithin most) (named name item)
+named_within most name item h = all_filtered (IsWithin most) _ (children item) (children_within most item h)
+
+-- ---- named children
+
+pub only_within : (most place : ℕ) (items : List Item) → place ≤ most → AllByRecursion (IsWithin most) items → Stands most (IsWithin most) (only_of place items)
+only_within most place [] h i = h
+only_within most place (child ∷ []) h i = i.0
+only_within most place (child ∷ second ∷ more) h i = i.1.0.place
+
+pub one_within : (most : ℕ) (name : List ℕ) (item : Item) → IsWithin most item → Stands most (IsWithin most) (one name item)
+one_within most name item h = only_within most item.node.place (named name item) h.place (named_within most name item h)
+
+pub any_within : (most : ℕ) (items : List Item) → AllByRecursion (IsWithin most) items → Stands most (λ found. IfSome found (IsWithin most)) (if_any items)
+any_within most [] i = tt
+any_within most (child ∷ []) i = i.0
+any_within most (child ∷ second ∷ more) i = i.1.0.place
+
+pub maybe_within : (most : ℕ) (name : List ℕ) (item : Item) → IsWithin most item → Stands most (λ found. IfSome found (IsWithin most)) (maybe name item)
+maybe_within most name item h = any_within most (named name item) (named_within most name item h)
+
+pub text_within : (most : ℕ) (name : List ℕ) (limit : ℕ) (item : Item) → IsWithin most item → Stands most Any (text_in name limit item)
+unfolding text_in
+text_within most name limit item h =
+    bound most (IsWithin most) Any (one name item) _ (one_within most name item h)
+    (λ child i. either most Any (is_text_within limit (value_of child.node.text)) _ _ tt i.place)
+
+pub flag_within : (most : ℕ) (name : List ℕ) (item : Item) → IsWithin most item → Stands most Any (flag_in name item)
+unfolding flag_in
+flag_within most name item h =
+    bound most (IsWithin most) Any (one name item) _ (one_within most name item h)
+    (λ child i. either most Any (bytes_eq (value_of child.node.text) (codes "Y")) _ _ tt (either most Any (bytes_eq (value_of child.node.text) (codes "N")) _ _ tt i.place))
+
+amount_or_within : (most place : ℕ) (o : Option ℤ) → place ≤ most → Stands most Any (amount_or place o)
+amount_or_within most place None h = h
+amount_or_within most place (Some cents) h = tt
+
+pub amount_within : (most : ℕ) (name : List ℕ) (item : Item) → IsWithin most item → Stands most Any (amount_in name item)
+unfolding amount_in
+amount_within most name item h =
+    bound most (IsWithin most) Any (one name item) _ (one_within most name item h)
+    (λ child i. amount_or_within most child.node.place (amount_at (value_of child.node.text)) i.place)
+
+moment_or_within : (most place : ℕ) (o : Option ℤ) → place ≤ most → Stands most Any (moment_or place o)
+moment_or_within most place None h = h
+moment_or_within most place (Some seconds) h = tt
+
+moment_of_within : (most : ℕ) (item : Item) → IsWithin most item → Stands most Any (moment_of item.node)
+moment_of_within most item i = moment_or_within most item.node.place (moment_at (value_of item.node.text)) i.place
+
+pub moment_within : (most : ℕ) (name : List ℕ) (item : Item) → IsWithin most item → Stands most Any (moment_in name item)
+unfolding moment_in
+moment_within most name item h =
+    bound most (IsWithin most) Any (one name item) _ (one_within most name item h) (λ child i. moment_of_within most child i)
+
+if_any_within : (most : ℕ) (found : Option Item) → IfSome found (IsWithin most) → Stands most Any (moment_if_any found)
+if_any_within most None h = tt
+if_any_within most (Some child) h =
+    bound most Any Any (moment_of child.node) (λ moment. Ok (Some moment)) (moment_of_within most child h) (λ moment _. tt)
+
+pub maybe_moment_within : (most : ℕ) (name : List ℕ) (item : Item) → IsWithin most item → Stands most Any (maybe_moment_in name item)
+unfolding maybe_moment_in
+maybe_moment_within most name item h =
+    bound most (λ found. IfSome found (IsWithin most)) Any (maybe name item) moment_if_any (maybe_within most name item h)
+    (λ found i. if_any_within most found i)
+
+number_or_within : (most place : ℕ) (o : Option ℕ) → place ≤ most → Stands most Any (number_or place o)
+number_or_within most place None h = h
+number_or_within most place (Some n) h = tt
+
+pub number_within : (most : ℕ) (name : List ℕ) (limit : ℕ) (item : Item) → IsWithin most item → Stands most Any (number_in name limit item)
+unfolding number_in
+number_within most name limit item h =
+    bound most (IsWithin most) Any (one name item) _ (one_within most name item h)
+    (λ child i. number_or_within most child.node.place (number_at limit (value_of child.node.text)) i.place)
