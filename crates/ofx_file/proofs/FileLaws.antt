@@ -11,8 +11,8 @@ use Rattle.ofx_types.specs.declared.fault.FileFault.TheVariants.{Header, Syntax,
 use Rattle.ofx_types.specs.declared.request.RequestFile.{RequestFile}
 use Rattle.ofx_header.specs.HeaderLaws.{OneHeader, SpelledIsFaultless}
 use Rattle.ofx_tape.specs.TapeOutcome.{TagsAreUnambiguous, SpelledTagsHaveNoFault}
-use Rattle.ofx_file.proofs.FormLaws.{one_value}
-use Rattle.ofx_file.proofs.RequestLaws.{parts_with, request_again}
+use Rattle.ofx_tree.proofs.FormLaws.{one_value}
+use Rattle.ofx_file.specs.RequestLaws.{RequestsAreFound}
 
 -- the laws that the laws of files stand on
 pub record Laws : Type 0 where
@@ -70,15 +70,20 @@ file_with version older newer parts =
     record { version = version; older = older; newer = newer; user = parts.user; pass = parts.pass; asks = parts.asks }
 
 parts_of : RequestFile → RequestParts
-parts_of file = parts_with file.user file.pass file.asks
+parts_of file = record { user = file.user; pass = file.pass; asks = file.asks }
 
-pub one_file : Laws → OneFile
+-- what a file says is what is read
+parts_read : RequestsAreFound → (bytes : List ℕ) (file : RequestFile) (s : SpellsFile bytes file) → request_of s.ofx ≡ Ok (parts_of file)
+unfolding parts_of
+parts_read requests bytes file s = (requests s.ofx (parts_of file)).0 s.form
+
+pub one_file : Laws → RequestsAreFound → OneFile
 unfolding file_with parts_of
-one_file laws bytes a b x y =
+one_file laws requests bytes a b x y =
     let same = laws.headers bytes a.version b.version a.older b.older a.newer b.newer x.size y.size x.header y.header in
     let ofx = one_body laws bytes x.size y.size x.nodes y.nodes x.ofx y.ofx same.3 x.body y.body in
     let parts : parts_of a ≡ parts_of b =
-    one_value (request_of x.ofx) _ _ (request_again x.ofx a.user a.pass a.asks x.form) (ap request_of ofx ∙ request_again y.ofx b.user b.pass b.asks y.form) in
+    one_value (request_of x.ofx) _ _ (parts_read requests bytes a x) (ap request_of ofx ∙ parts_read requests bytes b y) in
     ap (λ v. file_with v a.older a.newer (parts_of a)) same.0
     ∙ ap (λ o. file_with b.version o a.newer (parts_of a)) same.1
     ∙ ap (λ n. file_with b.version b.older n (parts_of a)) same.2
@@ -101,12 +106,12 @@ no_form_fault laws bytes at size nodes ofx parts h b r f =
     let same = one_body laws bytes f.size size f.nodes nodes f.ofx ofx (one_size laws bytes f.size size f.header h) f.body b in
     ok_err (request_of ofx) parts f.fault r (ap request_of (sym same) ∙ f.is_fault)
 
-pub faults_spell_nothing : Laws → FaultsSpellNothing
-faults_spell_nothing laws bytes file (Header at) s f = no_header_fault laws bytes at s.size (header_of bytes file s) f
-faults_spell_nothing laws bytes file (Syntax at) s f = no_syntax_fault laws bytes at s.size s.nodes s.ofx (header_of bytes file s) s.body f
-faults_spell_nothing laws bytes file (Form at) s f =
-    no_form_fault laws bytes at s.size s.nodes s.ofx _ (header_of bytes file s) s.body (request_again s.ofx file.user file.pass file.asks s.form) f
-faults_spell_nothing laws bytes file OutOfMemory s f = f
+pub faults_spell_nothing : Laws → RequestsAreFound → FaultsSpellNothing
+faults_spell_nothing laws requests bytes file (Header at) s f = no_header_fault laws bytes at s.size (header_of bytes file s) f
+faults_spell_nothing laws requests bytes file (Syntax at) s f = no_syntax_fault laws bytes at s.size s.nodes s.ofx (header_of bytes file s) s.body f
+faults_spell_nothing laws requests bytes file (Form at) s f =
+    no_form_fault laws bytes at s.size s.nodes s.ofx _ (header_of bytes file s) s.body (parts_read requests bytes file s) f
+faults_spell_nothing laws requests bytes file OutOfMemory s f = f
 
 one_header_place : (bytes : List ℕ) (at to : ℕ) → IsHeaderFault bytes at → IsHeaderFault bytes to → at ≡ to
 one_header_place bytes at to x y = x.2 ∙ ap header_place (some_same (header_fault bytes) x.0 y.0 x.1 y.1) ∙ sym y.2

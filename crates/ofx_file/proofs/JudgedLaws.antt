@@ -17,8 +17,8 @@ use Rattle.ofx_header.specs.HeaderLaws.{FaultlessIsSpelled}
 use Rattle.ofx_tape.specs.Slices.{NodesAreSlices}
 use Rattle.ofx_tape.specs.TapeOutcome.{FaultlessTagsAreSpelled}
 use Rattle.ofx_file.specs.RequestOutcome.{EachIsJudged}
-use Rattle.ofx_file.proofs.RequestLaws.{request_found}
-use Rattle.ofx_file.proofs.FormPlaces.{form_fault_place}
+use Rattle.ofx_file.specs.RequestLaws.{RequestsAreFound, RequestFaultsHavePlaces}
+use Rattle.ofx_file.proofs.RequestPlaces.{form_fault_place}
 use Rattle.ofx_file.proofs.TagPlaces.{tag_fault_place}
 
 -- the laws that this one stands on
@@ -26,6 +26,8 @@ pub record Laws : Type 0 where
   pub headers : FaultlessIsSpelled
   pub tags : FaultlessTagsAreSpelled
   pub slices : NodesAreSlices
+  pub requests : RequestsAreFound
+  pub places : RequestFaultsHavePlaces
 
 -- what is said of some bytes
 abbrev IsJudged : List ℕ → Type 0
@@ -49,20 +51,20 @@ file_of : (bytes : List ℕ) (size : ℕ) (header : HasHeader bytes size) → Re
 file_of bytes size header parts =
     record { version = header.version; older = header.older; newer = header.newer; user = parts.user; pass = parts.pass; asks = parts.asks }
 
-spelled : (bytes : List ℕ) (size : ℕ) (nodes : List TagNode) (ofx : Item) (parts : RequestParts) (header : HasHeader bytes size) → HasBody bytes size nodes ofx →
+spelled : RequestsAreFound → (bytes : List ℕ) (size : ℕ) (nodes : List TagNode) (ofx : Item) (parts : RequestParts) (header : HasHeader bytes size) → HasBody bytes size nodes ofx →
     request_of ofx ≡ Ok parts → SpellsFile bytes (file_of bytes size header parts)
 unfolding file_of
-spelled bytes size nodes ofx parts header body h =
-    record { size = size; nodes = nodes; ofx = ofx; header = header.spelled; body = body; form = request_found ofx parts h }
+spelled requests bytes size nodes ofx parts header body h =
+    record { size = size; nodes = nodes; ofx = ofx; header = header.spelled; body = body; form = (requests ofx parts).1 h }
 
 by_forms : Laws → (bytes : List ℕ) (size : ℕ) (nodes : List TagNode) (ofx : Item) → HasHeader bytes size → HasBody bytes size nodes ofx → IsJudged bytes
 by_forms laws bytes size nodes ofx header body = go (request_of ofx) refl
   where
     go : (r : Result RequestParts TreeFault) → request_of ofx ≡ r → IsJudged bytes
-    go (Ok parts) h = inl (file_of bytes size header parts, spelled bytes size nodes ofx parts header body h)
+    go (Ok parts) h = inl (file_of bytes size header parts, spelled laws.requests bytes size nodes ofx parts header body h)
     go (Err fault) h =
         let slices = laws.slices (drop size bytes) nodes body.are_nodes in
-        let place = form_fault_place (drop size bytes) nodes ofx fault slices body.is_root h in
+        let place = form_fault_place laws.places (drop size bytes) nodes ofx fault slices body.is_root h in
         inr (
           Form (size + place.0),
           record {

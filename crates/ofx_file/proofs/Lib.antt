@@ -1,13 +1,9 @@
-pub mod Joined
-pub mod FormLaws
-pub mod StatementLaws
+pub mod BankSet
 pub mod RequestLaws
 pub mod FileLaws
-pub mod Items
 pub mod Soundness
-pub mod Uids
 pub mod AskLaws
-pub mod FormPlaces
+pub mod RequestPlaces
 pub mod TagPlaces
 pub mod Outcome
 pub mod JudgedLaws

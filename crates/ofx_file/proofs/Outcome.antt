@@ -4,9 +4,9 @@ use Rattle.std.proofs.Math.Seq.{take-length}
 use Rattle.ofx_types.specs.HeaderForm.{SpellsHeader}
 use Rattle.ofx_types.specs.TagFault.{tag_fault}
 use Rattle.ofx_types.specs.Nodes.{TagNode, Item, AreNodesOf}
-use Rattle.ofx_types.specs.FormWords.{◌>>=◌, FailsSo, one, maybe, text_in}
+use Rattle.ofx_types.specs.FormWords.{◌>>=◌, FailsSo, one, maybe}
 use Rattle.ofx_types.specs.RequestForm.{IsRoot}
-use Rattle.ofx_types.specs.RequestReading.{RequestParts, bank_asks_in, no_mail_of, request_of}
+use Rattle.ofx_types.specs.RequestReading.{RequestParts, signon_of, bank_asks_in, no_mail_of, request_of}
 use Rattle.ofx_types.specs.FileForm.{HasBody, SpellsFile, HasHeader, IsFormFault, form_place, OneFile, FaultsSpellNothing, OneFault}
 use Rattle.ofx_types.specs.declared.fault.TapeFault.{TapeFault}
 use Rattle.ofx_types.specs.declared.fault.TapeFault.TheVariants as tags
@@ -19,14 +19,13 @@ use Rattle.ofx_tape.specs.Slices.{AreSlices}
 use Rattle.ofx_tape.specs.TapeOutcome.{IsTapeRefusal}
 use Rattle.bank_model.specs.Sound.{IsSound}
 use Rattle.ofx_file.specs.RequestOutcome.{IsRequestRefusal, ReadsRequest, ReadsAll, RefusesAll}
-use Rattle.ofx_file.specs.RequestSteps.{signon_of, signon_in, file_in}
+use Rattle.ofx_file.specs.RequestLaws.{RequestsAreFound, RequestFaultsHavePlaces}
+use Rattle.ofx_file.specs.RequestSteps.{signon_in, file_in}
 use Rattle.ofx_file.specs.FaultPlaces.{IsTagWithin, IsFormWithin, syntax_fault, form_fault}
-use Rattle.ofx_file.specs.declared.request.signon.Signon.{Signon}
-use Rattle.ofx_file.proofs.FormLaws.{bind_ok, one_value}
-use Rattle.ofx_file.proofs.RequestLaws.{request_found}
+use Rattle.ofx_tree.proofs.FormLaws.{bind_ok, one_value}
 use Rattle.ofx_file.proofs.Soundness.{sound_file}
 use Rattle.ofx_file.proofs.TagPlaces.{tag_fault_within}
-use Rattle.ofx_file.proofs.FormPlaces.{form_fault_within}
+use Rattle.ofx_file.proofs.RequestPlaces.{form_fault_within}
 
 -- ---- the steps of reading a file, and the reading of a request
 
@@ -43,33 +42,27 @@ abbrev file_read : ℕ → Option (List ℕ) → Option (List ℕ) → RequestPa
 file_read version older newer parts = Ok (file_with version older newer parts)
 
 -- what follows on the signon
-abbrev behind_signon : ℕ → Option (List ℕ) → Option (List ℕ) → Item → Signon → Result RequestFile TreeFault
+abbrev behind_signon : ℕ → Option (List ℕ) → Option (List ℕ) → Item → List ℕ × List ℕ → Result RequestFile TreeFault
 behind_signon version older newer ofx signon = do
   bank ← maybe (codes "BANKMSGSRQV1") ofx
   asks ← bank_asks_in bank
   mail ← maybe (codes "EMAILMSGSRQV1") ofx
   no_mail ← no_mail_of mail
-  Ok (record { version = version; older = older; newer = newer; user = signon.user; pass = signon.pass; asks = asks })
-
-abbrev signon_with : List ℕ → List ℕ → Signon
-signon_with user pass = record { user = user; pass = pass }
+  Ok (record { version = version; older = older; newer = newer; user = signon.0; pass = signon.1; asks = asks })
 
 -- all steps in one row
-abbrev in_row : (Item → Signon → Result RequestFile TreeFault) → Item → Result RequestFile TreeFault
+abbrev in_row : (Item → List ℕ × List ℕ → Result RequestFile TreeFault) → Item → Result RequestFile TreeFault
 in_row rest ofx = do
   signon_set ← one (codes "SIGNONMSGSRQV1") ofx
   sonrq ← one (codes "SONRQ") signon_set
-  user ← text_in (codes "USERID") 32 sonrq
-  pass ← text_in (codes "USERPASS") 64 sonrq
-  rest ofx (signon_with user pass)
+  signon ← signon_of sonrq
+  rest ofx signon
 
 file_in_row : (version : ℕ) (older newer : Option (List ℕ)) (ofx : Item) → file_in version older newer ofx ≡ in_row (behind_signon version older newer) ofx
-unfolding file_in signon_in signon_of
+unfolding file_in signon_in
 file_in_row version older newer ofx =
     through (one (codes "SIGNONMSGSRQV1") ofx) _ (behind_signon version older newer ofx) _ (λ set.
-    through (one (codes "SONRQ") set) _ (behind_signon version older newer ofx) _ (λ sonrq.
-    through (text_in (codes "USERID") 32 sonrq) _ (behind_signon version older newer ofx) _ (λ user.
-    through (text_in (codes "USERPASS") 64 sonrq) _ (behind_signon version older newer ofx) _ (λ pass. refl))))
+    through (one (codes "SONRQ") set) _ (behind_signon version older newer ofx) _ (λ sonrq. refl))
 
 request_in_row : (version : ℕ) (older newer : Option (List ℕ)) (ofx : Item) →
     (request_of ofx >>= file_read version older newer) ≡ in_row (behind_signon version older newer) ofx
@@ -78,14 +71,13 @@ request_in_row version older newer ofx =
     let w = file_read version older newer in
     through (one (codes "SIGNONMSGSRQV1") ofx) _ w _ (λ set.
     through (one (codes "SONRQ") set) _ w _ (λ sonrq.
-    through (text_in (codes "USERID") 32 sonrq) _ w _ (λ user.
-    through (text_in (codes "USERPASS") 64 sonrq) _ w _ (λ pass.
+    through (signon_of sonrq) _ w _ (λ signon.
     through (maybe (codes "BANKMSGSRQV1") ofx) _ w _ (λ bank.
     through (bank_asks_in bank) _ w _ (λ asks.
     through (maybe (codes "EMAILMSGSRQV1") ofx) _ w _ (λ mail.
-    through (no_mail_of mail) _ w _ (λ no_mail. refl))))))))
+    through (no_mail_of mail) _ w _ (λ no_mail. refl)))))))
 
-pub file_in-request : (version : ℕ) (older newer : Option (List ℕ)) (ofx : Item) → file_in version older newer ofx ≡ (request_of ofx >>= file_read version older newer)
+file_in-request : (version : ℕ) (older newer : Option (List ℕ)) (ofx : Item) → file_in version older newer ofx ≡ (request_of ofx >>= file_read version older newer)
 file_in-request version older newer ofx = file_in_row version older newer ofx ∙ sym (request_in_row version older newer ofx)
 
 -- ---- a file that is read
@@ -97,12 +89,12 @@ rest_is size bytes = rw (← length-drop size bytes) (take-length (drop size byt
 pub has_header : (bytes : List ℕ) (version : ℕ) (older newer : Option (List ℕ)) (size : ℕ) → SpellsHeader bytes version older newer size → HasHeader bytes size
 has_header bytes version older newer size h = record { version = version; older = older; newer = newer; spelled = h }
 
-pub file_spelled : (bytes : List ℕ) (version : ℕ) (older newer : Option (List ℕ)) (size : ℕ) (nodes : List TagNode) (ofx : Item) (file : RequestFile) →
+pub file_spelled : RequestsAreFound → (bytes : List ℕ) (version : ℕ) (older newer : Option (List ℕ)) (size : ℕ) (nodes : List TagNode) (ofx : Item) (file : RequestFile) →
     SpellsHeader bytes version older newer size → AreNodesOf (drop size bytes) nodes → AreSlices (drop size bytes) nodes → IsRoot nodes ofx →
     file_in version older newer ofx ≡ Ok file → SpellsFile bytes file × (length bytes ≤ 262144 → IsSound file)
-file_spelled bytes version older newer size nodes ofx file header are slices root h =
+file_spelled requests bytes version older newer size nodes ofx file header are slices root h =
     let parts = bind_ok (request_of ofx) (file_read version older newer) file (sym (file_in-request version older newer ofx) ∙ h) in
-    let form = request_found ofx parts.0 parts.1 in
+    let form = (requests ofx parts.0).1 parts.1 in
     let P : RequestFile → Type 0 = λ f. SpellsFile bytes f × (length bytes ≤ 262144 → IsSound f) in
     let spelled : SpellsFile bytes (file_with version older newer parts.0) = record {
       size = size;
@@ -142,12 +134,12 @@ err_before (Err f) version older newer e h = cc
 request_err : (version : ℕ) (older newer : Option (List ℕ)) (ofx : Item) (e : TreeFault) → file_in version older newer ofx ≡ Err e → request_of ofx ≡ Err e
 request_err version older newer ofx e h = err_before (request_of ofx) version older newer e (sym (file_in-request version older newer ofx) ∙ h)
 
-pub form_refusal_within : (body : List ℕ) (version : ℕ) (older newer : Option (List ℕ)) (nodes : List TagNode) (ofx : Item) (fault : TreeFault) → AreSlices body nodes → IsRoot nodes ofx →
+pub form_refusal_within : RequestFaultsHavePlaces → (body : List ℕ) (version : ℕ) (older newer : Option (List ℕ)) (nodes : List TagNode) (ofx : Item) (fault : TreeFault) → AreSlices body nodes → IsRoot nodes ofx →
     FailsSo fault (file_in version older newer ofx) → IsFormWithin (length body) fault
-form_refusal_within body version older newer nodes ofx (forms.Missing at) slices root h = form_fault_within body nodes ofx _ slices root (request_err version older newer ofx _ h)
-form_refusal_within body version older newer nodes ofx (forms.Repeated at) slices root h = form_fault_within body nodes ofx _ slices root (request_err version older newer ofx _ h)
-form_refusal_within body version older newer nodes ofx (forms.Value at) slices root h = form_fault_within body nodes ofx _ slices root (request_err version older newer ofx _ h)
-form_refusal_within body version older newer nodes ofx forms.OutOfMemory slices root h = tt
+form_refusal_within places body version older newer nodes ofx (forms.Missing at) slices root h = form_fault_within places body nodes ofx _ slices root (request_err version older newer ofx _ h)
+form_refusal_within places body version older newer nodes ofx (forms.Repeated at) slices root h = form_fault_within places body nodes ofx _ slices root (request_err version older newer ofx _ h)
+form_refusal_within places body version older newer nodes ofx (forms.Value at) slices root h = form_fault_within places body nodes ofx _ slices root (request_err version older newer ofx _ h)
+form_refusal_within places body version older newer nodes ofx forms.OutOfMemory slices root h = tt
 
 form_refused : (bytes : List ℕ) (size : ℕ) (nodes : List TagNode) (ofx : Item) (fault : TreeFault) (at : ℕ) → HasHeader bytes size → HasBody bytes size nodes ofx →
     request_of ofx ≡ Err fault → form_place fault ≡ Some at → IsFormFault bytes (size + at)

@@ -2,14 +2,21 @@
 use Rattle.std.proofs.Common.{◌≡◌, ℕ, ◌⊎◌, inl, inr, Bool, true, false, cond, ◌||◌, List, [], ◌∷◌, filter, Option, None, Some, Result, Ok, Err, codes, refl, sym, ap, subst, ◌∙◌}
 use Rattle.std.specs.List.{AllZip, list_any}
 use Rattle.ofx_types.specs.Nodes.{Item, children}
-use Rattle.ofx_types.specs.FormWords.{has_name, one, maybe, text_in}
+use Rattle.ofx_types.specs.FormWords.{has_name, one, maybe}
 use Rattle.ofx_types.specs.TagNames.{is_one_of}
 use Rattle.ofx_types.specs.RequestForm.{IsStatement, unread_bank_names, unread_mail_names, is_named_one_of, AreMaybeBankAsks, IsMaybeMail, IsRequest}
-use Rattle.ofx_types.specs.RequestReading.{RequestParts, statement_of, onto, bank_asks_of, bank_asks_in, no_mail_in, no_mail_of, request_of}
+use Rattle.ofx_types.specs.RequestReading.{RequestParts, signon_of, statement_of, onto, bank_asks_of, bank_asks_in, no_mail_in, no_mail_of, request_of}
 use Rattle.ofx_types.specs.declared.fault.TreeFault.{TreeFault}
 use Rattle.ofx_types.specs.declared.request.Ask.{Ask}
-use Rattle.ofx_file.proofs.FormLaws.{bind_ok, bind_to, one_value, chosen, bytes_same, one_found, one_again, maybe_none, maybe_some, none_again, some_again, text_in_found, text_in_again}
-use Rattle.ofx_file.proofs.StatementLaws.{statement_found, statement_again}
+use Rattle.ofx_tree.proofs.FormLaws.{bind_ok, bind_to, one_value, chosen, bytes_same, one_found, one_again, maybe_none, maybe_some, none_again, some_again}
+use Rattle.msg_bank.specs.Laws.{StatementsAreFound}
+use Rattle.msg_mail.specs.SignonLaws.{SignonsAreFound}
+use Rattle.ofx_file.specs.RequestLaws.{RequestsAreFound}
+
+-- the laws of the messages that a request is made of
+pub record Laws : Type 0 where
+  pub statements : StatementsAreFound
+  pub signons : SignonsAreFound
 
 -- ---- the asks of the bank's message set
 
@@ -57,20 +64,20 @@ let_pass : (b : Bool) (e : TreeFault) (r : Result (List Ask) TreeFault) (asks : 
 let_pass true e r asks h = cc
 let_pass false e r asks h = (refl, h)
 
-pub asks_found : (items : List Item) (asks : List Ask) → bank_asks_of items ≡ Ok asks → AreAsks items asks
+asks_found : Laws → (items : List Item) (asks : List Ask) → bank_asks_of items ≡ Ok asks → AreAsks items asks
 unfolding bank_asks_of
-asks_found [] asks h =
+asks_found laws [] asks h =
     let P : List Ask → Type 0 = λ a. AreAsks [] a in subst P (one_value (Ok []) [] asks refl h) (record { all_read = refl; each = tt })
-asks_found (child ∷ more) asks h = elim (chosen (is_statement child) _ _ _ h) [
+asks_found laws (child ∷ more) asks h = elim (chosen (is_statement child) _ _ _ h) [
   | inl (is, read) ↦
       let ask = bind_ok (statement_of child) _ asks read in
       let rest = bind_ok (bank_asks_of more) (onto ask.0) asks ask.2 in
       let P : List Ask → Type 0 = λ a. AreAsks (child ∷ more) a in
       subst P (one_value (onto ask.0 rest.0) (ask.0 ∷ rest.0) asks refl rest.2)
-      (asks_more child more ask.0 rest.0 is (statement_found child ask.0 ask.1) (asks_found more rest.0 rest.1))
+      (asks_more child more ask.0 rest.0 is ((laws.statements child ask.0).1 ask.1) (asks_found laws more rest.0 rest.1))
   | inr (other, passed) ↦
       let read = let_pass (is_unread child) _ (bank_asks_of more) asks passed in
-      asks_past child more asks other read.0 (asks_found more asks read.1)
+      asks_past child more asks other read.0 (asks_found laws more asks read.1)
 ]
 
 any_cons : (child : Item) (more : List Item) → list_any is_unread (child ∷ more) ≡ false → (is_unread child ≡ false) × (list_any is_unread more ≡ false)
@@ -103,34 +110,34 @@ yes_or_no : (b : Bool) → (b ≡ true) ⊎ (b ≡ false)
 yes_or_no true = inl refl
 yes_or_no false = inr refl
 
-pub asks_again : (items : List Item) (asks : List Ask) → AreAsks items asks → bank_asks_of items ≡ Ok asks
+asks_again : Laws → (items : List Item) (asks : List Ask) → AreAsks items asks → bank_asks_of items ≡ Ok asks
 unfolding bank_asks_of
-asks_again [] asks a = ap Ok (sym (none_left asks a.each))
-asks_again (child ∷ more) asks a =
+asks_again laws [] asks a = ap Ok (sym (none_left asks a.each))
+asks_again laws (child ∷ more) asks a =
     let read = any_cons child more a.all_read in
     elim (yes_or_no (is_statement child)) [
       | inl is ↦
           let P : List Item → Type 0 = λ items. AllZip IsStatement items asks in
           let first = first_ask child (filter is_statement more) asks (subst P (filter_yes child more is) a.each) in
-          read_first child more first.0 first.1 is (statement_again child first.0 first.3) (asks_again more first.1 (record { all_read = read.1; each = first.4 }))
+          read_first child more first.0 first.1 is ((laws.statements child first.0).0 first.3) (asks_again laws more first.1 (record { all_read = read.1; each = first.4 }))
           ∙ ap Ok (sym first.2)
       | inr other ↦
           let P : List Item → Type 0 = λ items. AllZip IsStatement items asks in
-          read_past child more asks other read.0 (asks_again more asks (record { all_read = read.1; each = subst P (filter_no child more other) a.each }))
+          read_past child more asks other read.0 (asks_again laws more asks (record { all_read = read.1; each = subst P (filter_no child more other) a.each }))
     ]
 
-maybe_asks_found : (ofx : Item) (found : Option Item) (asks : List Ask) → maybe (codes "BANKMSGSRQV1") ofx ≡ Ok found → bank_asks_in found ≡ Ok asks →
+maybe_asks_found : Laws → (ofx : Item) (found : Option Item) (asks : List Ask) → maybe (codes "BANKMSGSRQV1") ofx ≡ Ok found → bank_asks_in found ≡ Ok asks →
     AreMaybeBankAsks ofx asks
-maybe_asks_found ofx None asks h i = inl (maybe_none (codes "BANKMSGSRQV1") ofx h, one_value _ asks [] i refl)
-maybe_asks_found ofx (Some bank) asks h i =
-    let a = asks_found (children bank) asks i in
+maybe_asks_found laws ofx None asks h i = inl (maybe_none (codes "BANKMSGSRQV1") ofx h, one_value _ asks [] i refl)
+maybe_asks_found laws ofx (Some bank) asks h i =
+    let a = asks_found laws (children bank) asks i in
     inr (bank, maybe_some (codes "BANKMSGSRQV1") ofx bank h, record { all_read = a.all_read; each = a.each })
 
-maybe_asks_again : (ofx : Item) (asks : List Ask) → AreMaybeBankAsks ofx asks →
+maybe_asks_again : Laws → (ofx : Item) (asks : List Ask) → AreMaybeBankAsks ofx asks →
     (found : Option Item) × (maybe (codes "BANKMSGSRQV1") ofx ≡ Ok found) × (bank_asks_in found ≡ Ok asks)
-maybe_asks_again ofx asks (inl (none, empty)) = (None, none_again (codes "BANKMSGSRQV1") ofx none, ap Ok (sym empty))
-maybe_asks_again ofx asks (inr (bank, is, are)) =
-    (Some bank, some_again (codes "BANKMSGSRQV1") ofx bank is, asks_again (children bank) asks (record { all_read = are.all_read; each = are.each }))
+maybe_asks_again laws ofx asks (inl (none, empty)) = (None, none_again (codes "BANKMSGSRQV1") ofx none, ap Ok (sym empty))
+maybe_asks_again laws ofx asks (inr (bank, is, are)) =
+    (Some bank, some_again (codes "BANKMSGSRQV1") ofx bank is, asks_again laws (children bank) asks (record { all_read = are.all_read; each = are.each }))
 
 -- ---- mail
 
@@ -169,17 +176,13 @@ maybe_mail_again ofx (inr (mail, is, none)) = (Some mail, some_again (codes "EMA
 
 -- ---- the whole request
 
-abbrev pub parts_with : List ℕ → List ℕ → List Ask → RequestParts
-parts_with user pass asks = record { user = user; pass = pass; asks = asks }
-
-pub request_found : (ofx : Item) (parts : RequestParts) → request_of ofx ≡ Ok parts → IsRequest ofx parts.user parts.pass parts.asks
+request_found : Laws → (ofx : Item) (parts : RequestParts) → request_of ofx ≡ Ok parts → IsRequest ofx parts.user parts.pass parts.asks
 unfolding request_of
-request_found ofx parts h =
+request_found laws ofx parts h =
     let set = bind_ok (one (codes "SIGNONMSGSRQV1") ofx) _ parts h in
     let sonrq = bind_ok (one (codes "SONRQ") set.0) _ parts set.2 in
-    let user = bind_ok (text_in (codes "USERID") 32 sonrq.0) _ parts sonrq.2 in
-    let pass = bind_ok (text_in (codes "USERPASS") 64 sonrq.0) _ parts user.2 in
-    let bank = bind_ok (maybe (codes "BANKMSGSRQV1") ofx) _ parts pass.2 in
+    let signon = bind_ok (signon_of sonrq.0) _ parts sonrq.2 in
+    let bank = bind_ok (maybe (codes "BANKMSGSRQV1") ofx) _ parts signon.2 in
     let asks = bind_ok (bank_asks_in bank.0) _ parts bank.2 in
     let mail = bind_ok (maybe (codes "EMAILMSGSRQV1") ofx) _ parts asks.2 in
     let no_mail = bind_ok (no_mail_of mail.0) _ parts mail.2 in
@@ -189,24 +192,23 @@ request_found ofx parts h =
       has_signon_set = one_found (codes "SIGNONMSGSRQV1") ofx set.0 set.1;
       sonrq = sonrq.0;
       has_sonrq = one_found (codes "SONRQ") set.0 sonrq.0 sonrq.1;
-      is_signon = record {
-        has_user = text_in_found (codes "USERID") 32 sonrq.0 user.0 user.1;
-        has_pass = text_in_found (codes "USERPASS") 64 sonrq.0 pass.0 pass.1;
-      };
-      are_bank_asks = maybe_asks_found ofx bank.0 asks.0 bank.1 asks.1;
+      is_signon = (laws.signons sonrq.0 signon.0.0 signon.0.1).1 signon.1;
+      are_bank_asks = maybe_asks_found laws ofx bank.0 asks.0 bank.1 asks.1;
       is_mail = maybe_mail_found ofx mail.0 no_mail.0 mail.1 no_mail.1;
     })
 
-pub request_again : (ofx : Item) (user pass : List ℕ) (asks : List Ask) → IsRequest ofx user pass asks → request_of ofx ≡ Ok (parts_with user pass asks)
+request_again : Laws → (ofx : Item) (parts : RequestParts) → IsRequest ofx parts.user parts.pass parts.asks → request_of ofx ≡ Ok parts
 unfolding request_of
-request_again ofx user pass asks r =
-    let bank = maybe_asks_again ofx asks r.are_bank_asks in
+request_again laws ofx parts r =
+    let bank = maybe_asks_again laws ofx parts.asks r.are_bank_asks in
     let mail = maybe_mail_again ofx r.is_mail in
     bind_to _ _ r.signon_set (one_again (codes "SIGNONMSGSRQV1") ofx r.signon_set r.has_signon_set)
     ∙ bind_to _ _ r.sonrq (one_again (codes "SONRQ") r.signon_set r.sonrq r.has_sonrq)
-    ∙ bind_to _ _ user (text_in_again (codes "USERID") 32 r.sonrq user r.is_signon.has_user)
-    ∙ bind_to _ _ pass (text_in_again (codes "USERPASS") 64 r.sonrq pass r.is_signon.has_pass)
+    ∙ bind_to _ _ (parts.user, parts.pass) ((laws.signons r.sonrq parts.user parts.pass).0 r.is_signon)
     ∙ bind_to _ _ bank.0 bank.1
-    ∙ bind_to _ _ asks bank.2
+    ∙ bind_to _ _ parts.asks bank.2
     ∙ bind_to _ _ mail.0 mail.1
     ∙ bind_to _ _ tt mail.2
+
+pub requests_are_found : Laws → RequestsAreFound
+requests_are_found laws ofx parts = (request_again laws ofx parts, request_found laws ofx parts)

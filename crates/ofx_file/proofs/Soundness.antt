@@ -6,18 +6,20 @@ use Rattle.std.specs.List.{AllZip, AllByRecursion}
 use Rattle.std.specs.Option.{IfSome}
 use Rattle.ofx_types.proofs.Trimming.{faultless}
 use Rattle.ofx_types.specs.TextRules.{is_refused_in_text}
+use Rattle.ofx_types.specs.Calendar.{IsMoment}
 use Rattle.ofx_types.specs.HeaderForm.{is_version}
 use Rattle.ofx_types.specs.Nodes.{TagNode, Item, items_from, children}
-use Rattle.ofx_types.specs.FormWords.{has_name, IsOnly, IsTextIn}
+use Rattle.ofx_types.specs.FormWords.{has_name, IsOnly, IsTextIn, IsMaybeMomentIn}
 use Rattle.ofx_types.specs.RequestForm.{IsStatement, IsPeriod, IsMaybePeriod, AreMaybeBankAsks, IsRoot}
 use Rattle.ofx_types.specs.FileForm.{SpellsFile}
+use Rattle.ofx_types.specs.declared.number.Moment.{Moment}
 use Rattle.ofx_types.specs.declared.request.Period.{Period}
 use Rattle.ofx_types.specs.declared.request.Ask.{Ask}
 use Rattle.ofx_types.specs.declared.request.RequestFile.{RequestFile}
 use Rattle.bank_model.specs.Sound.{HasLength, IsSoundPeriod, IsSoundAsk, IsVersion, IsSound}
 use Rattle.ofx_tape.specs.Slices.{ArePlaced, AreSlices}
-use Rattle.ofx_file.proofs.FormLaws.{bytes_same}
-use Rattle.ofx_file.proofs.Items.{all_chosen, all_filtered}
+use Rattle.ofx_tree.proofs.FormLaws.{bytes_same}
+use Rattle.ofx_tree.proofs.Chosen.{all_chosen, all_filtered}
 
 -- ---- how many bytes tags take
 
@@ -105,8 +107,13 @@ root_within nodes ofx (inner, is, first, same) = rw (is, same) (omega arith)
 within : (name : List ℕ) (most : ℕ) (parent : Item) (text : List ℕ) → IsTextIn name most parent text → HasLength most text
 within name most parent text t = (t.stands.is_there, (faultless is_refused_in_text most text t.stands.is_faultless).0)
 
+sound_moment : (name : List ℕ) (inctran : Item) (moment : Option Moment) → IsMaybeMomentIn name inctran moment → IfSome moment (λ (m : Moment). IsMoment m.0)
+sound_moment name inctran None m = tt
+sound_moment name inctran (Some moment) m = m.stands.is_moment
+
 sound_period : (inctran : Item) (period : Period) → IsPeriod inctran period → IsSoundPeriod period
-sound_period inctran period p = (rw p.start tt, rw p.end tt)
+sound_period inctran period p =
+    (sound_moment (codes "DTSTART") inctran period.start p.start, sound_moment (codes "DTEND") inctran period.end p.end)
 
 sound_maybe_period : (stmtrq : Item) (period : Option Period) → IsMaybePeriod stmtrq period → IfSome period IsSoundPeriod
 sound_maybe_period stmtrq None p = tt

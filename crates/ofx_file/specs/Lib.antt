@@ -1,4 +1,5 @@
 pub mod ReplyParts
 pub mod RequestOutcome
 pub mod RequestSteps
+pub mod RequestLaws
 pub mod FaultPlaces

@@ -1,18 +1,13 @@
 -- The steps in which a request is read, each a part of its form.
 use Rattle.std.specs.Prelude.{ℕ, ◌++◌, List, codes, Option, None, Some, Result, Ok, Err, if◌then◌else◌}
 use Rattle.ofx_types.specs.Nodes.{Item}
-use Rattle.ofx_types.specs.FormWords.{has_name, ◌>>=◌, one, maybe, text_in, is_text_within}
+use Rattle.ofx_types.specs.FormWords.{has_name, ◌>>=◌, one, maybe}
 use Rattle.ofx_types.specs.RequestForm.{is_named_one_of, unread_bank_names}
-use Rattle.ofx_types.specs.RequestReading.{unless_zero, statement_of, bank_asks_of, bank_asks_in, no_mail_of}
+use Rattle.ofx_types.specs.RequestReading.{signon_of, statement_of, bank_asks_of, bank_asks_in, no_mail_of}
 use Rattle.ofx_types.specs.declared.fault.TreeFault.{TreeFault}
 use Rattle.ofx_types.specs.declared.fault.TreeFault.TheVariants.{Value}
 use Rattle.ofx_types.specs.declared.request.Ask.{Ask}
 use Rattle.ofx_types.specs.declared.request.RequestFile.{RequestFile}
-use Rattle.ofx_file.specs.declared.request.signon.Signon.{Signon}
-
--- The uid that bytes are, which stand at this place: 1 to 36 of them, and not `0`.
-unfoldable pub trnuid_at : ℕ → List ℕ → Result (List ℕ) TreeFault
-trnuid_at place text = if is_text_within 36 text then unless_zero place text else Err (Value place)
 
 -- The ask that a child of the bank's message set is, if it is one.
 abbrev pub some_ask : Ask → Result (Option Ask) TreeFault
@@ -30,15 +25,8 @@ joined front more = Ok (front ++ more)
 unfoldable pub asks_behind : List Ask → List Item → Result (List Ask) TreeFault
 asks_behind front items = bank_asks_of items >>= joined front
 
--- who signs on
-unfoldable pub signon_of : Item → Result Signon TreeFault
-signon_of sonrq = do
-  user ← text_in (codes "USERID") 32 sonrq
-  pass ← text_in (codes "USERPASS") 64 sonrq
-  Ok (record { user = user; pass = pass })
-
 -- who signs on, in the message set that OFX has for it
-unfoldable pub signon_in : Item → Result Signon TreeFault
+unfoldable pub signon_in : Item → Result (List ℕ × List ℕ) TreeFault
 signon_in ofx = do
   signon_set ← one (codes "SIGNONMSGSRQV1") ofx
   sonrq ← one (codes "SONRQ") signon_set
@@ -52,4 +40,4 @@ file_in version older newer ofx = do
   asks ← bank_asks_in bank
   mail ← maybe (codes "EMAILMSGSRQV1") ofx
   no_mail ← no_mail_of mail
-  Ok (record { version = version; older = older; newer = newer; user = signon.user; pass = signon.pass; asks = asks })
+  Ok (record { version = version; older = older; newer = newer; user = signon.0; pass = signon.1; asks = asks })

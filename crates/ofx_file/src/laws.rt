@@ -2,7 +2,10 @@
 
 ghost use Rattle.ofx_types.specs.FileForm.{OneFile, FaultsSpellNothing, OneFault};
 ghost use Rattle.ofx_file.specs.RequestOutcome.{EachIsJudged};
+ghost use Rattle.ofx_file.specs.RequestLaws.{RequestsAreFound, RequestFaultsHavePlaces};
 
+use msg_bank::{statement_faults_have_places, statements_are_found};
+use msg_mail::{signon_faults_have_places, signons_are_found};
 use ofx_header::{faultless_is_spelled, one_header, spelled_is_faultless};
 use ofx_tape::{
     faultless_tags_are_spelled, nodes_are_slices, spelled_tags_have_no_fault, tags_are_unambiguous,
@@ -16,6 +19,7 @@ pub fn one_file()
     spelled_is_faultless();
     tags_are_unambiguous();
     spelled_tags_have_no_fault();
+    requests_are_found();
 }
 
 /// Bytes that spell a request file have no fault.
@@ -26,6 +30,7 @@ pub fn faults_spell_nothing()
     spelled_is_faultless();
     tags_are_unambiguous();
     spelled_tags_have_no_fault();
+    requests_are_found();
 }
 
 /// No bytes have two faults.
@@ -45,4 +50,22 @@ pub fn each_is_judged()
     faultless_is_spelled();
     faultless_tags_are_spelled();
     nodes_are_slices();
+    requests_are_found();
+    request_faults_have_places();
+}
+
+/// A request has its form exactly where reading finds it.
+pub(crate) fn requests_are_found()
+    ensures { RequestsAreFound }
+{
+    statements_are_found();
+    signons_are_found();
+}
+
+/// The first fault of a request stands within its nodes.
+pub(crate) fn request_faults_have_places()
+    ensures { RequestFaultsHavePlaces }
+{
+    statement_faults_have_places();
+    signon_faults_have_places();
 }

@@ -1,22 +1,19 @@
 //! The printed form of a reply file.
 
-ghost use Rattle.std.specs.Prelude.{◌≡◌, ◌==◌, ◌++◌, OnOk, IfOk, codes, None, if◌then◌else◌};
-ghost use Rattle.std.specs.Option.{ForSome};
+ghost use Rattle.std.specs.Prelude.{◌≡◌, ◌++◌, OnOk, IfOk, None};
 ghost use Rattle.std.specs.List.{flat_map, AllByRecursion};
-ghost use Rattle.ofx_types.specs.Sheet.{element};
 ghost use Rattle.ofx_types.specs.ReplyForm as form;
 ghost use Rattle.ofx_file.specs.ReplyParts as parts;
 ghost use Rattle.ofx_types.specs.ReplyForm.{reply_text};
 ghost use Rattle.ofx_types.specs.Calendar.{IsMoment};
-ghost use Rattle.ofx_types.specs.Printable.{IsPrintable, IsPrintableBody, IsPrintableReply};
-
-mod statement;
+ghost use Rattle.ofx_types.specs.Printable.{IsPrintable, IsPrintableReply};
 
 use bank_model::Printer;
+use msg_bank::print_statement_reply;
+use msg_mail::print_signon_reply;
 use ofx_header::{Header, write_header};
 use ofx_tree::Sheet;
-use ofx_types::{AskReply, Duplicate, Moment, OutOfMemory, ReplyFile, StatementBody, TrnUid};
-use statement::statement_body;
+use ofx_types::{AskReply, Duplicate, Moment, OutOfMemory, ReplyFile};
 use std::alloc::Global;
 
 /// The room that the parts of a reply file which stand once are given at first, in bytes.
@@ -79,38 +76,8 @@ fn signon_set(code: u16, moment: Moment, sheet: &mut Sheet) -> Result<(), OutOfM
     ensures { OnOk result (sheet.new ≡ sheet.old ++ parts.signon_set code moment) }
 {
     sheet.start(b"SIGNONMSGSRSV1")?;
-    signon_reply(code, moment, sheet)?;
+    print_signon_reply(code, moment, sheet)?;
     sheet.end(b"SIGNONMSGSRSV1")
-}
-
-/// Appends a status: code 0 is information, every other code an error.
-#[tactic(auto, unfolding(ofx_types::specs::ReplyForm::status, ofx_types::specs::Sheet::aggregate))]
-fn status(code: u16, sheet: &mut Sheet) -> Result<(), OutOfMemory>
-    ensures { OnOk result (sheet.new ≡ sheet.old ++ form.status code) }
-{
-    sheet.start(b"STATUS")?;
-    sheet.number(b"CODE", code as u64)?;
-    sheet.element(b"SEVERITY", severity(code))?;
-    sheet.end(b"STATUS")
-}
-
-fn severity(code: u16) -> &'static [u8]
-    ensures { result.now ≡ (if code == 0 then codes "INFO" else codes "ERROR") }
-{
-    if code == 0 { b"INFO" } else { b"ERROR" }
-}
-
-/// Appends the answer to the signon.
-#[tactic(auto, unfolding(ofx_types::specs::ReplyForm::signon_reply, ofx_types::specs::Sheet::aggregate))]
-fn signon_reply(code: u16, moment: Moment, sheet: &mut Sheet) -> Result<(), OutOfMemory>
-    requires { IsMoment moment.0 }
-    ensures { OnOk result (sheet.new ≡ sheet.old ++ form.signon_reply code moment) }
-{
-    sheet.start(b"SONRS")?;
-    status(code, sheet)?;
-    sheet.moment(b"DTSERVER", moment)?;
-    sheet.element(b"LANGUAGE", b"ENG")?;
-    sheet.end(b"SONRS")
 }
 
 /// Appends the message set of the bank, where there is an answer.
@@ -151,30 +118,8 @@ fn ask_reply(reply: &AskReply, sheet: &mut Sheet) -> Result<(), OutOfMemory>
     ensures { OnOk result (sheet.new ≡ sheet.old ++ form.ask_reply reply.now) }
 {
     match reply {
-        AskReply::Statement(trnuid, code, body) => statement_reply(trnuid, *code, body, sheet),
+        AskReply::Statement(trnuid, code, body) => {
+            print_statement_reply(trnuid, *code, body.as_ref(), sheet)
+        }
     }
-}
-
-#[tactic(auto, unfolding(ofx_types::specs::ReplyForm::ask_reply, ofx_types::specs::Sheet::aggregate))]
-fn statement_reply(
-    trnuid: &TrnUid,
-    code: u16,
-    body: &Option<StatementBody>,
-    sheet: &mut Sheet,
-) -> Result<(), OutOfMemory>
-    requires { ForSome body.now IsPrintableBody }
-    ensures { OnOk result (sheet.new ≡
-        sheet.old ++ form.ask_reply (AskReply.Statement trnuid.now code body.now)) }
-{
-    sheet.start(b"STMTTRNRS")?;
-    element_of_trnuid(trnuid, sheet)?;
-    status(code, sheet)?;
-    statement_body(body, sheet)?;
-    sheet.end(b"STMTTRNRS")
-}
-
-fn element_of_trnuid(trnuid: &TrnUid, sheet: &mut Sheet) -> Result<(), OutOfMemory>
-    ensures { OnOk result (sheet.new ≡ sheet.old ++ element (codes "TRNUID") trnuid.now) }
-{
-    sheet.element(b"TRNUID", trnuid.as_bytes())
 }

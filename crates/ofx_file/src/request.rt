@@ -7,14 +7,13 @@ ghost use Rattle.ofx_file.specs.RequestOutcome.{ReadsRequest, ReadsAll, RefusesA
 ghost use Rattle.ofx_file.specs.FaultPlaces.{IsTagWithin, IsFormWithin, syntax_fault, form_fault};
 ghost use Rattle.ofx_file.specs.RequestSteps as steps;
 
-mod account;
 mod asks;
 mod mail;
 mod signon;
-mod statement;
-mod trnuid;
 
-use crate::laws::{faults_spell_nothing, one_fault, one_file};
+use crate::laws::{
+    faults_spell_nothing, one_fault, one_file, request_faults_have_places, requests_are_found,
+};
 use asks::asks_in;
 use mail::no_mail_of;
 use ofx_header::{Header, read_header};
@@ -49,6 +48,8 @@ pub fn read_request(alloc: Global, bytes: &[u8]) -> Result<RequestFile, FileFaul
 fn read_file(alloc: Global, bytes: &[u8]) -> Result<RequestFile, FileFault>
     ensures { ReadsRequest bytes.now result }
 {
+    requests_are_found();
+    request_faults_have_places();
     let (header, size) = match read_header(bytes) {
         Ok(found) => found,
         Err(fault) => return Err(in_header(fault)),
@@ -68,15 +69,15 @@ fn read_file(alloc: Global, bytes: &[u8]) -> Result<RequestFile, FileFault>
 fn file_in(alloc: Global, header: Header, ofx: &Cursor<'_>) -> Result<RequestFile, TreeFault>
     ensures { Gives result (steps.file_in header.version header.older header.newer ofx.now) }
 {
-    let signon = signon_in(alloc, ofx)?;
+    let (user, pass) = signon_in(alloc, ofx)?;
     let asks = asks_in(alloc, ofx.maybe(b"BANKMSGSRQV1")?)?;
     no_mail_of(ofx.maybe(b"EMAILMSGSRQV1")?)?;
     Ok(RequestFile {
         version: header.version,
         older: header.older,
         newer: header.newer,
-        user: signon.user,
-        pass: signon.pass,
+        user,
+        pass,
         asks,
     })
 }

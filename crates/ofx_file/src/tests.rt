@@ -207,6 +207,22 @@ fn what_means_the_same_is_read(rt: HostRuntime) -> Result<(), Fail> {
     Ok(())
 }
 
+#[test]
+fn both_dates_of_a_period_are_read(rt: HostRuntime) -> Result<(), Fail> {
+    let file = read(
+        &rt,
+        b"<INCLUDE>Y",
+        b"<DTSTART>20240101\r\n<DTEND> 20240131070000.000[-5:a&lt;b]\r\n<INCLUDE>N",
+    )?;
+    let asked = Period {
+        start: Some(Moment(1_704_067_200)),
+        end: Some(NOON),
+        include: false,
+    };
+    assert_eq!(rt; *statement(&file)?.2, Some(asked));
+    Ok(())
+}
+
 /// The fault of the sample with other text, and the last place where a tag stands in it.
 fn refused(
     rt: &HostRuntime,
@@ -248,7 +264,12 @@ fn faults_stand_where_they_are(rt: HostRuntime) -> Result<(), Fail> {
         (b"CHECKING", b"CHEQUE", b"<ACCTTYPE>"),
         (
             b"<INCLUDE>",
-            b"<DTSTART>20240101\r\n<INCLUDE>",
+            b"<DTEND>20240131\r\n<DTSTART>20240230\r\n<INCLUDE>",
+            b"<DTSTART>",
+        ),
+        (
+            b"<INCLUDE>",
+            b"<DTSTART>2024\r\n<DTSTART>20240101\r\n<INCLUDE>",
             b"<DTSTART>",
         ),
         (

@@ -8,7 +8,7 @@ ghost use Rattle.ofx_types.specs.RequestForm.{unread_bank_names};
 ghost use Rattle.ofx_types.specs.RequestReading as reading;
 ghost use Rattle.ofx_file.specs.RequestSteps as steps;
 
-use crate::request::statement::statement_of;
+use msg_bank::read_statement;
 use ofx_tree::Cursor;
 use ofx_types::{Ask, Asks, OutOfMemory, TreeFault};
 use std::alloc::Global;
@@ -55,7 +55,7 @@ fn ask_at(alloc: Global, child: &Cursor<'_>) -> Result<Option<Ask>, TreeFault>
     ensures { Gives result (steps.ask_at child.now) }
 {
     if child.name() == b"STMTTRNRQ".as_slice() {
-        return Ok(Some(statement_of(alloc, child)?));
+        return Ok(Some(read_statement(alloc, child)?));
     }
     if is_unread(child.name()) {
         return Err(TreeFault::Value(child.place() as u64));

@@ -6,4 +6,6 @@ returns c = each_is_judged (record {
   headers = c.faultless_is_spelled.ensures;
   tags = c.faultless_tags_are_spelled.ensures;
   slices = c.nodes_are_slices.ensures;
+  requests = c.requests_are_found.ensures;
+  places = c.request_faults_have_places.ensures;
 })

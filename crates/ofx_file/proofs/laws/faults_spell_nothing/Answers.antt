@@ -7,4 +7,4 @@ returns c = faults_spell_nothing (record {
   header_faults = c.spelled_is_faultless.ensures;
   tags = c.tags_are_unambiguous.ensures;
   tag_faults = c.spelled_tags_have_no_fault.ensures;
-})
+}) c.requests_are_found.ensures

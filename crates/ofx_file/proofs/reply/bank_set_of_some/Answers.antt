@@ -1,6 +1,6 @@
 use Rattle.std.proofs.Common.{ap, ◌++◌, ◌∙◌, sym}
 use Rattle.std.proofs.lemmas.Result.{on_ok_weaker}
-use Rattle.ofx_file.proofs.Joined.{set_of_some, set_of_none}
+use Rattle.ofx_file.proofs.BankSet.{set_of_some, set_of_none}
 use Rattle.ofx_file.proofs.reply.bank_set_of_some.Goals as goal
 
 pub returns-then-is_empty : goal.returns-then-is_empty

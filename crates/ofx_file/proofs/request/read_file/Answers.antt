@@ -17,14 +17,14 @@ pub returns-in-Ok-file_in : goal.returns-in-Ok-file_in
 returns-in-Ok-file_in c =
     let tape = rw (rest_is c.in-Ok.found.1 c.args.bytes.now) at c.in-Ok-read.ensures.tape in
     let slices = rw (rest_is c.in-Ok.found.1 c.args.bytes.now) at c.in-Ok-read.ensures.slices in
-    file_spelled c.args.bytes.now _ _ _ c.in-Ok.found.1 _ c.root.result c.in-Ok-file_in.file
+    file_spelled c.requests_are_found.ensures c.args.bytes.now _ _ _ c.in-Ok.found.1 _ c.root.result c.in-Ok-file_in.file
     c.in-Ok.ensures.spelled tape.are_nodes slices c.root.ensures c.in-Ok-file_in.ensures
 
 pub in_forms-requires-clause-within : goal.in_forms-requires-clause-within
 in_forms-requires-clause-within c =
     let slices = rw (rest_is c.in-Ok.found.1 c.args.bytes.now) at c.in-Ok-read.ensures.slices in
     rw (← length-drop c.in-Ok.found.1 c.args.bytes.now)
-    (form_refusal_within (drop c.in-Ok.found.1 c.args.bytes.now) _ _ _ _ c.root.result c.in-Err-file_in.fault slices c.root.ensures c.in-Err-file_in.ensures)
+    (form_refusal_within c.request_faults_have_places.ensures (drop c.in-Ok.found.1 c.args.bytes.now) _ _ _ _ c.root.result c.in-Err-file_in.fault slices c.root.ensures c.in-Err-file_in.ensures)
 
 pub returns : goal.returns
 returns c =

@@ -1,0 +1,14 @@
+mod Lawful
+mod PrintedDocuments
+mod RequestsBack
+mod RepliesBack
+mod Alone
+mod Uids
+mod Joined
+mod AccountLaws
+mod StatementLaws
+mod StatementPlaces
+mod Statuses
+mod LineSteps
+mod Lists
+mod Replies

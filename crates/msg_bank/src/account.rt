@@ -1,0 +1,75 @@
+//! The account that a statement is of (BANKACCTFROM), read and written.
+
+ghost use Rattle.std.specs.Prelude.{◌≡◌, ◌++◌, OnOk, codes};
+ghost use Rattle.ofx_types.specs.AccountForm.{kind_word};
+ghost use Rattle.ofx_types.specs.FormWords.{Gives};
+ghost use Rattle.ofx_types.specs.RequestReading as reading;
+ghost use Rattle.ofx_types.specs.ReplyForm as form;
+ghost use Rattle.ofx_types.specs.Sheet.{element};
+
+use ofx_tree::{Cursor, Sheet};
+use ofx_types::{AcctKind, AcctName, OutOfMemory, TreeFault};
+use std::alloc::Global;
+
+/// The most bytes of a bank's id and of an account's number.
+const MOST: u32 = 32;
+
+/// The account that an aggregate names.
+#[tactic(auto, unfolding(ofx_types::specs::RequestReading::account_of))]
+pub(crate) fn read_account(alloc: Global, aggregate: &Cursor<'_>) -> Result<AcctName, TreeFault>
+    ensures { Gives result (reading.account_of aggregate.now) }
+{
+    let bank = aggregate.text(alloc, b"BANKID", MOST)?;
+    let number = aggregate.text(alloc, b"ACCTID", MOST)?;
+    let kind = kind_at(&aggregate.one(b"ACCTTYPE")?)?;
+    Ok(AcctName { bank, number, kind })
+}
+
+/// The kind that an element says.
+fn kind_at(child: &Cursor<'_>) -> Result<AcctKind, TreeFault>
+    ensures { result ≡ reading.kind_at child.now.node }
+{
+    if child.value_eq(b"CHECKING") {
+        return Ok(AcctKind::Checking);
+    }
+    if child.value_eq(b"SAVINGS") {
+        return Ok(AcctKind::Savings);
+    }
+    if child.value_eq(b"MONEYMRKT") {
+        return Ok(AcctKind::MoneyMarket);
+    }
+    if child.value_eq(b"CREDITLINE") {
+        return Ok(AcctKind::CreditLine);
+    }
+    Err(TreeFault::Value(child.place() as u64))
+}
+
+/// Writes the account that a statement is of.
+#[tactic(auto, unfolding(ofx_types::specs::ReplyForm::account_from))]
+pub(crate) fn print_account(account: &AcctName, sheet: &mut Sheet) -> Result<(), OutOfMemory>
+    ensures { OnOk result (sheet.new ≡ sheet.old ++ form.account_from account.now) }
+{
+    sheet.start(b"BANKACCTFROM")?;
+    sheet.text(b"BANKID", &account.bank)?;
+    sheet.text(b"ACCTID", &account.number)?;
+    print_kind(account.kind, sheet)?;
+    sheet.end(b"BANKACCTFROM")
+}
+
+fn print_kind(kind: AcctKind, sheet: &mut Sheet) -> Result<(), OutOfMemory>
+    ensures { OnOk result (sheet.new ≡ sheet.old ++ element (codes "ACCTTYPE") (kind_word kind)) }
+{
+    sheet.element(b"ACCTTYPE", word_of(kind))
+}
+
+/// The word of a kind.
+fn word_of(kind: AcctKind) -> &'static [u8]
+    ensures { result.now ≡ kind_word kind }
+{
+    match kind {
+        AcctKind::Checking => b"CHECKING",
+        AcctKind::Savings => b"SAVINGS",
+        AcctKind::MoneyMarket => b"MONEYMRKT",
+        AcctKind::CreditLine => b"CREDITLINE",
+    }
+}

@@ -1,0 +1,23 @@
+//! The bank's messages: statement requests and their replies, read from a tape and written on a sheet (OFX 1.6,
+//! "Statement Download").
+//!
+//! What is read is the message that stands there, or the first fault of its form with that fault's place. What is
+//! written is the message's one printed form.
+#![tactic(auto)]
+
+mod account;
+mod laws;
+mod statement;
+mod status;
+mod trnuid;
+
+pub use laws::{
+    statement_faults_have_places, statement_replies_are_found, statement_replies_read_back,
+    statement_reply_faults_have_places, statements_are_found, statements_read_back,
+    status_faults_have_places, statuses_are_found, statuses_read_back,
+};
+pub use statement::{print_statement, print_statement_reply, read_statement, read_statement_reply};
+pub use status::{print_status, read_status};
+
+#[cfg(test)]
+mod tests;

@@ -1,0 +1,4 @@
+pub mod Signons
+pub mod SignonReplies
+mod SignonsBack
+mod SignonRepliesBack

@@ -1,0 +1,3 @@
+pub mod SignonLaws
+pub mod SignonParts
+pub mod AsDocuments

@@ -1,0 +1,90 @@
+//! The signon (SONRQ) and the answer to it (SONRS), read and written (OFX 1.6, "Signon").
+
+ghost use Rattle.std.specs.Prelude.{◌≡◌, ◌++◌, OnOk};
+ghost use Rattle.ofx_types.specs.Calendar.{IsMoment};
+ghost use Rattle.ofx_types.specs.FormWords.{Gives};
+ghost use Rattle.ofx_types.specs.RequestReading.{signon_of};
+ghost use Rattle.ofx_types.specs.RequestText.{signon_request};
+ghost use Rattle.ofx_types.specs.ReplyReading.{signon_reply_of};
+ghost use Rattle.ofx_types.specs.ReplyForm.{signon_reply};
+ghost use Rattle.msg_mail.specs.SignonParts as parts;
+
+use msg_bank::{print_status, read_status};
+use ofx_tree::{Cursor, Sheet};
+use ofx_types::{Moment, OutOfMemory, Text, TreeFault};
+use std::alloc::Global;
+
+/// The most bytes of a user's name.
+const MOST_OF_USER: u32 = 32;
+
+/// The most bytes of a password.
+const MOST_OF_PASS: u32 = 64;
+
+/// Who signs on, as a SONRQ says: the user's name and the password.
+///
+/// The first fault of USERID and then USERPASS, each of which stands once, with a text of at most 32 and 64 bytes:
+/// `Missing` at the SONRQ, `Repeated` at the second one, `Value` at one that is no such text; `OutOfMemory` where memory
+/// for a text is refused. Places count from the first byte of the body.
+#[tactic(auto, unfolding(ofx_types::specs::RequestReading::signon_of))]
+pub fn read_signon(alloc: Global, c: &Cursor<'_>) -> Result<(Text, Text), TreeFault>
+    ensures { Gives result (signon_of c.now) }
+{
+    let user = c.text(alloc, b"USERID", MOST_OF_USER)?;
+    let pass = c.text(alloc, b"USERPASS", MOST_OF_PASS)?;
+    Ok((user, pass))
+}
+
+/// Writes a signon that was made at a moment of the years 1900 to 9999.
+#[tactic(auto, unfolding(ofx_types::specs::RequestText::signon_request, ofx_types::specs::Sheet::aggregate))]
+pub fn print_signon(
+    user: &Text,
+    pass: &Text,
+    at: Moment,
+    out: &mut Sheet,
+) -> Result<(), OutOfMemory>
+    requires { IsMoment at.0 }
+    ensures { OnOk result (out.new ≡ out.old ++ signon_request user.now pass.now at) }
+{
+    out.start(b"SONRQ")?;
+    out.moment(b"DTCLIENT", at)?;
+    out.text(b"USERID", user)?;
+    out.text(b"USERPASS", pass)?;
+    program(out)?;
+    out.end(b"SONRQ")
+}
+
+/// Writes the language of the user and the program that signs on.
+fn program(out: &mut Sheet) -> Result<(), OutOfMemory>
+    ensures { OnOk result (out.new ≡ out.old ++ parts.program) }
+{
+    out.element(b"LANGUAGE", b"ENG")?;
+    out.element(b"APPID", b"OFXC")?;
+    out.element(b"APPVER", b"0100")
+}
+
+/// Writes the answer to a signon: its code, and the moment of the reply, in the years 1900 to 9999.
+#[tactic(auto, unfolding(ofx_types::specs::ReplyForm::signon_reply, ofx_types::specs::Sheet::aggregate))]
+pub fn print_signon_reply(code: u16, at: Moment, out: &mut Sheet) -> Result<(), OutOfMemory>
+    requires { IsMoment at.0 }
+    ensures { OnOk result (out.new ≡ out.old ++ signon_reply code at) }
+{
+    out.start(b"SONRS")?;
+    print_status(code, out)?;
+    out.moment(b"DTSERVER", at)?;
+    out.element(b"LANGUAGE", b"ENG")?;
+    out.end(b"SONRS")
+}
+
+/// The code and the moment that a SONRS says. It takes no memory.
+///
+/// The first fault of its STATUS and then of DTSERVER, each of which stands once: `Missing` at the aggregate, `Repeated`
+/// at the second one, `Value` at a CODE or DTSERVER that is no number up to 65,535 and no date. Places count from the
+/// first byte of the body.
+#[tactic(auto, unfolding(ofx_types::specs::ReplyReading::signon_reply_of))]
+pub fn read_signon_reply(c: &Cursor<'_>) -> Result<(u16, Moment), TreeFault>
+    ensures { result ≡ signon_reply_of c.now }
+{
+    let code = read_status(c)?;
+    let at = c.moment(b"DTSERVER")?;
+    Ok((code, at))
+}

@@ -1,0 +1,14 @@
+-- What holds of the forms of requests: each stands exactly where it is read, and its faults have places.
+use Rattle.std.specs.Prelude.{◌≡◌, ◌↔◌, ℕ, Ok}
+use Rattle.ofx_types.specs.Nodes.{Item}
+use Rattle.ofx_types.specs.RequestForm.{IsRequest}
+use Rattle.ofx_types.specs.RequestReading.{RequestParts, request_of}
+use Rattle.ofx_tree.specs.Placed.{IsWithin, Stands, Any}
+
+-- What a request says stands in OFX exactly where reading gives it.
+abbrev pub RequestsAreFound : Type 0
+RequestsAreFound = (ofx : Item) (parts : RequestParts) → IsRequest ofx parts.user parts.pass parts.asks ↔ (request_of ofx ≡ Ok parts)
+
+-- The first fault of a request stands at most where the last node of OFX does.
+abbrev pub RequestFaultsHavePlaces : Type 0
+RequestFaultsHavePlaces = (most : ℕ) (ofx : Item) → IsWithin most ofx → Stands most Any (request_of ofx)
