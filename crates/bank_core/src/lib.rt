@@ -6,6 +6,7 @@
 
 mod account;
 mod book;
+mod failed_signon;
 mod held;
 mod opening;
 mod prepared;
@@ -13,5 +14,6 @@ mod statement;
 
 pub use account::Account;
 pub use book::Book;
+pub use failed_signon::denial;
 pub use held::{Held, HeldFault};
 pub use prepared::Prepared;

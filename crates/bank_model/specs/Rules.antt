@@ -96,6 +96,16 @@ reply_file setup S user at file = record {
   replies = map (reply_to setup S user at) file.asks;
 }
 
+-- A failed signon is no event. It is answered by 15500 alone, with the request's version and NEWFILEUID.
+unfoldable pub denial : RequestFile → Moment → ReplyFile
+denial file at = record {
+  version = file.version;
+  newer = file.newer;
+  signon = 15500;
+  moment = at;
+  replies = [];
+}
+
 -- the state after an event
 abbrev pub state_after : Setup → State → Moment → Event → State
 state_after setup S at (File user file) = raised S at

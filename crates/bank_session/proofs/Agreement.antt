@@ -25,7 +25,7 @@ heads_agree m n x y small_m small_n e =
     (same, sym (drop_at (frame_head m) x (length (frame_head n)) lengths) ∙ (ap (drop (length (frame_head n))) e ∙ drop_at (frame_head n) y (length (frame_head n)) refl))
 
 -- a first line has at most 12 bytes
-head_is_short : (n : ℕ) → IsLength n → length (frame_head n) ≤ 12
+pub head_is_short : (n : ℕ) → IsLength n → length (frame_head n) ≤ 12
 unfolding frame_head
 head_is_short n small = omega (arith, line_is_short n small, length-append (length_line n) (10 ∷ []))
 

@@ -1,8 +1,8 @@
 -- What a desk's accounts and answers rest on.
-use Rattle.std.proofs.Common.{◌≡◌, ℕ, ◌<◌, ◌+◌, Bool, ◌&&◌, List, [], ◌∷◌, length, map, get_or, position, nat_lt, not, pos, Option, None, Some, IfSome, arith, refl, sym, ap, ◌∙◌, subst}
+use Rattle.std.proofs.Common.{◌≡◌, ℕ, ◌<◌, ◌+◌, Bool, List, [], ◌∷◌, length, map, get_or, position, nat_lt, not, pos, Option, None, Some, IfSome, arith, refl, sym, ap, ◌∙◌, subst}
 use Rattle.std.specs.Option.{option_map}
 use Rattle.std.specs.List.{prefix_len}
-use Rattle.std.proofs.lemmas.Option.{cond_some, none-some}
+use Rattle.std.proofs.lemmas.Option.{cond_some}
 use Rattle.std.proofs.lemmas.Bool.{ltb-true}
 use Rattle.std.proofs.lemmas.List.{length-map, get_or-map}
 use Rattle.std.proofs.lemmas.List.Elements.{All-from_recursion}
@@ -10,7 +10,6 @@ use Rattle.std.specs.List.{AllByRecursion}
 use Rattle.ofx_types.specs.AccountForm.{same_account}
 use Rattle.ofx_types.specs.FileForm.{SpellsFile}
 use Rattle.ofx_types.specs.declared.number.AcctId.{AcctId}
-use Rattle.ofx_types.specs.declared.number.UserId.{UserId}
 use Rattle.ofx_types.specs.declared.request.Ask.{Ask}
 use Rattle.ofx_types.specs.declared.request.Ask.TheVariants.{Statement}
 use Rattle.ofx_types.specs.declared.request.RequestFile.{RequestFile}
@@ -18,18 +17,19 @@ use Rattle.bank_model.specs.declared.setup.Setup.{Setup}
 use Rattle.bank_model.specs.declared.setup.AccountLine.{AccountLine}
 use Rattle.bank_model.specs.declared.event.Event.{Event}
 use Rattle.bank_model.specs.declared.event.Event.TheVariants.{File}
-use Rattle.bank_model.specs.SetupLookups.{signed_on}
-use Rattle.bank_model.specs.Rules.{named, account_named, opening_state}
+use Rattle.bank_model.specs.Rules.{named, account_named, opening_state, denial}
+use Rattle.ofx_types.specs.Calendar.{IsMoment}
+use Rattle.ofx_types.specs.Printable.{IsPrintable}
+use Rattle.ofx_types.specs.declared.number.Moment.{Moment}
 use Rattle.bank_core.specs.AccountView.{AccountView}
 use Rattle.bank_core.specs.BookView.{BookView}
 use Rattle.bank_core.specs.HeldAccounts.{AreHeld, IsHeld, AreBalanced, NumbersRise}
 use Rattle.bank_core.specs.Opened.{AreOpened}
 use Rattle.bank_session.specs.Desk.{HasAccounts}
-use Rattle.bank_session.specs.Answers.{IsAnswered, uid_line}
-use Rattle.bank_session.specs.Asked.{IsEventBy, IsFileEvent}
-use Rattle.bank_model.specs.Sound.{IsSound}
-use Rattle.bank_model.specs.declared.setup.User.{User}
-use Rattle.std.specs.Str.{bytes_eq}
+use Rattle.bank_session.specs.Answers.{IsSignedOn, IsDenied, uid_line}
+use Rattle.bank_session.specs.Asked.{IsSignonOf, IsJudged}
+use Rattle.bank_session.specs.declared.judge.Judgement.{Judgement}
+use Rattle.bank_session.specs.declared.judge.Judgement.TheVariants.{Answered, Denied, Refused}
 
 -- a place that is found is one of the list's
 found_within : {X : Type 0} (test : X → Bool) (xs : List X) (place : ℕ) → position test xs ≡ Some place → place < length xs
@@ -92,24 +92,17 @@ opened_held setup book accounts opened e =
       balanced = subst P (sym same) opened.balanced;
     }
 
--- the user who signs on is one of the setup's
-signed_within : (setup : Setup) (name pass : List ℕ) (user : UserId) → signed_on setup name pass ≡ Some user → user.0 < length setup.users
-signed_within setup name pass user e = by_place _ refl e
-  where
-    test : User → Bool
-    test = λ u. bytes_eq u.name name && bytes_eq u.pass pass
+-- what a file without uids is by its signon is what its bytes are
+pub judged : (setup : Setup) (bytes : List ℕ) (file : RequestFile) (found : Judgement) → SpellsFile bytes file → uid_line file.older file.newer ≡ None → IsSignonOf setup file found → IsJudged setup bytes found
+judged setup bytes file (Answered (File user own)) spells no_uid by =
+    let P : RequestFile → Type 0 = λ f. IsSignedOn setup bytes f user in
+    (subst P (sym by.0) (record { spelled = spells; no_uid = no_uid; signed = by.1 }), by.2)
+judged setup bytes file (Denied own) spells no_uid by =
+    let P : RequestFile → Type 0 = λ f. IsDenied setup bytes f in
+    subst P (sym by.0) (record { spelled = spells; no_uid = no_uid; unsigned = by.1 })
+judged setup bytes file (Refused place) spells no_uid by = absurd by
 
-    by_place : (found : Option ℕ) → position (λ (u : User). bytes_eq u.name name && bytes_eq u.pass pass) setup.users ≡ found → option_map (λ (place : ℕ). let v : UserId = record { 0 = place } in v) found ≡ Some user → user.0 < length setup.users
-    by_place None h e' = absurd (none-some user e')
-    by_place (Some place) h e' =
-        let within : place < length setup.users = found_within (λ (u : User). bytes_eq u.name name && bytes_eq u.pass pass) setup.users place h in
-        let same : place ≡ user.0 = cc in
-        omega (arith, within, same)
-
--- a sound file of a user that names no uid is a legal event
-pub own_event : (setup : Setup) (bytes : List ℕ) (file : RequestFile) (event : Event) → SpellsFile bytes file → IsSound file → uid_line file.older file.newer ≡ None → IsEventBy setup file event → IsFileEvent setup bytes event
-own_event setup bytes file (File user own) spells sound no_uid by =
-    let P : RequestFile → Type 0 = λ f. IsAnswered setup bytes f user × (user.0 < length setup.users) × IsSound f in
-    let there : P file = (record { spelled = spells; no_uid = no_uid; own = by.1 }, signed_within setup file.user file.pass user by.1.signed, sound) in
-    let back : P own = subst P (sym by.0) there in
-    (back.0, (back.1, back.2))
+-- a failed signon may be printed
+pub denial_printable : (file : RequestFile) (at : Moment) → IsMoment at.0 → IsPrintable (denial file at)
+unfolding denial
+denial_printable file at lawful = record { moment = lawful; replies = tt }

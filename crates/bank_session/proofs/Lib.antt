@@ -4,6 +4,8 @@ pub mod HeadLines
 pub mod Agreement
 pub mod Windows
 pub mod Coming
+pub mod MomentLemmas
+pub mod SetupSource
 pub mod Writing
 pub mod CommandWords
 pub mod DeskLemmas

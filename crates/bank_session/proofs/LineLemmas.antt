@@ -2,6 +2,7 @@
 use Rattle.std.proofs.Common.{◌≡◌, ℕ, List, [], ◌∷◌, ◌++◌, Option, None, Some, inl, inr, refl, sym, ap, ◌∙◌, subst, codes, get_or, arith}
 use Rattle.ofx_types.specs.FileForm.{SpellsFile, OneFile, OneFault, FaultsSpellNothing}
 use Rattle.ofx_types.specs.declared.fault.FileFault.{FileFault}
+use Rattle.ofx_types.specs.declared.number.Moment.{Moment}
 use Rattle.ofx_types.specs.declared.number.UserId.{UserId}
 use Rattle.ofx_types.specs.declared.request.RequestFile.{RequestFile}
 use Rattle.bank_model.specs.declared.setup.Setup.{Setup}
@@ -9,12 +10,13 @@ use Rattle.bank_model.specs.declared.event.State.{State}
 use Rattle.bank_model.specs.declared.event.Event.{Event}
 use Rattle.bank_model.specs.declared.event.Event.TheVariants.{File}
 use Rattle.bank_model.specs.SetupLookups.{signed_on}
-use Rattle.bank_model.specs.Rules.{answer_to, state_after}
+use Rattle.bank_model.specs.Rules.{answer_to, state_after, denial}
+use Rattle.ofx_types.specs.ReplyForm.{reply_text}
 use Rattle.std.specs.Fmt.{decimal}
 use Rattle.std.proofs.lemmas.List.{append_cancel_left, append_cancel_right}
 use Rattle.bank_session.specs.Frames.{frame, frame_head}
-use Rattle.bank_session.specs.Answers.{Says, IsOwnOf, IsAnswered, IsDamaged, NamesUid, uid_line, line_place, fault_place, bad_line, AreTurns, written_in}
-use Rattle.bank_session.specs.Determined.{OneLine, OneOutput, OneRefusal, RefusedIsUnanswered, WhereAnswered, WhereRefused, OnlyWhereRefused}
+use Rattle.bank_session.specs.Answers.{Says, IsSignedOn, IsDamaged, NamesUid, IsRefused, uid_line, line_place, fault_place, bad_line, AreTurns, written_in}
+use Rattle.bank_session.specs.Determined.{OneLine, OneOutput, OneRefusal, RefusedIsUnanswered, RefusedIsUndenied, DeniedIsUnanswered, WhereAnswered, WhereDenied, WhereRefused, OnlyWhereRefused}
 
 same_inside : {X : Type 0} {x y : X} → Some x ≡ Some y → x ≡ y
 same_inside e = cc
@@ -39,12 +41,22 @@ two_uids one bytes file place spells none names =
     let P : RequestFile → Type 0 = λ f. uid_line f.older f.newer ≡ None in
     none_or_some (of_other one bytes file names.file P spells names.spelled none) names.has_uid
 
+-- a file without uids that bytes spell isn't refused
+unrefused : OneFile → FaultsSpellNothing → (bytes : List ℕ) (file : RequestFile) (place : ℕ) → SpellsFile bytes file → uid_line file.older file.newer ≡ None → IsRefused bytes place → ⊥
+unrefused one nothing bytes file place spells none (inl damaged) = undamaged nothing bytes file place spells damaged
+unrefused one nothing bytes file place spells none (inr names) = two_uids one bytes file place spells none names
+
 pub unanswered : OneFile → FaultsSpellNothing → RefusedIsUnanswered
-unanswered one nothing setup bytes file user place answered (inl damaged) = undamaged nothing bytes file place answered.spelled damaged
-unanswered one nothing setup bytes file user place answered (inr (inl names)) = two_uids one bytes file place answered.spelled answered.no_uid names
-unanswered one nothing setup bytes file user place answered (inr (inr nobodys)) =
-    let P : RequestFile → Type 0 = λ f. IsOwnOf setup user f in
-    nobodys.not_own user (of_other one bytes file nobodys.file P answered.spelled nobodys.spelled answered.own)
+unanswered one nothing setup bytes file user place answered refused = unrefused one nothing bytes file place answered.spelled answered.no_uid refused
+
+pub undenied : OneFile → FaultsSpellNothing → RefusedIsUndenied
+undenied one nothing setup bytes file place denied refused = unrefused one nothing bytes file place denied.spelled denied.no_uid refused
+
+-- a user who signs on isn't denied
+pub signed_on_once : OneFile → DeniedIsUnanswered
+signed_on_once one setup bytes file file' user answered denied =
+    let P : RequestFile → Type 0 = λ f. signed_on setup f.user f.pass ≡ Some user in
+    none_or_some denied.unsigned (of_other one bytes file file' P answered.spelled denied.spelled answered.signed)
 
 same_fault_place : OneFault → (bytes : List ℕ) (place place' : ℕ) → IsDamaged bytes place → IsDamaged bytes place' → place ≡ place'
 same_fault_place one bytes place place' a b =
@@ -59,34 +71,38 @@ same_uid_place one bytes place place' a b =
 
 -- a file that isn't answered has one place
 pub same_place : OneFile → OneFault → FaultsSpellNothing → OneRefusal
-same_place one fault nothing setup bytes place place' (inl a) (inl b) = same_fault_place fault bytes place place' a b
-same_place one fault nothing setup bytes place place' (inl a) (inr (inl b)) = absurd (undamaged nothing bytes b.file place b.spelled a)
-same_place one fault nothing setup bytes place place' (inl a) (inr (inr b)) = absurd (undamaged nothing bytes b.file place b.spelled a)
-same_place one fault nothing setup bytes place place' (inr (inl a)) (inl b) = absurd (undamaged nothing bytes a.file place' a.spelled b)
-same_place one fault nothing setup bytes place place' (inr (inl a)) (inr (inl b)) = same_uid_place one bytes place place' a b
-same_place one fault nothing setup bytes place place' (inr (inl a)) (inr (inr b)) = absurd (two_uids one bytes b.file place b.spelled b.no_uid a)
-same_place one fault nothing setup bytes place place' (inr (inr a)) (inl b) = absurd (undamaged nothing bytes a.file place' a.spelled b)
-same_place one fault nothing setup bytes place place' (inr (inr a)) (inr (inl b)) = absurd (two_uids one bytes a.file place' a.spelled a.no_uid b)
-same_place one fault nothing setup bytes place place' (inr (inr a)) (inr (inr b)) = a.place_is ∙ sym b.place_is
+same_place one fault nothing bytes place place' (inl a) (inl b) = same_fault_place fault bytes place place' a b
+same_place one fault nothing bytes place place' (inl a) (inr b) = absurd (undamaged nothing bytes b.file place b.spelled a)
+same_place one fault nothing bytes place place' (inr a) (inl b) = absurd (undamaged nothing bytes a.file place' a.spelled b)
+same_place one fault nothing bytes place place' (inr a) (inr b) = same_uid_place one bytes place place' a b
 
 -- two answers to one file are one event
-same_event : OneFile → (setup : Setup) (bytes : List ℕ) (file file' : RequestFile) (user user' : UserId) → IsAnswered setup bytes file user → IsAnswered setup bytes file' user' → File user file ≡ File user' file'
+same_event : OneFile → (setup : Setup) (bytes : List ℕ) (file file' : RequestFile) (user user' : UserId) → IsSignedOn setup bytes file user → IsSignedOn setup bytes file' user' → File user file ≡ File user' file'
 same_event one setup bytes file file' user user' a b =
     let same : file ≡ file' = one bytes file file' a.spelled b.spelled in
-    let signed : signed_on setup file'.user file'.pass ≡ Some user = subst (λ (f : RequestFile). signed_on setup f.user f.pass ≡ Some user) same a.own.signed in
-    let by : user ≡ user' = same_inside (sym signed ∙ b.own.signed) in
+    let signed : signed_on setup file'.user file'.pass ≡ Some user = subst (λ (f : RequestFile). signed_on setup f.user f.pass ≡ Some user) same a.signed in
+    let by : user ≡ user' = same_inside (sym signed ∙ b.signed) in
     ap (λ (u : UserId). File u file) by ∙ ap (λ (f : RequestFile). File user' f) same
 
-pub where_answered : OneFile → RefusedIsUnanswered → WhereAnswered
-where_answered one apart setup at before bytes line after file user (inl a) answered =
-    let event : File a.user a.file ≡ File user file = same_event one setup bytes a.file file a.user user a.answered answered in
+pub where_answered : OneFile → RefusedIsUnanswered → DeniedIsUnanswered → WhereAnswered
+where_answered one apart once setup at before bytes line after file user (inl a) answered =
+    let event : File a.user a.file ≡ File user file = same_event one setup bytes a.file file a.user user a.is_signed_on answered in
     (a.reply ∙ ap (λ (e : Event). frame (answer_to setup before at e)) event, a.state ∙ ap (λ (e : Event). state_after setup before at e) event)
-where_answered one apart setup at before bytes line after file user (inr b) answered = absurd (apart setup bytes file user b.place answered b.refused)
+where_answered one apart once setup at before bytes line after file user (inr (inl d)) answered = absurd (once setup bytes file d.file user answered d.is_denied)
+where_answered one apart once setup at before bytes line after file user (inr (inr b)) answered = absurd (apart setup bytes file user b.place answered b.refused)
 
-pub where_refused : OneRefusal → RefusedIsUnanswered → WhereRefused
-where_refused one apart setup at before bytes line after place (inl a) refused = absurd (apart setup bytes a.file a.user place a.answered refused)
-where_refused one apart setup at before bytes line after place (inr b) refused =
-    (b.bad ∙ ap (λ (p : ℕ). bad_line p) (one setup bytes b.place place b.refused refused), b.state)
+pub where_denied : OneFile → RefusedIsUndenied → DeniedIsUnanswered → WhereDenied
+where_denied one apart once setup at before bytes line after file (inl a) denied = absurd (once setup bytes a.file file a.user a.is_signed_on denied)
+where_denied one apart once setup at before bytes line after file (inr (inl d)) denied =
+    let same : d.file ≡ file = one bytes d.file file d.is_denied.spelled denied.spelled in
+    (d.reply ∙ ap (λ (f : RequestFile). frame (reply_text (denial f at))) same, d.state)
+where_denied one apart once setup at before bytes line after file (inr (inr b)) denied = absurd (apart setup bytes file b.place denied b.refused)
+
+pub where_refused : OneRefusal → RefusedIsUnanswered → RefusedIsUndenied → WhereRefused
+where_refused one apart apart' setup at before bytes line after place (inl a) refused = absurd (apart setup bytes a.file a.user place a.is_signed_on refused)
+where_refused one apart apart' setup at before bytes line after place (inr (inl d)) refused = absurd (apart' setup bytes d.file place d.is_denied refused)
+where_refused one apart apart' setup at before bytes line after place (inr (inr b)) refused =
+    (b.bad ∙ ap (λ (p : ℕ). bad_line p) (one bytes b.place place b.refused refused), b.state)
 
 -- a framed reply tells no place
 frame_tells_nothing : (file : List ℕ) (place : ℕ) → bad_line place ≡ frame file → ⊥
@@ -98,14 +114,18 @@ same_digits a b e = append_cancel_left (codes "BAD ") a b (append_cancel_right (
 
 pub only_where_refused : OnlyWhereRefused
 only_where_refused setup at before bytes after printed (inl a) = absurd (frame_tells_nothing _ printed a.reply)
-only_where_refused setup at before bytes after printed (inr b) = (b.place, b.refused, same_digits (decimal b.place) (decimal printed) (sym b.bad))
+only_where_refused setup at before bytes after printed (inr (inl d)) = absurd (frame_tells_nothing _ printed d.reply)
+only_where_refused setup at before bytes after printed (inr (inr b)) = (b.place, b.refused, same_digits (decimal b.place) (decimal printed) (sym b.bad))
 
 -- for the bytes of a file there is one line, and one state behind it
-pub same_line : WhereAnswered → WhereRefused → OneLine
-same_line answered refused setup at before bytes line line' after after' says (inl b) =
-    let there = answered setup at before bytes line after b.file b.user says b.answered in
+pub same_line : WhereAnswered → WhereDenied → WhereRefused → OneLine
+same_line answered denied refused setup at before bytes line line' after after' says (inl b) =
+    let there = answered setup at before bytes line after b.file b.user says b.is_signed_on in
     (there.0 ∙ sym b.reply, there.1 ∙ sym b.state)
-same_line answered refused setup at before bytes line line' after after' says (inr b) =
+same_line answered denied refused setup at before bytes line line' after after' says (inr (inl b)) =
+    let there = denied setup at before bytes line after b.file says b.is_denied in
+    (there.0 ∙ sym b.reply, there.1 ∙ sym b.state)
+same_line answered denied refused setup at before bytes line line' after after' says (inr (inr b)) =
     let there = refused setup at before bytes line after b.place says b.refused in
     (there.0 ∙ sym b.bad, there.1 ∙ sym b.state)
 
@@ -115,14 +135,17 @@ same_head e = cc
 same_tail : {X : Type 0} {x y : X} {xs ys : List X} → x ∷ xs ≡ y ∷ ys → xs ≡ ys
 same_tail e = cc
 
--- turns over the same files write the same bytes
+-- turns over the same files at the same moments write the same bytes
 pub same_output : OneLine → OneOutput
-same_output one setup at before [] [] after after' a b e = (refl, a ∙ sym b)
-same_output one setup at before [] (t ∷ ts) after after' a b e = cc
-same_output one setup at before (t ∷ ts) [] after after' a b e = cc
-same_output one setup at before (t ∷ ts) (u ∷ us) after after' (mid, fits, says, rest) (mid', fits', says', rest') e =
+same_output one setup before [] [] after after' a b e m = (refl, a ∙ sym b)
+same_output one setup before [] (t ∷ ts) after after' a b e m = cc
+same_output one setup before (t ∷ ts) [] after after' a b e m = cc
+same_output one setup before (t ∷ ts) (u ∷ us) after after' (mid, fits, says, rest) (mid', fits', says', rest') e m =
     let file : t.file ≡ u.file = same_head e in
-    let first = one setup at before u.file t.line u.line mid mid' (subst (λ (f : List ℕ). Says setup at before f t.line mid) file says) says' in
-    let there : AreTurns setup at mid us after' = subst (λ (s : State). AreTurns setup at s us after') (sym first.1) rest' in
-    let behind = same_output one setup at mid ts us after after' rest there (same_tail e) in
+    let moment : t.at ≡ u.at = same_head m in
+    let there : Says setup u.at before u.file t.line mid =
+    subst (λ (at : Moment). Says setup at before u.file t.line mid) moment (subst (λ (f : List ℕ). Says setup t.at before f t.line mid) file says) in
+    let first = one setup u.at before u.file t.line u.line mid mid' there says' in
+    let on : AreTurns setup mid us after' = subst (λ (s : State). AreTurns setup s us after') (sym first.1) rest' in
+    let behind = same_output one setup mid ts us after after' rest on (same_tail e) (same_tail m) in
     (ap (λ (l : List ℕ). l ++ written_in ts) first.0 ∙ ap (λ (l : List ℕ). u.line ++ l) behind.0, behind.1)

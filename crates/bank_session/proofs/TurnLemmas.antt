@@ -1,18 +1,19 @@
 -- How the steps of a turn join.
-use Rattle.std.proofs.Common.{◌≡◌, ℕ, ◌<◌, ◌+◌, ◌-◌, List, [], ◌∷◌, ◌++◌, length, length-append, take, drop, Option, None, Some, IfSome, Err, arith, sym, ap, ◌∙◌, append_assoc, length-drop}
+use Rattle.std.proofs.Common.{◌≡◌, ℕ, ◌<◌, ◌+◌, ◌-◌, ◌^◌, List, [], ◌∷◌, ◌++◌, length, length-append, take, drop, Option, None, Some, IfSome, Err, arith, sym, ap, ◌∙◌, append_assoc, length-drop}
 use Rattle.std.specs.Io.KnownBytes.{Keeps, Consumes, prepend_known}
 use Rattle.std.proofs.KnownBytes.{prepend_known-read}
 use Rattle.std.proofs.lemmas.List.{drop-drop, take-append-drop, length-take-le}
 use Rattle.ofx_types.specs.declared.number.Moment.{Moment}
 use Rattle.bank_core.specs.BookView.{BookView}
 use Rattle.bank_session.specs.Frames.{IsLength, length_line, frame, frame_head}
+use Rattle.bank_session.specs.Answers.{AreMoments}
 use Rattle.bank_session.specs.Coming.{HoldsFrame}
 use Rattle.bank_session.specs.Turns.{TurnMade, TurnStops}
 use Rattle.bank_session.specs.TurnResult.{FrameWritten, FrameResult}
 use Rattle.bank_session.specs.declared.frame_head.FrameSize.{FrameSize}
 use Rattle.bank_session.specs.declared.stop.Stop.{Stop}
 use Rattle.bank_session.specs.declared.stop.Stop.TheVariants as stops
-use Rattle.bank_session.proofs.Agreement.{parted}
+use Rattle.bank_session.proofs.Agreement.{head_is_short, parted}
 
 -- the file in a frame that is ahead, as a slice gives it
 abbrev pub file_in : List ℕ → FrameSize → List ℕ
@@ -37,6 +38,20 @@ frame_ahead ahead size holds =
     ∙ (ap (λ (n : ℕ). frame_head n ++ (file_in ahead size ++ drop (size.head + size.file) ahead)) (sym (file_length ahead size holds))
     ∙ sym (append_assoc (frame_head (length (file_in ahead size))) (file_in ahead size) (drop (size.head + size.file) ahead))))
 
+-- its size is that of its two parts
+pub frame_size : (ahead : List ℕ) (size : FrameSize) → HoldsFrame ahead size → size.head + size.file ≡ length (frame (file_in ahead size))
+frame_size ahead size holds =
+    let file : length (file_in ahead size) ≡ size.file = file_length ahead size holds in
+    let head : length (frame_head size.file) ≡ size.head = sym (ap length holds.begins.head) ∙ length-take-le size.head ahead holds.begins.head_there in
+    let same : length (frame_head (length (file_in ahead size))) ≡ size.head = ap (λ (n : ℕ). length (frame_head n)) file ∙ head in
+    omega (arith, file, same, length-append (frame_head (length (file_in ahead size))) (file_in ahead size))
+
+-- and a number of 64 bits
+pub whole_fits : (ahead : List ℕ) (size : FrameSize) → HoldsFrame ahead size → size.head + size.file < 2 ^ 64
+whole_fits ahead size holds =
+    let head : length (frame_head size.file) ≡ size.head = sym (ap length holds.begins.head) ∙ length-take-le size.head ahead holds.begins.head_there in
+    omega (arith, head, holds.begins.length_fits, head_is_short size.file holds.begins.length_fits)
+
 head_there : (n : ℕ) → 0 < length (frame_head n)
 unfolding frame_head
 head_there n = omega (arith, length-append (length_line n) (10 ∷ []))
@@ -59,23 +74,28 @@ still_coming : (coming left : Option (List ℕ)) (ahead later : List ℕ) → Ke
 still_coming coming left ahead later kept same = rw same kept
 
 -- a frame that was answered makes the turn
-pub turn_made : (at : Moment) (before after : BookView) (coming left held now : Option (List ℕ)) (ahead later : List ℕ) → Keeps coming (prepend_known ahead left) → FrameWritten at before after ahead later held now → TurnMade at before after coming (prepend_known later left) held now
-turn_made at before after coming left held now ahead later kept written = record {
+pub turn_made : (at : Option Moment) (moment : Moment) (size : ℕ) (before after : BookView) (coming left held now : Option (List ℕ)) (shown shown' : Option (List Moment)) (ahead later : List ℕ) → Keeps coming (prepend_known ahead left) → AreMoments at shown shown' (moment ∷ []) →
+    FrameWritten moment size before after ahead later held now → TurnMade at before after coming (prepend_known later left) held now shown shown' size
+turn_made at moment size before after coming left held now shown shown' ahead later kept moments written = record {
   file = written.file;
+  moment = moment;
   line = written.line;
   fits = written.fits;
   says = written.says;
   setup = written.setup;
   read = frame_consumed coming left ahead later (frame written.file) kept written.read;
+  size_is = written.size_is;
   written = written.written;
+  moments = moments;
 }
 
 -- a frame that wasn't stops the run
-pub turn_stopped : (at : Moment) (before after : BookView) (coming left held now : Option (List ℕ)) (ahead later : List ℕ) (reads reads' writes writes' : ℕ) (stop : Stop) → Keeps coming (prepend_known ahead left) → FrameResult at before after ahead later held now writes writes' (Err stop) →
-    TurnStops at before coming later left held now reads reads' writes writes' stop
-turn_stopped at before after coming left held now ahead later reads reads' writes writes' stops.WriteFailed kept h = (
+pub turn_stopped : (at : Option Moment) (moment : Moment) (size : ℕ) (before after : BookView) (coming left held now : Option (List ℕ)) (shown shown' : Option (List Moment)) (ahead later : List ℕ) (reads reads' writes writes' : ℕ) (stop : Stop) → Keeps coming (prepend_known ahead left) → AreMoments at shown shown' (moment ∷ []) →
+    FrameResult moment size before after ahead later held now writes writes' (Err stop) → TurnStops at before coming later left held now shown shown' reads reads' writes writes' stop
+turn_stopped at moment size before after coming left held now shown shown' ahead later reads reads' writes writes' stops.WriteFailed kept moments h = (
   record {
     file = h.0.file;
+    moment = moment;
     line = h.0.line;
     next = after;
     count = h.0.count;
@@ -84,12 +104,13 @@ turn_stopped at before after coming left held now ahead later reads reads' write
     kept = still_coming coming left ahead later kept h.0.kept;
     begins = begins_coming left ahead later (frame h.0.file) h.0.tail h.0.kept h.0.begins;
     written = h.0.written;
+    moments = moments;
   },
   h.1,
 )
-turn_stopped at before after coming left held now ahead later reads reads' writes writes' stops.NoMemory kept h =
-    record { kept = still_coming coming left ahead later kept h.0; unwritten = h.1 }
-turn_stopped at before after coming left held now ahead later reads reads' writes writes' stops.ReadFailed kept h = absurd h
-turn_stopped at before after coming left held now ahead later reads reads' writes writes' stops.Frame kept h = absurd h
-turn_stopped at before after coming left held now ahead later reads reads' writes writes' stops.Usage kept h = absurd h
-turn_stopped at before after coming left held now ahead later reads reads' writes writes' stops.Setup kept h = absurd h
+turn_stopped at moment size before after coming left held now shown shown' ahead later reads reads' writes writes' stops.NoMemory kept moments h =
+    record { moment = moment; kept = still_coming coming left ahead later kept h.0; unwritten = h.1; moments = moments }
+turn_stopped at moment size before after coming left held now shown shown' ahead later reads reads' writes writes' stops.ReadFailed kept moments h = absurd h
+turn_stopped at moment size before after coming left held now shown shown' ahead later reads reads' writes writes' (stops.Frame place) kept moments h = absurd h
+turn_stopped at moment size before after coming left held now shown shown' ahead later reads reads' writes writes' stops.Usage kept moments h = absurd h
+turn_stopped at moment size before after coming left held now shown shown' ahead later reads reads' writes writes' (stops.Setup line) kept moments h = absurd h

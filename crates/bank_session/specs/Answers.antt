@@ -1,6 +1,6 @@
 -- What a run writes for a file.
-use Rattle.std.specs.Prelude.{◌≡◌, ℕ, zero, suc, ◌-◌, List, [], ◌∷◌, ◌++◌, length, codes, Bool, true, Option, None, Some, is_some, ◌⊎◌}
-use Rattle.std.specs.List.{list_all, flat_map, after_first}
+use Rattle.std.specs.Prelude.{◌≡◌, ℕ, zero, suc, ◌-◌, List, [], ◌∷◌, ◌++◌, length, map, codes, Option, None, Some, All, ◌⊎◌}
+use Rattle.std.specs.List.{flat_map, after_first}
 use Rattle.std.specs.Fmt.{decimal}
 use Rattle.ofx_types.specs.HeaderForm.{is_line_feed}
 use Rattle.ofx_types.specs.FileForm.{SpellsFile, IsFaultOf}
@@ -8,29 +8,15 @@ use Rattle.ofx_types.specs.declared.fault.FileFault.{FileFault}
 use Rattle.ofx_types.specs.declared.fault.FileFault.TheVariants.{Header, Syntax, Form, OutOfMemory}
 use Rattle.ofx_types.specs.declared.number.UserId.{UserId}
 use Rattle.ofx_types.specs.declared.number.Moment.{Moment}
-use Rattle.ofx_types.specs.declared.account.AcctName.{AcctName}
-use Rattle.ofx_types.specs.declared.request.Ask.{Ask}
-use Rattle.ofx_types.specs.declared.request.Ask.TheVariants.{Statement}
 use Rattle.ofx_types.specs.declared.request.RequestFile.{RequestFile}
 use Rattle.bank_model.specs.declared.setup.Setup.{Setup}
 use Rattle.bank_model.specs.declared.event.State.{State}
 use Rattle.bank_model.specs.declared.event.Event.TheVariants.{File}
 use Rattle.bank_model.specs.SetupLookups.{signed_on}
-use Rattle.bank_model.specs.Rules.{own_account, answer_to, state_after}
+use Rattle.bank_model.specs.Rules.{answer_to, state_after, denial}
+use Rattle.ofx_types.specs.ReplyForm.{reply_text}
+use Rattle.ofx_ports.specs.Told.{Stays, Grows}
 use Rattle.bank_session.specs.Frames.{IsLength, frame}
-
--- the account that an ask names
-abbrev pub account_in : Ask → AcctName
-account_in (Statement trnuid name period) = name
-
--- The ask is about an account of the user.
-abbrev pub asks_own : Setup → UserId → Ask → Bool
-asks_own setup user ask = is_some (own_account setup user (account_in ask))
-
--- The file is a user's where the setup has this user with this password, and each account in it is this user's.
-pub record IsOwnOf (setup : Setup) (user : UserId) (file : RequestFile) : Type 0 where
-  pub signed : signed_on setup file.user file.pass ≡ Some user
-  pub owned : list_all (asks_own setup user) file.asks ≡ true
 
 -- The line of the header that names a uid: the eighth is OLDFILEUID, and otherwise the ninth is NEWFILEUID.
 abbrev pub uid_line : Option (List ℕ) → Option (List ℕ) → Option ℕ
@@ -38,11 +24,18 @@ uid_line (Some older) newer = Some 8
 uid_line None (Some newer) = Some 9
 uid_line None None = None
 
--- A file is answered where its bytes spell a request file that names no uid and is a user's.
-pub record IsAnswered (setup : Setup) (bytes : List ℕ) (file : RequestFile) (user : UserId) : Type 0 where
+-- A file is an event of a user where its bytes spell a request file that names no uid, and the setup has this user with
+-- this password.
+pub record IsSignedOn (setup : Setup) (bytes : List ℕ) (file : RequestFile) (user : UserId) : Type 0 where
   pub spelled : SpellsFile bytes file
   pub no_uid : uid_line file.older file.newer ≡ None
-  pub own : IsOwnOf setup user file
+  pub signed : signed_on setup file.user file.pass ≡ Some user
+
+-- Where the setup has no such user the signon failed.
+pub record IsDenied (setup : Setup) (bytes : List ℕ) (file : RequestFile) : Type 0 where
+  pub spelled : SpellsFile bytes file
+  pub no_uid : uid_line file.older file.newer ≡ None
+  pub unsigned : signed_on setup file.user file.pass ≡ None
 
 -- The place of a fault is told. Want of memory has none.
 abbrev pub fault_place : FileFault → Option ℕ
@@ -74,51 +67,52 @@ pub record NamesUid (bytes : List ℕ) (place : ℕ) : Type 0 where
   pub has_uid : uid_line file.older file.newer ≡ Some line
   pub place_is : place ≡ line_place line bytes
 
--- Nor is a file that names no uid and is no user's: the place is 0.
-pub record IsNobodys (setup : Setup) (bytes : List ℕ) (place : ℕ) : Type 0 where
-  pub file : RequestFile
-  pub spelled : SpellsFile bytes file
-  pub no_uid : uid_line file.older file.newer ≡ None
-  pub not_own : (user : UserId) → IsOwnOf setup user file → ⊥
-  pub place_is : place ≡ 0
+-- A file isn't answered, for one of these two causes.
+abbrev pub IsRefused : List ℕ → ℕ → Type 0
+IsRefused bytes place = IsDamaged bytes place ⊎ NamesUid bytes place
 
--- A file isn't answered, for one of these three causes.
-abbrev pub IsRefused : Setup → List ℕ → ℕ → Type 0
-IsRefused setup bytes place = IsDamaged bytes place ⊎ (NamesUid bytes place ⊎ IsNobodys setup bytes place)
-
--- An answered file is an event: its reply is written in a frame.
+-- A user's file is an event: its reply is written in a frame.
 pub record Replies (setup : Setup) (at : Moment) (before : State) (bytes line : List ℕ) (after : State) : Type 0 where
   pub file : RequestFile
   pub user : UserId
-  pub answered : IsAnswered setup bytes file user
+  pub is_signed_on : IsSignedOn setup bytes file user
   pub reply : line ≡ frame (answer_to setup before at (File user file))
   pub state : after ≡ state_after setup before at (File user file)
+
+-- A failed signon is answered by itself alone, and nothing changes.
+pub record Denies (setup : Setup) (at : Moment) (before : State) (bytes line : List ℕ) (after : State) : Type 0 where
+  pub file : RequestFile
+  pub is_denied : IsDenied setup bytes file
+  pub reply : line ≡ frame (reply_text (denial file at))
+  pub state : after ≡ before
 
 -- `BAD`, a space and the place
 abbrev pub bad_line : ℕ → List ℕ
 bad_line place = codes "BAD " ++ decimal place ++ 10 ∷ []
 
 -- For any other file the line tells the place, and nothing changes.
-pub record IsBad (setup : Setup) (before : State) (bytes line : List ℕ) (after : State) : Type 0 where
+pub record IsBad (before : State) (bytes line : List ℕ) (after : State) : Type 0 where
   pub place : ℕ
-  pub refused : IsRefused setup bytes place
+  pub refused : IsRefused bytes place
   pub bad : line ≡ bad_line place
   pub state : after ≡ before
 
--- what is written for the bytes of a file, and the state that it leaves
+-- what is written for the bytes of a file at a moment, and the state that it leaves
 abbrev pub Says : Setup → Moment → State → List ℕ → List ℕ → State → Type 0
-Says setup at before bytes line after = Replies setup at before bytes line after ⊎ IsBad setup before bytes line after
+Says setup at before bytes line after =
+    Replies setup at before bytes line after ⊎ (Denies setup at before bytes line after ⊎ IsBad before bytes line after)
 
--- A turn of a run: the bytes of a file, and what is written for them.
+-- A turn of a run: the bytes of a file, its moment, and what is written for them.
 pub record Turn : Type 0 where
   pub file : List ℕ
+  pub at : Moment
   pub line : List ℕ
 
 -- The turns follow each other, each from the state that the one before left.
-abbrev pub AreTurns : Setup → Moment → State → List Turn → State → Type 0
-AreTurns setup at before [] after = after ≡ before
-AreTurns setup at before (turn ∷ turns) after =
-    (mid : State) × IsLength (length turn.file) × Says setup at before turn.file turn.line mid × AreTurns setup at mid turns after
+abbrev pub AreTurns : Setup → State → List Turn → State → Type 0
+AreTurns setup before [] after = after ≡ before
+AreTurns setup before (turn ∷ turns) after =
+    (mid : State) × IsLength (length turn.file) × Says setup turn.at before turn.file turn.line mid × AreTurns setup mid turns after
 
 -- what was read and what was written in these turns
 abbrev pub read_in : List Turn → List ℕ
@@ -126,3 +120,13 @@ read_in turns = flat_map (λ (turn : Turn). frame turn.file) turns
 
 abbrev pub written_in : List Turn → List ℕ
 written_in turns = flat_map (λ (turn : Turn). turn.line) turns
+
+-- the moments of these turns, in order
+abbrev pub moments_in : List Turn → List Moment
+moments_in turns = map (λ (turn : Turn). turn.at) turns
+
+-- With a moment among the words each frame has that one, and without it the moments are the answers of the clock, in
+-- order, where it tells them.
+abbrev pub AreMoments : Option Moment → Option (List Moment) → Option (List Moment) → List Moment → Type 0
+AreMoments None told told' moments = Grows told told' moments
+AreMoments (Some at) told told' moments = Stays told told' × All (λ (moment : Moment). moment ≡ at) moments

@@ -1,4 +1,4 @@
--- What a run writes is determined by its setup, its moment and the frames that it reads.
+-- What a run writes is determined by its setup and by the frames that it reads with their moments.
 use Rattle.std.specs.Prelude.{◌≡◌, ℕ, List, [], ◌∷◌, ◌++◌, length}
 use Rattle.std.specs.List.{flat_map, AllByRecursion}
 use Rattle.std.specs.Fmt.{decimal}
@@ -8,9 +8,10 @@ use Rattle.ofx_types.specs.declared.request.RequestFile.{RequestFile}
 use Rattle.bank_model.specs.declared.setup.Setup.{Setup}
 use Rattle.bank_model.specs.declared.event.State.{State}
 use Rattle.bank_model.specs.declared.event.Event.TheVariants.{File}
-use Rattle.bank_model.specs.Rules.{answer_to, state_after}
+use Rattle.bank_model.specs.Rules.{answer_to, state_after, denial}
 use Rattle.bank_session.specs.Frames.{IsLength, frame}
-use Rattle.bank_session.specs.Answers.{Says, IsAnswered, IsRefused, bad_line, Turn, AreTurns, written_in}
+use Rattle.ofx_types.specs.ReplyForm.{reply_text}
+use Rattle.bank_session.specs.Answers.{Says, IsSignedOn, IsDenied, IsRefused, bad_line, Turn, AreTurns, written_in, moments_in}
 
 -- each file within its limit
 abbrev pub Lengths : List (List ℕ) → Type 0
@@ -25,41 +26,57 @@ abbrev pub OneSplitting : Type 0
 OneSplitting = (files others : List (List ℕ)) (rest tail : List ℕ) → Lengths files → Lengths others →
     flat_map frame files ++ rest ≡ flat_map frame others ++ tail → OneSplit files others rest tail
 
--- For the bytes of a file there is one line, and one state behind it.
+-- For the bytes of a file at a moment there is one line, and one state behind it.
 abbrev pub OneLine : Type 0
 OneLine = (setup : Setup) (at : Moment) (before : State) (bytes line line' : List ℕ) (after after' : State) →
     Says setup at before bytes line after → Says setup at before bytes line' after' → (line ≡ line') × (after ≡ after')
 
 -- A file that isn't answered has one place to tell,
 abbrev pub OneRefusal : Type 0
-OneRefusal = (setup : Setup) (bytes : List ℕ) (place place' : ℕ) → IsRefused setup bytes place → IsRefused setup bytes place' → place ≡ place'
+OneRefusal = (bytes : List ℕ) (place place' : ℕ) → IsRefused bytes place → IsRefused bytes place' → place ≡ place'
 
--- and no file is both answered and refused.
+-- and no file is both refused and an event, or both refused and denied, or both an event and denied.
 abbrev pub RefusedIsUnanswered : Type 0
 RefusedIsUnanswered = (setup : Setup) (bytes : List ℕ) (file : RequestFile) (user : UserId) (place : ℕ) →
-    IsAnswered setup bytes file user → IsRefused setup bytes place → ⊥
+    IsSignedOn setup bytes file user → IsRefused bytes place → ⊥
 
--- Where a file is answered its framed reply is written,
+abbrev pub RefusedIsUndenied : Type 0
+RefusedIsUndenied = (setup : Setup) (bytes : List ℕ) (file : RequestFile) (place : ℕ) →
+    IsDenied setup bytes file → IsRefused bytes place → ⊥
+
+abbrev pub DeniedIsUnanswered : Type 0
+DeniedIsUnanswered = (setup : Setup) (bytes : List ℕ) (file file' : RequestFile) (user : UserId) →
+    IsSignedOn setup bytes file user → IsDenied setup bytes file' → ⊥
+
+-- Where a file is a user's its framed reply is written,
 abbrev pub WhereAnswered : Type 0
 WhereAnswered = (setup : Setup) (at : Moment) (before : State) (bytes line : List ℕ) (after : State) (file : RequestFile) (user : UserId) →
-    Says setup at before bytes line after → IsAnswered setup bytes file user →
+    Says setup at before bytes line after → IsSignedOn setup bytes file user →
     (line ≡ frame (answer_to setup before at (File user file))) × (after ≡ state_after setup before at (File user file))
+
+-- where its signon fails the framed denial,
+abbrev pub WhereDenied : Type 0
+WhereDenied = (setup : Setup) (at : Moment) (before : State) (bytes line : List ℕ) (after : State) (file : RequestFile) →
+    Says setup at before bytes line after → IsDenied setup bytes file →
+    (line ≡ frame (reply_text (denial file at))) × (after ≡ before)
 
 -- where it is refused the line with just this place,
 abbrev pub WhereRefused : Type 0
 WhereRefused = (setup : Setup) (at : Moment) (before : State) (bytes line : List ℕ) (after : State) (place : ℕ) →
-    Says setup at before bytes line after → IsRefused setup bytes place → (line ≡ bad_line place) × (after ≡ before)
+    Says setup at before bytes line after → IsRefused bytes place → (line ≡ bad_line place) × (after ≡ before)
 
 -- and such a line is written only where it is refused, at a place that is printed so.
 abbrev pub OnlyWhereRefused : Type 0
 OnlyWhereRefused = (setup : Setup) (at : Moment) (before : State) (bytes : List ℕ) (after : State) (printed : ℕ) →
-    Says setup at before bytes (bad_line printed) after → (place : ℕ) × IsRefused setup bytes place × (decimal place ≡ decimal printed)
+    Says setup at before bytes (bad_line printed) after → (place : ℕ) × IsRefused bytes place × (decimal place ≡ decimal printed)
 
 -- the files of turns
 abbrev pub files_of : List Turn → List (List ℕ)
 files_of [] = []
 files_of (turn ∷ turns) = turn.file ∷ files_of turns
 
+-- Turns over the same files at the same moments write the same bytes.
 abbrev pub OneOutput : Type 0
-OneOutput = (setup : Setup) (at : Moment) (before : State) (turns turns' : List Turn) (after after' : State) →
-    AreTurns setup at before turns after → AreTurns setup at before turns' after' → files_of turns ≡ files_of turns' → (written_in turns ≡ written_in turns') × (after ≡ after')
+OneOutput = (setup : Setup) (before : State) (turns turns' : List Turn) (after after' : State) →
+    AreTurns setup before turns after → AreTurns setup before turns' after' → files_of turns ≡ files_of turns' → moments_in turns ≡ moments_in turns'
+    → (written_in turns ≡ written_in turns') × (after ≡ after')

@@ -1,16 +1,17 @@
 -- What stands behind the last frame that a run answers.
-use Rattle.std.specs.Prelude.{◌≢◌, ℕ, List, [], Option, Result, Ok, Err}
+use Rattle.std.specs.Prelude.{◌≡◌, ◌≢◌, ℕ, List, [], Option, Result, Ok, Err}
 use Rattle.std.specs.Option.{IfSome}
 use Rattle.std.specs.Io.KnownBytes.{Keeps, IsAtEnd, prepend_known}
 use Rattle.ofx_ports.specs.Faults.{Rose}
 use Rattle.bank_session.specs.declared.stop.Stop.{Stop}
 use Rattle.bank_session.specs.declared.stop.Stop.TheVariants as stops
 
-abbrev pub EndOrStop : Option (List ℕ) → List ℕ → Option (List ℕ) → ℕ → ℕ → Result (Unit {0}) Stop → Type 0
-EndOrStop coming ahead left reads reads' (Ok done) = Keeps coming (prepend_known ahead left) × IsAtEnd (prepend_known ahead left)
-EndOrStop coming ahead left reads reads' (Err stops.Frame) = Keeps coming (prepend_known ahead left) × IfSome (prepend_known ahead left) (λ rest. rest ≢ [])
-EndOrStop coming ahead left reads reads' (Err stops.ReadFailed) = Keeps coming (prepend_known ahead left) × Rose reads reads'
-EndOrStop coming ahead left reads reads' (Err stops.NoMemory) = ⊥
-EndOrStop coming ahead left reads reads' (Err stops.WriteFailed) = ⊥
-EndOrStop coming ahead left reads reads' (Err stops.Usage) = ⊥
-EndOrStop coming ahead left reads reads' (Err stops.Setup) = ⊥
+-- The input ends, or it goes on at this place, or a read failed.
+abbrev pub EndOrStop : Option (List ℕ) → ℕ → List ℕ → Option (List ℕ) → ℕ → ℕ → Result (Unit {0}) Stop → Type 0
+EndOrStop coming place ahead left reads reads' (Ok done) = Keeps coming (prepend_known ahead left) × IsAtEnd (prepend_known ahead left)
+EndOrStop coming place ahead left reads reads' (Err (stops.Frame at)) = (at ≡ place) × Keeps coming (prepend_known ahead left) × IfSome (prepend_known ahead left) (λ rest. rest ≢ [])
+EndOrStop coming place ahead left reads reads' (Err stops.ReadFailed) = Keeps coming (prepend_known ahead left) × Rose reads reads'
+EndOrStop coming place ahead left reads reads' (Err stops.NoMemory) = ⊥
+EndOrStop coming place ahead left reads reads' (Err stops.WriteFailed) = ⊥
+EndOrStop coming place ahead left reads reads' (Err stops.Usage) = ⊥
+EndOrStop coming place ahead left reads reads' (Err (stops.Setup line)) = ⊥

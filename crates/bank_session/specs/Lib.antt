@@ -8,11 +8,13 @@ pub mod Writes
 pub mod Answers
 pub mod HeaderLines
 pub mod Words
+pub mod WordsRead
 pub mod SetupRead
 pub mod Desk
 pub mod Asked
 pub mod Turns
 pub mod TurnResult
+pub mod Outside
 pub mod RunEnd
 pub mod EndOrStop
 pub mod Run

@@ -1,66 +1,55 @@
--- A whole run: the words, the setup, the frames, and the status with which it ends.
+-- A whole run: the words, the setup, the frames, and what people are told of its end.
 use Rattle.std.specs.Prelude.{◌≡◌, ℕ, List, Option, Result, Ok, Err, ◌⊎◌}
 use Rattle.std.specs.Io.KnownBytes.{Keeps}
+use Rattle.ofx_ports.specs.Told.{Stays}
 use Rattle.ofx_types.specs.declared.number.Moment.{Moment}
+use Rattle.ofx_types.specs.declared.told.Note.{Note}
+use Rattle.ofx_types.specs.declared.told.Note.TheVariants.{Plain, Place}
+use Rattle.ofx_types.specs.declared.told.Told.{Told}
 use Rattle.bank_model.specs.declared.setup.Setup.{Setup}
 use Rattle.bank_session.specs.Words.{AreWords}
+use Rattle.bank_session.specs.Outside.{Outside}
 use Rattle.bank_session.specs.SetupRead.{IsSetupOf, StopsSetup}
 use Rattle.bank_session.specs.RunEnd.{RunEnds}
 use Rattle.bank_session.specs.declared.stop.Stop.{Stop}
 use Rattle.bank_session.specs.declared.stop.Stop.TheVariants as stops
 
--- The status of each end.
-abbrev pub status_of : Result (Unit {0}) Stop → ℕ
-status_of (Ok done) = 0
-status_of (Err stops.Usage) = 2
-status_of (Err stops.Setup) = 3
-status_of (Err stops.Frame) = 4
-status_of (Err stops.ReadFailed) = 5
-status_of (Err stops.WriteFailed) = 6
-status_of (Err stops.NoMemory) = 7
+abbrev pub told : ℕ → Note → Told
+told status note = record { status = record { 0 = status }; note = note }
+
+-- What is told of each end: its status, the line of a setup's fault, and the place of what is no frame.
+abbrev pub told_of : Result (Unit {0}) Stop → Told
+told_of (Ok done) = told 0 Plain
+told_of (Err stops.Usage) = told 2 Plain
+told_of (Err (stops.Setup line)) = told 3 (Place line)
+told_of (Err (stops.Frame place)) = told 4 (Place place)
+told_of (Err stops.ReadFailed) = told 5 Plain
+told_of (Err stops.WriteFailed) = told 6 Plain
+told_of (Err stops.NoMemory) = told 7 Plain
 
 -- The words have no form.
 abbrev pub IsUsage : List (List ℕ) → Type 0
-IsUsage words = (at : Moment) → AreWords words at → ⊥
+IsUsage words = (at : Option Moment) → AreWords words at → ⊥
 
--- What a run finds and leaves: the bytes that its setup and its input have left, those that its output holds, and the
--- three counts of faults, each before and after.
-pub record Outside : Type 0 where
-  pub setup_left : Option (List ℕ)
-  pub setup_faults : ℕ
-  pub input_left : Option (List ℕ)
-  pub input_faults : ℕ
-  pub held : Option (List ℕ)
-  pub out_faults : ℕ
-
-abbrev pub outside : Option (List ℕ) → ℕ → Option (List ℕ) → ℕ → Option (List ℕ) → ℕ → Outside
-outside setup_left setup_faults input_left input_faults held out_faults = record {
-  setup_left = setup_left;
-  setup_faults = setup_faults;
-  input_left = input_left;
-  input_faults = input_faults;
-  held = held;
-  out_faults = out_faults;
-}
-
--- A run that has no setup reads none of its input and writes nothing.
+-- A run that has no setup reads none of its input and writes nothing, and doesn't look at the clock.
 pub record EndsWithoutSetup (before after : Outside) (stop : Stop) : Type 0 where
   pub cause : StopsSetup before.setup_left before.setup_faults after.setup_faults stop
   pub unread : Keeps before.input_left after.input_left
   pub unwritten : Keeps before.held after.held
+  pub unseen : Stays before.shown after.shown
 
 -- A run has the setup that all bytes of its source spell, and answers the frames of its input.
-pub record EndsWithSetup (at : Moment) (before after : Outside) (end : Result (Unit {0}) Stop) : Type 0 where
+pub record EndsWithSetup (at : Option Moment) (before after : Outside) (end : Result (Unit {0}) Stop) : Type 0 where
   pub setup : Setup
   pub found : IsSetupOf before.setup_left setup
-  pub ends : RunEnds setup at before.input_left after.input_left before.held after.held before.input_faults after.input_faults before.out_faults after.out_faults end
+  pub ends : RunEnds setup at before after end
 
-abbrev pub EndsSo : Moment → Outside → Outside → Result (Unit {0}) Stop → Type 0
+abbrev pub EndsSo : Option Moment → Outside → Outside → Result (Unit {0}) Stop → Type 0
 EndsSo at before after (Ok done) = EndsWithSetup at before after (Ok done)
 EndsSo at before after (Err stop) = EndsWithoutSetup before after stop ⊎ EndsWithSetup at before after (Err stop)
 
--- A run ends so with this status.
-pub record EndsWith (at : Moment) (before after : Outside) (status : ℕ) : Type 0 where
+-- A run ends so, and this is told of it.
+pub record EndsWith (at : Option Moment) (before after : Outside) (what : Told) : Type 0 where
   pub end : Result (Unit {0}) Stop
-  pub status_is : status ≡ status_of end
+  pub told_is : what ≡ told_of end
   pub ends : EndsSo at before after end

@@ -1,19 +1,16 @@
 -- The words of a command line.
-use Rattle.std.specs.Prelude.{◌≡◌, ℕ, List, [], ◌∷◌, length, codes, true}
-use Rattle.std.specs.List.{list_all}
-use Rattle.std.specs.Char.{is_ascii_digit}
+use Rattle.std.specs.Prelude.{◌≡◌, ℕ, List, [], ◌∷◌, codes, Option, None, Some}
 use Rattle.ofx_types.specs.DateForm.{IsDate}
 use Rattle.ofx_types.specs.declared.number.Moment.{Moment}
 
--- 14 digits that are a moment
-pub record IsStamp (text : List ℕ) (moment : Moment) : Type 0 where
-  pub size : length text ≡ 14
-  pub digits : list_all is_ascii_digit text ≡ true
-  pub date : IsDate text moment.0
+-- `--at` and a date, or nothing: then each frame has the moment that the clock shows.
+abbrev pub IsMomentOption : List (List ℕ) → Option Moment → Type 0
+IsMomentOption words None = words ≡ []
+IsMomentOption words (Some at) = (date : List ℕ) × (words ≡ codes "--at" ∷ date ∷ []) × IsDate date at.0
 
--- The words `answer`, the path of the setup, `-`, `--at`, a moment.
-pub record AreWords (words : List (List ℕ)) (at : Moment) : Type 0 where
+-- The words `answer`, the path of the setup, `-`, and perhaps a moment.
+pub record AreWords (words : List (List ℕ)) (at : Option Moment) : Type 0 where
   pub setup : List ℕ
-  pub moment : List ℕ
-  pub spelled : words ≡ codes "answer" ∷ setup ∷ codes "-" ∷ codes "--at" ∷ moment ∷ []
-  pub stamp : IsStamp moment at
+  pub rest : List (List ℕ)
+  pub spelled : words ≡ codes "answer" ∷ setup ∷ codes "-" ∷ rest
+  pub moment : IsMomentOption rest at

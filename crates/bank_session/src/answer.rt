@@ -1,74 +1,131 @@
 //! The command `answer`: a stream of request files, answered in order.
 
-ghost use Rattle.std.specs.Prelude.{◌≡◌, ◌↔◌};
+ghost use Rattle.std.specs.Prelude.{◌≡◌, ◌↔◌, Option, Some, IsSome};
 ghost use Rattle.ofx_types.specs.declared.number.Moment.{Moment as TheMoment};
-ghost use Rattle.ofx_types.specs.Calendar.{IsMoment};
+ghost use Rattle.ofx_types.specs.declared.told.Told.{Told as WhatIsTold};
 ghost use Rattle.bank_session.specs.Words.{AreWords};
-ghost use Rattle.bank_session.specs.Run.{IsUsage, outside, EndsSo, status_of};
+ghost use Rattle.bank_session.specs.WordsRead.{IsLawful};
+ghost use Rattle.bank_session.specs.Outside.{outside};
+ghost use Rattle.bank_session.specs.Run as runs;
+ghost use Rattle.bank_session.specs.Run.{IsUsage, EndsSo, told_of};
 ghost use Rattle.bank_session.specs.Exact.{IsRun};
 
 use crate::run::answer_frames as answer_input;
 use crate::setup_source::read_setup;
 use crate::stop::Stop;
-use crate::words::moment_of_words;
+use crate::words::answer_words;
 use ofx_ports::{Clock, Keeper, Sink, Source};
-use ofx_types::{Moment, Status, Text};
+use ofx_types::{Moment, Note, Status, Text, Told};
 use std::alloc::Global;
 
-/// Reads the setup and answers the frames of the input.
-fn run<A: Source, B: Source, W: Sink>(
+/// Reads the setup and answers the frames of the input, each at that moment, or else at the one that the clock shows.
+fn run<A: Source, B: Source, W: Sink, C: Clock>(
     alloc: Global,
-    at: Moment,
+    at: Option<Moment>,
     setup: &mut A,
     input: &mut B,
     out: &mut W,
+    clock: &mut C,
 ) -> Result<(), Stop>
-    requires { IsMoment at.0 }
-    ensures { EndsSo at (outside (A.left setup.old) (A.faults setup.old) (B.left input.old) (B.faults input.old) (W.held out.old) (W.faults out.old))
-        (outside (A.left setup.new) (A.faults setup.new) (B.left input.new) (B.faults input.new) (W.held out.new) (W.faults out.new)) result }
+    requires { IsLawful at }
+    ensures ends { EndsSo at
+        (outside (A.left setup.old) (A.faults setup.old) (B.left input.old) (B.faults input.old) (W.held out.old) (W.faults out.old) (C.told clock.old))
+        (outside (A.left setup.new) (A.faults setup.new) (B.left input.new) (B.faults input.new) (W.held out.new) (W.faults out.new) (C.told clock.new)) result }
+    ensures still { IsSome at → clock.new ≡ clock.old }
 {
     let setup = read_setup(alloc, setup)?;
-    answer_input(alloc, setup, at, input, out)
+    answer_input(alloc, setup, at, clock, input, out)
 }
 
-/// The status of an end.
-fn status(end: Result<(), Stop>) -> Status
-    ensures { result.0 ≡ status_of end }
+/// What is told of an end.
+fn end_told(end: Result<(), Stop>) -> Told
+    ensures { result ≡ told_of end }
 {
     match end {
-        Ok(()) => Status(0),
-        Err(Stop::Usage) => Status(2),
-        Err(Stop::Setup) => Status(3),
-        Err(Stop::Frame) => Status(4),
-        Err(Stop::ReadFailed) => Status(5),
-        Err(Stop::WriteFailed) => Status(6),
-        Err(Stop::NoMemory) => Status(7),
+        Ok(()) => plain(0),
+        Err(Stop::Usage) => plain(2),
+        Err(Stop::Setup(line)) => at_place(3, line),
+        Err(Stop::Frame(place)) => at_place(4, place),
+        Err(Stop::ReadFailed) => plain(5),
+        Err(Stop::WriteFailed) => plain(6),
+        Err(Stop::NoMemory) => plain(7),
     }
 }
 
-/// Answers a stream of request files, each in its frame.
+/// A status alone.
+fn plain(status: u8) -> Told
+    ensures { result ≡ runs.told status Note.Plain }
+{
+    Told {
+        status: Status(status),
+        note: Note::Plain,
+    }
+}
+
+/// A status, and a place or the number of a line.
+fn at_place(status: u8, place: u64) -> Told
+    ensures { result ≡ runs.told status (Note.Place place) }
+{
+    Told {
+        status: Status(status),
+        note: Note::Place(place),
+    }
+}
+
+/// Answers a stream of request files, each in its frame, and tells how the run ended.
 ///
-/// The words are `answer`, the path of the setup, `-` for records that aren't kept, `--at` and the moment of every
-/// frame in 14 digits. The setup is read whole; then each frame of the input is answered in turn.
+/// The words are `answer`, the path of the setup, `-` for records that aren't kept, and perhaps `--at` with a date
+/// (OFX 1.6, "Dates, Times, and Time Zones"). The setup is read whole; then each frame of the input is answered in
+/// turn. With `--at` each frame has that moment. Without it the clock is read once for each frame, when the whole frame
+/// is there and before it is judged.
 ///
-/// A request file of a user of the setup (OFX 1.6, "Signon") about this user's accounts is answered by the reply in its
-/// frame. Any other file gets the line `BAD` with a place, in bytes from the file's first, and changes nothing:
+/// A request file of a user of the setup (OFX 1.6, "Signon") is answered by the reply in its frame. Where no user has
+/// the file's name and password the reply is the failed signon alone, with code 15500, and changes nothing. Any other
+/// file gets the line `BAD` with a place, in bytes from the file's first, and changes nothing:
 ///
 /// | Place | Where |
 /// |---|---|
 /// | that of the fault | the bytes spell no request file |
-/// | that of the header's line with the uid, of OLDFILEUID where both are given | the file names a uid ("File-Based Error Recovery"), which isn't answered yet |
-/// | 0 | no user has this name and password, or an account isn't this user's |
+/// | that of the header's line with the uid, of OLDFILEUID where both are given | the file names a uid ("File-Based Error Recovery"), which isn't answered yet, whoever signs on |
 ///
-/// | Status | Where |
-/// |---|---|
-/// | 0 | the input was read to its end and every frame answered |
-/// | 2 | the words have another form; nothing was read |
-/// | 3 | the setup has no form or is past a limit; nothing was written |
-/// | 4 | the input goes on with bytes that begin no frame, or behind 1,000,000 frames; the frames before are answered |
-/// | 5 | a read of the setup or of the input failed; the frames before are answered |
-/// | 6 | a write failed; a front of the text is written |
-/// | 7 | memory was refused; the frames before are answered |
+/// | Status | Note | Where |
+/// |---|---|---|
+/// | 0 | | the input was read to its end and every frame answered |
+/// | 2 | | the words have another form; nothing was read |
+/// | 3 | the line of the fault, from 1 | the setup has no form or is past a limit; nothing was written |
+/// | 4 | the number of bytes of the frames answered | the input goes on with bytes that begin no frame, or behind 1,000,000 frames |
+/// | 5 | | a read of the setup or of the input failed; the frames before are answered |
+/// | 6 | | a write failed; a front of the text is written |
+/// | 7 | | memory was refused; the frames before are answered |
+pub fn answer_told<A: Source, B: Source, W: Sink, K: Keeper, C: Clock>(
+    alloc: Global,
+    words: &[Text],
+    setup: &mut A,
+    input: &mut B,
+    out: &mut W,
+    keeper: &mut K,
+    clock: &mut C,
+) -> Told
+    ensures usage { (result.status.0 ≡ 2) ↔ IsUsage words.now }
+    ensures plain { result.status.0 ≡ 2 → result.note ≡ Note.Plain }
+    ensures unread { IsUsage words.now → (setup.new ≡ setup.old) × (input.new ≡ input.old) × (out.new ≡ out.old) × (clock.new ≡ clock.old) }
+
+    // What is written, for which frames and at which moments, and why the run ended; and that what the setup and the
+    // input are decides what is told, unless a read or a write fails or memory is refused.
+    ensures run { (at : Option TheMoment) → AreWords words.now at → IsRun at
+        (outside (A.left setup.old) (A.faults setup.old) (B.left input.old) (B.faults input.old) (W.held out.old) (W.faults out.old) (C.told clock.old))
+        (outside (A.left setup.new) (A.faults setup.new) (B.left input.new) (B.faults input.new) (W.held out.new) (W.faults out.new) (C.told clock.new)) result }
+
+    ensures keeper { keeper.new ≡ keeper.old }
+    ensures clock { (at : TheMoment) → AreWords words.now (Some at) → clock.new ≡ clock.old }
+{
+    match answer_words(words) {
+        None => plain(2),
+        Some(found) => end_told(run(alloc, found.at, setup, input, out, clock)),
+    }
+}
+
+/// Answers a stream of request files, as `answer_told` does, and answers the status alone.
 pub fn answer_files<A: Source, B: Source, W: Sink, K: Keeper, C: Clock>(
     alloc: Global,
     words: &[Text],
@@ -79,19 +136,15 @@ pub fn answer_files<A: Source, B: Source, W: Sink, K: Keeper, C: Clock>(
     clock: &mut C,
 ) -> Status
     ensures usage { (result.0 ≡ 2) ↔ IsUsage words.now }
-    ensures unread { IsUsage words.now → (setup.new ≡ setup.old) × (input.new ≡ input.old) × (out.new ≡ out.old) }
+    ensures unread { IsUsage words.now → (setup.new ≡ setup.old) × (input.new ≡ input.old) × (out.new ≡ out.old) × (clock.new ≡ clock.old) }
 
-    // What is written, for which frames, and why the run ended; and that what the setup and the input are decides the
-    // status, unless a read or a write fails or memory is refused.
-    ensures run { (at : TheMoment) → AreWords words.now at →
-        IsRun at (outside (A.left setup.old) (A.faults setup.old) (B.left input.old) (B.faults input.old) (W.held out.old) (W.faults out.old))
-        (outside (A.left setup.new) (A.faults setup.new) (B.left input.new) (B.faults input.new) (W.held out.new) (W.faults out.new)) result.0 }
+    // The run is that of which the status is told.
+    ensures run { (at : Option TheMoment) → AreWords words.now at → (what : WhatIsTold) × (what.status ≡ result) × IsRun at
+        (outside (A.left setup.old) (A.faults setup.old) (B.left input.old) (B.faults input.old) (W.held out.old) (W.faults out.old) (C.told clock.old))
+        (outside (A.left setup.new) (A.faults setup.new) (B.left input.new) (B.faults input.new) (W.held out.new) (W.faults out.new) (C.told clock.new)) what }
 
     ensures keeper { keeper.new ≡ keeper.old }
-    ensures clock { clock.new ≡ clock.old }
+    ensures clock { (at : TheMoment) → AreWords words.now (Some at) → clock.new ≡ clock.old }
 {
-    match moment_of_words(words) {
-        None => Status(2),
-        Some(at) => status(run(alloc, at, setup, input, out)),
-    }
+    answer_told(alloc, words, setup, input, out, keeper, clock).status
 }

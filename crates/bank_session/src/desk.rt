@@ -3,15 +3,17 @@
 ghost use Rattle.std.specs.Prelude.{◌≡◌, length, IfOk, OnErr, OnOk};
 ghost use Rattle.ofx_types.specs.Calendar.{IsMoment};
 ghost use Rattle.bank_model.specs.SetupForm.{IsWithinLimits};
+ghost use Rattle.bank_model.specs.Rules as rules;
 ghost use Rattle.bank_model.specs.Rules.{IsLegal, opening_state, state_after, answer_to};
+ghost use Rattle.ofx_types.specs.ReplyForm.{reply_text};
 ghost use Rattle.bank_session.specs.Frames.{IsLength, frame};
 ghost use Rattle.bank_session.specs.Answers.{Says, bad_line};
 
 use crate::judge::{Judgement, judge};
-use bank_core::{Book, Held};
+use bank_core::{Book, Held, denial};
 use bank_model::{Event, Setup};
-use ofx_file::OfxPrinter;
-use ofx_types::{Moment, OutOfMemory};
+use ofx_file::{OfxPrinter, write_reply};
+use ofx_types::{Moment, OutOfMemory, RequestFile};
 use ofx_values::print_number;
 use std::alloc::Global;
 use std::marker::Model;
@@ -48,8 +50,8 @@ impl Desk {
         })
     }
 
-    /// What is to be written for the bytes of a file, at most 262,144 of them, at that moment. Where they are
-    /// answered the event has happened. Where memory is refused nothing has.
+    /// What is to be written for the bytes of a file, at most 262,144 of them, at that moment. Where they are a user's
+    /// the event has happened. Otherwise, and where memory is refused, nothing has.
     pub fn answer(
         &mut self,
         alloc: Global,
@@ -64,6 +66,7 @@ impl Desk {
     {
         match judge(alloc, self.book.setup(), bytes)? {
             Judgement::Refused(place) => bad_file_line(alloc, place),
+            Judgement::Denied(file) => denial_line(alloc, at, file),
             Judgement::Answered(event) => self.reply_line(alloc, at, &event),
         }
     }
@@ -89,6 +92,15 @@ impl Desk {
     }
 }
 
+/// The framed reply to a file whose signon failed.
+fn denial_line(alloc: Global, at: Moment, file: RequestFile) -> Result<Vec<u8>, OutOfMemory>
+    requires { IsMoment at.0 }
+    ensures { IfOk result (λ line. line.items ≡ frame (reply_text (rules.denial file at))) }
+{
+    let reply = write_reply(alloc, &denial(alloc, file, at))?;
+    framed(alloc, &reply)
+}
+
 /// The line for a file that isn't answered, which tells a place in it.
 fn bad_file_line(alloc: Global, place: u64) -> Result<Vec<u8>, OutOfMemory>
     ensures { IfOk result (λ line. line.items ≡ bad_line place) }
@@ -99,7 +111,7 @@ fn bad_file_line(alloc: Global, place: u64) -> Result<Vec<u8>, OutOfMemory>
     Ok(line)
 }
 
-/// The most bytes that a frame's head has: its word, a length of twenty digits, and the spaces of the line.
+/// The most bytes that a frame's head has: its word, one space, a length of twenty digits, and one LF.
 const HEAD: usize = 26;
 
 /// The bytes of a file in their frame.

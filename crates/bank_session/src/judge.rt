@@ -1,18 +1,17 @@
-//! What the bytes of a file are to the bank: an event, or a file that isn't answered.
+//! What the bytes of a file are to the bank: an event, a failed signon, or a file that isn't answered.
 
 ghost use Rattle.std.specs.Prelude.{◌≡◌, length, IfOk};
-ghost use Rattle.std.specs.List.{list_all};
 ghost use Rattle.ofx_types.specs.FileForm.{SpellsFile};
 ghost use Rattle.bank_model.specs.SetupForm.{IsWithinLimits};
 ghost use Rattle.bank_model.specs.Sound.{IsSound};
 ghost use Rattle.bank_session.specs.Frames.{IsLength};
-ghost use Rattle.bank_session.specs.Answers.{asks_own, uid_line, fault_place};
-ghost use Rattle.bank_session.specs.Asked.{IsJudged, IsOwnEvent};
+ghost use Rattle.bank_session.specs.Answers.{uid_line, fault_place};
+ghost use Rattle.bank_session.specs.Asked.{IsJudged, IsSignonOf};
 
 use crate::lines::place_of_line;
 use bank_model::{Event, Setup};
 use ofx_file::read_request;
-use ofx_types::{Ask, FileFault, OutOfMemory, RequestFile, UserId};
+use ofx_types::{FileFault, OutOfMemory, RequestFile};
 use std::alloc::Global;
 
 /// The lines of the header that name the uids.
@@ -25,6 +24,8 @@ const NEWER_LINE: usize = 9;
 pub enum Judgement {
     /// An event, which is legal.
     Answered(Event),
+    /// A file whose signon failed.
+    Denied(RequestFile),
     /// A file that isn't answered, and the place to tell.
     Refused(u64),
 }
@@ -63,10 +64,7 @@ fn judge_file(setup: &Setup, bytes: &[u8], file: RequestFile) -> Judgement
 {
     match line_with_uid(&file) {
         Some(number) => Judgement::Refused(place_of_line(bytes, number) as u64),
-        None => match event_of(setup, file) {
-            Some(event) => Judgement::Answered(event),
-            None => Judgement::Refused(0),
-        },
+        None => judge_signon(setup, file),
     }
 }
 
@@ -83,38 +81,14 @@ fn line_with_uid(file: &RequestFile) -> Option<usize>
     }
 }
 
-/// The event that a request file is. None where its user doesn't sign on, or asks about an account of others.
-fn event_of(setup: &Setup, file: RequestFile) -> Option<Event>
-    requires { IsWithinLimits setup.now }
-    ensures { IsOwnEvent setup.now file result }
+/// What a request file without uids is to the bank: an event of the user who signs on, whatever accounts it asks about.
+fn judge_signon(setup: &Setup, file: RequestFile) -> Judgement
+    requires within { IsWithinLimits setup.now }
+    requires sound { IsSound file }
+    ensures { IsSignonOf setup.now file result }
 {
     match setup.signon(&file.user, &file.pass) {
-        None => None,
-        Some(user) => {
-            if owns_all(setup, user, &file) {
-                Some(Event::File(user, file))
-            } else {
-                None
-            }
-        }
-    }
-}
-
-/// Whether each account that the file asks about is the user's.
-fn owns_all(setup: &Setup, user: UserId, file: &RequestFile) -> bool
-    requires { IsWithinLimits setup.now }
-    ensures { result ≡ list_all (asks_own setup.now user) file.now.asks }
-{
-    file.asks.items().iter().all(|ask| owns(setup, user, ask))
-}
-
-fn owns(setup: &Setup, user: UserId, ask: &Ask) -> bool
-    requires { IsWithinLimits setup.now }
-    ensures { result ≡ asks_own setup.now user ask.now }
-{
-    let Ask::Statement(_, name, _) = ask;
-    match setup.account(name) {
-        Some(account) => setup.owns(user, account),
-        None => false,
+        Some(user) => Judgement::Answered(Event::File(user, file)),
+        None => Judgement::Denied(file),
     }
 }

@@ -1,7 +1,7 @@
 //! Whole runs of the bank's server: frames of request files in, replies out.
 //!
-//! A run reads its words and its setup, then answers each frame of its input in turn. The clauses of
-//! `answer_files` say what it wrote, for which frames, and why it ended.
+//! A run reads its words and its setup, then answers each frame of its input in turn. The clauses of `answer_told` say
+//! what it wrote, for which frames and at which moments, why it ended, and what people are told of that.
 #![tactic(auto)]
 
 mod ahead;
@@ -12,6 +12,7 @@ mod frames;
 mod judge;
 mod laws;
 mod lines;
+mod moments;
 mod output;
 mod run;
 mod setup_source;
@@ -19,9 +20,11 @@ mod stop;
 mod turn;
 mod words;
 
-pub use answer::answer_files;
-pub use laws::{exact_lines, one_line, one_output, one_refusal, one_splitting, uid_lines_begin};
-pub use words::moment_of_words;
+pub use answer::{answer_files, answer_told};
+pub use laws::{
+    exact_lines, one_line, one_output, one_refusal, one_signon, one_splitting, uid_lines_begin,
+};
+pub use words::{AnswerWords, answer_words};
 
 #[cfg(test)]
 mod tests;

@@ -43,7 +43,7 @@ pub fn read_setup<A: Source>(alloc: Global, source: &mut A) -> Result<Setup, Sto
     }
     match Setup::read(alloc, ahead.bytes()) {
         Ok(setup) => Ok(setup),
-        Err(SetupFault::SetupLine(_)) => Err(Stop::Setup),
+        Err(SetupFault::SetupLine(line)) => Err(Stop::Setup(line)),
         Err(SetupFault::OutOfMemory) => Err(Stop::NoMemory),
     }
 }

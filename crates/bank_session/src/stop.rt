@@ -8,10 +8,10 @@ use ofx_types::{OutOfMemory, Status};
 pub enum Stop {
     /// The words have no form.
     Usage,
-    /// The setup has no form, or is past a limit.
-    Setup,
-    /// The input goes on with bytes that begin no frame, or with more frames than a run answers.
-    Frame,
+    /// The setup has no form or is past a limit, at the line of this number, from 1.
+    Setup(u64),
+    /// Behind this many bytes the input goes on with bytes that begin no frame, or with more frames than a run answers.
+    Frame(u64),
     /// A read failed.
     ReadFailed,
     /// A write failed.

@@ -1,11 +1,14 @@
 //! Whole runs over the memory forms: the sample, calls that fail one at a time, calls of one byte, and the edges.
 
+mod moments;
+mod notes;
 mod sample;
+mod signons;
 
 use self::sample::{SETUP, WORDS, changed_request, replies, requests};
-use crate::answer_files;
+use crate::{answer_files, answer_told};
 use ofx_ports::{MemClock, MemKeeper, MemSink, MemSource};
-use ofx_types::{Moment, Status, Text};
+use ofx_types::{Moment, Status, Text, Told};
 use std::alloc::Global;
 use std::test::Fail;
 
@@ -18,6 +21,38 @@ const REPLY: usize = 761;
 /// More room than any run of these tests needs.
 const ROOM: usize = 4_096;
 
+/// The words as texts.
+fn texts(alloc: Global, words: &[&str]) -> Result<Vec<Text>, Fail> {
+    let mut texts = Vec::new(alloc);
+    for word in words {
+        texts.push(Text::new(alloc, word.as_bytes(), 32)?)?;
+    }
+    Ok(texts)
+}
+
+/// What a run with these words and this clock told, and what it wrote.
+fn told_with(
+    alloc: Global,
+    words: &[&str],
+    mut setup: MemSource,
+    mut input: MemSource,
+    mut out: MemSink,
+    clock: &mut MemClock,
+) -> Result<(Told, Vec<u8>), Fail> {
+    let texts = texts(alloc, words)?;
+    let mut keeper = MemKeeper::new(alloc);
+    let told = answer_told(
+        alloc,
+        &texts,
+        &mut setup,
+        &mut input,
+        &mut out,
+        &mut keeper,
+        clock,
+    );
+    Ok((told, out.held().to_vec(alloc)?))
+}
+
 /// The status of a run with these words, and what it wrote.
 fn run_with(
     alloc: Global,
@@ -26,10 +61,7 @@ fn run_with(
     mut input: MemSource,
     mut out: MemSink,
 ) -> Result<(Status, Vec<u8>), Fail> {
-    let mut texts = Vec::new(alloc);
-    for word in words {
-        texts.push(Text::new(alloc, word.as_bytes(), 32)?)?;
-    }
+    let texts = texts(alloc, words)?;
     let mut keeper = MemKeeper::new(alloc);
     let mut clock = MemClock::new(alloc, &[Moment(0)])?;
     let status = answer_files(
@@ -196,7 +228,7 @@ fn inputs_at_the_edges(rt: HostRuntime) -> Result<(), Fail> {
 
 /// Changes of the sample's request, and the place to tell. Its header has 143 bytes; line 3 begins at 29, line 8 at
 /// 107 and line 9 at 124. BANKACCTFROM begins at 358, and the end tag of OFX at 521.
-const REFUSED: [(&str, &str, &str); 10] = [
+const REFUSED: [(&str, &str, &str); 8] = [
     ("VERSION:160", "VERSION:161", "BAD 29\n"),
     ("</OFX>\r\n", "</OFX", "BAD 526\n"),
     ("</SONRQ>", "</SONRS>", "BAD 278\n"),
@@ -208,12 +240,6 @@ const REFUSED: [(&str, &str, &str); 10] = [
         "OLDFILEUID:NONE\r\nNEWFILEUID:NONE",
         "OLDFILEUID:f1\r\nNEWFILEUID:f2",
         "BAD 107\n",
-    ),
-    ("<USERPASS>secret", "<USERPASS>hunter", "BAD 0\n"),
-    (
-        "<USERID>alice\r\n<USERPASS>secret",
-        "<USERID>bob\r\n<USERPASS>hunter",
-        "BAD 0\n",
     ),
 ];
 
@@ -283,13 +309,17 @@ fn a_setup_without_its_last_line_end_is_refused(rt: HostRuntime) -> Result<(), F
     Ok(())
 }
 
-/// Words in another form: one is missing, is another word, or is no moment in 14 digits.
-const OTHER_WORDS: [[&str; 5]; 5] = [
-    ["replay", "setup", "-", "--at", "20240131120000"],
-    ["answer", "setup", "records", "--at", "20240131120000"],
-    ["answer", "setup", "-", "at", "20240131120000"],
-    ["answer", "setup", "-", "--at", "20240131"],
-    ["answer", "setup", "-", "--at", "20240230120000"],
+/// Words in another form: one is missing, is another word, or is no date.
+const OTHER_WORDS: [&[&str]; 9] = [
+    &[],
+    &["answer", "setup"],
+    &["replay", "setup", "-"],
+    &["answer", "setup", "records"],
+    &["answer", "setup", "-", "--at"],
+    &["answer", "setup", "-", "at", "20240131120000"],
+    &["answer", "setup", "-", "--at", "2024013"],
+    &["answer", "setup", "-", "--at", "20240230120000"],
+    &["answer", "setup", "-", "--at", "20240131120000", "-"],
 ];
 
 #[test]
@@ -299,7 +329,7 @@ fn words_in_another_form_are_refused(rt: HostRuntime) -> Result<(), Fail> {
         let setup = MemSource::new(alloc, SETUP)?;
         let input = MemSource::new(alloc, b"FILE 0\n")?;
         let out = MemSink::new(alloc, ROOM)?;
-        let (status, written) = run_with(alloc, words.as_slice(), setup, input, out)?;
+        let (status, written) = run_with(alloc, words, setup, input, out)?;
         assert_eq!(rt; status, Status(2));
         assert!(rt; written.is_empty());
     }

@@ -6,31 +6,31 @@ mod command_line;
 mod told;
 
 use crate::command_line::{Request, read_words};
-use crate::told::{HELP, VERSION, tell};
-use bank_session::{answer_files, moment_of_words};
+use crate::told::{HELP, VERSION, plain, tell};
+use bank_session::{answer_told, answer_words};
 use ofx_ports::{MemKeeper, ReaderSource, SystemClock, WriterSink};
-use ofx_types::{Status, Text};
+use ofx_types::{Text, Told};
 use std::process::ExitCode;
 use std::{fs, io};
 
 fn main(rt: HostRuntime) -> ExitCode {
-    let status = match read_words(&rt) {
+    let end = match read_words(&rt) {
         Request::Help => printed(&rt, HELP),
         Request::Version => printed(&rt, VERSION),
         Request::Run(words) => answered(rt, &words),
-        Request::Usage => Status(2),
-        Request::NoMemory => Status(7),
+        Request::Usage => plain(2),
+        Request::NoMemory => plain(7),
     };
-    tell(&rt, status);
-    ExitCode::from(status.0)
+    tell(&rt, end);
+    ExitCode::from(end.status.0)
 }
 
-/// The status of a run over the file that the second word names, the standard input and the standard output.
+/// The end of a run over the file that the second word names, the standard input and the standard output.
 ///
 /// The file is opened only where the words have their form, since opening may wait.
-fn answered(rt: HostRuntime, words: &[Text]) -> Status {
-    if moment_of_words(words).is_none() {
-        return Status(2);
+fn answered(rt: HostRuntime, words: &[Text]) -> Told {
+    if answer_words(words).is_none() {
+        return plain(2);
     }
     let alloc = rt.alloc();
     let mut setup = ReaderSource::opened(setup_file(&rt, words));
@@ -38,7 +38,7 @@ fn answered(rt: HostRuntime, words: &[Text]) -> Status {
     let mut out = WriterSink::new(io::writer(&rt));
     let mut keeper = MemKeeper::new(alloc);
     let mut clock = SystemClock::new(rt);
-    answer_files(
+    answer_told(
         alloc,
         words,
         &mut setup,
@@ -60,10 +60,10 @@ fn setup_file(rt: &HostRuntime, words: &[Text]) -> io::Result<fs::File> {
     }
 }
 
-/// The status of printing a text on the standard output.
-fn printed(rt: &HostRuntime, text: &str) -> Status {
+/// The end of printing a text on the standard output.
+fn printed(rt: &HostRuntime, text: &str) -> Told {
     match rt.print(text) {
-        Ok(()) => Status(0),
-        Err(_) => Status(6),
+        Ok(()) => plain(0),
+        Err(_) => plain(6),
     }
 }

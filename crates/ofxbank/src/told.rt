@@ -1,17 +1,20 @@
 //! What people are told: the usage, and why a run ended.
 
-use ofx_types::Status;
+use ofx_types::{Note, Status, Told};
+use std::io;
 
 /// What `--help` prints.
 pub const HELP: &str = "\
-usage: ofxbank answer SETUP - --at YYYYMMDDHHMMSS
+usage: ofxbank answer SETUP - [--at DATE]
 
 Answers a stream of Open Financial Exchange 1.6 request files from the standard
 input, each in its frame, on the standard output.
 
-  SETUP   the file with the bank, its users and its accounts
-  -       the records are kept in memory
-  --at    the moment of every frame, in GMT
+  SETUP      the file with the bank, its users and its accounts
+  -          the records are kept in memory
+  --at DATE  the moment of every frame, as a date of a file: YYYYMMDD or
+             YYYYMMDDHHMMSS, perhaps with a zone, as 20240131120000[-5:EST];
+             without it each frame has the moment that the clock shows
 
   --help     prints this
   --version  prints the version
@@ -23,25 +26,32 @@ Status: 0 all answered, 2 usage, 3 setup, 4 frame, 5 read failed,
 /// What `--version` prints.
 pub const VERSION: &str = "ofxbank 0.1.0\n";
 
-/// The line on the error stream for a status. None where all went well.
-fn cause(status: Status) -> Option<&'static str> {
-    match status.0 {
-        2 => Some("usage"),
-        3 => Some("setup: a line has no form, is past a limit, or is missing"),
-        4 => Some("frame: the input goes on with no frame, or with more than 1,000,000 frames"),
-        5 => Some("read failed"),
-        6 => Some("write failed"),
-        7 => Some("no memory"),
-        _ => None,
+/// A status alone.
+pub fn plain(status: u8) -> Told {
+    Told {
+        status: Status(status),
+        note: Note::Plain,
     }
 }
 
 /// Tells on the error stream why a run ended.
-pub fn tell(rt: &impl Eprint, status: Status) {
-    if let Some(cause) = cause(status) {
-        let _ = rt.eprintln(cause);
-    }
-    if status.0 == 2 {
+pub fn tell(rt: &impl Eprint, end: Told) {
+    let _ = tell_cause(rt, end);
+    if end.status.0 == 2 {
         let _ = rt.eprint(HELP);
+    }
+}
+
+/// Prints the line for an end. None where all went well.
+fn tell_cause(rt: &impl Eprint, end: Told) -> io::Result<()> {
+    match (end.status.0, end.note) {
+        (2, _) => rt.eprintln("usage"),
+        (3, Note::Place(line)) => eprintln!(rt; "setup line {line}"),
+        (4, Note::Place(place)) => eprintln!(rt; "frame at {place}"),
+        (5, _) => rt.eprintln("read failed"),
+        (6, _) => rt.eprintln("write failed"),
+        (7, _) => rt.eprintln("no memory"),
+        (8, _) => rt.eprintln("keeper failed"),
+        _ => Ok(()),
     }
 }

@@ -116,6 +116,67 @@ const REPLY_BACK: &[u8; 420] = b"\r\n\
     </BANKMSGSRSV1>\r\n\
     </OFX>\r\n";
 
+/// The reply to the sample's request where its signon fails, in its frame.
+pub const DENIAL: &str = "\
+    FILE 306\n\
+    OFXHEADER:100\r\n\
+    DATA:OFXSGML\r\n\
+    VERSION:160\r\n\
+    SECURITY:NONE\r\n\
+    ENCODING:USASCII\r\n\
+    CHARSET:1252\r\n\
+    COMPRESSION:NONE\r\n\
+    OLDFILEUID:NONE\r\n\
+    NEWFILEUID:NONE\r\n\
+    \r\n\
+    <OFX>\r\n\
+    <SIGNONMSGSRSV1>\r\n\
+    <SONRS>\r\n\
+    <STATUS>\r\n\
+    <CODE>15500\r\n\
+    <SEVERITY>ERROR\r\n\
+    </STATUS>\r\n\
+    <DTSERVER>20240131120000\r\n\
+    <LANGUAGE>ENG\r\n\
+    </SONRS>\r\n\
+    </SIGNONMSGSRSV1>\r\n\
+    </OFX>\r\n";
+
+/// The reply to the sample's request where the account isn't the user's, in its frame.
+pub const FOREIGN: &str = "\
+    FILE 423\n\
+    OFXHEADER:100\r\n\
+    DATA:OFXSGML\r\n\
+    VERSION:160\r\n\
+    SECURITY:NONE\r\n\
+    ENCODING:USASCII\r\n\
+    CHARSET:1252\r\n\
+    COMPRESSION:NONE\r\n\
+    OLDFILEUID:NONE\r\n\
+    NEWFILEUID:NONE\r\n\
+    \r\n\
+    <OFX>\r\n\
+    <SIGNONMSGSRSV1>\r\n\
+    <SONRS>\r\n\
+    <STATUS>\r\n\
+    <CODE>0\r\n\
+    <SEVERITY>INFO\r\n\
+    </STATUS>\r\n\
+    <DTSERVER>20240131120000\r\n\
+    <LANGUAGE>ENG\r\n\
+    </SONRS>\r\n\
+    </SIGNONMSGSRSV1>\r\n\
+    <BANKMSGSRSV1>\r\n\
+    <STMTTRNRS>\r\n\
+    <TRNUID>s1\r\n\
+    <STATUS>\r\n\
+    <CODE>2003\r\n\
+    <SEVERITY>ERROR\r\n\
+    </STATUS>\r\n\
+    </STMTTRNRS>\r\n\
+    </BANKMSGSRSV1>\r\n\
+    </OFX>\r\n";
+
 /// The sample's request in its frame, once for each transaction's name. A name has two bytes.
 pub fn requests(alloc: Global, names: &[&[u8; 2]]) -> Result<Vec<u8>, AllocError> {
     joined(alloc, REQUEST_FRONT, names, REQUEST_BACK)
@@ -135,6 +196,12 @@ pub fn changed_request(alloc: Global, old: &str, new: &str) -> Result<String, Fa
 /// The sample's reply in its frame, once for each transaction's name. A name has two bytes.
 pub fn replies(alloc: Global, names: &[&[u8; 2]]) -> Result<Vec<u8>, AllocError> {
     joined(alloc, REPLY_FRONT, names, REPLY_BACK)
+}
+
+/// The sample's reply to the transaction of that name at another moment, in 14 digits.
+pub fn reply_at(alloc: Global, name: &[u8; 2], moment: &str) -> Result<String, Fail> {
+    let reply = replies(alloc, &[name])?;
+    Ok(str::from_utf8(&reply)?.replace(alloc, "20240131120000", moment)?)
 }
 
 fn joined(

@@ -1,4 +1,4 @@
-use Rattle.bank_session.proofs.LineLemmas.{same_place, unanswered}
+use Rattle.bank_session.proofs.LineLemmas.{same_place, unanswered, undenied}
 use Rattle.bank_session.proofs.laws.one_refusal.Goals as goal
 
 pub returns-clause-place : goal.returns-clause-place
@@ -6,3 +6,6 @@ returns-clause-place c = same_place c.one_file.ensures c.one_fault.ensures c.fau
 
 pub returns-clause-unanswered : goal.returns-clause-unanswered
 returns-clause-unanswered c = unanswered c.one_file.ensures c.faults_spell_nothing.ensures
+
+pub returns-clause-undenied : goal.returns-clause-undenied
+returns-clause-undenied c = undenied c.one_file.ensures c.faults_spell_nothing.ensures

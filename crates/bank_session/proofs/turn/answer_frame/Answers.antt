@@ -1,6 +1,6 @@
 use Rattle.std.proofs.Common.{List, ◌++◌, ◌∙◌, ap, sym, refl}
 use Rattle.bank_session.specs.Frames.{frame}
-use Rattle.bank_session.proofs.TurnLemmas.{file_in, file_fits, frame_ahead}
+use Rattle.bank_session.proofs.TurnLemmas.{file_in, file_fits, frame_ahead, frame_size}
 use Rattle.bank_session.proofs.turn.answer_frame.Goals as goal
 
 pub returns-in-Ok-clause-turn : goal.returns-in-Ok-clause-turn
@@ -11,6 +11,7 @@ returns-in-Ok-clause-turn g c = record {
   says = rw c.bytes-bytes.ensures.bytes at c.in_ok-line.ensures.line;
   setup = c.answer.ensures.setup;
   read = frame_ahead c.args.ahead.now c.args.size c.requires.frame ∙ ap (λ (l : List _). frame (file_in c.args.ahead.now c.args.size) ++ l) (sym c.consume.ensures);
+  size_is = frame_size c.args.ahead.now c.args.size c.requires.frame;
   written = rw c.deref.ensures.value at c.in-Ok.ensures.whole;
 }
 

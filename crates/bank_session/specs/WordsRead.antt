@@ -1,0 +1,21 @@
+-- What reading the words of a command line answers.
+use Rattle.std.specs.Prelude.{◌≡◌, ℕ, List, Option, None, Some}
+use Rattle.std.specs.Option.{IfSome}
+use Rattle.ofx_types.specs.Calendar.{IsMoment}
+use Rattle.ofx_types.specs.DateForm.{IsDate}
+use Rattle.ofx_types.specs.declared.number.Moment.{Moment}
+use Rattle.bank_session.specs.declared.words.AnswerWords.{AnswerWords}
+
+-- The moment of a run's frames lies in the years 1900 to 9999, where the words name one.
+abbrev pub IsLawful : Option Moment → Type 0
+IsLawful at = IfSome at (λ moment. IsMoment moment.0)
+
+-- Words are read exactly where they have their form, and they have it with one moment, or with none.
+abbrev pub Reads : (Option Moment → Type 0) → Option AnswerWords → Type 0
+Reads HaveForm None = (at : Option Moment) → HaveForm at → ⊥
+Reads HaveForm (Some words) = HaveForm words.at × IsLawful words.at × ((other : Option Moment) → HaveForm other → other ≡ words.at)
+
+-- the moment that a date names
+abbrev pub IsNamedBy : List ℕ → Option Moment → Type 0
+IsNamedBy date None = ⊥
+IsNamedBy date (Some at) = IsDate date at.0
