@@ -2,6 +2,7 @@
 import random
 import re
 
+from dated import any_date
 from pieces import FILES
 from reference.names import AGGREGATES, ELEMENTS
 from spelled import FORMS, LEAVES, ONE_LINE, VALUES, spelled, stranger
@@ -13,6 +14,8 @@ MOST_BYTES = 262144
 
 TAG = re.compile(rb"</?[A-Za-z0-9._-]+>")
 START_TAG = re.compile(rb"<([A-Za-z0-9._-]+)>")
+DATE = re.compile(rb"<DT[A-Z]+>([^<>]+)(?=<)")
+PERIOD_TAG = re.compile(rb"</?INCTRAN>|<INCLUDE>")
 ELEMENT = re.compile(rb"<([A-Za-z0-9._-]+)>([^<>]+)(?=<)")
 
 KNOWN = sorted(ELEMENTS | AGGREGATES)
@@ -121,6 +124,30 @@ def a_value(r, file):
     return file[:start] + new + file[end:]
 
 
+def a_date(r, file):
+    """A date is replaced, or gets an entity in it."""
+    dates = list(DATE.finditer(file))
+    if not dates:
+        return a_period(r, file)
+    start, end = r.choice(dates).span(1)
+    at = r.randrange(start, end + 1)
+    return r.choice((
+        file[:start] + any_date(r) + file[end:], file[:start] + any_date(r) + file[end:],
+        file[:at] + r.choice(ENTITIES) + file[at:],
+    ))
+
+
+def a_period(r, file):
+    """One end of a period, or both, are put into INCTRAN or beside it."""
+    places = [tag.start() for tag in PERIOD_TAG.finditer(file)]
+    if not places:
+        return an_insert(r, file)
+    at = r.choice(places)
+    names = r.choice(((b"DTSTART",), (b"DTEND",), (b"DTSTART", b"DTEND"), (b"DTEND", b"DTSTART"), (b"DTEND", b"DTEND")))
+    ends = [b"<%s>%s" % (name, any_date(r)) + r.choice((b"", b"\r\n", b"</%s>" % name)) for name in names]
+    return file[:at] + b"".join(ends) + file[at:]
+
+
 def an_aggregate(r, file):
     """An aggregate is left out, emptied, put into another, or stands twice or three times."""
     starts = [tag for tag in START_TAG.finditer(file) if tag[1] in AGGREGATES]
@@ -200,7 +227,8 @@ def a_filling(r, file):
 
 DEEDS = (
     a_byte, a_byte, a_byte, a_cut, a_span, two_spans, a_tag, a_tag, between_tags, between_tags, a_value, a_value,
-    a_value, an_aggregate, an_aggregate, a_nest, an_insert, an_insert, a_header_line, a_filling,
+    a_value, an_aggregate, an_aggregate, a_nest, an_insert, an_insert, a_header_line, a_filling, a_date, a_date, a_date,
+    a_period, a_period,
 )
 COUNTS = (0, 1, 1, 1, 1, 1, 1, 2, 2, 3, 6)
 

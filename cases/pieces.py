@@ -3,11 +3,14 @@
     TEXT                       each character is one byte (Latin-1)
     {"request": N}             N copies of the frame in samples/statement.request
     {"reply": N}               N copies of the frame in samples/statement.reply
-    {"request": CHANGES}       one frame, of the file in samples/statement.request with changes
-    {"reply": CHANGES}         one frame, of the file in samples/statement.reply with changes
+    {"denied": N}              N copies of the reply to the sample request where its signon fails
+    {"no account": N}          N copies of the reply to the sample request where its account isn't the user's
+    {"request": CHANGES}       one frame, of the file in samples/statement.request with changes; the replies likewise
+    {"sample": NAME}           the bytes of the file of this name in samples/
     {"header": CHANGES}        the header of the sample files, with its empty line, with changes
     {"frame": PIECES}          one frame, of the file that the pieces make
     {"repeat": [PIECES, N]}    the pieces, N times
+    {"numbered": [PIECES, N]}  the pieces, N times, with a number from 1 to N in place of each `#`
     {"prefixes": [A, B]}       frames of the sample request's prefixes, from A bytes to B - 1 bytes long
     {"left out": [A, B]}       frames of the sample request, in each of which one byte is left out, from byte A to B - 1
     {"doubled": [A, B]}        the same with one byte doubled
@@ -28,9 +31,23 @@ def sample(name):
         return f.read()
 
 
-FRAMES = {"request": sample("statement.request"), "reply": sample("statement.reply")}
-# The files in the frames, without the line FILE.
-FILES = {name: framed.split(b"\n", 1)[1] for name, framed in FRAMES.items()}
+def sample_file(name):
+    """The file in a sample's frame."""
+    return sample(name).split(b"\n", 1)[1]
+
+
+def without(file, name):
+    """The file without its one aggregate of this name."""
+    start, end = file.index(b"<%s>" % name), file.index(b"</%s>\r\n" % name)
+    return file[:start] + file[end + len(b"</%s>\r\n" % name):]
+
+
+GOOD, REFUSED = b"<CODE>0\r\n<SEVERITY>INFO\r\n", b"<CODE>%d\r\n<SEVERITY>ERROR\r\n"
+
+FILES = {"request": sample_file("statement.request"), "reply": sample_file("statement.reply")}
+FILES["denied"] = without(FILES["reply"], b"BANKMSGSRSV1").replace(GOOD, REFUSED % 15500)
+FILES["no account"] = (REFUSED % 2003).join(without(FILES["reply"], b"STMTRS").rsplit(GOOD, 1))
+FRAMES = {name: frame(file) for name, file in FILES.items()}
 HEADER = FILES["request"][:FILES["request"].index(b"<OFX>")]
 
 
@@ -66,9 +83,13 @@ def each_byte(put, first, last):
 KINDS = {
     "request": sample_frame("request"),
     "reply": sample_frame("reply"),
+    "denied": sample_frame("denied"),
+    "no account": sample_frame("no account"),
+    "sample": sample,
     "header": lambda changes: changed(HEADER, changes),
     "frame": lambda pieces: frame(whole(pieces)),
     "repeat": lambda what: whole(what[0]) * what[1],
+    "numbered": lambda what: b"".join(whole(what[0]).replace(b"#", b"%d" % n) for n in range(1, what[1] + 1)),
     "prefixes": lambda what: b"".join(frame(FILES["request"][:size]) for size in range(*what)),
     "left out": lambda what: each_byte(lambda byte: b"", *what),
     "doubled": lambda what: each_byte(lambda byte: byte * 2, *what),

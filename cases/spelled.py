@@ -1,4 +1,5 @@
 """Request files at random that are well spelled."""
+from dated import any_date, date
 from pieces import HEADER
 from reference.names import ELEMENTS
 
@@ -11,7 +12,7 @@ FORMS = [
 VALUES = [
     b"", b" ", b"\r\n", b"0", b"00", b" 0 ", b"1", b"Y", b"N", b"y", b"YES", b"CHECKING", b"SAVINGS", b"checking",
     b"alice", b"bob", b"secret", b"hunter", b"1001", b"1002", b"121099999", b"&lt;", b"&amp;lt;", b"&", b"a>b",
-    b"\xe9\xff\x7f", b"20240131", b"a\tb", b"a\r\nb",
+    b"\xe9\xff\x7f", b"20240131", b"20240131120000.000[-5:EST]", b"a\tb", b"a\r\nb",
 ]
 
 # A realistic file of a finance program: a few long lines, elements without end tags, children that no form names.
@@ -21,7 +22,7 @@ ONE_LINE = HEADER + (
     b"<APPID>QWIN<APPVER>0900<INTU.BID>3000</SONRQ></SIGNONMSGSRQV1>\r\n"
     b"<BANKMSGSRQV1><STMTTRNRQ><TRNUID>s2<CLTCOOKIE>4<STMTRQ><BANKACCTFROM>\r\n"
     b"<BANKID>121099999<ACCTID>1001<ACCTTYPE>CHECKING</BANKACCTFROM>\r\n"
-    b"<INCTRAN><INCLUDE>Y</INCTRAN></STMTRQ></STMTTRNRQ>\r\n"
+    b"<INCTRAN><DTSTART>20240101<INCLUDE>Y</INCTRAN></STMTRQ></STMTTRNRQ>\r\n"
     b"</BANKMSGSRQV1><X.NOTE><X.A>1</X.NOTE></OFX>"
 )
 
@@ -106,8 +107,8 @@ def statement(r, style, user):
     if r.random() < 0.8:
         inctran = [element(b"INCLUDE", r.choice((b"Y", b"Y", b"N")))]
         for name in (b"DTSTART", b"DTEND"):
-            if r.random() < 0.05:
-                inctran.append(element(name, r.choice((b"20240101", b"20240131120000.000[-5:EST]", b"x", b""))))
+            if r.random() < 0.4:
+                inctran.append(element(name, r.choice((date(r), date(r), date(r), any_date(r), b""))))
         body.append(aggregate(b"INCTRAN", inctran))
     trnuid = r.choice((b"s%d" % r.randrange(100), b"a&amp;b", b"&lt;>", b"x" * 36, b"00", b"a b"))
     return aggregate(b"STMTTRNRQ", [element(b"TRNUID", trnuid), aggregate(b"STMTRQ", body)])

@@ -1,9 +1,10 @@
 """A whole run of `ofxbank answer`: its words, its frames, and what it writes for each of them."""
 import re
-from datetime import datetime
-from typing import NamedTuple
+from datetime import datetime, timezone
+from typing import NamedTuple, Optional
 
 from . import replies
+from .dates import read_moment
 from .fault import Fault
 from .requests import read_request
 from .setup import SetupFault, read_setup
@@ -15,27 +16,31 @@ MOST_BYTES = 262144
 MOST_IN_A_WORD = 10000
 
 FILE_LINE = re.compile(rb"FILE (0|[1-9][0-9]{0,5})\n")
-MOMENT = re.compile(rb"[0-9]{14}")
 
 
 class Outcome(NamedTuple):
     status: int
     output: bytes
-    note: str  # why the run ended, in the words of the error stream
+    note: Optional[str]  # the first line of the error stream, which says why the run ended; None where it is empty
 
 
-def answer(words, setup_text, frames):
+def answer(words, setup_text, frames, takes_output=True):
     """The outcome of a run with these words, whose second one is the path of the setup's text, on an input of frames.
 
-    A frame is a line `FILE n` and n bytes, n from 0 to 262,144. A run reads at most 1,000,000 of them.
+    Text and frames are None where they can't be read. A frame is a line `FILE n` and n bytes, n from 0 to 262,144. A
+    run reads at most 1,000,000 of them.
     """
-    at = moment_of(words)
-    if at is None:
+    clock = clock_of(words)
+    if clock is None:
         return Outcome(2, b"", "usage")
+    if setup_text is None:
+        return Outcome(5, b"", "read failed")
     try:
         setup = read_setup(setup_text)
     except SetupFault as fault:
         return Outcome(3, b"", "setup line %d" % fault.line)
+    if frames is None:
+        return Outcome(5, b"", "read failed")
     written, place = [], 0
     while place < len(frames):
         line = FILE_LINE.match(frames, place)
@@ -43,8 +48,10 @@ def answer(words, setup_text, frames):
         if len(written) == MOST_FRAMES or size > MOST_BYTES or len(frames) < line.end() + size:
             return Outcome(4, b"".join(written), "frame at %d" % place)
         place = line.end() + size
-        written.append(answered(setup, frames[line.end():place], at))
-    return Outcome(0, b"".join(written), "")
+        written.append(answered(setup, frames[line.end():place], clock()))
+        if not takes_output:
+            return Outcome(6, b"", "write failed")
+    return Outcome(0, b"".join(written), None)
 
 
 def is_word(word):
@@ -56,43 +63,49 @@ def is_word(word):
     return len(word) <= MOST_IN_A_WORD and not FORBIDDEN.search(word)
 
 
-def moment_of(words):
-    """The moment of every frame. None where the words are others than `answer SETUP - --at YYYYMMDDHHMMSS`."""
+def clock_of(words):
+    """What tells the moment of a frame. None where the words are others than `answer SETUP -`, perhaps with `--at` and
+    a date, which then is every frame's moment."""
     words = [trimmed(word) for word in words]
-    if len(words) != 5 or [words[0]] + words[2:4] != [b"answer", b"-", b"--at"] or not MOMENT.fullmatch(words[4]):
+    if len(words) not in (3, 5) or not all(map(is_word, words)) or words[0] != b"answer" or words[2] != b"-":
         return None
-    if not is_word(words[1]):
-        return None
-    try:
-        at = datetime.strptime(words[4].decode(), "%Y%m%d%H%M%S")
-    except ValueError:
-        return None
-    return at if at.year >= 1900 else None
+    if len(words) == 3:
+        return now
+    at = read_moment(words[4]) if words[3] == b"--at" else None
+    return None if at is None else lambda: at
+
+
+def now():
+    return datetime.now(timezone.utc).replace(microsecond=0, tzinfo=None)
 
 
 def answered(setup, file, at):
     """What is written for a file: a frame with the reply, or the line BAD with the place of the file's first fault."""
     try:
         request = read_request(file)
-        refuse_unbuilt(setup, request)
+        refuse_uids(request.header)
     except Fault as fault:
         return b"BAD %d\n" % fault.at
-    balances = [setup.accounts[ask.account][0] for ask in request.asks]
-    statements = [replies.statement(ask, cents, at) for ask, cents in zip(request.asks, balances)]
-    reply = replies.written(request.header, at, statements)
+    reply = reply_to(setup, request, at)
     return b"FILE %d\n" % len(reply) + reply
 
 
-def refuse_unbuilt(setup, request):
-    """What spells a request and isn't answered yet: a uid in the header has the place of its line; a failed signon and
-    an account that isn't the user's have the place 0."""
-    header = request.header
+def refuse_uids(header):
+    """A file with a uid in its header isn't answered yet. Its fault has the place of the first such line."""
     for uid, line in ((header.older, header.lines[7]), (header.newer, header.lines[8])):
         if uid is not None:
             raise Fault("Unbuilt", line)
+
+
+def reply_to(setup, request, at):
+    """The reply file. Signon succeeds where a user of the setup has just this name and password."""
     if setup.users.get(request.user) != request.password:
-        raise Fault("Unbuilt", 0)
-    for ask in request.asks:
-        _, owners = setup.accounts.get(ask.account, (0, ()))
-        if request.user not in owners:
-            raise Fault("Unbuilt", 0)
+        return replies.denied(request.header, at)
+    return replies.written(request.header, at, [statement(setup, request.user, ask, at) for ask in request.asks])
+
+
+def statement(setup, user, ask, at):
+    """The account is found by bank, number and kind together. It is the user's where the setup names the user as an
+    owner."""
+    cents, owners = setup.accounts.get(ask.account, (0, ()))
+    return replies.statement(ask, cents, at) if user in owners else replies.no_account(ask)

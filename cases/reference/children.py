@@ -3,6 +3,7 @@
 Of each child it is tried first whether it is repeated, then whether it is missing, then its content. A child that the
 form doesn't name is never looked at.
 """
+from .dates import read_moment
 from .fault import Fault
 from .text import decoded, trimmed
 
@@ -44,3 +45,14 @@ def word(node, name, words):
     if value not in words:
         raise Fault("Value", child.at)
     return value
+
+
+def maybe_moment(node, name):
+    """The moment of the child's date. None where the child doesn't stand."""
+    child = maybe(node, name)
+    if child is None:
+        return None
+    moment = read_moment(decoded(trimmed(child.value)))
+    if moment is None:
+        raise Fault("Value", child.at)
+    return moment

@@ -1,6 +1,11 @@
 """Reply files: the one form in which they are written."""
+from datetime import datetime
+
+from .dates import FIRST_YEAR
 from .header import written_header
 from .text import escaped
+
+FIRST_MOMENT = datetime(FIRST_YEAR, 1, 1)
 
 
 def amount(cents):
@@ -27,10 +32,21 @@ def lines(tree):
 def written(header, at, bank_replies):
     """The reply file to a request with this header whose signon succeeded; a message set is written where it has a
     child."""
-    ofx = [(b"SIGNONMSGSRSV1", [(b"SONRS", [status(0), (b"DTSERVER", moment(at)), (b"LANGUAGE", b"ENG")])])]
-    if bank_replies:
-        ofx.append((b"BANKMSGSRSV1", bank_replies))
-    return written_header(header.version, header.newer) + b"".join(lines([(b"OFX", ofx)]))
+    return file(header, [signon(0, at)] + ([(b"BANKMSGSRSV1", bank_replies)] if bank_replies else []))
+
+
+def denied(header, at):
+    """The reply file to a request whose signon failed."""
+    return file(header, [signon(15500, at)])
+
+
+def file(header, message_sets):
+    return written_header(header.version, header.newer) + b"".join(lines([(b"OFX", message_sets)]))
+
+
+def signon(code, at):
+    sonrs = [status(code), (b"DTSERVER", moment(at)), (b"LANGUAGE", b"ENG")]
+    return (b"SIGNONMSGSRSV1", [(b"SONRS", sonrs)])
 
 
 def status(code):
@@ -39,11 +55,23 @@ def status(code):
 
 def statement(ask, cents, at):
     """STMTTRNRS for an account with this balance, on which nothing was ever posted."""
-    listed = [(b"BANKTRANLIST", [(b"DTSTART", b"19000101000000"), (b"DTEND", moment(at))])] if ask.listed else []
     balance = [(b"BALAMT", amount(cents)), (b"DTASOF", moment(at))]
-    body = [(b"CURDEF", b"USD"), (b"BANKACCTFROM", account(ask.account))] + listed
+    body = [(b"CURDEF", b"USD"), (b"BANKACCTFROM", account(ask.account))]
+    if ask.period and ask.period.listed:
+        body.append(transactions(ask.period, at))
     body += [(b"LEDGERBAL", balance), (b"AVAILBAL", balance)]
     return (b"STMTTRNRS", [(b"TRNUID", ask.trnuid), status(0), (b"STMTRS", body)])
+
+
+def no_account(ask):
+    """STMTTRNRS for an account that isn't the user's."""
+    return (b"STMTTRNRS", [(b"TRNUID", ask.trnuid), status(2003)])
+
+
+def transactions(period, at):
+    """BANKTRANLIST. A period without a start begins with the first moment of all, one without an end goes up to now."""
+    start, end = period.start or FIRST_MOMENT, period.end or at
+    return (b"BANKTRANLIST", [(b"DTSTART", moment(start)), (b"DTEND", moment(end))])
 
 
 def account(name):

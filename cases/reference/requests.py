@@ -1,7 +1,8 @@
 """Request files: what they ask. Each function reads one form, its named children in the order of the format's page."""
-from typing import NamedTuple
+from datetime import datetime
+from typing import NamedTuple, Optional
 
-from .children import all_of, maybe, one, text, word
+from .children import all_of, maybe, maybe_moment, one, text, word
 from .fault import Fault
 from .header import Header, read_header
 from .tags import read_tags
@@ -19,10 +20,16 @@ class Account(NamedTuple):
     kind: bytes
 
 
+class Period(NamedTuple):
+    start: Optional[datetime]
+    end: Optional[datetime]
+    listed: bool  # whether the transactions are asked for
+
+
 class Statement(NamedTuple):
     trnuid: bytes
     account: Account
-    listed: bool  # whether the transactions are asked for
+    period: Optional[Period]
 
 
 class Request(NamedTuple):
@@ -73,16 +80,12 @@ def statement(stmttrnrq):
     stmtrq = one(stmttrnrq, b"STMTRQ")
     account = bank_account(one(stmtrq, b"BANKACCTFROM"))
     inctran = maybe(stmtrq, b"INCTRAN")
-    return Statement(trnuid, account, inctran is not None and transactions(inctran))
+    return Statement(trnuid, account, None if inctran is None else period(inctran))
 
 
-def transactions(inctran):
-    """INCTRAN, as long as no period is read."""
-    for name in (b"DTSTART", b"DTEND"):
-        date = maybe(inctran, name)
-        if date is not None:
-            raise Fault("Unbuilt", date.at)
-    return word(inctran, b"INCLUDE", (b"Y", b"N")) == b"Y"
+def period(inctran):
+    start, end = maybe_moment(inctran, b"DTSTART"), maybe_moment(inctran, b"DTEND")
+    return Period(start, end, word(inctran, b"INCLUDE", (b"Y", b"N")) == b"Y")
 
 
 def bank_account(node):
