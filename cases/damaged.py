@@ -1,9 +1,13 @@
-"""Request files at random, most of them damaged. Each file comes from its seed and its number alone."""
+"""Request files at random, most of them damaged. Each file comes from its seed and its number alone.
+
+The files of a batch go to one bank, one after the other.
+"""
 import random
 import re
 
 from dated import any_date
 from pieces import FILES
+from priced import any_amount
 from reference.names import AGGREGATES, ELEMENTS
 from spelled import FORMS, LEAVES, ONE_LINE, VALUES, spelled, stranger
 
@@ -15,12 +19,18 @@ MOST_BYTES = 262144
 TAG = re.compile(rb"</?[A-Za-z0-9._-]+>")
 START_TAG = re.compile(rb"<([A-Za-z0-9._-]+)>")
 DATE = re.compile(rb"<DT[A-Z]+>([^<>]+)(?=<)")
+AMOUNT = re.compile(rb"<TRNAMT>([^<>]+)(?=<)")
+DEED_TAG = re.compile(rb"</?(?:INTRATRNRQ|INTRARQ|INTRAMODRQ|INTRACANRQ|XFERINFO)>")
+# The number in a name of a file, or in a TRNUID of a transfer.
+NAME_NUMBER = re.compile(rb"((?:NEWFILEUID:|<TRNUID>)[ \t\r\n]*[ux])[0-9]+")
 PERIOD_TAG = re.compile(rb"</?INCTRAN>|<INCLUDE>")
 ELEMENT = re.compile(rb"<([A-Za-z0-9._-]+)>([^<>]+)(?=<)")
 
 KNOWN = sorted(ELEMENTS | AGGREGATES)
 NAMES = [b"A", b"X", b"INTU.BID", b"X-C_d.9", b"ofx", b"Sonrq", b"N" * 32, b"N" * 33, b""]
-LIMITS = {b"USERID": 32, b"USERPASS": 64, b"TRNUID": 36, b"BANKID": 32, b"ACCTID": 32}
+LIMITS = {
+    b"USERID": 32, b"USERPASS": 64, b"TRNUID": 36, b"BANKID": 32, b"ACCTID": 32, b"SRVRTID": 64, b"TRNAMT": 32,
+}
 BYTES = b"\x00\x01\x08\t\n\x0b\x0c\r\x1f <>&/;:.-_0AZaz\x7f\x80\xff"
 ENTITIES = [b"&lt;", b"&gt;", b"&amp;", b"&amp;lt;", b"&", b"&lt", b"&LT;", b"&#60;"]
 BEGINNINGS = [b"<", b"<", b"</", b"</", b"<!", b"< "]
@@ -117,7 +127,7 @@ def a_value(r, file):
     old, at = element[2], r.randrange(end - start + 1)
     size = LIMITS.get(element[1], 300) + r.choice((-1, 0, 1))
     new = r.choice((
-        r.choice(VALUES), r.choice(VALUES), r.choice((b"x", b"&amp;", b"&gt;", b"\xe9", b"&")) * size,
+        r.choice(VALUES), r.choice(VALUES), r.choice((b"x", b"&amp;", b"&gt;", b"\xe9", b"&", b"0")) * size,
         b" " * size + b"x", old[:at] + r.choice(ENTITIES) + old[at:], r.choice((b" ", b"\t", b"\r\n")) + old,
         old + b" \r\n", old.swapcase(),
     ))
@@ -146,6 +156,33 @@ def a_period(r, file):
     names = r.choice(((b"DTSTART",), (b"DTEND",), (b"DTSTART", b"DTEND"), (b"DTEND", b"DTSTART"), (b"DTEND", b"DTEND")))
     ends = [b"<%s>%s" % (name, any_date(r)) + r.choice((b"", b"\r\n", b"</%s>" % name)) for name in names]
     return file[:at] + b"".join(ends) + file[at:]
+
+
+def an_amount(r, file):
+    """An amount is replaced, or gets an entity in it."""
+    amounts = list(AMOUNT.finditer(file))
+    if not amounts:
+        return a_value(r, file)
+    start, end = r.choice(amounts).span(1)
+    at = r.randrange(start, end + 1)
+    if r.random() < 0.8:
+        return file[:start] + any_amount(r) + file[end:]
+    return file[:at] + r.choice(ENTITIES) + file[at:]
+
+
+def a_deed(r, file):
+    """A child of one of the forms of a transfer is put into one of them or beside it."""
+    places = [tag.start() for tag in DEED_TAG.finditer(file)]
+    if not places:
+        return an_insert(r, file)
+    at = r.choice(places)
+    new = r.choice((
+        b"<INTRARQ></INTRARQ>", b"<INTRAMODRQ></INTRAMODRQ>", b"<INTRACANRQ><SRVRTID>%d</INTRACANRQ>" % r.randrange(99),
+        b"<TRNUID>x%d" % r.randrange(1000), b"<SRVRTID>%d" % r.randrange(99), b"<SRVRTID>" + b"1" * r.randrange(9, 66),
+        b"<XFERINFO></XFERINFO>", b"<BANKACCTTO></BANKACCTTO>", b"<TRNAMT>" + any_amount(r), b"<DTDUE>" + any_date(r),
+        b"<INTRATRNRQ></INTRATRNRQ>",
+    ))
+    return file[:at] + new + file[at:]
 
 
 def an_aggregate(r, file):
@@ -201,7 +238,7 @@ def a_header_line(r, file):
     elif deed == 2:
         lines.insert(k, r.choice((line, b"", b"\r", b"X:1")))
     elif deed == 3:
-        values = (b"NONE", b"100", b"102", b"1252", b"u1", b"", b"x" * 36, b"x" * 37, b"a\x1fb")
+        values = (b"NONE", b"100", b"102", b"1252", b"u1", b"u2", b"", b"x" * 36, b"x" * 37, b"a\x1fb")
         lines[k] = tag + colon + r.choice(values)
     elif deed == 4:
         lines[k] = r.choice((b" ", b"\t", b"\r")) + line
@@ -228,9 +265,16 @@ def a_filling(r, file):
 DEEDS = (
     a_byte, a_byte, a_byte, a_cut, a_span, two_spans, a_tag, a_tag, between_tags, between_tags, a_value, a_value,
     a_value, an_aggregate, an_aggregate, a_nest, an_insert, an_insert, a_header_line, a_filling, a_date, a_date, a_date,
-    a_period, a_period,
+    a_period, a_period, an_amount, an_amount, a_deed, a_deed,
 )
-COUNTS = (0, 1, 1, 1, 1, 1, 1, 2, 2, 3, 6)
+COUNTS = (0, 0, 0, 1, 1, 1, 1, 1, 1, 2, 2, 3, 6)
+
+
+def renamed(r, file):
+    """The file with other numbers in its names, so that most of them are new to the bank."""
+    if r.random() < 0.2:
+        return file
+    return NAME_NUMBER.sub(lambda found: found[1] + b"%d" % r.randrange(5000), file)
 
 
 def damaged(r, file):
@@ -244,4 +288,4 @@ def batch(seed, number):
     """The files of one batch; batch 0 has the files 0 to 499."""
     r = random.Random("%d/%d" % (seed, number))
     bases = [FILES["request"], ONE_LINE] * 4 + [spelled(r) for _ in range(BASES - 8)]
-    return [damaged(r, r.choice(bases)) for _ in range(IN_A_BATCH)]
+    return [damaged(r, renamed(r, r.choice(bases))) for _ in range(IN_A_BATCH)]

@@ -5,9 +5,12 @@
     {"reply": N}               N copies of the frame in samples/statement.reply
     {"denied": N}              N copies of the reply to the sample request where its signon fails
     {"no account": N}          N copies of the reply to the sample request where its account isn't the user's
+    {"posted": N}              N copies of the reply to the first transfer at the sample's bank, x1 of 10.00 from 1001
+    {"refused": N}             N copies of the reply to that transfer where x1 is used
     {"request": CHANGES}       one frame, of the file in samples/statement.request with changes; the replies likewise
     {"sample": NAME}           the bytes of the file of this name in samples/
     {"header": CHANGES}        the header of the sample files, with its empty line, with changes
+    {"asked": ASKED}           one frame, of the file that asks for this (asks.py says how)
     {"frame": PIECES}          one frame, of the file that the pieces make
     {"repeat": [PIECES, N]}    the pieces, N times
     {"numbered": [PIECES, N]}  the pieces, N times, with a number from 1 to N in place of each `#`
@@ -21,6 +24,7 @@ pairs before have left, and the pieces that take its place.
 """
 import os
 
+from asks import POSTED, REFUSED, asked
 from frames import frame
 
 SAMPLES = os.path.join(os.path.dirname(os.path.abspath(__file__)), "..", "samples")
@@ -42,11 +46,14 @@ def without(file, name):
     return file[:start] + file[end + len(b"</%s>\r\n" % name):]
 
 
-GOOD, REFUSED = b"<CODE>0\r\n<SEVERITY>INFO\r\n", b"<CODE>%d\r\n<SEVERITY>ERROR\r\n"
+GOOD, WRONG = b"<CODE>0\r\n<SEVERITY>INFO\r\n", b"<CODE>%d\r\n<SEVERITY>ERROR\r\n"
 
 FILES = {"request": sample_file("statement.request"), "reply": sample_file("statement.reply")}
-FILES["denied"] = without(FILES["reply"], b"BANKMSGSRSV1").replace(GOOD, REFUSED % 15500)
-FILES["no account"] = (REFUSED % 2003).join(without(FILES["reply"], b"STMTRS").rsplit(GOOD, 1))
+FILES["denied"] = without(FILES["reply"], b"BANKMSGSRSV1").replace(GOOD, WRONG % 15500)
+FILES["no account"] = (WRONG % 2003).join(without(FILES["reply"], b"STMTRS").rsplit(GOOD, 1))
+for name, reply in (("posted", POSTED), ("refused", REFUSED)):
+    bank_messages = "<BANKMSGSRSV1>\r\n%s</BANKMSGSRSV1>\r\n" % reply
+    FILES[name] = without(FILES["reply"], b"BANKMSGSRSV1").replace(b"</OFX>", bank_messages.encode() + b"</OFX>")
 FRAMES = {name: frame(file) for name, file in FILES.items()}
 HEADER = FILES["request"][:FILES["request"].index(b"<OFX>")]
 
@@ -85,8 +92,11 @@ KINDS = {
     "reply": sample_frame("reply"),
     "denied": sample_frame("denied"),
     "no account": sample_frame("no account"),
+    "posted": sample_frame("posted"),
+    "refused": sample_frame("refused"),
     "sample": sample,
     "header": lambda changes: changed(HEADER, changes),
+    "asked": lambda what: frame(changed(asked(HEADER, what), what.get("changes", []))),
     "frame": lambda pieces: frame(whole(pieces)),
     "repeat": lambda what: whole(what[0]) * what[1],
     "numbered": lambda what: b"".join(whole(what[0]).replace(b"#", b"%d" % n) for n in range(1, what[1] + 1)),

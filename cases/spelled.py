@@ -1,10 +1,11 @@
 """Request files at random that are well spelled."""
 from dated import any_date, date
 from pieces import HEADER
+from priced import amount, any_amount
 from reference.names import ELEMENTS
 
 LEAVES = sorted(ELEMENTS)
-# The forms of bank and mail messages that stand beside the statement request.
+# The forms of bank and mail messages beside the statement request.
 FORMS = [
     b"INTRATRNRQ", b"RECINTRATRNRQ", b"BANKMAILTRNRQ", b"INTRASYNCRQ", b"RECINTRASYNCRQ", b"BANKMAILSYNCRQ",
     b"MAILTRNRQ", b"MAILSYNCRQ",
@@ -68,8 +69,9 @@ def request_header(r):
     lines[2] = b"VERSION:%s\r\n" % r.choice((b"102", b"103", b"151", b"160"))
     lines[5] = b"CHARSET:%s\r\n" % r.choice((b"1252", b"ISO-8859-1", b"NONE"))
     for k in (7, 8):
-        if r.random() < 0.04:
-            lines[k] = lines[k].replace(b"NONE", r.choice((b"u1", b"u" * 36, b"none", b"\xe9:<&", b"a b")))
+        if r.random() < 0.25:
+            names = (b"u%d" % r.randrange(40),) * 4 + (b"u" * 36, b"none", b"\xe9:<&", b"a b")
+            lines[k] = lines[k].replace(b"NONE", r.choice(names))
     if r.random() < 0.2:
         lines = [line.replace(b":", r.choice((b":", b": ", b":\t")), 1) for line in lines]
     if r.random() < 0.2:
@@ -87,7 +89,7 @@ def spelled(r):
         password = b"wrong"
     sonrq = [element(b"DTCLIENT", b"20240131120000"), element(b"USERID", user), element(b"USERPASS", password)]
     sonrq += [element(b"LANGUAGE", b"ENG"), element(b"APPID", b"QWIN"), element(b"APPVER", b"0900")]
-    asks = [statement(r, style, user) for _ in range(r.choice((0, 1, 1, 1, 2, 3, 6)))]
+    asks = [r.choice((statement, transfer))(r, style, user) for _ in range(r.choice((0, 1, 1, 1, 2, 3, 6)))]
     if r.random() < 0.05:
         asks.append(aggregate(r.choice(FORMS), []))
     sets = [aggregate(b"SIGNONMSGSRQV1", [aggregate(b"SONRQ", sonrq)])]
@@ -101,9 +103,8 @@ def spelled(r):
 
 def statement(r, style, user):
     element, aggregate = style.element, style.aggregate
-    number, kind = (b"1001", b"CHECKING") if user == b"alice" and r.random() < 0.7 else (b"1002", b"SAVINGS")
-    account = [element(b"BANKID", b"121099999"), element(b"ACCTID", number), element(b"ACCTTYPE", kind)]
-    body = [aggregate(b"BANKACCTFROM", account)]
+    number = b"1001" if user == b"alice" and r.random() < 0.7 else b"1002"
+    body = [account(style, b"BANKACCTFROM", number)]
     if r.random() < 0.8:
         inctran = [element(b"INCLUDE", r.choice((b"Y", b"Y", b"N")))]
         for name in (b"DTSTART", b"DTEND"):
@@ -112,3 +113,36 @@ def statement(r, style, user):
         body.append(aggregate(b"INCTRAN", inctran))
     trnuid = r.choice((b"s%d" % r.randrange(100), b"a&amp;b", b"&lt;>", b"x" * 36, b"00", b"a b"))
     return aggregate(b"STMTTRNRQ", [element(b"TRNUID", trnuid), aggregate(b"STMTRQ", body)])
+
+
+def account(style, name, number):
+    kind = b"CHECKING" if number == b"1001" else b"SAVINGS"
+    children = (b"BANKID", b"121099999"), (b"ACCTID", number), (b"ACCTTYPE", kind)
+    return style.aggregate(name, [style.element(*child) for child in children])
+
+
+def transfer(r, style, user):
+    """A transfer, or a change or a cancellation of one that may be there."""
+    name = r.choice((b"INTRARQ", b"INTRARQ", b"INTRARQ", b"INTRAMODRQ", b"INTRACANRQ"))
+    deed = []
+    if name != b"INTRARQ":
+        number = b"%d" % r.randrange(1, r.choice((4, 12, 40)))
+        deed.append(style.element(b"SRVRTID", r.choice((number,) * 9 + (b"0" + number, b"0", b"x", b"1" * 64))))
+    if name != b"INTRACANRQ":
+        deed.append(terms(r, style, user, 0.9 if name == b"INTRAMODRQ" else 0.5))
+    trnuid = style.element(b"TRNUID", b"x%d" % r.randrange(1000))
+    return style.aggregate(b"INTRATRNRQ", [trnuid, style.aggregate(name, deed)])
+
+
+def terms(r, style, user, dated):
+    """What is moved. The share `dated` has a due day; most go from an account of the user to another one."""
+    source, target = r.choice(((b"1001", b"1002"), (b"1002", b"1001")) if user == b"alice" else ((b"1002", b"1001"),))
+    if r.random() < 0.1:
+        source, target = r.choice((b"1001", b"1002", b"1003")), r.choice((b"1001", b"1002", b"1003"))
+    children = [account(style, b"BANKACCTFROM", source), account(style, b"BANKACCTTO", target)]
+    children.append(style.element(b"TRNAMT", amount(r) if r.random() < 0.9 else any_amount(r)))
+    if r.random() < dated:
+        days = (b"20240130", b"20240131", b"20240201", b"20240205120000", b"20240201[+5]", b"99991231")
+        due = r.choice(days) if r.random() < 0.8 else r.choice((date, any_date))(r)
+        children.append(style.element(b"DTDUE", due))
+    return style.aggregate(b"XFERINFO", children)

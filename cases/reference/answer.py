@@ -4,8 +4,10 @@ from datetime import datetime, timezone
 from typing import NamedTuple, Optional
 
 from . import replies
+from .bank import Bank
 from .dates import read_moment
 from .fault import Fault
+from .kept import exchanged
 from .requests import read_request
 from .setup import SetupFault, read_setup
 from .tags import FORBIDDEN
@@ -41,14 +43,14 @@ def answer(words, setup_text, frames, takes_output=True):
         return Outcome(3, b"", "setup line %d" % fault.line)
     if frames is None:
         return Outcome(5, b"", "read failed")
-    written, place = [], 0
+    bank, written, place = Bank(setup), [], 0
     while place < len(frames):
         line = FILE_LINE.match(frames, place)
         size = int(line[1]) if line else MOST_BYTES + 1
         if len(written) == MOST_FRAMES or size > MOST_BYTES or len(frames) < line.end() + size:
             return Outcome(4, b"".join(written), "frame at %d" % place)
         place = line.end() + size
-        written.append(answered(setup, frames[line.end():place], clock()))
+        written.append(answered(bank, frames[line.end():place], clock()))
         if not takes_output:
             return Outcome(6, b"", "write failed")
     return Outcome(0, b"".join(written), None)
@@ -79,33 +81,19 @@ def now():
     return datetime.now(timezone.utc).replace(microsecond=0, tzinfo=None)
 
 
-def answered(setup, file, at):
+def answered(bank, file, at):
     """What is written for a file: a frame with the reply, or the line BAD with the place of the file's first fault."""
     try:
         request = read_request(file)
-        refuse_uids(request.header)
     except Fault as fault:
         return b"BAD %d\n" % fault.at
-    reply = reply_to(setup, request, at)
+    reply = reply_to(bank, request, at)
     return b"FILE %d\n" % len(reply) + reply
 
 
-def refuse_uids(header):
-    """A file with a uid in its header isn't answered yet. Its fault has the place of the first such line."""
-    for uid, line in ((header.older, header.lines[7]), (header.newer, header.lines[8])):
-        if uid is not None:
-            raise Fault("Unbuilt", line)
-
-
-def reply_to(setup, request, at):
-    """The reply file. Signon succeeds where a user of the setup has just this name and password."""
-    if setup.users.get(request.user) != request.password:
+def reply_to(bank, request, at):
+    """The reply file. Signon succeeds where a user of the setup has just this name and password; a file whose signon
+    fails leaves the bank as it was."""
+    if bank.setup.users.get(request.user) != request.password:
         return replies.denied(request.header, at)
-    return replies.written(request.header, at, [statement(setup, request.user, ask, at) for ask in request.asks])
-
-
-def statement(setup, user, ask, at):
-    """The account is found by bank, number and kind together. It is the user's where the setup names the user as an
-    owner."""
-    cents, owners = setup.accounts.get(ask.account, (0, ()))
-    return replies.statement(ask, cents, at) if user in owners else replies.no_account(ask)
+    return exchanged(bank, request, at)

@@ -3,6 +3,7 @@
 Of each child it is tried first whether it is repeated, then whether it is missing, then its content. A child that the
 form doesn't name is never looked at.
 """
+from .amounts import read_amount
 from .dates import read_moment
 from .fault import Fault
 from .text import decoded, trimmed
@@ -13,17 +14,17 @@ def all_of(node, names):
     return [child for child in node.children if child.name in names and child.stands()]
 
 
-def maybe(node, name):
-    """The child, which stands at most once. None where it doesn't stand."""
-    found = all_of(node, (name,))
+def maybe(node, *names):
+    """The one child with one of these names. None where none stands."""
+    found = all_of(node, names)
     if len(found) > 1:
         raise Fault("Repeated", found[1].at)
     return found[0] if found else None
 
 
-def one(node, name):
-    """The child, which stands exactly once."""
-    child = maybe(node, name)
+def one(node, *names):
+    """The child with one of these names, of which exactly one stands, once."""
+    child = maybe(node, *names)
     if child is None:
         raise Fault("Missing", node.at)
     return child
@@ -50,9 +51,17 @@ def word(node, name, words):
 def maybe_moment(node, name):
     """The moment of the child's date. None where the child doesn't stand."""
     child = maybe(node, name)
-    if child is None:
-        return None
-    moment = read_moment(decoded(trimmed(child.value)))
-    if moment is None:
+    return None if child is None else read(child, read_moment)
+
+
+def amount(node, name):
+    """The cents of the child's amount."""
+    return read(one(node, name), read_amount)
+
+
+def read(child, reader):
+    """What the reader makes of the child's value, which has no form where that is None."""
+    value = reader(decoded(trimmed(child.value)))
+    if value is None:
         raise Fault("Value", child.at)
-    return moment
+    return value

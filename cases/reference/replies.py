@@ -1,16 +1,12 @@
 """Reply files: the one form in which they are written."""
-from datetime import datetime
+from datetime import datetime, time
 
+from .amounts import written_amount
 from .dates import FIRST_YEAR
 from .header import written_header
 from .text import escaped
 
 FIRST_MOMENT = datetime(FIRST_YEAR, 1, 1)
-
-
-def amount(cents):
-    sign = b"-" if cents < 0 else b""
-    return sign + b"%d.%02d" % divmod(abs(cents), 100)
 
 
 def moment(at):
@@ -53,25 +49,55 @@ def status(code):
     return (b"STATUS", [(b"CODE", b"%d" % code), (b"SEVERITY", b"ERROR" if code else b"INFO")])
 
 
-def statement(ask, cents, at):
-    """STMTTRNRS for an account with this balance, on which nothing was ever posted."""
-    balance = [(b"BALAMT", amount(cents)), (b"DTASOF", moment(at))]
+def refused(name, ask, code):
+    """A reply of this name to an ask that was refused."""
+    return (name, [(b"TRNUID", ask.trnuid), status(code)])
+
+
+def statement(ask, bank, at):
+    balance = [(b"BALAMT", written_amount(bank.balance(ask.account))), (b"DTASOF", moment(at))]
     body = [(b"CURDEF", b"USD"), (b"BANKACCTFROM", account(ask.account))]
     if ask.period and ask.period.listed:
-        body.append(transactions(ask.period, at))
+        body.append(transactions(ask.period, bank.lines(ask.account), at))
     body += [(b"LEDGERBAL", balance), (b"AVAILBAL", balance)]
     return (b"STMTTRNRS", [(b"TRNUID", ask.trnuid), status(0), (b"STMTRS", body)])
 
 
-def no_account(ask):
-    """STMTTRNRS for an account that isn't the user's."""
-    return (b"STMTTRNRS", [(b"TRNUID", ask.trnuid), status(2003)])
+def transactions(period, lines, at):
+    """BANKTRANLIST, with the lines from the period's start on and before its end.
 
-
-def transactions(period, at):
-    """BANKTRANLIST. A period without a start begins with the first moment of all, one without an end goes up to now."""
+    A period without a start begins with the first moment of all. One without an end leaves no line out, and the reply
+    says that it goes up to now.
+    """
     start, end = period.start or FIRST_MOMENT, period.end or at
-    return (b"BANKTRANLIST", [(b"DTSTART", moment(start)), (b"DTEND", moment(end))])
+    listed = [line for line in lines if start <= line.stamp and (period.end is None or line.stamp < period.end)]
+    return (b"BANKTRANLIST", [(b"DTSTART", moment(start)), (b"DTEND", moment(end))] + [
+        (b"STMTTRN", [
+            (b"TRNTYPE", b"XFER"), (b"DTPOSTED", moment(line.stamp)), (b"TRNAMT", written_amount(line.cents)),
+            (b"FITID", b"%d" % line.number),
+        ]) for line in listed
+    ])
+
+
+def transfer(ask, row):
+    """INTRATRNRS for a deed that was done, with the transfer as it then stands."""
+    number = (b"SRVRTID", b"%d" % (ask.id if row is None else row.id))
+    if ask.form == b"INTRACANRQ":
+        done = (b"INTRACANRS", [number])
+    elif ask.form == b"INTRAMODRQ":
+        done = (b"INTRAMODRS", [number] + standing(row))
+    else:
+        done = (b"INTRARS", [(b"CURDEF", b"USD"), number] + standing(row))
+    return (b"INTRATRNRS", [(b"TRNUID", ask.trnuid), status(0), done])
+
+
+def standing(row):
+    """XFERINFO, whose DTDUE is the midnight of the due day, and XFERPRCSTS."""
+    terms = [
+        (b"BANKACCTFROM", account(row.terms.source)), (b"BANKACCTTO", account(row.terms.target)),
+        (b"TRNAMT", written_amount(row.terms.cents)), (b"DTDUE", moment(datetime.combine(row.terms.due, time()))),
+    ]
+    return [(b"XFERINFO", terms), (b"XFERPRCSTS", [(b"XFERPRCCODE", row.code), (b"DTXFERPRC", moment(row.stamp))])]
 
 
 def account(name):

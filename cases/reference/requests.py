@@ -1,8 +1,9 @@
 """Request files: what they ask. Each function reads one form, its named children in the order of the format's page."""
-from datetime import datetime
+import re
+from datetime import date, datetime
 from typing import NamedTuple, Optional
 
-from .children import all_of, maybe, maybe_moment, one, text, word
+from .children import all_of, amount, maybe, maybe_moment, one, text, word
 from .fault import Fault
 from .header import Header, read_header
 from .tags import read_tags
@@ -10,7 +11,7 @@ from .tags import read_tags
 KINDS = (b"CHECKING", b"SAVINGS", b"MONEYMRKT", b"CREDITLINE")
 
 # The forms of the message sets that aren't read yet.
-UNBUILT_BANK = (b"INTRATRNRQ", b"RECINTRATRNRQ", b"BANKMAILTRNRQ", b"INTRASYNCRQ", b"RECINTRASYNCRQ", b"BANKMAILSYNCRQ")
+UNBUILT_BANK = (b"RECINTRATRNRQ", b"BANKMAILTRNRQ", b"INTRASYNCRQ", b"RECINTRASYNCRQ", b"BANKMAILSYNCRQ")
 UNBUILT_MAIL = (b"MAILTRNRQ", b"MAILSYNCRQ")
 
 
@@ -30,6 +31,24 @@ class Statement(NamedTuple):
     trnuid: bytes
     account: Account
     period: Optional[Period]
+
+
+class Terms(NamedTuple):
+    """What a transfer moves: money from one account to another, on a day."""
+
+    source: Account
+    target: Account
+    cents: int
+    due: Optional[date]
+
+
+class Transfer(NamedTuple):
+    """One of three deeds: a new transfer (INTRARQ), a change of a transfer (INTRAMODRQ), or its cancellation."""
+
+    trnuid: bytes
+    form: bytes
+    id: Optional[int]  # which transfer is changed or cancelled
+    terms: Optional[Terms]
 
 
 class Request(NamedTuple):
@@ -54,10 +73,10 @@ def signon(sonrq):
 
 def bank_messages(messages):
     asks = []
-    for child in all_of(messages, (b"STMTTRNRQ",) + UNBUILT_BANK) if messages else ():
+    for child in all_of(messages, (b"STMTTRNRQ", b"INTRATRNRQ") + UNBUILT_BANK) if messages else ():
         if child.name in UNBUILT_BANK:
             raise Fault("Unbuilt", child.at)
-        asks.append(statement(child))
+        asks.append(statement(child) if child.name == b"STMTTRNRQ" else transfer(child))
     return asks
 
 
@@ -86,6 +105,25 @@ def statement(stmttrnrq):
 def period(inctran):
     start, end = maybe_moment(inctran, b"DTSTART"), maybe_moment(inctran, b"DTEND")
     return Period(start, end, word(inctran, b"INCLUDE", (b"Y", b"N")) == b"Y")
+
+
+def transfer(intratrnrq):
+    trnuid = transaction_uid(intratrnrq)
+    deed = one(intratrnrq, b"INTRARQ", b"INTRAMODRQ", b"INTRACANRQ")
+    number = None if deed.name == b"INTRARQ" else entry_number(text(deed, b"SRVRTID", 64))
+    return Transfer(trnuid, deed.name, number, None if deed.name == b"INTRACANRQ" else terms(one(deed, b"XFERINFO")))
+
+
+def entry_number(value):
+    """The number that an id stands for. 0, which is no entry's, where it isn't 1 to 10 digits."""
+    return int(value) if re.fullmatch(rb"[0-9]{1,10}", value) else 0
+
+
+def terms(xferinfo):
+    """The due day is that of DTDUE in GMT."""
+    source, target = (bank_account(one(xferinfo, name)) for name in (b"BANKACCTFROM", b"BANKACCTTO"))
+    cents, due = amount(xferinfo, b"TRNAMT"), maybe_moment(xferinfo, b"DTDUE")
+    return Terms(source, target, cents, None if due is None else due.date())
 
 
 def bank_account(node):

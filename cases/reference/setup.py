@@ -29,6 +29,7 @@ class SetupFault(Exception):
 
 class Setup(NamedTuple):
     bank: bytes
+    most_entries: int
     users: dict  # name: password
     accounts: dict  # Account: (opening in cents, owners)
 
@@ -61,7 +62,7 @@ def read_setup(text):
         raise SetupFault(count + 1)
     if setup.window * (3 * len(setup.accounts) + len(setup.users)) > MOST_OBJECTS:
         raise SetupFault(count)
-    return Setup(setup.bank, setup.users, setup.accounts)
+    return Setup(setup.bank, setup.most_entries, setup.users, setup.accounts)
 
 
 class Lines:
@@ -69,7 +70,7 @@ class Lines:
 
     def __init__(self):
         self.first = [self.format, self.bank_id, self.lead, self.window_size, self.entries]
-        self.bank = self.window = None
+        self.bank = self.window = self.most_entries = None
         self.users = {}
         self.accounts = {}
 
@@ -96,7 +97,8 @@ class Lines:
         return len(words) == 2 and words[0] == b"WINDOW" and self.window is not None
 
     def entries(self, words):
-        return len(words) == 2 and words[0] == b"ENTRIES" and number(words[1], 1, 9999999999) is not None
+        self.most_entries = number(words[-1], 1, 9999999999)
+        return len(words) == 2 and words[0] == b"ENTRIES" and self.most_entries is not None
 
     def user(self, words):
         if len(words) != 3 or self.accounts or words[1] in self.users or len(self.users) == MOST_USERS:

@@ -1,18 +1,9 @@
 -- The setup of the tests is within the limits.
-use Rattle.std.proofs.Common.{◌≡◌, ℕ, ◌<◌, ◌≤◌, true, List, [], ◌∷◌, Option, Some, map, length, refl, arith, lit<, lit≤}
+use Rattle.std.proofs.Common.{◌≡◌, ℕ, ◌<◌, ◌≤◌, true, List, [], ◌∷◌, length, refl, arith, lit<, lit≤}
 use Rattle.std.proofs.lemmas.Int.{ints}
 use Rattle.std.specs.Prelude.{pos, codes}
 use Rattle.std.specs.List.{IsDistinct, list_all}
 use Rattle.ofx_types.specs.declared.account.AcctKind.TheVariants.{Checking, Savings}
-use Rattle.std.specs.Option.{IfSome}
-use Rattle.std.proofs.lemmas.List.Elements.{All-cons, All-nil}
-use Rattle.ofx_types.specs.declared.number.AcctId.{AcctId}
-use Rattle.ofx_types.specs.declared.number.Cents.{Cents}
-use Rattle.ofx_types.specs.declared.request.Ask.{Ask}
-use Rattle.bank_model.specs.declared.setup.Setup.{Setup}
-use Rattle.bank_model.specs.Rules.{account_named}
-use Rattle.bank_core.specs.AccountView.{AccountView}
-use Rattle.bank_core.specs.HeldAccounts.{IsHeld, AreHeld}
 use Rattle.bank_model.specs.SetupForm.{is_word_byte, IsWord, IsUser, IsAccountOf, KeepsLineLimits, IsWithinLimits}
 use Rattle.bank_core.specs.Sample.{account_name, alice, bob, sample}
 
@@ -70,13 +61,3 @@ sample_lines = record {
 
 pub sample_within : IsWithinLimits sample
 sample_within = record { lines = sample_lines; objects = lit≤ tt }
-
--- Where the first account is held and one ask names it, each account named is held.
-pub held_checking : (setup : Setup) (accounts : List AccountView) (amount : Cents) (ask : Ask) (asks : List Ask) → setup ≡ sample → accounts ≡ record { number = record { 0 = 0 }; balance = amount } ∷ [] → asks ≡ ask ∷ [] → account_named sample ask ≡ Some (record { 0 = 0 }) → AreHeld accounts (map (account_named setup) asks)
-held_checking setup accounts amount ask asks is_sample one_held one_asked named =
-    let first : AccountView = record { number = record { 0 = 0 }; balance = amount } in
-    let P : Option AcctId → Type 0 = λ entry. IfSome entry (IsHeld (first ∷ [])) in
-    let is_held : P (account_named sample ask) = rw named (0, lit< tt, refl) in
-    let all : AreHeld (first ∷ []) (map (account_named sample) (ask ∷ [])) =
-    All-cons P (account_named sample ask) [] is_held (All-nil P) in
-    rw (is_sample, one_held, one_asked) all

@@ -1,5 +1,9 @@
-pub mod AccountView
-pub mod HeldAccounts
+pub mod Balanced
 pub mod BookView
+pub mod DraftView
+pub mod Postings
+pub mod Standing
+pub mod Runs
+pub mod Books
 pub mod Opened
 pub mod Sample

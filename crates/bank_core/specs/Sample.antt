@@ -1,5 +1,5 @@
 -- The setup of the tests: two users and two accounts.
-use Rattle.std.specs.Prelude.{ℕ, pos, negsuc, List, [], ◌∷◌, codes, None}
+use Rattle.std.specs.Prelude.{ℕ, pos, negsuc, List, [], ◌∷◌, codes, None, Some}
 use Rattle.ofx_types.specs.declared.account.AcctKind.{AcctKind}
 use Rattle.ofx_types.specs.declared.account.AcctKind.TheVariants.{Checking, Savings}
 use Rattle.ofx_types.specs.declared.account.AcctName.{AcctName}
@@ -35,3 +35,7 @@ sample = record {
 -- the reply at noon of 2 January 1900 to a file that asks for nothing
 abbrev pub empty_reply : ReplyFile
 empty_reply = record { version = 102; newer = None; signon = 0; moment = record { 0 = negsuc 2208859199 }; replies = [] }
+
+-- the same to a file of the name `f1`
+abbrev pub named_reply : ReplyFile
+named_reply = record { version = 102; newer = Some (codes "f1"); signon = 0; moment = record { 0 = negsuc 2208859199 }; replies = [] }

@@ -1,24 +1,25 @@
 //! The book of the bank: the setup and the state, and the step that an event makes.
 
-mod reply;
+mod answer;
 #[cfg(test)]
 mod tests;
 
-ghost use Rattle.std.specs.Prelude.{◌≡◌, IfOk, OnErr};
+ghost use Rattle.std.specs.Prelude.{◌≡◌, ◌+◌, ◌<◌, ◌≤◌, length, IfSome, IfNone, IfOk, OnErr};
 ghost use Rattle.ofx_types.specs.Calendar.{IsMoment};
 ghost use Rattle.bank_model.specs.SetupForm.{IsWithinLimits};
-ghost use Rattle.bank_model.specs.Rules as rules;
 ghost use Rattle.bank_model.specs.Rules.{IsLegal, opening_state, state_after, answer_to, named};
-ghost use Rattle.bank_core.specs.HeldAccounts.{AreHeld, AreBalanced};
+ghost use Rattle.bank_accounts.specs.HeldAccounts.{AreHeld, HaveSameNumbers};
+ghost use Rattle.bank_core.specs.Balanced.{AreBalanced};
+ghost use Rattle.bank_core.specs.BookView.{asks_in, HasRoom};
 ghost use Rattle.bank_core.specs.Opened.{AreOpened};
+ghost use Rattle.bank_core.specs.Standing.{IsSoundState};
 
-use crate::account::Account;
-use crate::held::Held;
-use crate::opening::{first_state, opened_accounts};
+use crate::ledger::Ledger;
+use crate::opening::opened_accounts;
 use crate::prepared::Prepared;
-use bank_model::{Event, Printer, Setup, State};
+use bank_accounts::{Account, Held};
+use bank_model::{Event, Printer, Setup};
 use ofx_types::{Moment, OutOfMemory};
-use ofx_values::day_of;
 use std::alloc::Global;
 use std::marker::Model;
 
@@ -26,19 +27,20 @@ use std::marker::Model;
 #[derive(Drop)]
 pub struct Book<P: Printer> {
     setup: Setup,
-    state: State,
+    ledger: Ledger,
     printer: P,
 }
 
 impl<P: Printer> Model for Book<P> {
     ghost use Rattle.bank_model.specs.SetupForm.{IsWithinLimits};
-    ghost use Rattle.bank_core.specs.BookView.{BookView};
+    ghost use Rattle.bank_core.specs.BookView.{ReservedBook};
+    ghost use Rattle.bank_core.specs.Standing.{IsSoundState};
 
-    ghost Value = { BookView };
+    ghost Value = { ReservedBook };
 
-    ghost view = { λ b. record { setup = b.setup; state = b.state } };
+    ghost view = { λ b. record { setup = b.setup; state = b.ledger.state; room = b.ledger.room } };
 
-    ghost invariant = { λ b. IsWithinLimits b.setup };
+    ghost invariant = { λ b. IsWithinLimits b.setup × IsSoundState b.setup b.ledger.state };
 }
 
 impl<P: Printer> Book<P> {
@@ -49,14 +51,14 @@ impl<P: Printer> Book<P> {
         printer: P,
     ) -> Result<(Book<P>, Vec<Account>), OutOfMemory>
         requires { IsWithinLimits setup }
-        ensures book { IfOk result (λ begun.
-            begun.0 ≡ record { setup = setup; state = opening_state }) }
+        ensures setup { IfOk result (λ begun. begun.0.setup ≡ setup) }
+        ensures state { IfOk result (λ begun. begun.0.state ≡ opening_state) }
         ensures accounts { IfOk result (λ begun. AreOpened setup begun.1.items) }
     {
         let accounts = opened_accounts(alloc, &setup)?;
         let book = Book {
             setup,
-            state: first_state(),
+            ledger: Ledger::new(alloc),
             printer,
         };
         Ok((book, accounts))
@@ -66,8 +68,24 @@ impl<P: Printer> Book<P> {
     pub fn setup(&self) -> &Setup
         ensures setup { result.now ≡ self.now.setup }
         ensures within { IsWithinLimits self.now.setup }
+        ensures sound { IsSoundState self.now.setup self.now.state }
     {
         &self.setup
+    }
+
+    /// The number of the next entry. None exactly where the bank makes no more entries in its life (the setup's
+    /// `entries`). Takes no memory.
+    pub fn next_number(&self) -> Option<u64>
+        ensures next { IfSome result (λ number. number ≡ length self.now.state.entries + 1) }
+        ensures some { IfSome result (λ _. length self.now.state.entries < self.now.setup.entries) }
+        ensures none { IfNone result (length self.now.state.entries ≡ self.now.setup.entries) }
+    {
+        let count = self.ledger.count();
+        if count < self.setup.entries {
+            Some(count + 1)
+        } else {
+            None
+        }
     }
 
     /// What the event answers at that moment, and the state that it leaves.
@@ -85,34 +103,41 @@ impl<P: Printer> Book<P> {
         requires legal { IsLegal self.old.setup event.now }
         requires named { AreHeld held.old (named self.old.setup event.now) }
         requires balanced { AreBalanced self.old.setup self.old.state held.old }
-        ensures book { self.new ≡ self.old }
+        ensures setup { self.new.setup ≡ self.old.setup }
+        ensures state { self.new.state ≡ self.old.state }
         ensures accounts { held.new ≡ held.old }
+        ensures of { IfOk result (λ prepared. prepared.setup ≡ self.old.setup) }
         ensures before { IfOk result (λ prepared. prepared.before ≡ self.old.state) }
         ensures event { IfOk result (λ prepared. prepared.event ≡ event.now) }
         ensures after { IfOk result (λ prepared.
             prepared.after ≡ state_after self.old.setup self.old.state at event.now) }
         ensures reply { IfOk result (λ prepared.
             prepared.reply ≡ answer_to self.old.setup self.old.state at event.now) }
+        ensures room { IfOk result (λ prepared. HasRoom self.new.room self.old.state prepared.after) }
     {
-        let reply = match event {
-            Event::File(user, file) => self.printed_reply(alloc, held, *user, at, file)?,
-        };
-        Ok(Prepared::new(&self.state, event, raised(self.state, at), reply))
+        self.ledger.reserve(ask_count(&self.setup, event))?;
+        match event {
+            Event::File(user, file) => {
+                let prepared = self.prepare(alloc, held, event, (*user, at), file)?;
+                Ok(prepared)
+            }
+        }
     }
 
     /// Takes the step that was prepared, and gives the bytes of its reply. Takes no memory.
     pub fn adopt(&mut self, held: &mut Held, prepared: Prepared) -> Vec<u8>
+        requires of { prepared.setup ≡ self.old.setup }
         requires made { prepared.before ≡ self.old.state }
+        requires room { HasRoom self.old.room self.old.state prepared.after }
         requires named { AreHeld held.old (named self.old.setup prepared.event) }
         requires balanced { AreBalanced self.old.setup self.old.state held.old }
         ensures setup { self.new.setup ≡ self.old.setup }
         ensures state { self.new.state ≡ prepared.after }
-        ensures accounts { held.new ≡ held.old }
+        ensures numbers { HaveSameNumbers held.new held.old }
+        ensures balanced { AreBalanced self.new.setup self.new.state held.new }
         ensures reply { result.items ≡ prepared.reply }
     {
-        let (after, reply) = prepared.into_parts();
-        self.state = after;
-        reply
+        prepared.take_step(&mut self.ledger, held)
     }
 
     /// Makes an event happen at that moment, and gives its reply.
@@ -130,24 +155,26 @@ impl<P: Printer> Book<P> {
         requires named { AreHeld held.old (named self.old.setup event.now) }
         requires balanced { AreBalanced self.old.setup self.old.state held.old }
         ensures setup { self.new.setup ≡ self.old.setup }
-        ensures accounts { held.new ≡ held.old }
+        ensures numbers { HaveSameNumbers held.new held.old }
+        ensures balanced { AreBalanced self.new.setup self.new.state held.new }
         ensures state { IfOk result (λ _.
             self.new.state ≡ state_after self.old.setup self.old.state at event.now) }
         ensures reply { IfOk result (λ reply.
             reply.items ≡ answer_to self.old.setup self.old.state at event.now) }
-        ensures refused { OnErr result (self.new ≡ self.old) }
+        ensures refused { OnErr result (self.new.state ≡ self.old.state) }
+        ensures refused_accounts { OnErr result (held.new ≡ held.old) }
     {
         let prepared = self.answer(alloc, held, event, at)?;
         Ok(self.adopt(held, prepared))
     }
 }
 
-/// The state with its business day raised to the day of the moment, if that is greater.
-fn raised(state: State, at: Moment) -> State
-    requires { IsMoment at.0 }
-    ensures { result ≡ rules.raised state at }
+/// How many asks an event has, at most 65,535.
+fn ask_count(setup: &Setup, event: &Event) -> u32
+    requires { IsLegal setup.now event.now }
+    ensures { result ≡ length (asks_in event.now) }
 {
-    State {
-        day: state.day.max(day_of(at)),
+    match event {
+        Event::File(_, file) => file.asks.items().len() as u32,
     }
 }

@@ -1,48 +1,88 @@
 //! An event that is answered, before the book takes its step.
 
-ghost use Rattle.std.specs.Prelude.{◌≡◌};
+ghost use Rattle.std.specs.Prelude.{◌≡◌, ◌++◌};
+ghost use Rattle.bank_accounts.specs.HeldAccounts.{HaveSameNumbers};
+ghost use Rattle.bank_core.specs.Balanced.{AreBalanced};
+ghost use Rattle.bank_core.specs.BookView.{HasRoom};
+ghost use Rattle.bank_core.specs.DraftView.{prepared_after, IsPrepared};
+ghost use Rattle.bank_core.specs.Standing.{IsSoundState};
 
-use bank_model::{Event, State};
+use crate::draft::Draft;
+use crate::ledger::Ledger;
+use bank_accounts::Held;
+use bank_model::{Entry, Event, Setup};
+use ofx_types::FileUid;
 use std::marker::Model;
 use std::snapshot::Snapshot;
 
-/// What an event answers and the state that it leaves, made of a state of the book and not taken yet.
+/// The bytes of a reply: those that are kept for the file, and those that are handed out.
+#[derive(Drop)]
+pub(crate) struct ReplyBytes {
+    /// What is kept where the file has a name.
+    pub(crate) kept: Vec<u8>,
+    /// What is handed out.
+    pub(crate) told: Vec<u8>,
+}
+
+/// What an event answers and what it adds to the state of a book, not taken yet.
 #[derive(Drop)]
 pub struct Prepared {
-    before: Snapshot<State>,
+    setup: Snapshot<Setup>,
+    before: Snapshot<Ledger>,
     event: Snapshot<Event>,
-    after: State,
-    reply: Vec<u8>,
+    draft: Draft,
+    older: Option<FileUid>,
+    newer: Option<FileUid>,
+    kept: Vec<u8>,
+    told: Vec<u8>,
 }
 
 impl Model for Prepared {
     ghost use Rattle.bank_core.specs.BookView.{PreparedView};
+    ghost use Rattle.bank_core.specs.DraftView.{prepared_after, IsPrepared};
 
     ghost Value = { PreparedView };
 
     ghost view = { λ p. record {
-      before = p.before.value;
+      setup = p.setup.value;
+      before = p.before.value.state;
       event = p.event.value;
-      after = p.after;
-      reply = p.reply.items;
+      after = prepared_after p.before.value.state p.draft p.older p.newer p.kept.items;
+      reply = p.told.items;
     } };
+
+    ghost invariant = { λ p. IsPrepared p.setup.value p.before.value.state p.draft p.older p.newer p.kept.items };
 }
 
 impl Prepared {
-    /// The outcome of an event in a state.
-    pub(crate) fn new(before: &State, event: &Event, after: State, reply: Vec<u8>) -> Prepared
+    /// What a draft of a book makes, with the names of the file before whose reply was received and of this file.
+    pub(crate) fn new(
+        setup: &Setup,
+        before: &Ledger,
+        event: &Event,
+        draft: Draft,
+        older: Option<FileUid>,
+        newer: Option<FileUid>,
+        reply: ReplyBytes,
+    ) -> Prepared
+        requires { IsPrepared setup.now before.now.state draft older newer reply.kept.items }
         ensures { result ≡ record {
-          before = before.now;
+          setup = setup.now;
+          before = before.now.state;
           event = event.now;
-          after = after;
-          reply = reply.items;
+          after = prepared_after before.now.state draft older newer reply.kept.items;
+          reply = reply.told.items;
         } }
     {
         Prepared {
+            setup: Snapshot::of(setup),
             before: Snapshot::of(before),
             event: Snapshot::of(event),
-            after,
-            reply,
+            draft,
+            older,
+            newer,
+            kept: reply.kept,
+            told: reply.told,
         }
     }
 
@@ -50,14 +90,37 @@ impl Prepared {
     pub fn reply(&self) -> &[u8]
         ensures { result.now ≡ self.now.reply }
     {
-        self.reply.as_slice()
+        self.told.as_slice()
     }
 
-    /// The state after the event, and the bytes of its reply.
-    pub(crate) fn into_parts(self) -> (State, Vec<u8>)
-        ensures after { result.0 ≡ self.after }
-        ensures reply { result.1.items ≡ self.reply }
+    /// The entries that the event adds. Takes no memory.
+    pub fn entries(&self) -> &[Entry]
+        ensures { self.now.after.entries ≡ self.now.before.entries ++ result.now }
     {
-        (self.after, self.reply)
+        self.draft.entries()
+    }
+
+    /// Takes the step: the ledger takes in what is added, and the accounts have their new balances. Gives the bytes
+    /// of the reply. Takes no memory.
+    pub(crate) fn take_step(self, ledger: &mut Ledger, held: &mut Held) -> Vec<u8>
+        requires made { self.before ≡ ledger.old.state }
+        requires room { HasRoom ledger.old.room self.before self.after }
+        requires balanced { AreBalanced self.setup self.before held.old }
+        ensures state { ledger.new.state ≡ self.after }
+        ensures sound { IsSoundState self.setup self.after }
+        ensures numbers { HaveSameNumbers held.new held.old }
+        ensures balanced { AreBalanced self.setup self.after held.new }
+        ensures reply { result.items ≡ self.reply }
+    {
+        held.settle(self.draft.accounts());
+        let user = self.draft.user();
+        let day = self.draft.day();
+        let (entries, rows, uids) = self.draft.into_parts();
+        ledger.add_all(entries, rows);
+        ledger.use_up_all(user, uids);
+        ledger.release(user, &self.older);
+        ledger.keep(user, self.newer, self.kept);
+        ledger.set_day(day);
+        self.told
     }
 }

@@ -1,58 +1,130 @@
-//! Statements of accounts.
+//! Statements of accounts (OFX 1.6, "Statement Download").
 
-ghost use Rattle.std.specs.Prelude.{◌≡◌, IfOk};
-ghost use Rattle.bank_model.specs.Rules.{asked_list, list_of};
+ghost use Rattle.std.specs.Prelude.{◌≡◌, Some, IfOk};
+ghost use Rattle.std.specs.Option.{IfSome};
+ghost use Rattle.bank_model.specs.SetupForm.{IsWithinLimits};
+ghost use Rattle.bank_model.specs.SetupLookups.{account_of};
+ghost use Rattle.bank_model.specs.Rules as rules;
+ghost use Rattle.bank_accounts.specs.HeldAccounts.{IsHeld};
+ghost use Rattle.bank_core.specs.Balanced.{AreBalanced};
+ghost use Rattle.bank_core.specs.DraftView.{drafted};
 
+use crate::draft::Draft;
+use crate::ledger::Ledger;
+use bank_model::Setup;
 use ofx_types::{
-    AcctName, Cents, Duplicate, Moment, OutOfMemory, Period, Sequence, StatementBody, StatementList,
+    AcctId, AcctName, AskReply, Duplicate, Moment, OutOfMemory, Period, StatementBody,
+    StatementList, TrnUid, UserId,
 };
 use std::alloc::Global;
+
+/// The status of a statement.
+const DONE: u16 = 0;
+
+/// The status of a statement of an account that isn't the user's.
+const NOT_OWNED: u16 = 2003;
 
 /// Midnight of 1 January 1900.
 const FIRST_MOMENT: Moment = Moment(-2_208_988_800);
 
-/// A statement at a moment of the account of that name, which has that balance.
-pub(crate) fn statement(
-    alloc: Global,
-    balance: Cents,
-    at: Moment,
-    name: &AcctName,
-    period: Option<Period>,
-) -> Result<StatementBody, OutOfMemory>
-    ensures { IfOk result (λ body. body ≡ record {
-      account = name.now;
-      list = asked_list at period;
-      ledger = balance;
-      available = balance;
-      moment = at;
-    }) }
-{
-    Ok(StatementBody {
-        account: name.copy()?,
-        list: listed(alloc, at, period),
-        ledger: balance,
-        available: balance,
-        moment: at,
-    })
-}
+impl Draft {
+    /// The statement of the account of that name, where it is the user's.
+    pub(crate) fn statement(
+        &self,
+        alloc: Global,
+        setup: &Setup,
+        ledger: &Ledger,
+        trnuid: &TrnUid,
+        name: &AcctName,
+        period: Option<Period>,
+    ) -> Result<AskReply, OutOfMemory>
+        requires within { IsWithinLimits setup.now }
+        requires named { IfSome (account_of setup.now name.now) (IsHeld self.now.accounts) }
+        requires balanced { AreBalanced setup.now (drafted ledger.now.state self.now) self.now.accounts }
+        ensures { IfOk result (λ reply. reply ≡ rules.statement_reply setup.now (drafted ledger.now.state self.now)
+            self.now.at trnuid.now name.now period (rules.own_account setup.now self.now.user name.now)) }
+    {
+        match own_account(setup, self.user(), name) {
+            Some(account) => {
+                let body = self.body(alloc, setup, ledger, name, period, account)?;
+                Ok(AskReply::Statement(trnuid.copy()?, DONE, Some(body)))
+            }
+            None => Ok(AskReply::Statement(trnuid.copy()?, NOT_OWNED, None)),
+        }
+    }
 
-/// The list of a statement, where it is asked for.
-fn listed(alloc: Global, at: Moment, period: Option<Period>) -> Option<StatementList>
-    ensures { result ≡ asked_list at period }
-{
-    match period {
-        Some(period) if period.include => Some(list_in(alloc, at, period)),
-        _ => None,
+    /// What a statement shows of an account.
+    fn body(
+        &self,
+        alloc: Global,
+        setup: &Setup,
+        ledger: &Ledger,
+        name: &AcctName,
+        period: Option<Period>,
+        account: AcctId,
+    ) -> Result<StatementBody, OutOfMemory>
+        requires held { IsHeld self.now.accounts account }
+        requires balanced { AreBalanced setup.now (drafted ledger.now.state self.now) self.now.accounts }
+        ensures { IfOk result (λ body. body ≡ rules.statement setup.now (drafted ledger.now.state self.now) self.now.at
+            name.now period account) }
+    {
+        let balance = self.held_balance(account);
+        Ok(StatementBody {
+            account: name.copy()?,
+            list: self.list(alloc, ledger, name, period)?,
+            ledger: balance,
+            available: balance,
+            moment: self.at(),
+        })
+    }
+
+    /// The list of a statement, where it is asked for.
+    fn list(
+        &self,
+        alloc: Global,
+        ledger: &Ledger,
+        name: &AcctName,
+        period: Option<Period>,
+    ) -> Result<Option<StatementList>, OutOfMemory>
+        ensures { IfOk result (λ list. list ≡ rules.asked_list (drafted ledger.now.state self.now) self.now.at name.now
+            period) }
+    {
+        match period {
+            Some(period) if period.include => {
+                Ok(Some(self.list_in(alloc, ledger, name, period)?))
+            }
+            _ => Ok(None),
+        }
+    }
+
+    /// The transactions of a period.
+    fn list_in(
+        &self,
+        alloc: Global,
+        ledger: &Ledger,
+        name: &AcctName,
+        period: Period,
+    ) -> Result<StatementList, OutOfMemory>
+        ensures { IfOk result (λ list. list ≡ rules.list_of (drafted ledger.now.state self.now) self.now.at name.now
+            period) }
+    {
+        let start = period.start.unwrap_or(FIRST_MOMENT);
+        Ok(StatementList {
+            start,
+            end: period.end.unwrap_or(self.at()),
+            lines: self.lines(alloc, ledger, name, (start, period.end))?,
+        })
     }
 }
 
-/// The transactions of a period.
-fn list_in(alloc: Global, at: Moment, period: Period) -> StatementList
-    ensures { result ≡ list_of at period }
+/// The account of that name, where it is the user's.
+fn own_account(setup: &Setup, user: UserId, name: &AcctName) -> Option<AcctId>
+    requires within { IsWithinLimits setup.now }
+    ensures own { result ≡ rules.own_account setup.now user name.now }
+    ensures known { IfSome result (λ account. account_of setup.now name.now ≡ Some account) }
 {
-    StatementList {
-        start: period.start.unwrap_or(FIRST_MOMENT),
-        end: period.end.unwrap_or(at),
-        lines: Sequence::new(alloc),
+    match setup.account(name) {
+        Some(account) if setup.owns(user, account) => Some(account),
+        _ => None,
     }
 }

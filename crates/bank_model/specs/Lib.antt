@@ -4,4 +4,8 @@ pub mod SetupLookups
 pub mod SetupOutcome
 pub mod SetupReading
 pub mod Sound
+pub mod Ledger
+pub mod Judging
+pub mod Once
+pub mod Deeds
 pub mod Rules

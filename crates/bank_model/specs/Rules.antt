@@ -1,13 +1,15 @@
 -- What a bank answers to an event, and the state that it leaves.
-use Rattle.std.specs.Prelude.{ℕ, ◌<◌, pos, negsuc, List, [], length, map, Option, None, Some, unwrap_or, if◌then◌else◌}
+use Rattle.std.specs.Prelude.{ℕ, ◌<◌, pos, negsuc, List, [], ◌∷◌, ◌++◌, length, Option, None, Some, unwrap_or, if◌then◌else◌}
+use Rattle.std.specs.List.{flat_map}
 use Rattle.std.specs.Int.{int_max}
 use Rattle.ofx_types.specs.Calendar.{day_of}
 use Rattle.ofx_types.specs.ReplyForm.{reply_text}
 use Rattle.ofx_types.specs.declared.number.AcctId.{AcctId}
 use Rattle.ofx_types.specs.declared.number.UserId.{UserId}
-use Rattle.ofx_types.specs.declared.number.Cents.{Cents}
 use Rattle.ofx_types.specs.declared.number.Moment.{Moment}
 use Rattle.ofx_types.specs.declared.account.AcctName.{AcctName}
+use Rattle.ofx_types.specs.declared.transfer.Deed.{Deed}
+use Rattle.ofx_types.specs.declared.transfer.Deed.TheVariants.{Transfer, ModifyTransfer, CancelTransfer}
 use Rattle.ofx_types.specs.declared.request.Period.{Period}
 use Rattle.ofx_types.specs.declared.request.Ask.{Ask}
 use Rattle.ofx_types.specs.declared.request.Ask.TheVariants as asks
@@ -17,30 +19,26 @@ use Rattle.ofx_types.specs.declared.reply.StatementBody.{StatementBody}
 use Rattle.ofx_types.specs.declared.reply.AskReply.{AskReply}
 use Rattle.ofx_types.specs.declared.reply.AskReply.TheVariants as replies
 use Rattle.ofx_types.specs.declared.reply.ReplyFile.{ReplyFile}
-use Rattle.bank_model.specs.declared.setup.AccountLine.{AccountLine}
 use Rattle.bank_model.specs.declared.setup.Setup.{Setup}
+use Rattle.bank_model.specs.declared.once.KeptReply.{KeptReply}
 use Rattle.bank_model.specs.declared.event.State.{State}
 use Rattle.bank_model.specs.declared.event.Event.{Event}
 use Rattle.bank_model.specs.declared.event.Event.TheVariants.{File}
-use Rattle.bank_model.specs.SetupLookups.{account_of, is_owner, line_at}
+use Rattle.bank_model.specs.SetupLookups.{account_of, is_owner}
+use Rattle.bank_model.specs.Ledger.{balance, moved, lines_of}
+use Rattle.bank_model.specs.Once.{reply_kept, released}
+use Rattle.bank_model.specs.Deeds.{deed_answer}
 use Rattle.bank_model.specs.Sound.{IsSound}
 
--- The business day begins at 1 January 1900.
+-- A bank opens with no history. The business day begins at 1 January 1900.
 abbrev pub opening_state : State
-opening_state = record { day = record { 0 = negsuc 25566 } }
+opening_state = record { entries = []; used = []; kept = []; day = record { 0 = negsuc 25566 } }
 
 -- Each event first raises the business day to the day of its moment, if that is greater.
 abbrev pub raised : State → Moment → State
-raised S at = record { day = record { 0 = int_max S.day.0 (day_of at.0) } }
+raised S at = record { entries = S.entries; used = S.used; kept = S.kept; day = record { 0 = int_max S.day.0 (day_of at.0) } }
 
--- the balance with which an account opened
-abbrev pub opening_of : Option AccountLine → Cents
-opening_of None = record { 0 = pos 0 }
-opening_of (Some line) = line.opening
-
--- The balance of an account is its opening one. No event posts a transfer yet.
-abbrev pub balance : Setup → State → AcctId → Cents
-balance setup S account = opening_of (line_at setup account)
+-- ---- statements
 
 -- An account that a file names, where it is the user's.
 abbrev pub if_owned : Setup → UserId → Option AcctId → Option AcctId
@@ -50,27 +48,31 @@ if_owned setup user (Some account) = if is_owner setup user account then Some ac
 abbrev pub own_account : Setup → UserId → AcctName → Option AcctId
 own_account setup user name = if_owned setup user (account_of setup name)
 
--- An absent DTSTART is 1 January 1900, and where DTEND is absent the reply's is the moment of the event. The list
--- is of the transfers posted in between, of which there are none yet.
-abbrev pub list_of : Moment → Period → StatementList
-list_of at period = record {
-  start = unwrap_or period.start (record { 0 = negsuc 2208988799 });
+-- 1 January 1900
+abbrev pub first_moment : Moment
+first_moment = record { 0 = negsuc 2208988799 }
+
+-- An absent DTSTART is 1 January 1900. Where DTEND is absent the list has no upper bound, and the reply's DTEND is the
+-- moment of the event.
+abbrev pub list_of : State → Moment → AcctName → Period → StatementList
+list_of S at name period = record {
+  start = unwrap_or period.start first_moment;
   end = unwrap_or period.end at;
-  lines = [];
+  lines = lines_of name (unwrap_or period.start first_moment) period.end (moved S.entries);
 }
 
 -- The list stands in the reply exactly where the request has INCTRAN with INCLUDE Y.
-abbrev pub asked_list : Moment → Option Period → Option StatementList
-asked_list at None = None
-asked_list at (Some period) = if period.include then Some (list_of at period) else None
+abbrev pub asked_list : State → Moment → AcctName → Option Period → Option StatementList
+asked_list S at name None = None
+asked_list S at name (Some period) = if period.include then Some (list_of S at name period) else None
 
 -- A statement shows the balance as LEDGERBAL and as AVAILBAL.
 abbrev pub statement : Setup → State → Moment → AcctName → Option Period → AcctId → StatementBody
 statement setup S at name period account = record {
   account = name;
-  list = asked_list at period;
-  ledger = balance setup S account;
-  available = balance setup S account;
+  list = asked_list S at name period;
+  ledger = record { 0 = balance setup S.entries account };
+  available = record { 0 = balance setup S.entries account };
   moment = at;
 }
 
@@ -80,21 +82,77 @@ statement_reply setup S at trnuid name period None = replies.Statement trnuid 20
 statement_reply setup S at trnuid name period (Some account) =
     replies.Statement trnuid 0 (Some (statement setup S at name period account))
 
--- the answer to an ask of a user
-abbrev pub reply_to : Setup → State → UserId → Moment → Ask → AskReply
-reply_to setup S user at (asks.Statement trnuid name period) =
-    statement_reply setup S at trnuid name period (own_account setup user name)
+-- ---- asks and files
+
+-- the answer to an ask of a user, and the state behind it
+pub record AskAnswer : Type 0 where
+  pub reply : AskReply
+  pub after : State
+
+unfoldable pub ask_answer : Setup → State → UserId → Moment → Ask → AskAnswer
+ask_answer setup S user at (asks.Statement trnuid name period) =
+    record { reply = statement_reply setup S at trnuid name period (own_account setup user name); after = S }
+ask_answer setup S user at (asks.One trnuid deed) =
+    let answer = deed_answer setup S user None at trnuid deed in
+    record { reply = replies.One answer.reply; after = answer.after }
+
+-- The asks are answered in their order, each in the state that the one before left.
+pub record AskAnswers : Type 0 where
+  pub replies : List AskReply
+  pub after : State
+
+unfoldable pub ask_answers : Setup → State → UserId → Moment → List Ask → AskAnswers
+ask_answers setup S user at [] = record { replies = []; after = S }
+ask_answers setup S user at (ask ∷ more) =
+    let first = ask_answer setup S user at ask in
+    let rest = ask_answers setup first.after user at more in
+    record { replies = first.reply ∷ rest.replies; after = rest.after }
 
 -- The reply to a file has the file's version and NEWFILEUID, a signon that succeeded, the moment, and the answers in
 -- the order of the asks.
-unfoldable pub reply_file : Setup → State → UserId → Moment → RequestFile → ReplyFile
-reply_file setup S user at file = record {
-  version = file.version;
-  newer = file.newer;
-  signon = 0;
-  moment = at;
-  replies = map (reply_to setup S user at) file.asks;
-}
+unfoldable pub reply_file : Moment → RequestFile → List AskReply → ReplyFile
+reply_file at file answers = record { version = file.version; newer = file.newer; signon = 0; moment = at; replies = answers }
+
+-- OLDFILEUID, where it stands, is released.
+abbrev pub release : UserId → Option (List ℕ) → List KeptReply → List KeptReply
+release user None kept = kept
+release user (Some older) kept = released user older kept
+
+-- Then NEWFILEUID, where it stands, is kept with the reply.
+abbrev pub keep : UserId → Option (List ℕ) → List ℕ → List KeptReply → List KeptReply
+keep user None reply kept = kept
+keep user (Some newer) reply kept = kept ++ record { user = user; file = newer; reply = reply } ∷ []
+
+abbrev pub with_kept : State → List KeptReply → State
+with_kept S kept = record { entries = S.entries; used = S.used; kept = kept; day = S.day }
+
+-- the bytes that are kept for a file
+abbrev pub kept_for : State → UserId → Option (List ℕ) → Option (List ℕ)
+kept_for S user None = None
+kept_for S user (Some newer) = reply_kept user newer S.kept
+
+-- what an event answers, and the state that it leaves
+pub record Outcome : Type 0 where
+  pub reply : List ℕ
+  pub after : State
+
+abbrev pub outcome_with : State → UserId → RequestFile → List ℕ → Outcome
+outcome_with S user file reply =
+    record { reply = reply; after = with_kept S (keep user file.newer reply (release user file.older S.kept)) }
+
+unfoldable pub new_outcome : Setup → State → UserId → Moment → RequestFile → Outcome
+new_outcome setup S user at file =
+    let answers = ask_answers setup S user at file.asks in
+    outcome_with answers.after user file (reply_text (reply_file at file answers.replies))
+
+-- A file whose name is kept is answered by the kept bytes, and neither the history nor what is used or kept changes. Any
+-- other file is answered anew.
+abbrev pub outcome_or_kept : Setup → State → UserId → Moment → RequestFile → Option (List ℕ) → Outcome
+outcome_or_kept setup S user at file None = new_outcome setup S user at file
+outcome_or_kept setup S user at file (Some reply) = record { reply = reply; after = S }
+
+unfoldable pub file_outcome : Setup → State → UserId → Moment → RequestFile → Outcome
+file_outcome setup S user at file = outcome_or_kept setup S user at file (kept_for S user file.newer)
 
 -- A failed signon is no event. It is answered by 15500 alone, with the request's version and NEWFILEUID.
 unfoldable pub denial : RequestFile → Moment → ReplyFile
@@ -106,22 +164,31 @@ denial file at = record {
   replies = [];
 }
 
--- the state after an event
-abbrev pub state_after : Setup → State → Moment → Event → State
-state_after setup S at (File user file) = raised S at
+-- An event first raises the business day.
+abbrev pub step : Setup → State → Moment → Event → Outcome
+step setup S at (File user file) = file_outcome setup (raised S at) user at file
 
--- what an event answers
+abbrev pub state_after : Setup → State → Moment → Event → State
+state_after setup S at event = (step setup S at event).after
+
 abbrev pub answer_to : Setup → State → Moment → Event → List ℕ
-answer_to setup S at (File user file) = reply_text (reply_file setup (raised S at) user at file)
+answer_to setup S at event = (step setup S at event).reply
 
 -- A file is legal for a user of the setup where it is sound.
 abbrev pub IsLegal : Setup → Event → Type 0
 IsLegal setup (File user file) = (user.0 < length setup.users) × IsSound file
 
--- the accounts of the setup that an ask names
-abbrev pub account_named : Setup → Ask → Option AcctId
-account_named setup (asks.Statement trnuid name period) = account_of setup name
+-- ---- the accounts that an event names
 
--- The accounts of the setup that an event names.
+abbrev pub named_by_deed : Setup → Deed → List (Option AcctId)
+named_by_deed setup (Transfer info) = account_of setup info.from ∷ account_of setup info.to ∷ []
+named_by_deed setup (ModifyTransfer id info) = account_of setup info.from ∷ account_of setup info.to ∷ []
+named_by_deed setup (CancelTransfer id) = []
+
+abbrev pub named_by : Setup → Ask → List (Option AcctId)
+named_by setup (asks.Statement trnuid name period) = account_of setup name ∷ []
+named_by setup (asks.One trnuid deed) = named_by_deed setup deed
+
+-- The accounts of the setup that an event's asks name.
 abbrev pub named : Setup → Event → List (Option AcctId)
-named setup (File user file) = map (account_named setup) file.asks
+named setup (File user file) = flat_map (named_by setup) file.asks

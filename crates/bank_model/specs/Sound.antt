@@ -1,13 +1,17 @@
 -- Request files and events that may be handed to a bank.
-use Rattle.std.specs.Prelude.{◌≡◌, ◌≢◌, ℕ, ◌<◌, ◌≤◌, ◌⊎◌, List, length, codes}
+use Rattle.std.specs.Prelude.{◌≡◌, ◌≢◌, ℕ, ◌<◌, ◌≤◌, ◌⊎◌, unsigned_abs, List, length, codes}
 use Rattle.std.specs.Option.{IfSome}
 use Rattle.std.specs.List.{AllByRecursion}
-use Rattle.ofx_types.specs.Calendar.{IsMoment}
+use Rattle.ofx_types.specs.Calendar.{IsMoment, IsDay}
 use Rattle.ofx_types.specs.declared.number.Moment.{Moment}
+use Rattle.ofx_types.specs.declared.number.Day.{Day}
+use Rattle.ofx_types.specs.declared.transfer.XferInfo.{XferInfo}
+use Rattle.ofx_types.specs.declared.transfer.Deed.{Deed}
+use Rattle.ofx_types.specs.declared.transfer.Deed.TheVariants.{Transfer, ModifyTransfer, CancelTransfer}
 use Rattle.ofx_types.specs.declared.account.AcctName.{AcctName}
 use Rattle.ofx_types.specs.declared.request.Period.{Period}
 use Rattle.ofx_types.specs.declared.request.Ask.{Ask}
-use Rattle.ofx_types.specs.declared.request.Ask.TheVariants.{Statement}
+use Rattle.ofx_types.specs.declared.request.Ask.TheVariants.{Statement, One}
 use Rattle.ofx_types.specs.declared.request.RequestFile.{RequestFile}
 
 -- a text of 1 byte up to the limit
@@ -21,9 +25,26 @@ IsSoundAccount account = HasLength 32 account.bank × HasLength 32 account.numbe
 abbrev pub IsSoundPeriod : Period → Type 0
 IsSoundPeriod period = IfSome period.start (λ (start : Moment). IsMoment start.0) × IfSome period.end (λ (end : Moment). IsMoment end.0)
 
+-- An amount is at most 99,999,999,999.99 either way, and a day lies in the years 1900 to 9999.
+pub record IsSoundInfo (info : XferInfo) : Type 0 where
+  pub from : IsSoundAccount info.from
+  pub to : IsSoundAccount info.to
+  pub amount : unsigned_abs info.amount.0 ≤ 9999999999999
+  pub due : IfSome info.due (λ (day : Day). IsDay day.0)
+
+-- An id has at most ten digits.
+abbrev pub IsId : ℕ → Type 0
+IsId id = id ≤ 9999999999
+
+abbrev pub IsSoundDeed : Deed → Type 0
+IsSoundDeed (Transfer info) = IsSoundInfo info
+IsSoundDeed (ModifyTransfer id info) = IsId id × IsSoundInfo info
+IsSoundDeed (CancelTransfer id) = IsId id
+
 -- No TRNUID is `0`, which marks what the bank does by itself.
 abbrev pub IsSoundAsk : Ask → Type 0
 IsSoundAsk (Statement trnuid account period) = (trnuid ≢ codes "0") × IsSoundAccount account × IfSome period IsSoundPeriod
+IsSoundAsk (One trnuid deed) = (trnuid ≢ codes "0") × IsSoundDeed deed
 
 -- the versions of the header
 abbrev pub IsVersion : ℕ → Type 0

@@ -1,6 +1,8 @@
 //! What happens to a bank, and the state that it leaves.
 
-use ofx_types::{Day, Duplicate, OutOfMemory, RequestFile, UserId};
+use crate::entry::Entry;
+use crate::once::{KeptReply, UsedPair};
+use ofx_types::{Day, Duplicate, OutOfMemory, RequestFile, Sequence, UserId};
 
 /// What may change a bank. Each event happens at a moment.
 #[derive(Debug, Drop)]
@@ -10,8 +12,14 @@ pub enum Event {
 }
 
 /// The state of a bank between two events.
-#[derive(Clone, Copy, Debug, PartialEq, Eq)]
+#[derive(Debug, Drop)]
 pub struct State {
+    /// The history: entry i, from 1, has the number i.
+    pub entries: Sequence<Entry>,
+    /// The uids that users have used up.
+    pub used: Sequence<UsedPair>,
+    /// The replies to files that may come again.
+    pub kept: Sequence<KeptReply>,
     /// The business day: the greatest day of any event's moment so far.
     pub day: Day,
 }

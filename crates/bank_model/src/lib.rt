@@ -4,13 +4,17 @@
 //! state that it is in afterwards, are definitions in `specs/`; the crates above are proved against them.
 #![tactic(auto)]
 
+mod entry;
 mod event;
+mod once;
 mod printer;
 mod setup;
 #[cfg(test)]
 mod tests;
 
+pub use entry::Entry;
 pub use event::{Event, State};
+pub use once::{KeptReply, UsedPair};
 pub use printer::Printer;
 pub use setup::{
     AccountLine, Accounts, Owners, Setup, SetupFault, User, Users, one_fault, one_setup,

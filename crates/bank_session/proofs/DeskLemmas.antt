@@ -1,38 +1,39 @@
 -- What a desk's accounts and answers rest on.
-use Rattle.std.proofs.Common.{◌≡◌, ℕ, ◌<◌, ◌+◌, Bool, List, [], ◌∷◌, length, map, get_or, position, nat_lt, not, pos, Option, None, Some, IfSome, arith, refl, sym, ap, ◌∙◌, subst}
+use Rattle.std.proofs.Common.{◌≡◌, ℕ, ◌<◌, ◌+◌, Bool, List, [], ◌∷◌, length, get_or, position, nat_lt, not, pos, Option, None, Some, IfSome, arith, refl, sym, ap, ◌∙◌, subst}
 use Rattle.std.specs.Option.{option_map}
 use Rattle.std.specs.List.{prefix_len}
 use Rattle.std.proofs.lemmas.Option.{cond_some}
 use Rattle.std.proofs.lemmas.Bool.{ltb-true}
 use Rattle.std.proofs.lemmas.List.{length-map, get_or-map}
-use Rattle.std.proofs.lemmas.List.Elements.{All-from_recursion}
-use Rattle.std.specs.List.{AllByRecursion}
+use Rattle.std.proofs.lemmas.List.Elements.{All-from_recursion, All-append}
+use Rattle.std.specs.List.{All, AllByRecursion, Contains, flat_map}
 use Rattle.ofx_types.specs.AccountForm.{same_account}
-use Rattle.ofx_types.specs.FileForm.{SpellsFile}
 use Rattle.ofx_types.specs.declared.number.AcctId.{AcctId}
 use Rattle.ofx_types.specs.declared.request.Ask.{Ask}
-use Rattle.ofx_types.specs.declared.request.Ask.TheVariants.{Statement}
+use Rattle.ofx_types.specs.declared.request.Ask.TheVariants.{Statement, One}
+use Rattle.ofx_types.specs.declared.transfer.Deed.{Deed}
+use Rattle.ofx_types.specs.declared.transfer.Deed.TheVariants.{Transfer, ModifyTransfer, CancelTransfer}
+use Rattle.ofx_types.specs.declared.transfer.XferInfo.{XferInfo}
+use Rattle.ofx_types.specs.declared.account.AcctName.{AcctName}
 use Rattle.ofx_types.specs.declared.request.RequestFile.{RequestFile}
 use Rattle.bank_model.specs.declared.setup.Setup.{Setup}
 use Rattle.bank_model.specs.declared.setup.AccountLine.{AccountLine}
+use Rattle.bank_model.specs.declared.event.State.{State}
 use Rattle.bank_model.specs.declared.event.Event.{Event}
 use Rattle.bank_model.specs.declared.event.Event.TheVariants.{File}
-use Rattle.bank_model.specs.Rules.{named, account_named, opening_state, denial}
+use Rattle.bank_model.specs.SetupLookups.{account_of}
+use Rattle.bank_model.specs.Rules.{named, named_by, named_by_deed, opening_state, denial}
 use Rattle.ofx_types.specs.Calendar.{IsMoment}
 use Rattle.ofx_types.specs.Printable.{IsPrintable}
 use Rattle.ofx_types.specs.declared.number.Moment.{Moment}
-use Rattle.bank_core.specs.AccountView.{AccountView}
-use Rattle.bank_core.specs.BookView.{BookView}
-use Rattle.bank_core.specs.HeldAccounts.{AreHeld, IsHeld, AreBalanced, NumbersRise}
+use Rattle.bank_accounts.specs.AccountView.{AccountView}
+use Rattle.bank_accounts.specs.HeldAccounts.{AreHeld, IsHeld, NumbersRise, HaveSameNumbers}
+use Rattle.bank_core.specs.Balanced.{AreBalanced}
 use Rattle.bank_core.specs.Opened.{AreOpened}
 use Rattle.bank_session.specs.Desk.{HasAccounts}
-use Rattle.bank_session.specs.Answers.{IsSignedOn, IsDenied, uid_line}
-use Rattle.bank_session.specs.Asked.{IsSignonOf, IsJudged}
-use Rattle.bank_session.specs.declared.judge.Judgement.{Judgement}
-use Rattle.bank_session.specs.declared.judge.Judgement.TheVariants.{Answered, Denied, Refused}
 
 -- a place that is found is one of the list's
-found_within : {X : Type 0} (test : X → Bool) (xs : List X) (place : ℕ) → position test xs ≡ Some place → place < length xs
+pub found_within : {X : Type 0} (test : X → Bool) (xs : List X) (place : ℕ) → position test xs ≡ Some place → place < length xs
 found_within test xs place e =
     let parts = cond_some (nat_lt (prefix_len (λ x. not (test x)) xs) (length xs)) (prefix_len (λ x. not (test x)) xs) place e in
     omega (arith, parts.1, ltb-true _ _ parts.0)
@@ -40,27 +41,52 @@ found_within test xs place e =
 abbrev numbered : ℕ → AcctId
 numbered place = record { 0 = place }
 
+-- the accounts at hand are those of the setup
+abbrev AreAll : Setup → List AccountView → Type 0
+AreAll setup accounts = (number : AcctId) → number.0 < length setup.accounts → IsHeld accounts number
+
+abbrev IsAtHand : List AccountView → Option AcctId → Type 0
+IsAtHand accounts entry = IfSome entry (IsHeld accounts)
+
 -- an account of the setup is at hand
-entry_held : (count : ℕ) (accounts : List AccountView) (found : Option ℕ) → ((place : ℕ) → found ≡ Some place → place < count) → ((number : AcctId) → number.0 < count → IsHeld accounts number) → IfSome (option_map numbered found) (IsHeld accounts)
+entry_held : (count : ℕ) (accounts : List AccountView) (found : Option ℕ) → ((place : ℕ) → found ≡ Some place → place < count) → ((number : AcctId) → number.0 < count → IsHeld accounts number) → IsAtHand accounts (option_map numbered found)
 entry_held count accounts None within all = tt
 entry_held count accounts (Some place) within all = all (numbered place) (within place refl)
 
+name_held : (setup : Setup) (accounts : List AccountView) (name : AcctName) → AreAll setup accounts → IsAtHand accounts (account_of setup name)
+name_held setup accounts name all =
+    let is_named : AccountLine → Bool = λ line. same_account line.name name in
+    entry_held (length setup.accounts) accounts (position is_named setup.accounts) (found_within is_named setup.accounts) all
+
+-- both accounts of a transfer are at hand
+both_held : (setup : Setup) (accounts : List AccountView) (info : XferInfo) → AreAll setup accounts → AllByRecursion (IsAtHand accounts) (account_of setup info.from ∷ account_of setup info.to ∷ [])
+both_held setup accounts info all = (name_held setup accounts info.from all, (name_held setup accounts info.to all, tt))
+
+deed_held : (setup : Setup) (accounts : List AccountView) (deed : Deed) → AreAll setup accounts → AllByRecursion (IsAtHand accounts) (named_by_deed setup deed)
+deed_held setup accounts (Transfer info) all = both_held setup accounts info all
+deed_held setup accounts (ModifyTransfer id info) all = both_held setup accounts info all
+deed_held setup accounts (CancelTransfer id) all = tt
+
+ask_held : (setup : Setup) (accounts : List AccountView) (ask : Ask) → AreAll setup accounts → AllByRecursion (IsAtHand accounts) (named_by setup ask)
+ask_held setup accounts (Statement trnuid name period) all = (name_held setup accounts name all, tt)
+ask_held setup accounts (One trnuid deed) all = deed_held setup accounts deed all
+
+asks_held : (setup : Setup) (accounts : List AccountView) (asks : List Ask) → AreAll setup accounts → All (IsAtHand accounts) (flat_map (named_by setup) asks)
+asks_held setup accounts [] all = All-from_recursion (IsAtHand accounts) [] tt
+asks_held setup accounts (ask ∷ asks) all =
+    All-append (IsAtHand accounts) (named_by setup ask) (flat_map (named_by setup) asks) (All-from_recursion (IsAtHand accounts) (named_by setup ask) (ask_held setup accounts ask all)) (asks_held setup accounts asks all)
+
 -- every account that an event names is at hand where all are
-named_held : (setup : Setup) (accounts : List AccountView) (asks : List Ask) → ((number : AcctId) → number.0 < length setup.accounts → IsHeld accounts number) → AllByRecursion (λ (entry : Option AcctId). IfSome entry (IsHeld accounts)) (map (account_named setup) asks)
-named_held setup accounts [] all = tt
-named_held setup accounts (Statement trnuid name period ∷ asks) all = (
-  entry_held (length setup.accounts) accounts (position (λ (line : AccountLine). same_account line.name name) setup.accounts) (found_within (λ (line : AccountLine). same_account line.name name) setup.accounts) all,
-  named_held setup accounts asks all,
-)
+pub all_held : (setup : Setup) (accounts : List AccountView) (event : Event) → AreAll setup accounts → AreHeld accounts (named setup event)
+all_held setup accounts (File user file) all = asks_held setup accounts file.asks all
 
-pub all_held : (setup : Setup) (accounts : List AccountView) (event : Event) → ((number : AcctId) → number.0 < length setup.accounts → IsHeld accounts number) → AreHeld accounts (named setup event)
-all_held setup accounts (File user file) all = All-from_recursion _ _ (named_held setup accounts file.asks all)
-
--- the accounts stay at hand while the setup and the balances stay
-pub still_held : (old new : BookView) (accounts : List AccountView) → new.setup ≡ old.setup → HasAccounts old accounts → HasAccounts new accounts
-still_held old new accounts same has = record {
-  all = λ number h. has.all number (subst (λ (s : Setup). number.0 < length s.accounts) same h);
-  balanced = let P : Setup → Type 0 = λ s. AreBalanced s new.state accounts in subst P (sym same) has.balanced;
+-- where accounts keep their numbers and have their balances in another state, all are at hand there
+pub still_held : (setup : Setup) (state state' : State) (before after : List AccountView) → HaveSameNumbers after before → AreBalanced setup state' after → HasAccounts setup state before → HasAccounts setup state' after
+still_held setup state state' before after numbers balanced has = record {
+  all = λ number h.
+      let P : List AcctId → Type 0 = λ held. Contains held number in
+      subst P (sym numbers) (has.all number h);
+  balanced = balanced;
 }
 
 -- an account is at hand at its place
@@ -83,24 +109,11 @@ numbers_rise accounts places k more =
     omega (arith, first, second)
 
 -- the accounts of a bank that opens are all at hand
-pub opened_held : (setup : Setup) (book : BookView) (accounts : List AccountView) → AreOpened setup accounts → book ≡ record { setup = setup; state = opening_state } → HasAccounts book accounts
-opened_held setup book accounts opened e =
-    let same : book.setup ≡ setup = ap (λ (b : BookView). b.setup) e in
-    let P : Setup → Type 0 = λ s. AreBalanced s book.state accounts in
-    record {
-      all = λ number h. at_place accounts (record { number = number; balance = record { 0 = pos 0 } }) (omega (arith, h, opened.count, ap (λ (s : Setup). length s.accounts) same)) opened.numbered;
-      balanced = subst P (sym same) opened.balanced;
-    }
-
--- what a file without uids is by its signon is what its bytes are
-pub judged : (setup : Setup) (bytes : List ℕ) (file : RequestFile) (found : Judgement) → SpellsFile bytes file → uid_line file.older file.newer ≡ None → IsSignonOf setup file found → IsJudged setup bytes found
-judged setup bytes file (Answered (File user own)) spells no_uid by =
-    let P : RequestFile → Type 0 = λ f. IsSignedOn setup bytes f user in
-    (subst P (sym by.0) (record { spelled = spells; no_uid = no_uid; signed = by.1 }), by.2)
-judged setup bytes file (Denied own) spells no_uid by =
-    let P : RequestFile → Type 0 = λ f. IsDenied setup bytes f in
-    subst P (sym by.0) (record { spelled = spells; no_uid = no_uid; unsigned = by.1 })
-judged setup bytes file (Refused place) spells no_uid by = absurd by
+pub opened_held : (setup : Setup) (accounts : List AccountView) → AreOpened setup accounts → HasAccounts setup opening_state accounts
+opened_held setup accounts opened = record {
+  all = λ number h. at_place accounts (record { number = number; balance = record { 0 = pos 0 } }) (omega (arith, h, opened.count)) opened.numbered;
+  balanced = opened.balanced;
+}
 
 -- a failed signon may be printed
 pub denial_printable : (file : RequestFile) (at : Moment) → IsMoment at.0 → IsPrintable (denial file at)

@@ -12,6 +12,5 @@ pub mod DeskLemmas
 pub mod TurnLemmas
 pub mod RunLemmas
 pub mod ExactLemmas
-pub mod LinePlaces
-pub mod HeaderLines
 pub mod LineLemmas
+pub mod TurnEvents

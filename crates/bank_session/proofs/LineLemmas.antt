@@ -15,7 +15,7 @@ use Rattle.ofx_types.specs.ReplyForm.{reply_text}
 use Rattle.std.specs.Fmt.{decimal}
 use Rattle.std.proofs.lemmas.List.{append_cancel_left, append_cancel_right}
 use Rattle.bank_session.specs.Frames.{frame, frame_head}
-use Rattle.bank_session.specs.Answers.{Says, IsSignedOn, IsDamaged, NamesUid, IsRefused, uid_line, line_place, fault_place, bad_line, AreTurns, written_in}
+use Rattle.bank_session.specs.Answers.{Says, IsSignedOn, IsRefused, fault_place, bad_line, AreTurns, written_in}
 use Rattle.bank_session.specs.Determined.{OneLine, OneOutput, OneRefusal, RefusedIsUnanswered, RefusedIsUndenied, DeniedIsUnanswered, WhereAnswered, WhereDenied, WhereRefused, OnlyWhereRefused}
 
 same_inside : {X : Type 0} {x y : X} → Some x ≡ Some y → x ≡ y
@@ -28,29 +28,15 @@ none_or_some none some = cc
 of_other : OneFile → (bytes : List ℕ) (a b : RequestFile) (P : RequestFile → Type 0) → SpellsFile bytes a → SpellsFile bytes b → P a → P b
 of_other one bytes a b P spells spells' fact = subst P (one bytes a b spells spells') fact
 
-uid_of : RequestFile → Option ℕ
-uid_of file = uid_line file.older file.newer
+-- refused bytes spell nothing
+unrefused : FaultsSpellNothing → (bytes : List ℕ) (file : RequestFile) (place : ℕ) → SpellsFile bytes file → IsRefused bytes place → ⊥
+unrefused nothing bytes file place spells refused = nothing bytes file refused.fault spells refused.is_fault
 
--- damaged bytes spell nothing
-undamaged : FaultsSpellNothing → (bytes : List ℕ) (file : RequestFile) (place : ℕ) → SpellsFile bytes file → IsDamaged bytes place → ⊥
-undamaged nothing bytes file place spells damaged = nothing bytes file damaged.fault spells damaged.is_fault
+pub unanswered : FaultsSpellNothing → RefusedIsUnanswered
+unanswered nothing setup bytes file user place answered refused = unrefused nothing bytes file place answered.spelled refused
 
--- a file that names a uid is not one that names none
-two_uids : OneFile → (bytes : List ℕ) (file : RequestFile) (place : ℕ) → SpellsFile bytes file → uid_line file.older file.newer ≡ None → NamesUid bytes place → ⊥
-two_uids one bytes file place spells none names =
-    let P : RequestFile → Type 0 = λ f. uid_line f.older f.newer ≡ None in
-    none_or_some (of_other one bytes file names.file P spells names.spelled none) names.has_uid
-
--- a file without uids that bytes spell isn't refused
-unrefused : OneFile → FaultsSpellNothing → (bytes : List ℕ) (file : RequestFile) (place : ℕ) → SpellsFile bytes file → uid_line file.older file.newer ≡ None → IsRefused bytes place → ⊥
-unrefused one nothing bytes file place spells none (inl damaged) = undamaged nothing bytes file place spells damaged
-unrefused one nothing bytes file place spells none (inr names) = two_uids one bytes file place spells none names
-
-pub unanswered : OneFile → FaultsSpellNothing → RefusedIsUnanswered
-unanswered one nothing setup bytes file user place answered refused = unrefused one nothing bytes file place answered.spelled answered.no_uid refused
-
-pub undenied : OneFile → FaultsSpellNothing → RefusedIsUndenied
-undenied one nothing setup bytes file place denied refused = unrefused one nothing bytes file place denied.spelled denied.no_uid refused
+pub undenied : FaultsSpellNothing → RefusedIsUndenied
+undenied nothing setup bytes file place denied refused = unrefused nothing bytes file place denied.spelled refused
 
 -- a user who signs on isn't denied
 pub signed_on_once : OneFile → DeniedIsUnanswered
@@ -58,23 +44,11 @@ signed_on_once one setup bytes file file' user answered denied =
     let P : RequestFile → Type 0 = λ f. signed_on setup f.user f.pass ≡ Some user in
     none_or_some denied.unsigned (of_other one bytes file file' P answered.spelled denied.spelled answered.signed)
 
-same_fault_place : OneFault → (bytes : List ℕ) (place place' : ℕ) → IsDamaged bytes place → IsDamaged bytes place' → place ≡ place'
-same_fault_place one bytes place place' a b =
+-- a file that isn't answered has one place
+pub same_place : OneFault → OneRefusal
+same_place one bytes place place' a b =
     let fault : a.fault ≡ b.fault = one bytes a.fault b.fault a.is_fault b.is_fault in
     same_inside (sym a.has_place ∙ (ap (λ (f : FileFault). fault_place f) fault ∙ b.has_place))
-
-same_uid_place : OneFile → (bytes : List ℕ) (place place' : ℕ) → NamesUid bytes place → NamesUid bytes place' → place ≡ place'
-same_uid_place one bytes place place' a b =
-    let P : RequestFile → Type 0 = λ f. uid_line f.older f.newer ≡ Some a.line in
-    let line : a.line ≡ b.line = same_inside (sym (of_other one bytes a.file b.file P a.spelled b.spelled a.has_uid) ∙ b.has_uid) in
-    a.place_is ∙ (ap (λ (k : ℕ). line_place k bytes) line ∙ sym b.place_is)
-
--- a file that isn't answered has one place
-pub same_place : OneFile → OneFault → FaultsSpellNothing → OneRefusal
-same_place one fault nothing bytes place place' (inl a) (inl b) = same_fault_place fault bytes place place' a b
-same_place one fault nothing bytes place place' (inl a) (inr b) = absurd (undamaged nothing bytes b.file place b.spelled a)
-same_place one fault nothing bytes place place' (inr a) (inl b) = absurd (undamaged nothing bytes a.file place' a.spelled b)
-same_place one fault nothing bytes place place' (inr a) (inr b) = same_uid_place one bytes place place' a b
 
 -- two answers to one file are one event
 same_event : OneFile → (setup : Setup) (bytes : List ℕ) (file file' : RequestFile) (user user' : UserId) → IsSignedOn setup bytes file user → IsSignedOn setup bytes file' user' → File user file ≡ File user' file'

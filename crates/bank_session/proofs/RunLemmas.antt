@@ -1,6 +1,6 @@
 -- How the turns of a run join.
 use Rattle.std.proofs.Common.{◌≡◌, ◌≢◌, ℕ, ◌<◌, ◌≤◌, ◌+◌, List, [], ◌∷◌, ◌++◌, length, Option, None, Some, IfSome, Result, Ok, Err, ◌⊎◌, inl, inr, arith, refl, sym, ap, ◌∙◌, subst, length-append}
-use Rattle.std.specs.Io.KnownBytes.{Keeps, Consumes, prepend_known}
+use Rattle.std.specs.Io.KnownBytes.{Keeps, Consumes, IsAtEnd, prepend_known}
 use Rattle.std.proofs.KnownBytes.{Appends-nil, Appends-trans, Consumes-trans, Consumes-kept, Appends-kept}
 use Rattle.std.proofs.lemmas.List.{flat_map_more}
 use Rattle.ofx_ports.specs.Faults.{Rose}
@@ -14,7 +14,7 @@ use Rattle.bank_session.specs.Answers.{Says, Turn, AreTurns, read_in, written_in
 use Rattle.bank_session.specs.Coming.{IsNoFrame}
 use Rattle.bank_session.specs.Outside.{Outside, outside}
 use Rattle.bank_session.specs.Turns.{TurnMade, NoTurn, TurnStops}
-use Rattle.bank_session.specs.RunEnd.{Taken, StoppedBetween, StoppedAtFrame, RunEnds}
+use Rattle.bank_session.specs.RunEnd.{Taken, Finished, StoppedBetween, StoppedAtFrame, RunEnds}
 use Rattle.bank_session.specs.SetupRead.{IsSetupOf}
 use Rattle.bank_session.specs.Run.{EndsSo}
 use Rattle.bank_session.specs.EndOrStop.{EndOrStop}
@@ -87,6 +87,19 @@ stopped_at_frame setup at before after count place book coming now seen ahead st
   taken = taken_of setup at before after count place book coming now seen ahead standing few none.kept;
   more = stuck (prepend_known ahead after.input_left) _ no_frame;
   place_is = standing.place_is;
+  written = Appends-kept before.held now after.held _ standing.written none.unwritten;
+  moments = kept_moments at before.shown seen after.shown _ standing.moments none.unseen;
+}
+
+-- a run that finds nothing more has answered every frame
+pub finished : (setup : Setup) (at : Option Moment) (before after : Outside) (count place : ℕ) (book : BookView) (coming now : Option (List ℕ)) (seen : Option (List Moment)) (ahead : List ℕ) →
+    Standing setup at before.input_left before.held before.shown count place book coming now seen → count ≤ 1000000 → NoTurn coming (prepend_known ahead after.input_left) now after.held seen after.shown → IsAtEnd (prepend_known ahead after.input_left) → Finished setup at before after
+finished setup at before after count place book coming now seen ahead standing few none at_end = record {
+  turns = standing.turns;
+  state = book.state;
+  ahead = ahead;
+  taken = taken_of setup at before after count place book coming now seen ahead standing few none.kept;
+  at_end = at_end;
   written = Appends-kept before.held now after.held _ standing.written none.unwritten;
   moments = kept_moments at before.shown seen after.shown _ standing.moments none.unseen;
 }

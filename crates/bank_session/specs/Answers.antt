@@ -1,8 +1,7 @@
 -- What a run writes for a file.
-use Rattle.std.specs.Prelude.{◌≡◌, ℕ, zero, suc, ◌-◌, List, [], ◌∷◌, ◌++◌, length, map, codes, Option, None, Some, All, ◌⊎◌}
-use Rattle.std.specs.List.{flat_map, after_first}
+use Rattle.std.specs.Prelude.{◌≡◌, ℕ, List, [], ◌∷◌, ◌++◌, length, map, codes, Option, None, Some, All, ◌⊎◌}
+use Rattle.std.specs.List.{flat_map}
 use Rattle.std.specs.Fmt.{decimal}
-use Rattle.ofx_types.specs.HeaderForm.{is_line_feed}
 use Rattle.ofx_types.specs.FileForm.{SpellsFile, IsFaultOf}
 use Rattle.ofx_types.specs.declared.fault.FileFault.{FileFault}
 use Rattle.ofx_types.specs.declared.fault.FileFault.TheVariants.{Header, Syntax, Form, OutOfMemory}
@@ -18,23 +17,14 @@ use Rattle.ofx_types.specs.ReplyForm.{reply_text}
 use Rattle.ofx_ports.specs.Told.{Stays, Grows}
 use Rattle.bank_session.specs.Frames.{IsLength, frame}
 
--- The line of the header that names a uid: the eighth is OLDFILEUID, and otherwise the ninth is NEWFILEUID.
-abbrev pub uid_line : Option (List ℕ) → Option (List ℕ) → Option ℕ
-uid_line (Some older) newer = Some 8
-uid_line None (Some newer) = Some 9
-uid_line None None = None
-
--- A file is an event of a user where its bytes spell a request file that names no uid, and the setup has this user with
--- this password.
+-- A file is an event of a user where its bytes spell a request file, and the setup has this user with this password.
 pub record IsSignedOn (setup : Setup) (bytes : List ℕ) (file : RequestFile) (user : UserId) : Type 0 where
   pub spelled : SpellsFile bytes file
-  pub no_uid : uid_line file.older file.newer ≡ None
   pub signed : signed_on setup file.user file.pass ≡ Some user
 
 -- Where the setup has no such user the signon failed.
 pub record IsDenied (setup : Setup) (bytes : List ℕ) (file : RequestFile) : Type 0 where
   pub spelled : SpellsFile bytes file
-  pub no_uid : uid_line file.older file.newer ≡ None
   pub unsigned : signed_on setup file.user file.pass ≡ None
 
 -- The place of a fault is told. Want of memory has none.
@@ -44,32 +34,11 @@ fault_place (Syntax at) = Some at
 fault_place (Form at) = Some at
 fault_place OutOfMemory = None
 
--- Bytes that spell no file aren't answered: the place is that of their fault.
-pub record IsDamaged (bytes : List ℕ) (place : ℕ) : Type 0 where
+-- Bytes that spell no file are refused: the place is that of their fault.
+pub record IsRefused (bytes : List ℕ) (place : ℕ) : Type 0 where
   pub fault : FileFault
   pub is_fault : IsFaultOf bytes fault
   pub has_place : fault_place fault ≡ Some place
-
--- what stands behind this many LFs
-unfoldable pub behind_lines : ℕ → List ℕ → List ℕ
-behind_lines zero bytes = bytes
-behind_lines (suc lines) bytes = behind_lines lines (after_first is_line_feed bytes)
-
--- Line k begins behind LF number k-1. Its place is the number of bytes in front of it.
-abbrev pub line_place : ℕ → List ℕ → ℕ
-line_place k bytes = length bytes - length (behind_lines (k - 1) bytes)
-
--- A file that names a uid isn't answered yet: the place is that of the line that names it.
-pub record NamesUid (bytes : List ℕ) (place : ℕ) : Type 0 where
-  pub file : RequestFile
-  pub line : ℕ
-  pub spelled : SpellsFile bytes file
-  pub has_uid : uid_line file.older file.newer ≡ Some line
-  pub place_is : place ≡ line_place line bytes
-
--- A file isn't answered, for one of these two causes.
-abbrev pub IsRefused : List ℕ → ℕ → Type 0
-IsRefused bytes place = IsDamaged bytes place ⊎ NamesUid bytes place
 
 -- A user's file is an event: its reply is written in a frame.
 pub record Replies (setup : Setup) (at : Moment) (before : State) (bytes line : List ℕ) (after : State) : Type 0 where
@@ -90,7 +59,7 @@ pub record Denies (setup : Setup) (at : Moment) (before : State) (bytes line : L
 abbrev pub bad_line : ℕ → List ℕ
 bad_line place = codes "BAD " ++ decimal place ++ 10 ∷ []
 
--- For any other file the line tells the place, and nothing changes.
+-- For any other bytes the line tells the place, and nothing changes.
 pub record IsBad (before : State) (bytes line : List ℕ) (after : State) : Type 0 where
   pub place : ℕ
   pub refused : IsRefused bytes place

@@ -1,12 +1,13 @@
--- A bank's book with its accounts.
-use Rattle.std.specs.Prelude.{List, length}
-use Rattle.bank_core.specs.AccountView.{AccountView}
-use Rattle.bank_core.specs.BookView.{BookView}
-use Rattle.bank_core.specs.HeldAccounts.{AreBalanced, IsHeld}
+-- The accounts of a bank at hand.
+use Rattle.std.specs.Prelude.{◌<◌, List, length}
 use Rattle.ofx_types.specs.declared.number.AcctId.{AcctId}
-use Rattle.std.specs.Prelude.{◌<◌}
+use Rattle.bank_model.specs.declared.setup.Setup.{Setup}
+use Rattle.bank_model.specs.declared.event.State.{State}
+use Rattle.bank_accounts.specs.AccountView.{AccountView}
+use Rattle.bank_accounts.specs.HeldAccounts.{IsHeld}
+use Rattle.bank_core.specs.Balanced.{AreBalanced}
 
--- Every account of the setup is at hand, each with its balance.
-pub record HasAccounts (book : BookView) (accounts : List AccountView) : Type 0 where
-  pub all : (number : AcctId) → number.0 < length book.setup.accounts → IsHeld accounts number
-  pub balanced : AreBalanced book.setup book.state accounts
+-- Every account of the setup is at hand, each with its balance in the state of the bank.
+pub record HasAccounts (setup : Setup) (state : State) (accounts : List AccountView) : Type 0 where
+  pub all : (number : AcctId) → number.0 < length setup.accounts → IsHeld accounts number
+  pub balanced : AreBalanced setup state accounts

@@ -6,7 +6,6 @@ pub mod Window
 pub mod Coming
 pub mod Writes
 pub mod Answers
-pub mod HeaderLines
 pub mod Words
 pub mod WordsRead
 pub mod SetupRead
@@ -20,3 +19,4 @@ pub mod EndOrStop
 pub mod Run
 pub mod Exact
 pub mod Determined
+pub mod BooksKept

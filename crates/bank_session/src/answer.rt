@@ -79,14 +79,12 @@ fn at_place(status: u8, place: u64) -> Told
 /// turn. With `--at` each frame has that moment. Without it the clock is read once for each frame, when the whole frame
 /// is there and before it is judged.
 ///
-/// A request file of a user of the setup (OFX 1.6, "Signon") is answered by the reply in its frame. Where no user has
-/// the file's name and password the reply is the failed signon alone, with code 15500, and changes nothing. Any other
-/// file gets the line `BAD` with a place, in bytes from the file's first, and changes nothing:
-///
-/// | Place | Where |
-/// |---|---|
-/// | that of the fault | the bytes spell no request file |
-/// | that of the header's line with the uid, of OLDFILEUID where both are given | the file names a uid ("File-Based Error Recovery"), which isn't answered yet, whoever signs on |
+/// A request file of a user of the setup (OFX 1.6, "Signon") is answered by the reply in its frame. The reply to a file
+/// with a NEWFILEUID is kept, and the same bytes are written again for each file of that user with this NEWFILEUID, until
+/// one of the user's files that is answered anew names it as OLDFILEUID ("File-Based Error Recovery"). Where no user has
+/// the file's name and password the reply is the failed signon alone, with code 15500, and changes nothing. Bytes that
+/// spell no request file get the line `BAD` with the place of their fault, in bytes from the file's first, and change
+/// nothing.
 ///
 /// | Status | Note | Where |
 /// |---|---|---|

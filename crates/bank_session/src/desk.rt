@@ -10,7 +10,8 @@ ghost use Rattle.bank_session.specs.Frames.{IsLength, frame};
 ghost use Rattle.bank_session.specs.Answers.{Says, bad_line};
 
 use crate::judge::{Judgement, judge};
-use bank_core::{Book, Held, denial};
+use bank_accounts::Held;
+use bank_core::{Book, denial};
 use bank_model::{Event, Setup};
 use ofx_file::{OfxPrinter, write_reply};
 use ofx_types::{Moment, OutOfMemory, RequestFile};
@@ -32,9 +33,9 @@ impl Model for Desk {
 
     ghost Value = { BookView };
 
-    ghost view = { λ d. d.book };
+    ghost view = { λ d. record { setup = d.book.setup; state = d.book.state } };
 
-    ghost invariant = { λ d. HasAccounts d.book d.held × IsWithinLimits d.book.setup };
+    ghost invariant = { λ d. HasAccounts d.book.setup d.book.state d.held × IsWithinLimits d.book.setup };
 }
 
 impl Desk {

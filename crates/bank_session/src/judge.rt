@@ -5,19 +5,13 @@ ghost use Rattle.ofx_types.specs.FileForm.{SpellsFile};
 ghost use Rattle.bank_model.specs.SetupForm.{IsWithinLimits};
 ghost use Rattle.bank_model.specs.Sound.{IsSound};
 ghost use Rattle.bank_session.specs.Frames.{IsLength};
-ghost use Rattle.bank_session.specs.Answers.{uid_line, fault_place};
-ghost use Rattle.bank_session.specs.Asked.{IsJudged, IsSignonOf};
+ghost use Rattle.bank_session.specs.Answers.{fault_place};
+ghost use Rattle.bank_session.specs.Asked.{IsJudged};
 
-use crate::lines::place_of_line;
 use bank_model::{Event, Setup};
 use ofx_file::read_request;
 use ofx_types::{FileFault, OutOfMemory, RequestFile};
 use std::alloc::Global;
-
-/// The lines of the header that name the uids.
-const OLDER_LINE: usize = 8;
-
-const NEWER_LINE: usize = 9;
 
 /// What a file is to the bank.
 #[derive(Drop)]
@@ -55,37 +49,13 @@ fn place_of(fault: FileFault) -> Option<u64>
     }
 }
 
-/// What the file that the bytes spell is to the bank. Uids are looked for before users.
+/// What the request file that the bytes spell is to the bank: an event of the user who signs on, whatever it names and
+/// asks about.
 fn judge_file(setup: &Setup, bytes: &[u8], file: RequestFile) -> Judgement
     requires within { IsWithinLimits setup.now }
     requires spelled { SpellsFile bytes.now file }
     requires sound { IsSound file }
     ensures { IsJudged setup.now bytes.now result }
-{
-    match line_with_uid(&file) {
-        Some(number) => Judgement::Refused(place_of_line(bytes, number) as u64),
-        None => judge_signon(setup, file),
-    }
-}
-
-/// The number of the header's line that names a uid, that of OLDFILEUID where both do.
-fn line_with_uid(file: &RequestFile) -> Option<usize>
-    ensures { result ≡ uid_line file.now.older file.now.newer }
-{
-    if file.older.is_some() {
-        Some(OLDER_LINE)
-    } else if file.newer.is_some() {
-        Some(NEWER_LINE)
-    } else {
-        None
-    }
-}
-
-/// What a request file without uids is to the bank: an event of the user who signs on, whatever accounts it asks about.
-fn judge_signon(setup: &Setup, file: RequestFile) -> Judgement
-    requires within { IsWithinLimits setup.now }
-    requires sound { IsSound file }
-    ensures { IsSignonOf setup.now file result }
 {
     match setup.signon(&file.user, &file.pass) {
         Some(user) => Judgement::Answered(Event::File(user, file)),

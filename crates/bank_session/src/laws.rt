@@ -1,9 +1,10 @@
-//! What is written is determined: laws over the definitions, which make no call.
+//! What is written is determined, and the books are kept: laws over the definitions.
 
-ghost use Rattle.bank_session.specs.HeaderLines.{UidLinesBegin};
 ghost use Rattle.bank_session.specs.Determined.{OneSplitting, OneRefusal, RefusedIsUnanswered, RefusedIsUndenied, DeniedIsUnanswered, WhereAnswered, WhereDenied, WhereRefused, OnlyWhereRefused, OneLine, OneOutput};
+ghost use Rattle.bank_session.specs.BooksKept.{RunsKeepTheBooks};
 
-use ofx_file::{faults_spell_nothing, one_fault, one_file};
+use bank_core::{files_are_kept_once, money_stays, no_account_is_overdrawn, uids_work_once};
+use ofx_file::{faults_spell_nothing, one_fault, one_file, spelled_files_are_sound};
 
 /// An input is split into frames in one way: of two splittings one goes on where the other stops.
 pub fn one_splitting()
@@ -16,7 +17,6 @@ pub fn one_refusal()
     ensures unanswered { RefusedIsUnanswered }
     ensures undenied { RefusedIsUndenied }
 {
-    one_file();
     one_fault();
     faults_spell_nothing();
 }
@@ -55,7 +55,14 @@ pub fn one_output()
     one_line();
 }
 
-/// Lines 8 and 9 begin where the lines of the header before them end.
-pub fn uid_lines_begin()
-    ensures { UidLinesBegin }
-{}
+/// Whatever files a bank reads from its opening on, no user's uid is used up twice, no file of a user has two kept
+/// replies, all balances together are all openings together, and no balance is below zero.
+pub fn runs_keep_the_books()
+    ensures { RunsKeepTheBooks }
+{
+    spelled_files_are_sound();
+    uids_work_once();
+    files_are_kept_once();
+    money_stays();
+    no_account_is_overdrawn();
+}

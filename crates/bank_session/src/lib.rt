@@ -11,7 +11,6 @@ mod frame_head;
 mod frames;
 mod judge;
 mod laws;
-mod lines;
 mod moments;
 mod output;
 mod run;
@@ -22,7 +21,7 @@ mod words;
 
 pub use answer::{answer_files, answer_told};
 pub use laws::{
-    exact_lines, one_line, one_output, one_refusal, one_signon, one_splitting, uid_lines_begin,
+    exact_lines, one_line, one_output, one_refusal, one_signon, one_splitting, runs_keep_the_books,
 };
 pub use words::{AnswerWords, answer_words};
 

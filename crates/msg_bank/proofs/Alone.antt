@@ -21,7 +21,7 @@ use Rattle.msg_bank.proofs.RequestsBack.{statements_back}
 use Rattle.msg_bank.proofs.RepliesBack.{replies_back}
 
 -- what is read of a branch wherever it stands is read of a body that has nothing else
-read_alone : {A : Type 0} (name lines : List ℕ) (inner : Documents) (read : Item → Result A TreeFault) (message : A) →
+pub read_alone : {A : Type 0} (name lines : List ℕ) (inner : Documents) (read : Item → Result A TreeFault) (message : A) →
     printed (branch name inner empty) ≡ lines → AreLawful 15 (branch name inner empty) →
     ((place index : ℕ) → read (branch_item place index name inner) ≡ Ok message) → IsReadAlone name lines read message
 read_alone name lines inner read message same lawful reads white blank =

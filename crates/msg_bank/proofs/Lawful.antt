@@ -24,10 +24,10 @@ use Rattle.msg_bank.specs.Sound.{IsTextWithin, IsSoundMoment, IsSoundAmount, IsS
 pub named : (name : List ℕ) → is_name name ≡ true → is_one_of aggregate_names name ≡ false → IsElementName name
 named name n f = record { has_name = n; is_free = f }
 
-is_branch : (name : List ℕ) → is_name name ≡ true → is_one_of element_names name ≡ false → is_one_of aggregate_names name ≡ true → IsBranch name
+pub is_branch : (name : List ℕ) → is_name name ≡ true → is_one_of element_names name ≡ false → is_one_of aggregate_names name ≡ true → IsBranch name
 is_branch name n f k = record { has_name = record { has_name = n; is_free = f }; is_known = k }
 
-text_leaf : (name : List ℕ) (most : ℕ) (text : List ℕ) → IsElementName name → IsTextWithin most text → IsLeaf name text
+pub text_leaf : (name : List ℕ) (most : ℕ) (text : List ℕ) → IsElementName name → IsTextWithin most text → IsLeaf name text
 text_leaf name most text n t = record { has_name = n; is_text = t.is_text; is_there = t.is_there }
 
 kind_leaf : (name : List ℕ) (kind : AcctKind) → IsElementName name → IsLeaf name (kind_word kind)
@@ -40,7 +40,7 @@ severity_leaf : (is_information : Bool) → IsLeaf (codes "SEVERITY") (cond is_i
 severity_leaf true = record { has_name = named (codes "SEVERITY") refl refl; is_text = record { is_trimmed = refl; is_clean = refl; is_short = omega arith }; is_there = omega arith }
 severity_leaf false = record { has_name = named (codes "SEVERITY") refl refl; is_text = record { is_trimmed = refl; is_clean = refl; is_short = omega arith }; is_there = omega arith }
 
-currency_leaf : IsLeaf (codes "CURDEF") (codes "USD")
+pub currency_leaf : IsLeaf (codes "CURDEF") (codes "USD")
 currency_leaf = record { has_name = named (codes "CURDEF") refl refl; is_text = record { is_trimmed = refl; is_clean = refl; is_short = omega arith }; is_there = omega arith }
 
 type_leaf : IsLeaf (codes "TRNTYPE") (codes "XFER")

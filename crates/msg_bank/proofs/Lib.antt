@@ -12,3 +12,11 @@ mod Statuses
 mod LineSteps
 mod Lists
 mod Replies
+mod DueDays
+mod TransferParts
+mod Deeds
+mod DeedReplies
+mod DeedDocuments
+mod DeedsBack
+mod DeedRepliesBack
+mod DeedsAlone

@@ -1,6 +1,7 @@
 -- The printed forms of messages are those of their documents.
 use Rattle.std.proofs.Common.{◌≡◌, ℕ, List, [], ◌∷◌, ◌++◌, codes, Option, None, Some, refl, append-nil}
 use Rattle.std.specs.List.{flat_map}
+use Rattle.ofx_types.specs.CommonText as common
 use Rattle.ofx_types.specs.FormWords.{flag_word}
 use Rattle.ofx_types.specs.ReplyForm as form
 use Rattle.ofx_types.specs.RequestText as text
@@ -17,8 +18,8 @@ use Rattle.msg_bank.specs.AsDocuments.{account_documents, moment_document, perio
 
 -- ---- requests
 
-account_printed : (account : AcctName) → sheet.aggregate (codes "BANKACCTFROM") (printed (account_documents account)) ≡ form.account_from account
-unfolding form.account_from
+pub account_printed : (account : AcctName) → sheet.aggregate (codes "BANKACCTFROM") (printed (account_documents account)) ≡ common.account_from account
+unfolding common.account_from
 account_printed account = rw append-nil refl
 
 moment_printed : (name : List ℕ) (moment : Option Moment) (behind : Documents) → printed (moment_document name moment behind) ≡ text.maybe_moment name moment ++ printed behind
@@ -37,7 +38,7 @@ period_printed (Some period) =
       append-nil (sheet.element (codes "INCLUDE") (flag_word period.include)),
     ) refl
 
-asked_printed : (account : AcctName) (period : Option Period) → printed (asked_documents account period) ≡ form.account_from account ++ text.period_request period
+asked_printed : (account : AcctName) (period : Option Period) → printed (asked_documents account period) ≡ common.account_from account ++ text.period_request period
 asked_printed account period = rw (account_printed account, period_printed period) refl
 
 pub statements_printed : StatementsAreDocuments
@@ -47,8 +48,8 @@ statements_printed trnuid account period behind =
 
 -- ---- replies
 
-status_printed : (code : ℕ) → sheet.aggregate (codes "STATUS") (printed (status_documents code)) ≡ form.status code
-unfolding form.status
+pub status_printed : (code : ℕ) → sheet.aggregate (codes "STATUS") (printed (status_documents code)) ≡ common.status code
+unfolding common.status
 status_printed code = rw append-nil refl
 
 pub statuses_printed : StatusesAreDocuments

@@ -1,5 +1,5 @@
 -- Sound statement replies read back as they were written.
-use Rattle.std.proofs.Common.{◌≡◌, ℕ, ◌+◌, ◌≤◌, false, filter, List, [], ◌∷◌, length, codes, Option, None, Some, Result, Ok, refl, ap, ◌∙◌, arith}
+use Rattle.std.proofs.Common.{◌≡◌, ℕ, ◌+◌, false, filter, List, [], ◌∷◌, length, codes, Option, None, Some, Result, Ok, refl, ap, ◌∙◌, arith}
 use Rattle.std.specs.List.{AllByRecursion}
 use Rattle.std.specs.Str.{bytes_eq}
 use Rattle.ofx_types.specs.DateForm.{moment_text}
@@ -114,7 +114,7 @@ with_list place index account None ledger available moment b =
     let lawful = body_lawful 2 (body_with account None ledger available moment) (omega arith) b in
     let item = branch_item place index (codes "STMTRS") inner in
     bind_to _ _ _ (one_again (codes "BANKACCTFROM") item _ (named_of_branch place index 2 (codes "STMTRS") (codes "BANKACCTFROM") inner lawful))
-    ∙ bind_to _ _ account (account_back _ _ account b.account)
+    ∙ bind_to _ _ account (account_back _ _ (codes "BANKACCTFROM") account b.account)
     ∙ bind_to _ _ None (none_again (codes "BANKTRANLIST") item (named_of_branch place index 2 (codes "STMTRS") (codes "BANKTRANLIST") inner lawful))
     ∙ bind_to _ _ _ (one_again (codes "LEDGERBAL") item _ (named_of_branch place index 2 (codes "STMTRS") (codes "LEDGERBAL") inner lawful))
     ∙ bind_to _ _ (ledger, moment) (balance_back _ _ (codes "LEDGERBAL") ledger moment b.ledger b.moment)
@@ -125,7 +125,7 @@ with_list place index account (Some list) ledger available moment b =
     let lawful = body_lawful 2 (body_with account (Some list) ledger available moment) (omega arith) b in
     let item = branch_item place index (codes "STMTRS") inner in
     bind_to _ _ _ (one_again (codes "BANKACCTFROM") item _ (named_of_branch place index 2 (codes "STMTRS") (codes "BANKACCTFROM") inner lawful))
-    ∙ bind_to _ _ account (account_back _ _ account b.account)
+    ∙ bind_to _ _ account (account_back _ _ (codes "BANKACCTFROM") account b.account)
     ∙ bind_to _ _ _ (some_again (codes "BANKTRANLIST") item _ (named_of_branch place index 2 (codes "STMTRS") (codes "BANKTRANLIST") inner lawful))
     ∙ bind_to _ _ (Some list) (bind_to _ some_list list (list_back _ _ list b.list))
     ∙ bind_to _ _ _ (one_again (codes "LEDGERBAL") item _ (named_of_branch place index 2 (codes "STMTRS") (codes "LEDGERBAL") inner lawful))

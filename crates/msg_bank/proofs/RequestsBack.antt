@@ -1,5 +1,5 @@
 -- Sound statement requests read back as they were written.
-use Rattle.std.proofs.Common.{◌≡◌, ℕ, ◌+◌, Bool, length, codes, Option, None, Some, Ok, refl, ◌∙◌, arith}
+use Rattle.std.proofs.Common.{◌≡◌, ℕ, ◌+◌, Bool, List, length, codes, Option, None, Some, Ok, refl, ◌∙◌, arith}
 use Rattle.std.specs.Option.{IfSome}
 use Rattle.ofx_types.specs.AccountForm.{kind_word}
 use Rattle.ofx_types.specs.FormWords.{◌>>=◌, IsOnly, maybe}
@@ -19,20 +19,20 @@ use Rattle.msg_bank.proofs.AccountLaws.{kind_again, unless_zero_again}
 use Rattle.msg_bank.proofs.StatementLaws.{bind_two}
 use Rattle.msg_bank.proofs.Lawful.{named, account_lawful, period_lawful, asked_lawful, statement_lawful}
 
--- ---- accounts
+-- ---- accounts, in an aggregate of any name
 
-pub account_back : (place index : ℕ) (account : AcctName) → IsSoundAccount account →
-    account_of (branch_item place index (codes "BANKACCTFROM") (account_documents account)) ≡ Ok account
+pub account_back : (place index : ℕ) (name : List ℕ) (account : AcctName) → IsSoundAccount account →
+    account_of (branch_item place index name (account_documents account)) ≡ Ok account
 unfolding account_of
-account_back place index account a =
+account_back place index name account a =
     let inner = account_documents account in
     let lawful = account_lawful 0 account a in
-    let item = branch_item place index (codes "BANKACCTFROM") inner in
+    let item = branch_item place index name inner in
     bind_to _ _ account.bank
-    (text_of_leaf (codes "BANKID") account.bank 32 _ _ item lawful.0 a.bank.is_within (named_of_branch place index 0 (codes "BANKACCTFROM") (codes "BANKID") inner lawful))
+    (text_of_leaf (codes "BANKID") account.bank 32 _ _ item lawful.0 a.bank.is_within (named_of_branch place index 0 name (codes "BANKID") inner lawful))
     ∙ bind_to _ _ account.number
-    (text_of_leaf (codes "ACCTID") account.number 32 _ _ item lawful.1.0 a.number.is_within (named_of_branch place index 0 (codes "BANKACCTFROM") (codes "ACCTID") inner lawful))
-    ∙ bind_to _ _ _ (one_again (codes "ACCTTYPE") item _ (named_of_branch place index 0 (codes "BANKACCTFROM") (codes "ACCTTYPE") inner lawful))
+    (text_of_leaf (codes "ACCTID") account.number 32 _ _ item lawful.1.0 a.number.is_within (named_of_branch place index 0 name (codes "ACCTID") inner lawful))
+    ∙ bind_to _ _ _ (one_again (codes "ACCTTYPE") item _ (named_of_branch place index 0 name (codes "ACCTTYPE") inner lawful))
     ∙ bind_to _ _ account.kind (kind_again _ _ account.kind (value_of_leaf 0 0 (codes "ACCTTYPE") (kind_word account.kind) lawful.1.1.0).0)
 
 -- ---- periods
@@ -115,5 +115,5 @@ statements_back place index trnuid account period s =
     ∙ bind_to _ _ _ (one_again (codes "TRNUID") item _ only) ∙ unless_zero_again _ trnuid s.is_own)
     ∙ bind_to _ _ _ (one_again (codes "STMTRQ") item (asked_item at (index + 1 + 1) account period) (named_of_branch place index 2 (codes "STMTTRNRQ") (codes "STMTRQ") inner lawful))
     ∙ bind_to _ _ _ (one_again (codes "BANKACCTFROM") (asked_item at (index + 1 + 1) account period) _ (only_account at (index + 1 + 1) account period asked))
-    ∙ bind_to _ _ account (account_back _ _ account s.is_account)
+    ∙ bind_to _ _ account (account_back _ _ (codes "BANKACCTFROM") account s.is_account)
     ∙ bind_two (maybe (codes "INCTRAN") (asked_item at (index + 1 + 1) account period)) period_in _ period (asked_period at (index + 1 + 1) account period asked s.is_period)

@@ -23,7 +23,7 @@ account_within most item h =
     bound most (IsWithin most) Any (one (codes "ACCTTYPE") item) _ (one_within most (codes "ACCTTYPE") item h) (λ child i.
     bound most Any Any (kind_named (value_of child.node.text) child.node.place) _ (kind_within most child.node.place (value_of child.node.text) i.place) (λ kind _. tt))))
 
-trnuid_within : (most : ℕ) (item : Item) → IsWithin most item → Stands most Any (trnuid_of item)
+pub trnuid_within : (most : ℕ) (item : Item) → IsWithin most item → Stands most Any (trnuid_of item)
 unfolding trnuid_of
 trnuid_within most item h =
     bound most Any Any (text_in (codes "TRNUID") 36 item) _ (text_within most (codes "TRNUID") 36 item h) (λ text _.

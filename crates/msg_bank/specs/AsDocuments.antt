@@ -3,12 +3,12 @@ use Rattle.std.specs.Prelude.{◌≡◌, ℕ, ◌<◌, ◌≤◌, ◌==◌, List
 use Rattle.std.specs.Fmt.{decimal}
 use Rattle.ofx_types.specs.AccountForm.{kind_word}
 use Rattle.ofx_types.specs.AmountForm.{amount_text}
+use Rattle.ofx_types.specs.CommonText.{status}
 use Rattle.ofx_types.specs.DateForm.{moment_text}
 use Rattle.ofx_types.specs.FormWords.{◌>>=◌, one, flag_word}
-use Rattle.ofx_types.specs.Nodes.{TagNode, Item, AreNodesOf}
-use Rattle.ofx_types.specs.ReplyForm.{status, ask_reply}
+use Rattle.ofx_types.specs.Nodes.{TagNode, Item, AreNodesOf, IsRoot}
+use Rattle.ofx_types.specs.ReplyForm.{ask_reply}
 use Rattle.ofx_types.specs.ReplyReading.{code_of, statement_reply_of}
-use Rattle.ofx_types.specs.RequestForm.{IsRoot}
 use Rattle.ofx_types.specs.RequestReading.{statement_of}
 use Rattle.ofx_types.specs.RequestText.{statement_request}
 use Rattle.ofx_types.specs.Sheet.{aggregate}

@@ -2,3 +2,6 @@ pub mod Steps
 pub mod Laws
 pub mod Sound
 pub mod AsDocuments
+pub mod Wire
+pub mod DeedsAsDocuments
+pub mod Deeds

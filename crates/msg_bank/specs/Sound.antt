@@ -2,15 +2,26 @@
 use Rattle.std.specs.Prelude.{◌≢◌, ◌≡◌, ℕ, ◌<◌, ◌≤◌, ◌^◌, List, length, codes, Option, None, Some, unsigned_abs}
 use Rattle.std.specs.List.{AllByRecursion}
 use Rattle.std.specs.Option.{IfSome}
-use Rattle.ofx_types.specs.Calendar.{IsMoment}
+use Rattle.ofx_types.specs.Calendar.{IsMoment, IsDay}
 use Rattle.ofx_types.specs.TextRules.{IsText}
+use Rattle.ofx_types.specs.TransferForm.{info_of}
 use Rattle.ofx_types.specs.declared.account.AcctName.{AcctName}
 use Rattle.ofx_types.specs.declared.number.Cents.{Cents}
+use Rattle.ofx_types.specs.declared.number.Day.{Day}
 use Rattle.ofx_types.specs.declared.number.Moment.{Moment}
 use Rattle.ofx_types.specs.declared.request.Period.{Period}
 use Rattle.ofx_types.specs.declared.reply.StatementLine.{StatementLine}
 use Rattle.ofx_types.specs.declared.reply.StatementList.{StatementList}
 use Rattle.ofx_types.specs.declared.reply.StatementBody.{StatementBody}
+use Rattle.ofx_types.specs.declared.transfer.XferInfo.{XferInfo}
+use Rattle.ofx_types.specs.declared.transfer.Deed.{Deed}
+use Rattle.ofx_types.specs.declared.transfer.Deed.TheVariants.{Transfer, ModifyTransfer, CancelTransfer}
+use Rattle.ofx_types.specs.declared.transfer.XferCode.TheVariants.{Cancelled}
+use Rattle.ofx_types.specs.declared.transfer.TransferRow.{TransferRow}
+use Rattle.ofx_types.specs.declared.transfer.Change.{Change}
+use Rattle.ofx_types.specs.declared.transfer.Change.TheVariants.{NewTransfer, SetTransfer, DropTransfer}
+use Rattle.ofx_types.specs.declared.transfer.Family.TheVariants.{Intra}
+use Rattle.ofx_types.specs.declared.transfer.DeedReply.{DeedReply}
 
 -- a text of 1 byte up to the limit
 pub record IsTextWithin (most : ℕ) (text : List ℕ) : Type 0 where
@@ -68,3 +79,54 @@ pub record IsSoundReply (trnuid : List ℕ) (code : ℕ) (body : Option Statemen
   pub is_uid : IsTextWithin 36 trnuid
   pub is_code : code ≤ 65535
   pub is_body : IsSoundByCode code body
+
+-- ---- transfers
+
+-- An id has at most ten digits.
+abbrev pub IsSoundId : ℕ → Type 0
+IsSoundId id = id ≤ 9999999999
+
+-- a day of the years 1900 to 9999
+abbrev pub IsSoundDay : Day → Type 0
+IsSoundDay day = IsDay day.0
+
+pub record IsSoundInfo (info : XferInfo) : Type 0 where
+  pub from : IsSoundAccount info.from
+  pub to : IsSoundAccount info.to
+  pub amount : IsSoundAmount info.amount
+  pub due : IfSome info.due IsSoundDay
+
+abbrev pub IsSoundDeed : Deed → Type 0
+IsSoundDeed (Transfer info) = IsSoundInfo info
+IsSoundDeed (ModifyTransfer id info) = IsSoundId id × IsSoundInfo info
+IsSoundDeed (CancelTransfer id) = IsSoundId id
+
+-- As of every request, the TRNUID isn't `0`.
+pub record IsSoundDeedRequest (trnuid : List ℕ) (deed : Deed) : Type 0 where
+  pub is_uid : IsTextWithin 36 trnuid
+  pub is_own : trnuid ≢ codes "0"
+  pub is_deed : IsSoundDeed deed
+
+-- A cancelled transfer has a reply of its own, and no row.
+pub record IsSoundRow (row : TransferRow) : Type 0 where
+  pub id : IsSoundId row.id
+  pub info : IsSoundInfo (info_of row)
+  pub told : row.code ≢ Cancelled
+  pub stamp : IsSoundMoment row.stamp
+
+-- The reply to a new transfer says which recurring transfer made it.
+abbrev pub IsSoundChange : Change → Type 0
+IsSoundChange (NewTransfer row) = IsSoundRow row × IsSoundId row.model
+IsSoundChange (SetTransfer row) = IsSoundRow row
+IsSoundChange (DropTransfer id) = IsSoundId id
+
+-- A reply has a change exactly where its code is 0.
+abbrev pub IsSoundChangeByCode : ℕ → Option Change → Type 0
+IsSoundChangeByCode code None = code ≢ 0
+IsSoundChangeByCode code (Some change) = (code ≡ 0) × IsSoundChange change
+
+pub record IsSoundDeedReply (reply : DeedReply) : Type 0 where
+  pub is_uid : IsTextWithin 36 reply.trnuid
+  pub is_intra : reply.family ≡ Intra
+  pub is_code : reply.code ≤ 65535
+  pub is_change : IsSoundChangeByCode reply.code reply.change

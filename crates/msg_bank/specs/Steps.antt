@@ -2,13 +2,17 @@
 use Rattle.std.specs.Prelude.{ℕ, ◌++◌, List, codes, Option, None, Some, Result, Ok, Err, if◌then◌else◌}
 use Rattle.ofx_types.specs.Nodes.{Item}
 use Rattle.ofx_types.specs.FormWords.{has_name, ◌>>=◌, is_text_within}
-use Rattle.ofx_types.specs.ReplyForm.{account_from}
+use Rattle.ofx_types.specs.CommonText.{account_from}
 use Rattle.ofx_types.specs.ReplyReading.{line_of, lines_of}
 use Rattle.ofx_types.specs.RequestText.{period_request}
-use Rattle.ofx_types.specs.Sheet.{aggregate}
+use Rattle.ofx_types.specs.Sheet.{element, aggregate}
+use Rattle.ofx_types.specs.AccountForm.{kind_word}
 use Rattle.ofx_types.specs.declared.fault.TreeFault.{TreeFault}
 use Rattle.ofx_types.specs.declared.fault.TreeFault.TheVariants.{Value}
 use Rattle.ofx_types.specs.declared.account.AcctName.{AcctName}
+use Rattle.ofx_types.specs.declared.number.Cents.{Cents}
+use Rattle.ofx_types.specs.declared.number.Day.{Day}
+use Rattle.ofx_types.specs.declared.transfer.XferInfo.{XferInfo}
 use Rattle.ofx_types.specs.declared.request.Period.{Period}
 use Rattle.ofx_types.specs.declared.reply.StatementLine.{StatementLine}
 
@@ -33,3 +37,13 @@ lines_behind front items = lines_of items >>= joined front
 -- what a statement request says behind its uid
 abbrev pub asked : AcctName → Option Period → List ℕ
 asked account period = aggregate (codes "STMTRQ") (account_from account ++ period_request period)
+
+-- what stands in the aggregate of an account
+abbrev pub account_parts : AcctName → List ℕ
+account_parts account =
+    element (codes "BANKID") account.bank
+    ++ (element (codes "ACCTID") account.number ++ element (codes "ACCTTYPE") (kind_word account.kind))
+
+-- what is said of a transfer, part by part
+abbrev pub info_with : AcctName → AcctName → Cents → Option Day → XferInfo
+info_with from to amount due = record { from = from; to = to; amount = amount; due = due }

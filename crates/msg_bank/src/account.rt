@@ -1,11 +1,13 @@
-//! The account that a statement is of (BANKACCTFROM), read and written.
+//! The accounts of requests and replies (BANKACCTFROM, BANKACCTTO), read and written.
 
 ghost use Rattle.std.specs.Prelude.{◌≡◌, ◌++◌, OnOk, codes};
 ghost use Rattle.ofx_types.specs.AccountForm.{kind_word};
 ghost use Rattle.ofx_types.specs.FormWords.{Gives};
 ghost use Rattle.ofx_types.specs.RequestReading as reading;
-ghost use Rattle.ofx_types.specs.ReplyForm as form;
-ghost use Rattle.ofx_types.specs.Sheet.{element};
+ghost use Rattle.ofx_types.specs.CommonText.{account_from};
+ghost use Rattle.ofx_types.specs.TransferText.{account_to};
+ghost use Rattle.ofx_types.specs.Sheet.{element, aggregate};
+ghost use Rattle.msg_bank.specs.Steps as steps;
 
 use ofx_tree::{Cursor, Sheet};
 use ofx_types::{AcctKind, AcctName, OutOfMemory, TreeFault};
@@ -44,16 +46,31 @@ fn kind_at(child: &Cursor<'_>) -> Result<AcctKind, TreeFault>
     Err(TreeFault::Value(child.place() as u64))
 }
 
-/// Writes the account that a statement is of.
-#[tactic(auto, unfolding(ofx_types::specs::ReplyForm::account_from))]
+/// Writes the account that a statement is of, or from which a transfer takes its amount.
+#[tactic(auto, unfolding(ofx_types::specs::CommonText::account_from))]
 pub(crate) fn print_account(account: &AcctName, sheet: &mut Sheet) -> Result<(), OutOfMemory>
-    ensures { OnOk result (sheet.new ≡ sheet.old ++ form.account_from account.now) }
+    ensures { OnOk result (sheet.new ≡ sheet.old ++ account_from account.now) }
 {
-    sheet.start(b"BANKACCTFROM")?;
+    print_account_as(b"BANKACCTFROM", account, sheet)
+}
+
+/// Writes the account to which a transfer brings its amount.
+#[tactic(auto, unfolding(ofx_types::specs::TransferText::account_to))]
+pub(crate) fn print_destination(account: &AcctName, sheet: &mut Sheet) -> Result<(), OutOfMemory>
+    ensures { OnOk result (sheet.new ≡ sheet.old ++ account_to account.now) }
+{
+    print_account_as(b"BANKACCTTO", account, sheet)
+}
+
+#[tactic(auto, using(crate::proofs::Joined::joined))]
+fn print_account_as(name: &[u8], account: &AcctName, sheet: &mut Sheet) -> Result<(), OutOfMemory>
+    ensures { OnOk result (sheet.new ≡ sheet.old ++ aggregate name.now (steps.account_parts account.now)) }
+{
+    sheet.start(name)?;
     sheet.text(b"BANKID", &account.bank)?;
     sheet.text(b"ACCTID", &account.number)?;
     print_kind(account.kind, sheet)?;
-    sheet.end(b"BANKACCTFROM")
+    sheet.end(name)
 }
 
 fn print_kind(kind: AcctKind, sheet: &mut Sheet) -> Result<(), OutOfMemory>

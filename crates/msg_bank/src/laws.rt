@@ -1,7 +1,8 @@
 //! What holds of the forms of messages. The calls do nothing; each contract is a law.
 
-ghost use Rattle.msg_bank.specs.Laws.{StatementsAreFound, StatementFaultsHavePlaces, StatementRepliesAreFound, StatementReplyFaultsHavePlaces, StatusesAreFound, StatusFaultsHavePlaces};
+ghost use Rattle.msg_bank.specs.Laws.{StatementsAreFound, StatementFaultsHavePlaces, StatementRepliesAreFound, StatementReplyFaultsHavePlaces, DeedsAreFound, DeedFaultsHavePlaces, DeedRepliesAreFound, DeedReplyFaultsHavePlaces, StatusesAreFound, StatusFaultsHavePlaces};
 ghost use Rattle.msg_bank.specs.AsDocuments.{StatementsAreDocuments, StatementsAreLawful, StatementsReadBack, StatementsReadBackAlone, StatusesAreDocuments, StatusesAreLawful, StatusesReadBack, StatementRepliesAreDocuments, StatementRepliesAreLawful, StatementRepliesReadBack, StatementRepliesReadBackAlone};
+ghost use Rattle.msg_bank.specs.DeedsAsDocuments.{DeedsAreDocuments, DeedsAreLawful, DeedsReadBack, DeedsReadBackAlone, DeedRepliesAreDocuments, DeedRepliesAreLawful, DeedRepliesReadBack, DeedRepliesReadBackAlone};
 
 /// A statement request has its form exactly where it is read, and what is read is what stands there.
 pub fn statements_are_found()
@@ -21,6 +22,26 @@ pub fn statement_replies_are_found()
 /// The first fault of a statement reply stands within its nodes.
 pub fn statement_reply_faults_have_places()
     ensures { StatementReplyFaultsHavePlaces }
+{}
+
+/// A transfer request has its form exactly where it is read, and what is read is what stands there.
+pub fn deeds_are_found()
+    ensures { DeedsAreFound }
+{}
+
+/// The first fault of a transfer request stands within its nodes.
+pub fn deed_faults_have_places()
+    ensures { DeedFaultsHavePlaces }
+{}
+
+/// A transfer reply has its form exactly where it is read, and what is read is what stands there.
+pub fn deed_replies_are_found()
+    ensures { DeedRepliesAreFound }
+{}
+
+/// The first fault of a transfer reply stands within its nodes.
+pub fn deed_reply_faults_have_places()
+    ensures { DeedReplyFaultsHavePlaces }
 {}
 
 /// A status has its form exactly where it is read, and what is read is what stands there.
@@ -47,6 +68,23 @@ pub fn statement_replies_read_back()
     ensures lawful { StatementRepliesAreLawful }
     ensures read { StatementRepliesReadBack }
     ensures alone { StatementRepliesReadBackAlone }
+{}
+
+/// What is written of a sound transfer request are lawful documents, and reads back as that request wherever it stands.
+pub fn deeds_read_back()
+    ensures written { DeedsAreDocuments }
+    ensures lawful { DeedsAreLawful }
+    ensures read { DeedsReadBack }
+    ensures alone { DeedsReadBackAlone }
+{}
+
+/// What is written of a sound transfer reply are lawful documents, and reads back as that reply wherever it stands; a
+/// changed transfer reads back with model 0, since its reply doesn't say which recurring transfer made it.
+pub fn deed_replies_read_back()
+    ensures written { DeedRepliesAreDocuments }
+    ensures lawful { DeedRepliesAreLawful }
+    ensures read { DeedRepliesReadBack }
+    ensures alone { DeedRepliesReadBackAlone }
 {}
 
 /// What is written of a status are lawful documents, and reads back as its code wherever it stands.

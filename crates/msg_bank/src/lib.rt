@@ -1,5 +1,5 @@
-//! The bank's messages: statement requests and their replies, read from a tape and written on a sheet (OFX 1.6,
-//! "Statement Download").
+//! The bank's messages: statement and transfer requests and their replies, read from a tape and written on a sheet
+//! (OFX 1.6, "Statement Download", "Intrabank Funds Transfer").
 //!
 //! What is read is the message that stands there, or the first fault of its form with that fault's place. What is
 //! written is the message's one printed form.
@@ -9,15 +9,19 @@ mod account;
 mod laws;
 mod statement;
 mod status;
+mod transfer;
 mod trnuid;
 
 pub use laws::{
-    statement_faults_have_places, statement_replies_are_found, statement_replies_read_back,
-    statement_reply_faults_have_places, statements_are_found, statements_read_back,
-    status_faults_have_places, statuses_are_found, statuses_read_back,
+    deed_faults_have_places, deed_replies_are_found, deed_replies_read_back,
+    deed_reply_faults_have_places, deeds_are_found, deeds_read_back, statement_faults_have_places,
+    statement_replies_are_found, statement_replies_read_back, statement_reply_faults_have_places,
+    statements_are_found, statements_read_back, status_faults_have_places, statuses_are_found,
+    statuses_read_back,
 };
 pub use statement::{print_statement, print_statement_reply, read_statement, read_statement_reply};
 pub use status::{print_status, read_status};
+pub use transfer::{print_deed, print_reply, read_deed, read_reply};
 
 #[cfg(test)]
 mod tests;

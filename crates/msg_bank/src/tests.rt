@@ -1,5 +1,7 @@
 //! Sample messages, read and written.
 
+mod transfers;
+
 use crate::{
     print_statement, print_statement_reply, print_status, read_statement, read_statement_reply,
     read_status,
@@ -112,11 +114,15 @@ fn account(rt: &HostRuntime) -> Result<AcctName, Fail> {
 fn a_request_is_read(rt: HostRuntime) -> Result<(), Fail> {
     let tape = Tape::read(rt.alloc(), REQUEST)?;
     let stmttrnrq = Cursor::root(&tape).one(b"STMTTRNRQ")?;
-    let Ask::Statement(trnuid, of, period) = read_statement(rt.alloc(), &stmttrnrq)?;
-    assert_eq!(rt; trnuid.as_bytes(), b"a&b".as_slice());
-    assert_eq!(rt; of, account(&rt)?);
-    assert_eq!(rt; period, Some(BOUNDED));
-    Ok(())
+    match read_statement(rt.alloc(), &stmttrnrq)? {
+        Ask::Statement(trnuid, of, period) => {
+            assert_eq!(rt; trnuid.as_bytes(), b"a&b".as_slice());
+            assert_eq!(rt; of, account(&rt)?);
+            assert_eq!(rt; period, Some(BOUNDED));
+            Ok(())
+        }
+        _ => Err(Fail::new("no statement")),
+    }
 }
 
 #[test]
@@ -134,18 +140,20 @@ fn a_request_is_written(rt: HostRuntime) -> Result<(), Fail> {
 fn a_reply_is_read(rt: HostRuntime) -> Result<(), Fail> {
     let tape = Tape::read(rt.alloc(), REPLY)?;
     let stmttrnrs = Cursor::root(&tape).one(b"STMTTRNRS")?;
-    let AskReply::Statement(trnuid, code, body) = read_statement_reply(rt.alloc(), &stmttrnrs)?;
-    assert_eq!(rt; trnuid.as_bytes(), b"a&b".as_slice());
-    assert_eq!(rt; code, 0);
-    let Some(body) = body else {
-        return Err(Fail::new("no statement"));
-    };
-    assert_eq!(rt; body.account, account(&rt)?);
-    assert_eq!(rt; body.ledger, Cents(8_795));
-    assert_eq!(rt; body.available, Cents(5));
-    assert_eq!(rt; body.moment, NEXT);
-    assert!(rt; lists_both_lines(&body));
-    Ok(())
+    let reply = read_statement_reply(rt.alloc(), &stmttrnrs)?;
+    match &reply {
+        AskReply::Statement(trnuid, code, Some(body)) => {
+            assert_eq!(rt; trnuid.as_bytes(), b"a&b".as_slice());
+            assert_eq!(rt; *code, 0);
+            assert_eq!(rt; body.account, account(&rt)?);
+            assert_eq!(rt; body.ledger, Cents(8_795));
+            assert_eq!(rt; body.available, Cents(5));
+            assert_eq!(rt; body.moment, NEXT);
+            assert!(rt; lists_both_lines(body));
+            Ok(())
+        }
+        _ => Err(Fail::new("no statement")),
+    }
 }
 
 /// Whether the list is that of the sample.
@@ -195,12 +203,15 @@ fn a_refusal_is_written_and_read(rt: HostRuntime) -> Result<(), Fail> {
     let tape = Tape::read(rt.alloc(), bytes.as_slice())?;
     let ofx = Cursor::root(&tape);
     assert_eq!(rt; read_status(&ofx)?, 65_535);
-    let stmttrnrs = ofx.one(b"STMTTRNRS")?;
-    let AskReply::Statement(trnuid, code, body) = read_statement_reply(rt.alloc(), &stmttrnrs)?;
-    assert_eq!(rt; trnuid.as_bytes(), b"0".as_slice());
-    assert_eq!(rt; code, 2003);
-    assert!(rt; body.is_none());
-    Ok(())
+    let reply = read_statement_reply(rt.alloc(), &ofx.one(b"STMTTRNRS")?)?;
+    match &reply {
+        AskReply::Statement(trnuid, code, None) => {
+            assert_eq!(rt; *code, 2003);
+            assert_eq!(rt; trnuid.as_bytes(), b"0".as_slice());
+            Ok(())
+        }
+        _ => Err(Fail::new("no refusal")),
+    }
 }
 
 #[test]

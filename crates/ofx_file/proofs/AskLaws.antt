@@ -1,10 +1,10 @@
 -- How the asks of the bank's message set are read, one child after the other.
-use Rattle.std.proofs.Common.{◌≡◌, Bool, true, false, cond, List, [], ◌∷◌, ◌++◌, Option, None, option_to_list, Result, Ok, Err, codes, refl, sym, ap, ◌∙◌, append_assoc}
+use Rattle.std.proofs.Common.{◌≡◌, Bool, true, false, cond, List, [], ◌∷◌, ◌++◌, Option, None, option_to_list, Result, Ok, Err, refl, sym, ap, ◌∙◌, append_assoc}
 use Rattle.std.proofs.lemmas.List.{append-nil}
 use Rattle.ofx_types.specs.Nodes.{Item}
-use Rattle.ofx_types.specs.FormWords.{◌>>=◌, has_name, FailsSo}
-use Rattle.ofx_types.specs.RequestForm.{is_named_one_of, unread_bank_names}
-use Rattle.ofx_types.specs.RequestReading.{statement_of, onto, bank_asks_of}
+use Rattle.ofx_types.specs.FormWords.{◌>>=◌, FailsSo}
+use Rattle.ofx_types.specs.MessageForm.{is_named_one_of, bank_names, unread_bank_names}
+use Rattle.ofx_types.specs.MessageReading.{bank_ask_of, onto, bank_asks_of}
 use Rattle.ofx_types.specs.declared.fault.TreeFault.{TreeFault}
 use Rattle.ofx_types.specs.declared.fault.TreeFault.TheVariants.{Missing, Repeated, Value, OutOfMemory}
 use Rattle.ofx_types.specs.declared.request.Ask.{Ask}
@@ -38,7 +38,7 @@ asks_behind-cons : (front : List Ask) (child : Item) (more : List Item) →
     asks_behind front (child ∷ more) ≡ (ask_at child >>= λ found. asks_behind (front ++ option_to_list found) more)
 unfolding asks_behind bank_asks_of ask_at
 asks_behind-cons front child more =
-    next_child (has_name (codes "STMTTRNRQ") child) (is_named_one_of unread_bank_names child) (statement_of child) (bank_asks_of more) _ front
+    next_child (is_named_one_of bank_names child) (is_named_one_of unread_bank_names child) (bank_ask_of child) (bank_asks_of more) _ front
 
 -- what a child is stands behind the asks so far
 pub asks_behind-ok : (front : List Ask) (child : Item) (more : List Item) (found : Option Ask) → ask_at child ≡ Ok found →

@@ -5,13 +5,15 @@ use Rattle.std.proofs.lemmas.Grind.{common_steps}
 use Rattle.std.specs.List.{flat_map}
 use Rattle.ofx_types.specs.ReplyForm.{ask_reply}
 use Rattle.ofx_types.specs.declared.reply.AskReply.{AskReply}
-use Rattle.ofx_types.specs.declared.reply.AskReply.TheVariants.{Statement}
+use Rattle.ofx_types.specs.declared.reply.AskReply.TheVariants.{Statement, One}
 use Rattle.ofx_types.specs.Sheet.{aggregate, aggregate_of_some}
+use Rattle.ofx_types.specs.TransferText.{deed_reply_text}
 
 -- the answer to an ask is something
 ask_reply_is_there : (reply : AskReply) (rest : List ℕ) → 0 < length (ask_reply reply ++ rest)
-unfolding ask_reply aggregate
+unfolding ask_reply deed_reply_text aggregate
 ask_reply_is_there (Statement trnuid code body) rest = omega arith
+ask_reply_is_there (One reply) rest = omega arith
 
 set_is_there : (replies : List AskReply) → 0 < length replies → 0 < length (flat_map ask_reply replies)
 set_is_there [] h = absurd (omega arith)

@@ -2,9 +2,8 @@
 use Rattle.std.proofs.Common.{◌≡◌, ℕ, ◌+◌, List, ◌∷◌, drop, Option, None, Some, Result, Ok, Err, sym, ap, subst, ◌∙◌}
 use Rattle.ofx_types.specs.HeaderForm.{header_fault}
 use Rattle.ofx_types.specs.TagFault.{tag_fault}
-use Rattle.ofx_types.specs.Nodes.{TagNode, Item, AreNodesOf}
-use Rattle.ofx_types.specs.RequestForm.{IsRoot}
-use Rattle.ofx_types.specs.RequestReading.{RequestParts, request_of}
+use Rattle.ofx_types.specs.Nodes.{TagNode, Item, AreNodesOf, IsRoot}
+use Rattle.ofx_types.specs.MessageReading.{RequestParts, request_of}
 use Rattle.ofx_types.specs.FileForm.{HasBody, SpellsFile, header_place, tag_place, form_place, HasHeader, IsHeaderFault, IsSyntaxFault, IsFormFault, OneFile, FaultsSpellNothing, OneFault}
 use Rattle.ofx_types.specs.declared.fault.TreeFault.{TreeFault}
 use Rattle.ofx_types.specs.declared.fault.FileFault.TheVariants.{Header, Syntax, Form, OutOfMemory}

@@ -3,9 +3,8 @@
 use Rattle.std.proofs.Common.{◌≡◌, ℕ, ◌+◌, ◌⊎◌, inl, inr, List, ◌∷◌, drop, Option, None, Some, Result, Ok, Err, refl, ap, ◌∙◌}
 use Rattle.ofx_types.specs.HeaderForm.{header_fault}
 use Rattle.ofx_types.specs.TagFault.{tag_fault}
-use Rattle.ofx_types.specs.Nodes.{TagNode, Item, AreNodesOf, nodes_from}
-use Rattle.ofx_types.specs.RequestForm.{IsRoot}
-use Rattle.ofx_types.specs.RequestReading.{RequestParts, request_of}
+use Rattle.ofx_types.specs.Nodes.{TagNode, Item, AreNodesOf, IsRoot, nodes_from}
+use Rattle.ofx_types.specs.MessageReading.{RequestParts, request_of}
 use Rattle.ofx_types.specs.FileForm.{HasBody, SpellsFile, header_place, HasHeader, IsFaultOf}
 use Rattle.ofx_types.specs.declared.fault.HeaderFault.{HeaderFault}
 use Rattle.ofx_types.specs.declared.fault.TapeFault.{TapeFault}

@@ -1,6 +1,7 @@
 pub mod BankSet
 pub mod RequestLaws
 pub mod FileLaws
+pub mod SoundDeeds
 pub mod Soundness
 pub mod AskLaws
 pub mod RequestPlaces

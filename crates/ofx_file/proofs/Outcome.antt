@@ -3,10 +3,10 @@ use Rattle.std.proofs.Common.{◌≡◌, ℕ, ◌+◌, ◌-◌, ◌≤◌, List,
 use Rattle.std.proofs.Math.Seq.{take-length}
 use Rattle.ofx_types.specs.HeaderForm.{SpellsHeader}
 use Rattle.ofx_types.specs.TagFault.{tag_fault}
-use Rattle.ofx_types.specs.Nodes.{TagNode, Item, AreNodesOf}
+use Rattle.ofx_types.specs.Nodes.{TagNode, Item, AreNodesOf, IsRoot}
 use Rattle.ofx_types.specs.FormWords.{◌>>=◌, FailsSo, one, maybe}
-use Rattle.ofx_types.specs.RequestForm.{IsRoot}
-use Rattle.ofx_types.specs.RequestReading.{RequestParts, signon_of, bank_asks_in, no_mail_of, request_of}
+use Rattle.ofx_types.specs.RequestReading.{signon_of}
+use Rattle.ofx_types.specs.MessageReading.{RequestParts, bank_asks_in, no_mail_of, request_of}
 use Rattle.ofx_types.specs.FileForm.{HasBody, SpellsFile, HasHeader, IsFormFault, form_place, OneFile, FaultsSpellNothing, OneFault}
 use Rattle.ofx_types.specs.declared.fault.TapeFault.{TapeFault}
 use Rattle.ofx_types.specs.declared.fault.TapeFault.TheVariants as tags

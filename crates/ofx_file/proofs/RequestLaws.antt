@@ -2,62 +2,117 @@
 use Rattle.std.proofs.Common.{◌≡◌, ℕ, ◌⊎◌, inl, inr, Bool, true, false, cond, ◌||◌, List, [], ◌∷◌, filter, Option, None, Some, Result, Ok, Err, codes, refl, sym, ap, subst, ◌∙◌}
 use Rattle.std.specs.List.{AllZip, list_any}
 use Rattle.ofx_types.specs.Nodes.{Item, children}
-use Rattle.ofx_types.specs.FormWords.{has_name, one, maybe}
+use Rattle.ofx_types.specs.FormWords.{has_name, ◌>>=◌, one, maybe}
 use Rattle.ofx_types.specs.TagNames.{is_one_of}
-use Rattle.ofx_types.specs.RequestForm.{IsStatement, unread_bank_names, unread_mail_names, is_named_one_of, AreMaybeBankAsks, IsMaybeMail, IsRequest}
-use Rattle.ofx_types.specs.RequestReading.{RequestParts, signon_of, statement_of, onto, bank_asks_of, bank_asks_in, no_mail_in, no_mail_of, request_of}
+use Rattle.ofx_types.specs.RequestForm.{IsStatement}
+use Rattle.ofx_types.specs.RequestReading.{signon_of, statement_of}
+use Rattle.ofx_types.specs.TransferReading.{deed_of}
+use Rattle.ofx_types.specs.MessageForm.{bank_names, unread_bank_names, unread_mail_names, is_named_one_of, IsBankAsk, AreMaybeBankAsks, IsMaybeMail, IsRequest}
+use Rattle.ofx_types.specs.MessageReading.{RequestParts, one_ask, bank_ask_of, onto, bank_asks_of, bank_asks_in, no_mail_in, no_mail_of, request_of}
 use Rattle.ofx_types.specs.declared.fault.TreeFault.{TreeFault}
 use Rattle.ofx_types.specs.declared.request.Ask.{Ask}
+use Rattle.ofx_types.specs.declared.request.Ask.TheVariants.{Statement, One}
 use Rattle.ofx_tree.proofs.FormLaws.{bind_ok, bind_to, one_value, chosen, bytes_same, one_found, one_again, maybe_none, maybe_some, none_again, some_again}
-use Rattle.msg_bank.specs.Laws.{StatementsAreFound}
+use Rattle.msg_bank.specs.Laws.{StatementsAreFound, DeedsAreFound}
 use Rattle.msg_mail.specs.SignonLaws.{SignonsAreFound}
 use Rattle.ofx_file.specs.RequestLaws.{RequestsAreFound}
 
 -- the laws of the messages that a request is made of
 pub record Laws : Type 0 where
   pub statements : StatementsAreFound
+  pub deeds : DeedsAreFound
   pub signons : SignonsAreFound
+
+-- ---- one request of the bank's message set
+
+yes_or_no : (b : Bool) → (b ≡ true) ⊎ (b ≡ false)
+yes_or_no true = inl refl
+yes_or_no false = inr refl
+
+last_of : (a b : Bool) → (a || (b || false)) ≡ true → a ≡ false → b ≡ true
+last_of true b h other = cc
+last_of false true h other = refl
+last_of false false h other = cc
+
+-- a request that is read and isn't a statement request is a transfer request
+second_name : (request : Item) → is_named_one_of bank_names request ≡ true → has_name (codes "STMTTRNRQ") request ≡ false →
+    request.node.name ≡ codes "INTRATRNRQ"
+second_name request named other =
+    bytes_same request.node.name (codes "INTRATRNRQ")
+    (last_of (has_name (codes "STMTTRNRQ") request) (has_name (codes "INTRATRNRQ") request) named other)
+
+statement_found : Laws → (request : Item) (ask : Ask) → request.node.name ≡ codes "STMTTRNRQ" → statement_of request ≡ Ok ask → IsBankAsk request ask
+statement_found laws request ask name h =
+    let is = (laws.statements request ask).1 h in
+    let P : Ask → Type 0 = λ a. IsStatement request a → IsBankAsk request a in
+    subst P (sym is.is_statement) (λ s. (name, s)) is
+
+deed_found : Laws → (request : Item) (ask : Ask) → request.node.name ≡ codes "INTRATRNRQ" → (deed_of request >>= one_ask) ≡ Ok ask → IsBankAsk request ask
+deed_found laws request ask name h =
+    let deed = bind_ok (deed_of request) one_ask ask h in
+    let P : Ask → Type 0 = λ a. IsBankAsk request a in
+    subst P (one_value _ _ ask refl deed.2) (name, (laws.deeds request deed.0.0 deed.0.1).1 deed.1)
+
+ask_found : Laws → (request : Item) (ask : Ask) → is_named_one_of bank_names request ≡ true → bank_ask_of request ≡ Ok ask → IsBankAsk request ask
+unfolding bank_ask_of
+ask_found laws request ask named h = elim (chosen (has_name (codes "STMTTRNRQ") request) _ _ _ h) [
+  | inl (is, read) ↦ statement_found laws request ask (bytes_same _ _ is) read
+  | inr (other, read) ↦ deed_found laws request ask (second_name request named other) read
+]
+
+ask_again : Laws → (request : Item) (ask : Ask) → IsBankAsk request ask → bank_ask_of request ≡ Ok ask
+unfolding bank_ask_of
+ask_again laws request (Statement trnuid account period) (name, is) =
+    let named : has_name (codes "STMTTRNRQ") request ≡ true = rw name refl in
+    rw named ((laws.statements request (Statement trnuid account period)).0 is)
+ask_again laws request (One trnuid deed) (name, is) =
+    let other : has_name (codes "STMTTRNRQ") request ≡ false = rw name refl in
+    rw other (bind_to (deed_of request) one_ask (trnuid, deed) ((laws.deeds request trnuid deed).0 is))
 
 -- ---- the asks of the bank's message set
 
-abbrev is_statement : Item → Bool
-is_statement item = has_name (codes "STMTTRNRQ") item
+abbrev is_request : Item → Bool
+is_request item = is_named_one_of bank_names item
 
 abbrev is_unread : Item → Bool
 is_unread item = is_named_one_of unread_bank_names item
 
--- a statement request is a request that is read
-named_so : (name : List ℕ) → name ≡ codes "STMTTRNRQ" → is_one_of unread_bank_names name ≡ false
-named_so name h = rw h refl
+-- no request that is read is one without a form
+named_so : (name : List ℕ) → (name ≡ codes "STMTTRNRQ") ⊎ (name ≡ codes "INTRATRNRQ") → is_one_of unread_bank_names name ≡ false
+named_so name (inl h) = rw h refl
+named_so name (inr h) = rw h refl
 
-is_read : (item : Item) → is_statement item ≡ true → is_unread item ≡ false
-is_read item h = named_so item.node.name (bytes_same item.node.name (codes "STMTTRNRQ") h)
+is_read : (item : Item) → is_request item ≡ true → is_unread item ≡ false
+is_read item h = named_so item.node.name (elim (yes_or_no (has_name (codes "STMTTRNRQ") item)) [
+  | inl is ↦ inl (bytes_same _ _ is)
+  | inr other ↦ inr (second_name item h other)
+])
 
-filter_yes : (child : Item) (more : List Item) → is_statement child ≡ true → filter is_statement (child ∷ more) ≡ child ∷ filter is_statement more
+filter_yes : (child : Item) (more : List Item) → is_request child ≡ true → filter is_request (child ∷ more) ≡ child ∷ filter is_request more
 filter_yes child more h = rw h refl
 
-filter_no : (child : Item) (more : List Item) → is_statement child ≡ false → filter is_statement (child ∷ more) ≡ filter is_statement more
+filter_no : (child : Item) (more : List Item) → is_request child ≡ false → filter is_request (child ∷ more) ≡ filter is_request more
 filter_no child more h = rw h refl
 
 -- What stands among the children: no request without a form, and these asks.
 pub record AreAsks (items : List Item) (asks : List Ask) : Type 0 where
   pub all_read : list_any is_unread items ≡ false
-  pub each : AllZip IsStatement (filter is_statement items) asks
+  pub each : AllZip IsBankAsk (filter is_request items) asks
 
 none_is_unread : (child : Item) (more : List Item) → is_unread child ≡ false → list_any is_unread more ≡ false → list_any is_unread (child ∷ more) ≡ false
 none_is_unread child more h i = rw (h, i) refl
 
-asks_more : (child : Item) (more : List Item) (ask : Ask) (asks : List Ask) → is_statement child ≡ true → IsStatement child ask → AreAsks more asks →
+asks_more : (child : Item) (more : List Item) (ask : Ask) (asks : List Ask) → is_request child ≡ true → IsBankAsk child ask → AreAsks more asks →
     AreAsks (child ∷ more) (ask ∷ asks)
-asks_more child more ask asks is statement rest = record {
+asks_more child more ask asks is ask_is rest = record {
   all_read = none_is_unread child more (is_read child is) rest.all_read;
-  each = let P : List Item → Type 0 = λ items. AllZip IsStatement items (ask ∷ asks) in subst P (sym (filter_yes child more is)) (statement, rest.each);
+  each = let P : List Item → Type 0 = λ items. AllZip IsBankAsk items (ask ∷ asks) in subst P (sym (filter_yes child more is)) (ask_is, rest.each);
 }
 
-asks_past : (child : Item) (more : List Item) (asks : List Ask) → is_statement child ≡ false → is_unread child ≡ false → AreAsks more asks → AreAsks (child ∷ more) asks
+asks_past : (child : Item) (more : List Item) (asks : List Ask) → is_request child ≡ false → is_unread child ≡ false → AreAsks more asks → AreAsks (child ∷ more) asks
 asks_past child more asks other read rest = record {
   all_read = none_is_unread child more read rest.all_read;
-  each = let P : List Item → Type 0 = λ items. AllZip IsStatement items asks in subst P (sym (filter_no child more other)) rest.each;
+  each = let P : List Item → Type 0 = λ items. AllZip IsBankAsk items asks in subst P (sym (filter_no child more other)) rest.each;
 }
 
 let_pass : (b : Bool) (e : TreeFault) (r : Result (List Ask) TreeFault) (asks : List Ask) → cond b (Err e) r ≡ Ok asks → (b ≡ false) × (r ≡ Ok asks)
@@ -68,13 +123,13 @@ asks_found : Laws → (items : List Item) (asks : List Ask) → bank_asks_of ite
 unfolding bank_asks_of
 asks_found laws [] asks h =
     let P : List Ask → Type 0 = λ a. AreAsks [] a in subst P (one_value (Ok []) [] asks refl h) (record { all_read = refl; each = tt })
-asks_found laws (child ∷ more) asks h = elim (chosen (is_statement child) _ _ _ h) [
+asks_found laws (child ∷ more) asks h = elim (chosen (is_request child) _ _ _ h) [
   | inl (is, read) ↦
-      let ask = bind_ok (statement_of child) _ asks read in
+      let ask = bind_ok (bank_ask_of child) _ asks read in
       let rest = bind_ok (bank_asks_of more) (onto ask.0) asks ask.2 in
       let P : List Ask → Type 0 = λ a. AreAsks (child ∷ more) a in
       subst P (one_value (onto ask.0 rest.0) (ask.0 ∷ rest.0) asks refl rest.2)
-      (asks_more child more ask.0 rest.0 is ((laws.statements child ask.0).1 ask.1) (asks_found laws more rest.0 rest.1))
+      (asks_more child more ask.0 rest.0 is (ask_found laws child ask.0 is ask.1) (asks_found laws more rest.0 rest.1))
   | inr (other, passed) ↦
       let read = let_pass (is_unread child) _ (bank_asks_of more) asks passed in
       asks_past child more asks other read.0 (asks_found laws more asks read.1)
@@ -87,42 +142,38 @@ any_cons child more h = both (is_unread child) (list_any is_unread more) h
     both true b e = cc
     both false b e = (refl, e)
 
-first_ask : (child : Item) (more : List Item) (asks : List Ask) → AllZip IsStatement (child ∷ more) asks →
-    (ask : Ask) × (rest : List Ask) × (asks ≡ ask ∷ rest) × IsStatement child ask × AllZip IsStatement more rest
+first_ask : (child : Item) (more : List Item) (asks : List Ask) → AllZip IsBankAsk (child ∷ more) asks →
+    (ask : Ask) × (rest : List Ask) × (asks ≡ ask ∷ rest) × IsBankAsk child ask × AllZip IsBankAsk more rest
 first_ask child more [] h = absurd h
 first_ask child more (ask ∷ rest) h = (ask, rest, refl, h.0, h.1)
 
-read_first : (child : Item) (more : List Item) (ask : Ask) (rest : List Ask) → is_statement child ≡ true → statement_of child ≡ Ok ask → bank_asks_of more ≡ Ok rest →
+read_first : (child : Item) (more : List Item) (ask : Ask) (rest : List Ask) → is_request child ≡ true → bank_ask_of child ≡ Ok ask → bank_asks_of more ≡ Ok rest →
     bank_asks_of (child ∷ more) ≡ Ok (ask ∷ rest)
 unfolding bank_asks_of
 read_first child more ask rest is read others = rw (is, read, others) refl
 
-read_past : (child : Item) (more : List Item) (asks : List Ask) → is_statement child ≡ false → is_unread child ≡ false → bank_asks_of more ≡ Ok asks →
+read_past : (child : Item) (more : List Item) (asks : List Ask) → is_request child ≡ false → is_unread child ≡ false → bank_asks_of more ≡ Ok asks →
     bank_asks_of (child ∷ more) ≡ Ok asks
 unfolding bank_asks_of
 read_past child more asks other read others = rw (other, read) others
 
-none_left : (asks : List Ask) → AllZip IsStatement [] asks → asks ≡ []
+none_left : (asks : List Ask) → AllZip IsBankAsk [] asks → asks ≡ []
 none_left [] h = refl
 none_left (ask ∷ asks) h = absurd h
-
-yes_or_no : (b : Bool) → (b ≡ true) ⊎ (b ≡ false)
-yes_or_no true = inl refl
-yes_or_no false = inr refl
 
 asks_again : Laws → (items : List Item) (asks : List Ask) → AreAsks items asks → bank_asks_of items ≡ Ok asks
 unfolding bank_asks_of
 asks_again laws [] asks a = ap Ok (sym (none_left asks a.each))
 asks_again laws (child ∷ more) asks a =
     let read = any_cons child more a.all_read in
-    elim (yes_or_no (is_statement child)) [
+    elim (yes_or_no (is_request child)) [
       | inl is ↦
-          let P : List Item → Type 0 = λ items. AllZip IsStatement items asks in
-          let first = first_ask child (filter is_statement more) asks (subst P (filter_yes child more is) a.each) in
-          read_first child more first.0 first.1 is ((laws.statements child first.0).0 first.3) (asks_again laws more first.1 (record { all_read = read.1; each = first.4 }))
+          let P : List Item → Type 0 = λ items. AllZip IsBankAsk items asks in
+          let first = first_ask child (filter is_request more) asks (subst P (filter_yes child more is) a.each) in
+          read_first child more first.0 first.1 is (ask_again laws child first.0 first.3) (asks_again laws more first.1 (record { all_read = read.1; each = first.4 }))
           ∙ ap Ok (sym first.2)
       | inr other ↦
-          let P : List Item → Type 0 = λ items. AllZip IsStatement items asks in
+          let P : List Item → Type 0 = λ items. AllZip IsBankAsk items asks in
           read_past child more asks other read.0 (asks_again laws more asks (record { all_read = read.1; each = subst P (filter_no child more other) a.each }))
     ]
 

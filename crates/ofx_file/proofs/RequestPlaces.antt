@@ -2,17 +2,19 @@
 use Rattle.std.proofs.Common.{◌≡◌, ℕ, ◌+◌, List, [], ◌∷◌, length, Option, None, Some, Result, Err, codes, refl, sym, subst, arith}
 use Rattle.std.specs.List.{AllByRecursion}
 use Rattle.std.specs.Option.{IfSome}
-use Rattle.ofx_types.specs.Nodes.{TagNode, Item, children}
+use Rattle.ofx_types.specs.Nodes.{TagNode, Item, children, IsRoot}
 use Rattle.ofx_types.specs.FormWords.{has_name, one, maybe}
-use Rattle.ofx_types.specs.RequestForm.{IsRoot, is_named_one_of, unread_bank_names, unread_mail_names}
-use Rattle.ofx_types.specs.RequestReading.{RequestParts, signon_of, statement_of, bank_asks_of, bank_asks_in, no_mail_in, no_mail_of, request_of}
+use Rattle.ofx_types.specs.MessageForm.{is_named_one_of, bank_names, unread_bank_names, unread_mail_names}
+use Rattle.ofx_types.specs.RequestReading.{signon_of}
+use Rattle.ofx_types.specs.TransferReading.{deed_of}
+use Rattle.ofx_types.specs.MessageReading.{RequestParts, one_ask, bank_ask_of, bank_asks_of, bank_asks_in, no_mail_in, no_mail_of, request_of}
 use Rattle.ofx_types.specs.FileForm.{form_place}
 use Rattle.ofx_types.specs.declared.fault.TreeFault.{TreeFault}
 use Rattle.ofx_types.specs.declared.fault.TreeFault.TheVariants as forms
 use Rattle.ofx_tape.specs.Slices.{ArePlaced, AreSlices}
 use Rattle.ofx_tree.specs.Placed.{HasPlace, Stands, Any, AreWithin, IsWithin}
 use Rattle.ofx_tree.proofs.FormPlaces.{bound, either, children_within, one_within, maybe_within}
-use Rattle.msg_bank.specs.Laws.{StatementFaultsHavePlaces}
+use Rattle.msg_bank.specs.Laws.{StatementFaultsHavePlaces, DeedFaultsHavePlaces}
 use Rattle.msg_mail.specs.SignonLaws.{SignonFaultsHavePlaces}
 use Rattle.ofx_file.specs.FaultPlaces.{IsFormWithin}
 use Rattle.ofx_file.specs.RequestLaws.{RequestFaultsHavePlaces}
@@ -20,14 +22,21 @@ use Rattle.ofx_file.specs.RequestLaws.{RequestFaultsHavePlaces}
 -- the laws of the messages that a request is made of
 pub record Laws : Type 0 where
   pub statements : StatementFaultsHavePlaces
+  pub deeds : DeedFaultsHavePlaces
   pub signons : SignonFaultsHavePlaces
+
+ask_within : Laws → (most : ℕ) (request : Item) → IsWithin most request → Stands most Any (bank_ask_of request)
+unfolding bank_ask_of
+ask_within laws most request h =
+    either most Any (has_name (codes "STMTTRNRQ") request) _ _ (laws.statements most request h)
+    (bound most Any Any (deed_of request) one_ask (laws.deeds most request h) (λ deed _. tt))
 
 asks_within : Laws → (most : ℕ) (items : List Item) → AllByRecursion (IsWithin most) items → Stands most Any (bank_asks_of items)
 unfolding bank_asks_of
 asks_within laws most [] h = tt
 asks_within laws most (child ∷ more) (h, others) =
-    either most Any (has_name (codes "STMTTRNRQ") child) _ _
-    (bound most Any Any (statement_of child) _ (laws.statements most child h) (λ ask _.
+    either most Any (is_named_one_of bank_names child) _ _
+    (bound most Any Any (bank_ask_of child) _ (ask_within laws most child h) (λ ask _.
     bound most Any Any (bank_asks_of more) _ (asks_within laws most more others) (λ asks _. tt)))
     (either most Any (is_named_one_of unread_bank_names child) _ _ h.place (asks_within laws most more others))
 

@@ -4,22 +4,25 @@ use Rattle.std.proofs.lemmas.Grind.{common_steps}
 use Rattle.std.proofs.lemmas.Slice.Zip.{AllZip-long}
 use Rattle.std.specs.List.{AllZip, AllByRecursion}
 use Rattle.std.specs.Option.{IfSome}
-use Rattle.ofx_types.proofs.Trimming.{faultless}
-use Rattle.ofx_types.specs.TextRules.{is_refused_in_text}
+use Rattle.std.specs.Str.{bytes_eq}
 use Rattle.ofx_types.specs.Calendar.{IsMoment}
 use Rattle.ofx_types.specs.HeaderForm.{is_version}
-use Rattle.ofx_types.specs.Nodes.{TagNode, Item, items_from, children}
-use Rattle.ofx_types.specs.FormWords.{has_name, IsOnly, IsTextIn, IsMaybeMomentIn}
-use Rattle.ofx_types.specs.RequestForm.{IsStatement, IsPeriod, IsMaybePeriod, AreMaybeBankAsks, IsRoot}
+use Rattle.ofx_types.specs.TagNames.{is_one_of}
+use Rattle.ofx_types.specs.Nodes.{TagNode, Item, items_from, children, IsRoot}
+use Rattle.ofx_types.specs.FormWords.{IsOnly, IsMaybeMomentIn}
+use Rattle.ofx_types.specs.RequestForm.{IsStatement, IsPeriod, IsMaybePeriod}
+use Rattle.ofx_types.specs.MessageForm.{bank_names, is_named_one_of, IsBankAsk, AreMaybeBankAsks}
 use Rattle.ofx_types.specs.FileForm.{SpellsFile}
 use Rattle.ofx_types.specs.declared.number.Moment.{Moment}
 use Rattle.ofx_types.specs.declared.request.Period.{Period}
 use Rattle.ofx_types.specs.declared.request.Ask.{Ask}
+use Rattle.ofx_types.specs.declared.request.Ask.TheVariants.{Statement, One}
 use Rattle.ofx_types.specs.declared.request.RequestFile.{RequestFile}
-use Rattle.bank_model.specs.Sound.{HasLength, IsSoundPeriod, IsSoundAsk, IsVersion, IsSound}
+use Rattle.bank_model.specs.Sound.{IsSoundPeriod, IsSoundAsk, IsVersion, IsSound}
 use Rattle.ofx_tape.specs.Slices.{ArePlaced, AreSlices}
 use Rattle.ofx_tree.proofs.FormLaws.{bytes_same}
 use Rattle.ofx_tree.proofs.Chosen.{all_chosen, all_filtered}
+use Rattle.ofx_file.proofs.SoundDeeds.{sound_account, sound_deed}
 
 -- ---- how many bytes tags take
 
@@ -74,27 +77,38 @@ only_within name parent child h =
 
 -- ---- the number of asks
 
-abbrev is_statement : Item → Bool
-is_statement item = has_name (codes "STMTTRNRQ") item
+abbrev is_request : Item → Bool
+is_request item = is_named_one_of bank_names item
 
-statement_bytes : (item : Item) → is_statement item ≡ true → length item.node.name ≡ 9
-statement_bytes item h = ap length (bytes_same item.node.name (codes "STMTTRNRQ") h)
+-- the name of a request has 9 bytes or 10
+names_long : (name : List ℕ) → is_one_of bank_names name ≡ true → 9 ≤ length name
+names_long name h = either_name (bytes_eq name (codes "STMTTRNRQ")) (bytes_eq name (codes "INTRATRNRQ"))
+    (λ is. length_from name (codes "STMTTRNRQ") is) (λ is. length_from name (codes "INTRATRNRQ") is) h
+  where
+    length_from : (a b : List ℕ) → bytes_eq a b ≡ true → length a ≡ length b
+    length_from a b is = ap length (bytes_same a b is)
 
-chosen_count : (b : Bool) (item : Item) (items : List Item) (some all : ℕ) → (b ≡ true → some ≡ 11) → 11 * length items ≤ all → 11 * length (cond b (item ∷ items) items) ≤ some + all
-chosen_count true item items some all h i = let is : some ≡ 11 = h refl in omega arith
+    either_name : (a b : Bool) → (a ≡ true → length name ≡ 9) → (b ≡ true → length name ≡ 10) → (a || (b || false)) ≡ true → 9 ≤ length name
+    either_name true b f g e = let is : length name ≡ 9 = f refl in omega arith
+    either_name false true f g e = let is : length name ≡ 10 = g refl in omega arith
+    either_name false false f g e = cc
+
+chosen_count : (b : Bool) (item : Item) (items : List Item) (some all : ℕ) → (b ≡ true → 11 ≤ some) → 11 * length items ≤ all → 11 * length (cond b (item ∷ items) items) ≤ some + all
+chosen_count true item items some all h i = let is : 11 ≤ some = h refl in omega arith
 chosen_count false item items some all h i = omega arith
 
-few_statements : (items : List Item) → 11 * length (filter is_statement items) ≤ item_bytes items
-few_statements [] = omega arith
-few_statements (item ∷ items) =
-    chosen_count (is_statement item) item (filter is_statement items) (length item.node.name + 2) (item_bytes items)
-    (λ is. omega (arith, statement_bytes item is)) (few_statements items)
+-- the start tag of a request has 11 bytes or 12
+few_requests : (items : List Item) → 11 * length (filter is_request items) ≤ item_bytes items
+few_requests [] = omega arith
+few_requests (item ∷ items) =
+    chosen_count (is_request item) item (filter is_request items) (length item.node.name + 2) (item_bytes items)
+    (λ is. omega (arith, names_long item.node.name is)) (few_requests items)
 
 few_asks : (ofx : Item) (asks : List Ask) → AreMaybeBankAsks ofx asks → 11 * length asks ≤ tag_bytes ofx.inner
 few_asks ofx asks (inl (none, empty)) = rw empty (omega arith)
 few_asks ofx asks (inr (bank, is, are)) =
-    let long = AllZip-long IsStatement _ asks are.each in
-    let few = few_statements (children bank) in
+    let long = AllZip-long IsBankAsk _ asks are.each in
+    let few = few_requests (children bank) in
     let within = items_within bank.first bank.first bank.inner in
     let inside = only_within (codes "BANKMSGSRQV1") ofx bank is in
     rw long (omega arith)
@@ -103,9 +117,6 @@ root_within : (nodes : List TagNode) (ofx : Item) → IsRoot nodes ofx → tag_b
 root_within nodes ofx (inner, is, first, same) = rw (is, same) (omega arith)
 
 -- ---- the values
-
-within : (name : List ℕ) (most : ℕ) (parent : Item) (text : List ℕ) → IsTextIn name most parent text → HasLength most text
-within name most parent text t = (t.stands.is_there, (faultless is_refused_in_text most text t.stands.is_faultless).0)
 
 sound_moment : (name : List ℕ) (inctran : Item) (moment : Option Moment) → IsMaybeMomentIn name inctran moment → IfSome moment (λ (m : Moment). IsMoment m.0)
 sound_moment name inctran None m = tt
@@ -119,16 +130,17 @@ sound_maybe_period : (stmtrq : Item) (period : Option Period) → IsMaybePeriod 
 sound_maybe_period stmtrq None p = tt
 sound_maybe_period stmtrq (Some period) p = sound_period p.0 period p.2
 
-sound_ask : (item : Item) (ask : Ask) → IsStatement item ask → IsSoundAsk ask
-sound_ask item ask s =
+sound_statement : (item : Item) (ask : Ask) → IsStatement item ask → IsSoundAsk ask
+sound_statement item ask s =
     let P : Ask → Type 0 = λ a. IsSoundAsk a in
-    subst P (sym s.is_statement) (
-      s.has_trnuid.is_own,
-      (within (codes "BANKID") 32 s.bankacctfrom s.account.bank s.is_account.bank, within (codes "ACCTID") 32 s.bankacctfrom s.account.number s.is_account.number),
-      sound_maybe_period s.stmtrq s.period s.is_period,
-    )
+    subst P (sym s.is_statement)
+    (s.has_trnuid.is_own, sound_account s.bankacctfrom s.account s.is_account, sound_maybe_period s.stmtrq s.period s.is_period)
 
-sound_each : (items : List Item) (asks : List Ask) → AllZip IsStatement items asks → AllByRecursion IsSoundAsk asks
+sound_ask : (item : Item) (ask : Ask) → IsBankAsk item ask → IsSoundAsk ask
+sound_ask item (Statement trnuid account period) (name, is) = sound_statement item (Statement trnuid account period) is
+sound_ask item (One trnuid deed) (name, is) = (is.has_trnuid.is_own, sound_deed is.request deed is.is_request)
+
+sound_each : (items : List Item) (asks : List Ask) → AllZip IsBankAsk items asks → AllByRecursion IsSoundAsk asks
 sound_each [] [] h = tt
 sound_each [] (ask ∷ asks) h = absurd h
 sound_each (item ∷ items) [] h = absurd h

@@ -3,3 +3,4 @@ pub mod RequestOutcome
 pub mod RequestSteps
 pub mod RequestLaws
 pub mod FaultPlaces
+pub mod SoundFiles

@@ -1,8 +1,8 @@
 -- What holds of the forms of requests: each stands exactly where it is read, and its faults have places.
 use Rattle.std.specs.Prelude.{◌≡◌, ◌↔◌, ℕ, Ok}
 use Rattle.ofx_types.specs.Nodes.{Item}
-use Rattle.ofx_types.specs.RequestForm.{IsRequest}
-use Rattle.ofx_types.specs.RequestReading.{RequestParts, request_of}
+use Rattle.ofx_types.specs.MessageForm.{IsRequest}
+use Rattle.ofx_types.specs.MessageReading.{RequestParts, request_of}
 use Rattle.ofx_tree.specs.Placed.{IsWithin, Stands, Any}
 
 -- What a request says stands in OFX exactly where reading gives it.

@@ -1,9 +1,10 @@
 -- The steps in which a request is read, each a part of its form.
 use Rattle.std.specs.Prelude.{ℕ, ◌++◌, List, codes, Option, None, Some, Result, Ok, Err, if◌then◌else◌}
 use Rattle.ofx_types.specs.Nodes.{Item}
-use Rattle.ofx_types.specs.FormWords.{has_name, ◌>>=◌, one, maybe}
-use Rattle.ofx_types.specs.RequestForm.{is_named_one_of, unread_bank_names}
-use Rattle.ofx_types.specs.RequestReading.{signon_of, statement_of, bank_asks_of, bank_asks_in, no_mail_of}
+use Rattle.ofx_types.specs.FormWords.{◌>>=◌, one, maybe}
+use Rattle.ofx_types.specs.MessageForm.{is_named_one_of, bank_names, unread_bank_names}
+use Rattle.ofx_types.specs.RequestReading.{signon_of}
+use Rattle.ofx_types.specs.MessageReading.{bank_ask_of, bank_asks_of, bank_asks_in, no_mail_of}
 use Rattle.ofx_types.specs.declared.fault.TreeFault.{TreeFault}
 use Rattle.ofx_types.specs.declared.fault.TreeFault.TheVariants.{Value}
 use Rattle.ofx_types.specs.declared.request.Ask.{Ask}
@@ -15,7 +16,7 @@ some_ask ask = Ok (Some ask)
 
 unfoldable pub ask_at : Item → Result (Option Ask) TreeFault
 ask_at child =
-    if has_name (codes "STMTTRNRQ") child then (statement_of child >>= some_ask)
+    if is_named_one_of bank_names child then (bank_ask_of child >>= some_ask)
     else (if is_named_one_of unread_bank_names child then Err (Value child.node.place) else Ok None)
 
 -- the asks that are read already, and those among the children still to come

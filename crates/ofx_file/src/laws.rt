@@ -3,8 +3,11 @@
 ghost use Rattle.ofx_types.specs.FileForm.{OneFile, FaultsSpellNothing, OneFault};
 ghost use Rattle.ofx_file.specs.RequestOutcome.{EachIsJudged};
 ghost use Rattle.ofx_file.specs.RequestLaws.{RequestsAreFound, RequestFaultsHavePlaces};
+ghost use Rattle.ofx_file.specs.SoundFiles.{SpelledFilesAreSound};
 
-use msg_bank::{statement_faults_have_places, statements_are_found};
+use msg_bank::{
+    deed_faults_have_places, deeds_are_found, statement_faults_have_places, statements_are_found,
+};
 use msg_mail::{signon_faults_have_places, signons_are_found};
 use ofx_header::{faultless_is_spelled, one_header, spelled_is_faultless};
 use ofx_tape::{
@@ -54,11 +57,19 @@ pub fn each_is_judged()
     request_faults_have_places();
 }
 
+/// A file that is spelled by at most 262,144 bytes may be handed to a bank.
+pub fn spelled_files_are_sound()
+    ensures { SpelledFilesAreSound }
+{
+    nodes_are_slices();
+}
+
 /// A request has its form exactly where reading finds it.
 pub(crate) fn requests_are_found()
     ensures { RequestsAreFound }
 {
     statements_are_found();
+    deeds_are_found();
     signons_are_found();
 }
 
@@ -67,5 +78,6 @@ pub(crate) fn request_faults_have_places()
     ensures { RequestFaultsHavePlaces }
 {
     statement_faults_have_places();
+    deed_faults_have_places();
     signon_faults_have_places();
 }

@@ -10,6 +10,8 @@ mod request;
 #[cfg(test)]
 mod tests;
 
-pub use laws::{each_is_judged, faults_spell_nothing, one_fault, one_file};
+pub use laws::{
+    each_is_judged, faults_spell_nothing, one_fault, one_file, spelled_files_are_sound,
+};
 pub use reply::{OfxPrinter, write_reply};
 pub use request::read_request;

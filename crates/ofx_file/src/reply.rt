@@ -9,7 +9,7 @@ ghost use Rattle.ofx_types.specs.Calendar.{IsMoment};
 ghost use Rattle.ofx_types.specs.Printable.{IsPrintable, IsPrintableReply};
 
 use bank_model::Printer;
-use msg_bank::print_statement_reply;
+use msg_bank::{print_reply, print_statement_reply};
 use msg_mail::print_signon_reply;
 use ofx_header::{Header, write_header};
 use ofx_tree::Sheet;
@@ -19,8 +19,9 @@ use std::alloc::Global;
 /// The room that the parts of a reply file which stand once are given at first, in bytes.
 const ROOM: usize = 576;
 
-/// The room that each answer is given at first, in bytes. A statement without lines has some 430.
-const ROOM_OF_ONE: usize = 448;
+/// The room that each answer is given at first, in bytes. A statement without lines has some 430, a new transfer some
+/// 460.
+const ROOM_OF_ONE: usize = 480;
 
 /// Prints replies in their one printed form.
 #[derive(Clone, Copy, Debug)]
@@ -113,6 +114,7 @@ fn ask_replies(replies: &[AskReply], sheet: &mut Sheet) -> Result<(), OutOfMemor
 }
 
 /// Appends the answer to one ask.
+#[tactic(auto, unfolding(ofx_types::specs::ReplyForm::ask_reply))]
 fn ask_reply(reply: &AskReply, sheet: &mut Sheet) -> Result<(), OutOfMemory>
     requires { IsPrintableReply reply.now }
     ensures { OnOk result (sheet.new ≡ sheet.old ++ form.ask_reply reply.now) }
@@ -121,5 +123,6 @@ fn ask_reply(reply: &AskReply, sheet: &mut Sheet) -> Result<(), OutOfMemory>
         AskReply::Statement(trnuid, code, body) => {
             print_statement_reply(trnuid, *code, body.as_ref(), sheet)
         }
+        AskReply::One(reply) => print_reply(reply, sheet),
     }
 }

@@ -1,5 +1,7 @@
 //! The sample files of the format byte for byte, and edges that no clause says.
 
+mod transfers;
+
 use crate::{OfxPrinter, read_request, write_reply};
 use bank_model::Printer;
 use ofx_types::{
@@ -274,8 +276,8 @@ fn faults_stand_where_they_are(rt: HostRuntime) -> Result<(), Fail> {
         ),
         (
             b"<STMTTRNRQ>",
-            b"<INTRATRNRQ></INTRATRNRQ><STMTTRNRQ>",
-            b"<INTRATRNRQ>",
+            b"<RECINTRATRNRQ></RECINTRATRNRQ><STMTTRNRQ>",
+            b"<RECINTRATRNRQ>",
         ),
         (
             b"</OFX>",

@@ -1,5 +1,5 @@
 -- What stands in an aggregate is what reading finds there: its named children, and what their values stand for.
-use Rattle.std.proofs.Common.{◌≡◌, ℕ, ◌<◌, ◌⊎◌, inl, inr, Bool, true, false, cond, ◌&&◌, nat_lt, ℤ, List, [], ◌∷◌, length, Option, None, Some, is_none, Result, Ok, Err, codes, refl, sym, ap, subst, ◌∙◌, arith}
+use Rattle.std.proofs.Common.{◌≡◌, ℕ, ◌<◌, ◌⊎◌, inl, inr, Bool, true, false, cond, ◌&&◌, nat_lt, ℤ, List, [], ◌∷◌, length, filter, Option, None, Some, is_none, Result, Ok, Err, codes, refl, sym, ap, subst, ◌∙◌, arith}
 use Rattle.std.proofs.lemmas.Grind.{common_steps}
 use Rattle.std.proofs.lemmas.Slice.Eq.{bytes_eq-Decides}
 use Rattle.std.specs.Str.{bytes_eq}
@@ -11,8 +11,9 @@ use Rattle.ofx_types.specs.AmountReading.{amount_at}
 use Rattle.ofx_types.specs.DateForm.{IsDate}
 use Rattle.ofx_types.specs.DateReading.{moment_at}
 use Rattle.ofx_types.specs.NumberReading.{number_at}
-use Rattle.ofx_types.specs.Nodes.{TagNode, Item}
-use Rattle.ofx_types.specs.FormWords.{◌>>=◌, named, only_of, one, if_any, maybe, IsOnly, IsNone, is_text_within, text_at, text_in, IsTextIn, flag_word, flag_at, flag_in, IsFlagIn, amount_or, amount_of, amount_in, IsAmountIn, moment_or, moment_of, moment_in, IsMomentIn, moment_if_any, maybe_moment_in, IsMaybeMomentIn, number_or, number_of, number_in, IsNumberIn}
+use Rattle.ofx_types.specs.TagNames.{is_one_of}
+use Rattle.ofx_types.specs.Nodes.{TagNode, Item, children}
+use Rattle.ofx_types.specs.FormWords.{◌>>=◌, named, named_one_of, only_of, one, one_of, if_any, maybe, IsOnly, IsOnlyOf, IsNone, is_text_within, text_at, text_in, IsTextIn, flag_word, flag_at, flag_in, IsFlagIn, amount_or, amount_of, amount_in, IsAmountIn, moment_or, moment_of, moment_in, IsMomentIn, moment_if_any, maybe_moment_in, IsMaybeMomentIn, number_or, number_of, number_in, IsNumberIn, id_of, id_in, IsIdIn, id_if_any, maybe_id_in, IsMaybeIdIn}
 use Rattle.ofx_types.specs.declared.fault.TreeFault.{TreeFault}
 use Rattle.ofx_types.specs.declared.number.Cents.{Cents}
 use Rattle.ofx_types.specs.declared.number.Moment.{Moment}
@@ -60,6 +61,29 @@ one_found name parent child h = only_found parent.node.place (named name parent)
 
 pub one_again : (name : List ℕ) (parent child : Item) → IsOnly name parent child → one name parent ≡ Ok child
 one_again name parent child h = ap (only_of parent.node.place) h
+
+pub one_of_found : (names : List (List ℕ)) (parent child : Item) → one_of names parent ≡ Ok child → IsOnlyOf names parent child
+one_of_found names parent child h = only_found parent.node.place (named_one_of names parent) child h
+
+pub one_of_again : (names : List (List ℕ)) (parent child : Item) → IsOnlyOf names parent child → one_of names parent ≡ Ok child
+one_of_again names parent child h = ap (only_of parent.node.place) h
+
+-- what a filter leaves passes its test
+first_passes : (p : Item → Bool) (items : List Item) (child : Item) (more : List Item) → filter p items ≡ child ∷ more → p child ≡ true
+first_passes p [] child more h = cc
+first_passes p (x ∷ items) child more h = tested (p x) refl h (λ e. first_passes p items child more e)
+  where
+    tested : (b : Bool) → p x ≡ b → cond b (x ∷ filter p items) (filter p items) ≡ child ∷ more → (filter p items ≡ child ∷ more → p child ≡ true) → p child ≡ true
+    tested true is e behind = let same : x ≡ child = cc in rw same at is
+    tested false is e behind = behind e
+
+left_of : (a b : Bool) → (a && b) ≡ true → a ≡ true
+left_of true b h = refl
+left_of false b h = cc
+
+-- the only child with one of some names has one of them
+pub has_one_of : (names : List (List ℕ)) (parent child : Item) → IsOnlyOf names parent child → is_one_of names child.node.name ≡ true
+has_one_of names parent child only = left_of _ _ (first_passes _ (children parent) child [] only)
 
 none_found : (items : List Item) → if_any items ≡ Ok None → items ≡ []
 none_found [] h = refl
@@ -261,3 +285,46 @@ unfolding number_in
 number_in_again name most parent number n =
     bind_to (one name parent) (λ c. number_of most c.node) n.child (one_again name parent n.child n.is_only)
     ∙ ap (number_or n.child.node.place) n.stands
+
+-- ---- ids
+
+pub id_in_found : (name : List ℕ) (parent : Item) (id : ℕ) → id_in name parent ≡ Ok id → IsIdIn name parent id
+unfolding id_in
+id_in_found name parent id h =
+    let text = bind_ok (text_in name 64 parent) (λ t. Ok (id_of t)) id h in
+    record { text = text.0; has_text = text_in_found name 64 parent text.0 text.1; is_id = one_value (Ok id) id (id_of text.0) refl (sym text.2) }
+
+pub id_in_again : (name : List ℕ) (parent : Item) (id : ℕ) → IsIdIn name parent id → id_in name parent ≡ Ok id
+unfolding id_in
+id_in_again name parent id i =
+    bind_to (text_in name 64 parent) (λ t. Ok (id_of t)) i.text (text_in_again name 64 parent i.text i.has_text) ∙ ap Ok (sym i.is_id)
+
+-- ---- ids that may stand once
+
+-- the text of the child that stands is that of the only one
+text_of_only : (name : List ℕ) (parent child : Item) (text : List ℕ) → IsOnly name parent child → text_at 64 child.node ≡ Ok text → IsTextIn name 64 parent text
+text_of_only name parent child text only h = record { child = child; is_only = only; stands = text_found 64 child.node text h }
+
+id_or_none : (name : List ℕ) (parent : Item) (found : Option Item) (id : ℕ) → maybe name parent ≡ Ok found → id_if_any found ≡ Ok id → IsMaybeIdIn name parent id
+id_or_none name parent None id h i = inl (maybe_none name parent h, one_value (Ok id) id 0 refl (sym i))
+id_or_none name parent (Some child) id h i =
+    let text = bind_ok (text_at 64 child.node) (λ t. Ok (id_of t)) id i in
+    inr (record {
+      text = text.0;
+      has_text = text_of_only name parent child text.0 (maybe_some name parent child h) text.1;
+      is_id = one_value (Ok id) id (id_of text.0) refl (sym text.2);
+    })
+
+pub maybe_id_in_found : (name : List ℕ) (parent : Item) (id : ℕ) → maybe_id_in name parent ≡ Ok id → IsMaybeIdIn name parent id
+unfolding maybe_id_in
+maybe_id_in_found name parent id h =
+    let found = bind_ok (maybe name parent) id_if_any id h in id_or_none name parent found.0 id found.1 found.2
+
+pub maybe_id_in_again : (name : List ℕ) (parent : Item) (id : ℕ) → IsMaybeIdIn name parent id → maybe_id_in name parent ≡ Ok id
+unfolding maybe_id_in
+maybe_id_in_again name parent id (inl (none, zero)) = bind_to (maybe name parent) id_if_any None (none_again name parent none) ∙ ap Ok (sym zero)
+maybe_id_in_again name parent id (inr i) =
+    let t = i.has_text in
+    bind_to (maybe name parent) id_if_any (Some t.child) (some_again name parent t.child t.is_only)
+    ∙ bind_to (text_at 64 t.child.node) (λ text. Ok (id_of text)) i.text (text_again 64 t.child.node i.text t.stands)
+    ∙ ap Ok (sym i.is_id)

@@ -8,7 +8,7 @@ use Rattle.ofx_types.specs.Nodes.{TagNode, Item, items_from, children}
 use Rattle.ofx_types.specs.AmountReading.{amount_at}
 use Rattle.ofx_types.specs.DateReading.{moment_at}
 use Rattle.ofx_types.specs.NumberReading.{number_at}
-use Rattle.ofx_types.specs.FormWords.{◌>>=◌, named, only_of, one, if_any, maybe, is_text_within, text_in, flag_in, amount_or, amount_in, moment_or, moment_of, moment_in, moment_if_any, maybe_moment_in, number_or, number_in}
+use Rattle.ofx_types.specs.FormWords.{◌>>=◌, named, named_one_of, only_of, one, one_of, if_any, maybe, is_text_within, text_at, text_in, flag_in, amount_or, amount_in, moment_or, moment_of, moment_in, moment_if_any, maybe_moment_in, number_or, number_in, id_in, id_if_any, maybe_id_in}
 use Rattle.ofx_types.specs.declared.fault.TreeFault.{TreeFault}
 use Rattle.ofx_tree.specs.Placed.{Stands, Any, AreWithin, IsWithin}
 use Rattle.ofx_tree.proofs.Chosen.{all_chosen, all_filtered}
@@ -43,6 +43,9 @@ children_within most item h = items_within most item.first item.first item.inner
 pub named_within : (most : ℕ) (name : List ℕ) (item : Item) → IsWithin most item → AllByRecursion (IsWithin most) (named name item)
 named_within most name item h = all_filtered (IsWithin most) _ (children item) (children_within most item h)
 
+named_one_of_within : (most : ℕ) (names : List (List ℕ)) (item : Item) → IsWithin most item → AllByRecursion (IsWithin most) (named_one_of names item)
+named_one_of_within most names item h = all_filtered (IsWithin most) _ (children item) (children_within most item h)
+
 -- ---- named children
 
 pub only_within : (most place : ℕ) (items : List Item) → place ≤ most → AllByRecursion (IsWithin most) items → Stands most (IsWithin most) (only_of place items)
@@ -52,6 +55,9 @@ only_within most place (child ∷ second ∷ more) h i = i.1.0.place
 
 pub one_within : (most : ℕ) (name : List ℕ) (item : Item) → IsWithin most item → Stands most (IsWithin most) (one name item)
 one_within most name item h = only_within most item.node.place (named name item) h.place (named_within most name item h)
+
+pub one_of_within : (most : ℕ) (names : List (List ℕ)) (item : Item) → IsWithin most item → Stands most (IsWithin most) (one_of names item)
+one_of_within most names item h = only_within most item.node.place (named_one_of names item) h.place (named_one_of_within most names item h)
 
 pub any_within : (most : ℕ) (items : List Item) → AllByRecursion (IsWithin most) items → Stands most (λ found. IfSome found (IsWithin most)) (if_any items)
 any_within most [] i = tt
@@ -115,3 +121,18 @@ unfolding number_in
 number_within most name limit item h =
     bound most (IsWithin most) Any (one name item) _ (one_within most name item h)
     (λ child i. number_or_within most child.node.place (number_at limit (value_of child.node.text)) i.place)
+
+pub id_within : (most : ℕ) (name : List ℕ) (item : Item) → IsWithin most item → Stands most Any (id_in name item)
+unfolding id_in
+id_within most name item h = bound most Any Any (text_in name 64 item) _ (text_within most name 64 item h) (λ text _. tt)
+
+id_if_any_within : (most : ℕ) (found : Option Item) → IfSome found (IsWithin most) → Stands most Any (id_if_any found)
+id_if_any_within most None h = tt
+id_if_any_within most (Some child) h =
+    bound most Any Any (text_at 64 child.node) _ (either most Any (is_text_within 64 (value_of child.node.text)) _ _ tt h.place) (λ text _. tt)
+
+pub maybe_id_within : (most : ℕ) (name : List ℕ) (item : Item) → IsWithin most item → Stands most Any (maybe_id_in name item)
+unfolding maybe_id_in
+maybe_id_within most name item h =
+    bound most (λ found. IfSome found (IsWithin most)) Any (maybe name item) id_if_any (maybe_within most name item h)
+    (λ found i. id_if_any_within most found i)

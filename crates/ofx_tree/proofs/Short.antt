@@ -1,6 +1,9 @@
--- A value is read as it is, since it is trimmed already, and a long one is no amount, moment or number.
-use Rattle.std.proofs.Common.{◌≡◌, ℕ, ◌<◌, ◌≤◌, ℤ, List, length, Option, None, sym, ap, ◌∙◌, arith}
-use Rattle.ofx_types.specs.TextRules.{trimmed}
+-- A value is read as it is, since it is trimmed already, and a long one is no amount, moment, number or id.
+use Rattle.std.proofs.Common.{◌≡◌, ℕ, ◌<◌, ◌≤◌, ℤ, Bool, true, false, ◌&&◌, nat_lt, List, length, position, Option, None, Some, is_none, refl, sym, ap, ◌∙◌, arith}
+use Rattle.std.proofs.lemmas.Grind.{common_steps}
+use Rattle.ofx_types.specs.TextRules.{trimmed, is_refused_in_text}
+use Rattle.ofx_types.specs.TextOutcome.{refused_at}
+use Rattle.ofx_types.specs.FormWords.{is_text_within}
 use Rattle.ofx_types.specs.ValueForm.{value_of, decoded}
 use Rattle.ofx_types.specs.AmountReading.{amount_at}
 use Rattle.ofx_types.specs.DateReading.{moment_at}
@@ -34,3 +37,31 @@ pub no_number : (most : ℕ) (raw : List ℕ) → most ≤ 10 → 64 < length (v
 no_number most raw short h = sym (long_number most (value_of raw) (omega arith))
 
 pub ruleset numbers_are_short = (same_number, no_number)
+
+-- ---- ids
+
+-- a short value is a text where a byte stands in it and none is refused
+pub short_text : (text : List ℕ) → length text ≤ 64 →
+    (nat_lt 0 (length text) && is_none (position is_refused_in_text text)) ≡ is_text_within 64 text
+short_text text short =
+    let fits : nat_lt 64 (length text) ≡ false = grind (arith, common_steps) in rw fits (refused (position is_refused_in_text text))
+  where
+    refused : (at : Option ℕ) → (nat_lt 0 (length text) && is_none at) ≡ (nat_lt 0 (length text) && is_none (refused_at at))
+    refused None = refl
+    refused (Some at) = refl
+
+pub same_text : (raw value : List ℕ) (b : Bool) → value ≡ value_of raw → b ≡ is_text_within 64 value → is_text_within 64 (value_of raw) ≡ b
+same_text raw value b e h = ap (is_text_within 64) (sym e) ∙ sym h
+
+nothing : (b : Bool) → (b && false) ≡ false
+nothing true = refl
+nothing false = refl
+
+no_text : (text : List ℕ) → 64 < length text → is_text_within 64 text ≡ false
+no_text text long =
+    let more : nat_lt 64 (length text) ≡ true = grind (arith, common_steps) in rw more (nothing (nat_lt 0 (length text)))
+
+pub long_text : (raw : List ℕ) → 64 < length (value_of raw) → is_text_within 64 (value_of raw) ≡ false
+long_text raw long = no_text (value_of raw) long
+
+pub ruleset ids_are_short = (same_number, same_text, long_text)

@@ -5,3 +5,4 @@ pub mod PrintedForm
 pub mod Root
 pub mod Placed
 pub mod Documents
+pub mod Ids

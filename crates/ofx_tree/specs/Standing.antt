@@ -1,6 +1,7 @@
 -- The children that stand under a name.
 use Rattle.std.specs.Prelude.{ℕ, Bool, not, ◌&&◌, List, filter}
 use Rattle.ofx_types.specs.Nodes.{Item}
+use Rattle.ofx_types.specs.TagNames.{is_one_of}
 use Rattle.ofx_types.specs.FormWords.{has_name, is_absent}
 
 -- It has this name and isn't absent.
@@ -9,3 +10,10 @@ stands name child = has_name name child && not (is_absent child.node)
 
 abbrev pub standing : List ℕ → List Item → List Item
 standing name items = filter (λ child. stands name child) items
+
+-- It has one of these names and isn't absent.
+abbrev pub stands_as_one_of : List (List ℕ) → Item → Bool
+stands_as_one_of names child = is_one_of names child.node.name && not (is_absent child.node)
+
+abbrev pub standing_as_one_of : List (List ℕ) → List Item → List Item
+standing_as_one_of names items = filter (λ child. stands_as_one_of names child) items

@@ -3,7 +3,7 @@
 ghost use Rattle.std.specs.Prelude.{◌≡◌, ◌+◌, ◌<◌, ◌≤◌, ◌^◌, ◌∷◌, [], length, IfNone, IfSome};
 ghost use Rattle.std.specs.Iterator.{YieldsFirst, item_count};
 ghost use Rattle.ofx_tree.specs.ItemView.{items_at, BeginsWithItem};
-ghost use Rattle.ofx_tree.specs.Standing.{standing};
+ghost use Rattle.ofx_tree.specs.Standing.{standing, standing_as_one_of};
 
 use crate::cursor::Cursor;
 use ofx_tape::Node;
@@ -44,6 +44,24 @@ impl<'t> Children<'t> {
     {
         while let Some(child) = self.next() {
             if child.stands(name) {
+                return Some(child);
+            }
+        }
+        None
+    }
+
+    /// The next child with one of three names. An element whose trimmed value is empty counts as absent.
+    pub(crate) fn next_one_of(
+        &mut self,
+        first: &[u8],
+        second: &[u8],
+        third: &[u8],
+    ) -> Option<Cursor<'t>>
+        ensures none { IfNone result (standing_as_one_of (first.now ∷ second.now ∷ third.now ∷ []) self.old ≡ []) }
+        ensures some { IfSome result (λ child. standing_as_one_of (first.now ∷ second.now ∷ third.now ∷ []) self.old ≡ child ∷ standing_as_one_of (first.now ∷ second.now ∷ third.now ∷ []) self.new) }
+    {
+        while let Some(child) = self.next() {
+            if child.stands_as_one_of(first, second, third) {
                 return Some(child);
             }
         }

@@ -1,18 +1,20 @@
 //! An element or aggregate of a tape, and its children by name.
 
-ghost use Rattle.std.specs.Prelude.{◌≡◌, ◌+◌, ◌<◌, ◌≤◌, ◌^◌, length, bytes_eq};
+ghost use Rattle.std.specs.Prelude.{◌≡◌, ◌+◌, ◌<◌, ◌≤◌, ◌^◌, ◌∷◌, [], length, bytes_eq};
 ghost use Rattle.std.specs.List.{list_all};
 ghost use Rattle.ofx_types.specs.TextRules.{is_white};
+ghost use Rattle.ofx_types.specs.TagNames.{is_one_of};
 ghost use Rattle.ofx_types.specs.Nodes.{children};
-ghost use Rattle.ofx_types.specs.FormWords.{one, maybe, is_absent, text_in, text_at, flag_in, flag_at, amount_in, amount_of, moment_in, moment_of, maybe_moment_in, number_in, number_of, Gives};
+ghost use Rattle.ofx_types.specs.FormWords.{one, one_of, maybe, is_absent, text_in, text_at, flag_in, flag_at, amount_in, amount_of, moment_in, moment_of, maybe_moment_in, number_in, number_of, id_in, maybe_id_in, Gives};
 ghost use Rattle.ofx_types.specs.ValueForm.{value_of};
-ghost use Rattle.ofx_types.specs.RequestForm.{IsRoot};
+ghost use Rattle.ofx_types.specs.Nodes.{IsRoot};
 ghost use Rattle.ofx_tree.specs.ItemView.{item_view};
-ghost use Rattle.ofx_tree.specs.Standing.{stands};
+ghost use Rattle.ofx_tree.specs.Standing.{stands, stands_as_one_of};
+ghost use Rattle.ofx_tree.specs.Ids.{id_at};
 ghost use Rattle.ofx_tree.specs.Root.{AreRead};
 
 use crate::children::Children;
-use crate::raw::{amount_of_raw, moment_of_raw, number_of_raw};
+use crate::raw::{amount_of_raw, id_of_raw, moment_of_raw, number_of_raw};
 use ofx_tape::{Node, Tape, value_eq, value_into};
 use ofx_types::{Cents, Moment, Text, TextFault, TreeFault, is_white_space};
 use std::alloc::Global;
@@ -115,6 +117,23 @@ impl<'t> Cursor<'t> {
         }
     }
 
+    /// The child with one of three names, which stands once: just one child has any of them.
+    ///
+    /// `Missing` at this aggregate's place where none stands, `Repeated` at the second one's where several do, whether
+    /// they have the same name or not. An element whose trimmed value is empty counts as absent.
+    pub fn one_of(&self, first: &[u8], second: &[u8], third: &[u8]) -> Result<Cursor<'t>, TreeFault>
+        ensures { result ≡ one_of (first.now ∷ second.now ∷ third.now ∷ []) self.now }
+    {
+        let mut children = self.children();
+        let Some(child) = children.next_one_of(first, second, third) else {
+            return Err(TreeFault::Missing(self.node.at as u64));
+        };
+        match children.next_one_of(first, second, third) {
+            Some(other) => Err(TreeFault::Repeated(other.node.at as u64)),
+            None => Ok(child),
+        }
+    }
+
     /// The text of the child of this name, which stands once: 1 byte up to the limit, trimmed and with its entities
     /// decoded.
     ///
@@ -184,6 +203,31 @@ impl<'t> Cursor<'t> {
         self.one(name)?.own_number(most)
     }
 
+    /// The id that the child of this name, which stands once, has as its value: a number of 1 to 10 digits. Any other
+    /// text of at most 64 bytes stands for 0, which names nothing. It takes no memory.
+    ///
+    /// The faults of `one`; `Value` at the child's place where its value is no text of 1 to 64 bytes.
+    #[tactic(auto, unfolding(ofx_types::specs::FormWords::id_in, ofx_types::specs::FormWords::text_in))]
+    pub fn id(&self, name: &[u8]) -> Result<u64, TreeFault>
+        ensures { result ≡ id_in name.now self.now }
+    {
+        let child = self.one(name)?;
+        child.own_id()
+    }
+
+    /// The id of the child of this name, which may stand once: 0 where it doesn't. It takes no memory.
+    ///
+    /// The faults of `maybe`; `Value` at the child's place where its value is no text of 1 to 64 bytes.
+    #[tactic(auto, unfolding(ofx_types::specs::FormWords::maybe_id_in))]
+    pub fn maybe_id(&self, name: &[u8]) -> Result<u64, TreeFault>
+        ensures { result ≡ maybe_id_in name.now self.now }
+    {
+        match self.maybe(name)? {
+            Some(child) => child.own_id(),
+            None => Ok(0),
+        }
+    }
+
     /// Whether its value, trimmed and with its entities decoded, is just this text.
     pub fn value_eq(&self, text: &[u8]) -> bool
         ensures { result ≡ bytes_eq (value_of self.now.node.text) text.now }
@@ -241,11 +285,34 @@ impl<'t> Cursor<'t> {
         }
     }
 
+    fn own_id(&self) -> Result<u64, TreeFault>
+        ensures { result ≡ id_at self.now.node }
+    {
+        match id_of_raw(self.node.value) {
+            Some(id) => Ok(id),
+            None => Err(TreeFault::Value(self.node.at as u64)),
+        }
+    }
+
     /// Whether it has this name and isn't absent.
     pub(crate) fn stands(&self, name: &[u8]) -> bool
         ensures { result ≡ stands name.now self.now }
     {
         self.node.name == name && !self.is_absent()
+    }
+
+    /// Whether it has one of three names and isn't absent.
+    pub(crate) fn stands_as_one_of(&self, first: &[u8], second: &[u8], third: &[u8]) -> bool
+        ensures { result ≡ stands_as_one_of (first.now ∷ second.now ∷ third.now ∷ []) self.now }
+    {
+        self.has_one_of(first, second, third) && !self.is_absent()
+    }
+
+    fn has_one_of(&self, first: &[u8], second: &[u8], third: &[u8]) -> bool
+        ensures { result ≡ is_one_of (first.now ∷ second.now ∷ third.now ∷ []) self.now.node.name }
+    {
+        let name = self.node.name;
+        name == first || name == second || name == third
     }
 
     /// Whether it is an element whose trimmed value is empty.

@@ -1,15 +1,20 @@
-//! What the raw bytes of an element spell: amounts, moments and numbers. None of them has more bytes than a short value.
+//! What the raw bytes of an element spell: amounts, moments, numbers and ids. None of them has more bytes than a short value.
 
-ghost use Rattle.std.specs.Prelude.{◌≡◌, ◌≤◌};
+ghost use Rattle.std.specs.Prelude.{◌≡◌, ◌≤◌, true, false, length, position, IfSome, IfNone};
+ghost use Rattle.ofx_types.specs.TextRules.{is_refused_in_text};
 ghost use Rattle.ofx_types.specs.AmountReading.{amount_at};
 ghost use Rattle.ofx_types.specs.DateReading.{moment_at};
 ghost use Rattle.ofx_types.specs.NumberReading.{number_at};
+ghost use Rattle.ofx_types.specs.FormWords.{id_of, is_text_within};
 ghost use Rattle.ofx_types.specs.ValueForm.{value_of};
 ghost use Rattle.ofx_types.specs.ValueReading.{Gives};
 
 use ofx_tape::{SHORT_VALUE, short_value};
-use ofx_types::{Cents, Moment};
+use ofx_types::{Cents, Moment, is_white_space};
 use ofx_values::{read_amount, read_moment, read_number};
+
+/// The most digits of an id.
+const ID_DIGITS: usize = 10;
 
 /// The amount that the value spells.
 #[tactic(auto, using(crate::proofs::Short::amounts_are_short))]
@@ -52,4 +57,39 @@ pub(crate) fn number_of_raw(raw: &[u8], most: usize) -> Option<u64>
         return None;
     };
     read_number(value, most)
+}
+
+/// The id that the value is, where it is a text of 1 to 64 bytes: 0 where that text is no number of an id's digits.
+#[tactic(auto, using(crate::proofs::Short::ids_are_short))]
+pub(crate) fn id_of_raw(raw: &[u8]) -> Option<u64>
+    ensures text { IfSome result (λ id. is_text_within SHORT_VALUE (value_of raw.now) ≡ true) }
+    ensures id { IfSome result (λ id. id ≡ id_of (value_of raw.now)) }
+    ensures none { IfNone result (is_text_within SHORT_VALUE (value_of raw.now) ≡ false) }
+{
+    let mut room = [0; SHORT_VALUE];
+    let Some(value) = short_value(raw, &mut room) else {
+        return None;
+    };
+    if !is_text(value) {
+        return None;
+    }
+    Some(read_number(value, ID_DIGITS).unwrap_or(0))
+}
+
+/// Whether a short value is a text of 1 byte or more.
+#[tactic(auto, using(crate::proofs::Short::short_text))]
+fn is_text(value: &[u8]) -> bool
+    requires { length value.now ≤ SHORT_VALUE }
+    ensures { result ≡ is_text_within SHORT_VALUE value.now }
+{
+    !value.is_empty() && first_refused(value).is_none()
+}
+
+/// The place of the first control byte other than tab, LF and CR.
+fn first_refused(value: &[u8]) -> Option<usize>
+    ensures { result ≡ position is_refused_in_text value.now }
+{
+    value
+        .iter()
+        .position(|byte| *byte < 0x20 && !is_white_space(*byte))
 }

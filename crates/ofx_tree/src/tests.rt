@@ -129,3 +129,35 @@ fn finds_faults_of_values(rt: HostRuntime) -> Result<(), Fail> {
     assert_eq!(rt; ofx.number(b"TOKEN", 3).err(), Some(TreeFault::Value(74)));
     Ok(())
 }
+
+#[test]
+fn finds_one_of_three(rt: HostRuntime) -> Result<(), Fail> {
+    let body = b"<OFX><INTRARS><MEMO>a</INTRARS><INTRACANRS><MEMO>b</INTRACANRS></OFX>";
+    let tape = Tape::read(rt.alloc(), body)?;
+    let ofx = Cursor::root(&tape);
+    let only = ofx.one_of(b"INTRARQ", b"INTRACANRS", b"INTRAMODRS")?;
+    assert_eq!(rt; only.place(), 31);
+    assert_eq!(rt;
+        ofx.one_of(b"INTRACANRS", b"INTRAMODRS", b"INTRARS").err(),
+        Some(TreeFault::Repeated(31))
+    );
+    assert_eq!(rt;
+        only.one_of(b"INTRARS", b"INTRAMODRS", b"INTRACANRS").err(),
+        Some(TreeFault::Missing(31))
+    );
+    Ok(())
+}
+
+#[test]
+fn reads_ids(rt: HostRuntime) -> Result<(), Fail> {
+    let body = b"<OFX><SRVRTID>0012<TOKEN>12345678901<FITID>x</OFX>";
+    let tape = Tape::read(rt.alloc(), body)?;
+    let ofx = Cursor::root(&tape);
+    assert_eq!(rt; ofx.id(b"SRVRTID")?, 12);
+    assert_eq!(rt; ofx.maybe_id(b"SRVRTID")?, 12);
+    assert_eq!(rt; ofx.id(b"TOKEN")?, 0);
+    assert_eq!(rt; ofx.id(b"FITID")?, 0);
+    assert_eq!(rt; ofx.maybe_id(b"RECSRVRTID")?, 0);
+    assert_eq!(rt; ofx.id(b"RECSRVRTID").err(), Some(TreeFault::Missing(0)));
+    Ok(())
+}

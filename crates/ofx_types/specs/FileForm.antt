@@ -2,9 +2,9 @@
 use Rattle.std.specs.Prelude.{◌≡◌, ℕ, ◌+◌, List, drop, Option, None, Some, Err}
 use Rattle.ofx_types.specs.HeaderForm.{SpellsHeader, header_fault}
 use Rattle.ofx_types.specs.TagFault.{tag_fault}
-use Rattle.ofx_types.specs.Nodes.{TagNode, Item, AreNodesOf}
-use Rattle.ofx_types.specs.RequestForm.{IsRequest, IsRoot}
-use Rattle.ofx_types.specs.RequestReading.{request_of}
+use Rattle.ofx_types.specs.Nodes.{TagNode, Item, AreNodesOf, IsRoot}
+use Rattle.ofx_types.specs.MessageForm.{IsRequest}
+use Rattle.ofx_types.specs.MessageReading.{request_of}
 use Rattle.ofx_types.specs.declared.fault.HeaderFault.{HeaderFault}
 use Rattle.ofx_types.specs.declared.fault.HeaderFault.TheVariants as headers
 use Rattle.ofx_types.specs.declared.fault.TapeFault.{TapeFault}

@@ -1,5 +1,5 @@
 -- How a form names the children of an aggregate, and what each of them answers.
-use Rattle.std.specs.Prelude.{◌≡◌, ℕ, ℤ, Bool, true, false, not, ◌&&◌, nat_lt, List, [], ◌∷◌, length, filter, codes, Option, None, Some, is_none, Result, Ok, Err, if◌then◌else◌}
+use Rattle.std.specs.Prelude.{◌≡◌, ℕ, ℤ, Bool, true, false, not, ◌&&◌, nat_lt, List, [], ◌∷◌, length, filter, codes, Option, None, Some, is_none, unwrap_or, ◌⊎◌, Result, Ok, Err, if◌then◌else◌}
 use Rattle.std.specs.List.{list_all}
 use Rattle.std.specs.Str.{bytes_eq}
 use Rattle.ofx_types.specs.TextRules.{is_white, is_refused_in_text}
@@ -10,6 +10,7 @@ use Rattle.ofx_types.specs.AmountReading.{amount_at}
 use Rattle.ofx_types.specs.DateForm.{IsDate}
 use Rattle.ofx_types.specs.DateReading.{moment_at}
 use Rattle.ofx_types.specs.NumberReading.{number_at}
+use Rattle.ofx_types.specs.TagNames.{is_one_of}
 use Rattle.ofx_types.specs.Nodes.{TagNode, Item, children}
 use Rattle.ofx_types.specs.declared.number.Cents.{Cents}
 use Rattle.ofx_types.specs.declared.number.Moment.{Moment}
@@ -30,6 +31,14 @@ named name parent = filter (λ child. has_name name child && not (is_absent chil
 -- The parent has just one child of this name.
 abbrev pub IsOnly : List ℕ → Item → Item → Type 0
 IsOnly name parent child = named name parent ≡ child ∷ []
+
+-- The children with one of these names, in order.
+abbrev pub named_one_of : List (List ℕ) → Item → List Item
+named_one_of names parent = filter (λ child. is_one_of names child.node.name && not (is_absent child.node)) (children parent)
+
+-- The parent has just one child with one of these names.
+abbrev pub IsOnlyOf : List (List ℕ) → Item → Item → Type 0
+IsOnlyOf names parent child = named_one_of names parent ≡ child ∷ []
 
 -- It has none.
 abbrev pub IsNone : List ℕ → Item → Type 0
@@ -75,6 +84,20 @@ pub record IsNumberIn (name : List ℕ) (most : ℕ) (parent : Item) (number : �
   pub is_only : IsOnly name parent child
   pub stands : number_at most (value_of child.node.text) ≡ Some number
 
+-- An id that the bank gave: a number of 1 to 10 digits. Any other text of at most 64 bytes stands for 0, which names
+-- nothing.
+abbrev pub id_of : List ℕ → ℕ
+id_of text = unwrap_or (number_at 10 text) 0
+
+pub record IsIdIn (name : List ℕ) (parent : Item) (id : ℕ) : Type 0 where
+  pub text : List ℕ
+  pub has_text : IsTextIn name 64 parent text
+  pub is_id : id ≡ id_of text
+
+-- An id that may stand once. Where it doesn't it is 0.
+abbrev pub IsMaybeIdIn : List ℕ → Item → ℕ → Type 0
+IsMaybeIdIn name parent id = (IsNone name parent × (id ≡ 0)) ⊎ IsIdIn name parent id
+
 -- Reading in order: the first fault is the answer.
 infixl 10 ◌>>=◌
 abbrev pub ◌>>=◌ : {A B : Type 0} → Result A TreeFault → (A → Result B TreeFault) → Result B TreeFault
@@ -100,6 +123,10 @@ only_of place (child ∷ second ∷ more) = Err (Repeated second.node.place)
 
 abbrev pub one : List ℕ → Item → Result Item TreeFault
 one name parent = only_of parent.node.place (named name parent)
+
+-- one child with one of these names
+abbrev pub one_of : List (List ℕ) → Item → Result Item TreeFault
+one_of names parent = only_of parent.node.place (named_one_of names parent)
 
 -- A child that may stand once.
 abbrev pub if_any : List Item → Result (Option Item) TreeFault
@@ -170,3 +197,14 @@ number_of most node = number_or node.place (number_at most (value_of node.text))
 
 unfoldable pub number_in : List ℕ → ℕ → Item → Result ℕ TreeFault
 number_in name most parent = one name parent >>= λ child. number_of most child.node
+
+-- the id that a text is
+unfoldable pub id_in : List ℕ → Item → Result ℕ TreeFault
+id_in name parent = text_in name 64 parent >>= λ text. Ok (id_of text)
+
+abbrev pub id_if_any : Option Item → Result ℕ TreeFault
+id_if_any None = Ok 0
+id_if_any (Some child) = text_at 64 child.node >>= λ text. Ok (id_of text)
+
+unfoldable pub maybe_id_in : List ℕ → Item → Result ℕ TreeFault
+maybe_id_in name parent = maybe name parent >>= id_if_any

@@ -10,6 +10,7 @@ pub mod DateReading
 pub mod NumberReading
 pub mod AccountForm
 pub mod Sheet
+pub mod CommonText
 pub mod ReplyForm
 pub mod ValueForm
 pub mod Printable
@@ -24,4 +25,9 @@ pub mod RequestReading
 pub mod RequestText
 pub mod ReplyGrammar
 pub mod ReplyReading
+pub mod TransferForm
+pub mod TransferReading
+pub mod TransferText
+pub mod MessageForm
+pub mod MessageReading
 pub mod FileForm

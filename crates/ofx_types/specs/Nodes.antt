@@ -44,3 +44,7 @@ items_from index until (n ∷ nodes) =
 -- the children of a node, in order
 abbrev pub children : Item → List Item
 children item = items_from item.first item.first item.inner
+
+-- The first node with all that stands in it.
+abbrev pub IsRoot : List TagNode → Item → Type 0
+IsRoot nodes ofx = (inner : List TagNode) × (nodes ≡ ofx.node ∷ inner) × (ofx.first ≡ 1) × (ofx.inner ≡ inner)

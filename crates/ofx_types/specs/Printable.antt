@@ -2,12 +2,16 @@
 use Rattle.std.specs.Prelude.{◌≡◌, ◌≢◌, ℕ, None, Some, Option}
 use Rattle.std.specs.Option.{IfSome}
 use Rattle.std.specs.List.{AllByRecursion}
-use Rattle.ofx_types.specs.Calendar.{IsMoment}
+use Rattle.ofx_types.specs.Calendar.{IsMoment, IsDay}
+use Rattle.ofx_types.specs.declared.transfer.XferCode.TheVariants.{Cancelled}
+use Rattle.ofx_types.specs.declared.transfer.TransferRow.{TransferRow}
+use Rattle.ofx_types.specs.declared.transfer.Change.{Change}
+use Rattle.ofx_types.specs.declared.transfer.Change.TheVariants.{NewTransfer, SetTransfer, DropTransfer}
 use Rattle.ofx_types.specs.declared.reply.StatementLine.{StatementLine}
 use Rattle.ofx_types.specs.declared.reply.StatementList.{StatementList}
 use Rattle.ofx_types.specs.declared.reply.StatementBody.{StatementBody}
 use Rattle.ofx_types.specs.declared.reply.AskReply.{AskReply}
-use Rattle.ofx_types.specs.declared.reply.AskReply.TheVariants.{Statement}
+use Rattle.ofx_types.specs.declared.reply.AskReply.TheVariants.{Statement, One}
 use Rattle.ofx_types.specs.declared.reply.ReplyFile.{ReplyFile}
 
 pub record IsPrintableList (list : StatementList) : Type 0 where
@@ -24,8 +28,25 @@ abbrev pub HasBodyByCode : ℕ → Option StatementBody → Type 0
 HasBodyByCode code None = code ≢ 0
 HasBodyByCode code (Some body) = (code ≡ 0) × IsPrintableBody body
 
+-- A row that is told isn't cancelled, and its day and its stamp lie in the years 1900 to 9999.
+pub record IsPrintableRow (row : TransferRow) : Type 0 where
+  pub told : row.code ≢ Cancelled
+  pub due : IsDay row.due.0
+  pub stamp : IsMoment row.stamp.0
+
+abbrev pub IsPrintableChange : Change → Type 0
+IsPrintableChange (NewTransfer row) = IsPrintableRow row
+IsPrintableChange (SetTransfer row) = IsPrintableRow row
+IsPrintableChange (DropTransfer id) = Unit {0}
+
+-- A deed's reply has a change exactly where its code is 0.
+abbrev pub HasChangeByCode : ℕ → Option Change → Type 0
+HasChangeByCode code None = code ≢ 0
+HasChangeByCode code (Some change) = (code ≡ 0) × IsPrintableChange change
+
 abbrev pub IsPrintableReply : AskReply → Type 0
 IsPrintableReply (Statement trnuid code body) = HasBodyByCode code body
+IsPrintableReply (One reply) = HasChangeByCode reply.code reply.change
 
 -- The moments of a printed reply lie in the years 1900 to 9999.
 pub record IsPrintable (reply : ReplyFile) : Type 0 where

@@ -1,35 +1,25 @@
 -- The printed form of a reply file.
-use Rattle.std.specs.Prelude.{ℕ, ◌==◌, List, [], ◌++◌, codes, Option, None, Some, if◌then◌else◌}
+use Rattle.std.specs.Prelude.{ℕ, List, [], ◌++◌, codes, Option, None, Some}
 use Rattle.std.specs.List.{flat_map}
 use Rattle.std.specs.Fmt.{decimal}
 use Rattle.ofx_types.specs.Sheet.{element, aggregate, aggregate_of_some, header_text}
 use Rattle.ofx_types.specs.AmountForm.{amount_text}
 use Rattle.ofx_types.specs.DateForm.{moment_text}
-use Rattle.ofx_types.specs.AccountForm.{kind_word}
-use Rattle.ofx_types.specs.declared.account.AcctName.{AcctName}
+use Rattle.ofx_types.specs.CommonText.{status, account_from}
+use Rattle.ofx_types.specs.TransferText.{deed_reply_text}
 use Rattle.ofx_types.specs.declared.number.Cents.{Cents}
 use Rattle.ofx_types.specs.declared.number.Moment.{Moment}
 use Rattle.ofx_types.specs.declared.reply.StatementLine.{StatementLine}
 use Rattle.ofx_types.specs.declared.reply.StatementList.{StatementList}
 use Rattle.ofx_types.specs.declared.reply.StatementBody.{StatementBody}
 use Rattle.ofx_types.specs.declared.reply.AskReply.{AskReply}
-use Rattle.ofx_types.specs.declared.reply.AskReply.TheVariants.{Statement}
+use Rattle.ofx_types.specs.declared.reply.AskReply.TheVariants.{Statement, One}
 use Rattle.ofx_types.specs.declared.reply.ReplyFile.{ReplyFile}
-
--- Code 0 is information, every other code an error.
-unfoldable pub status : ℕ → List ℕ
-status code = aggregate (codes "STATUS")
-    (element (codes "CODE") (decimal code) ++ element (codes "SEVERITY") (if code == 0 then codes "INFO" else codes "ERROR"))
 
 -- The answer to the signon, with the moment of the reply.
 unfoldable pub signon_reply : ℕ → Moment → List ℕ
 signon_reply code moment = aggregate (codes "SONRS")
     (status code ++ (element (codes "DTSERVER") (moment_text moment.0) ++ element (codes "LANGUAGE") (codes "ENG")))
-
-unfoldable pub account_from : AcctName → List ℕ
-account_from account = aggregate (codes "BANKACCTFROM")
-    (element (codes "BANKID") account.bank
-    ++ (element (codes "ACCTID") account.number ++ element (codes "ACCTTYPE") (kind_word account.kind)))
 
 -- A posted transfer.
 unfoldable pub statement_line : StatementLine → List ℕ
@@ -61,6 +51,7 @@ statement_body (Some body) = aggregate (codes "STMTRS")
 unfoldable pub ask_reply : AskReply → List ℕ
 ask_reply (Statement trnuid code body) = aggregate (codes "STMTTRNRS")
     (element (codes "TRNUID") trnuid ++ (status code ++ statement_body body))
+ask_reply (One reply) = deed_reply_text reply
 
 -- The reply repeats the request's version and its NEWFILEUID.
 unfoldable pub reply_text : ReplyFile → List ℕ

@@ -1,11 +1,9 @@
 -- The forms of a request file: the signon and statement requests (OFX 1.6, "Signon Request", "Statement Request").
-use Rattle.std.specs.Prelude.{◌≡◌, ◌≢◌, ℕ, Bool, false, ◌⊎◌, List, [], ◌∷◌, filter, codes, Option, None, Some}
-use Rattle.std.specs.List.{AllZip, list_any}
+use Rattle.std.specs.Prelude.{◌≡◌, ◌≢◌, ℕ, List, codes, Option, None, Some}
 use Rattle.ofx_types.specs.AccountForm.{kind_word}
 use Rattle.ofx_types.specs.ValueForm.{value_of}
-use Rattle.ofx_types.specs.TagNames.{is_one_of}
-use Rattle.ofx_types.specs.Nodes.{TagNode, Item, children}
-use Rattle.ofx_types.specs.FormWords.{has_name, IsOnly, IsNone, IsTextIn, IsFlagIn, IsMaybeMomentIn}
+use Rattle.ofx_types.specs.Nodes.{Item}
+use Rattle.ofx_types.specs.FormWords.{IsOnly, IsNone, IsTextIn, IsFlagIn, IsMaybeMomentIn}
 use Rattle.ofx_types.specs.declared.account.AcctName.{AcctName}
 use Rattle.ofx_types.specs.declared.request.Period.{Period}
 use Rattle.ofx_types.specs.declared.request.Ask.{Ask}
@@ -53,45 +51,3 @@ pub record IsStatement (stmttrnrq : Item) (ask : Ask) : Type 0 where
   pub is_account : IsAccount bankacctfrom account
   pub is_period : IsMaybePeriod stmtrq period
   pub is_statement : ask ≡ Statement trnuid account period
-
--- The requests of the two message sets that have no form yet.
-abbrev pub unread_bank_names : List (List ℕ)
-unread_bank_names =
-    codes "INTRATRNRQ" ∷ codes "RECINTRATRNRQ" ∷ codes "BANKMAILTRNRQ" ∷ codes "INTRASYNCRQ" ∷ codes "RECINTRASYNCRQ"
-    ∷ codes "BANKMAILSYNCRQ" ∷ []
-
-abbrev pub unread_mail_names : List (List ℕ)
-unread_mail_names = codes "MAILTRNRQ" ∷ codes "MAILSYNCRQ" ∷ []
-
-abbrev pub is_named_one_of : List (List ℕ) → Item → Bool
-is_named_one_of names item = is_one_of names item.node.name
-
--- BANKMSGSRQV1: its statement requests in the order of the file.
-pub record AreBankAsks (bank : Item) (asks : List Ask) : Type 0 where
-  pub all_read : list_any (is_named_one_of unread_bank_names) (children bank) ≡ false
-  pub each : AllZip IsStatement (filter (has_name (codes "STMTTRNRQ")) (children bank)) asks
-
-abbrev pub AreMaybeBankAsks : Item → List Ask → Type 0
-AreMaybeBankAsks ofx asks =
-    (IsNone (codes "BANKMSGSRQV1") ofx × (asks ≡ []))
-    ⊎ ((bank : Item) × IsOnly (codes "BANKMSGSRQV1") ofx bank × AreBankAsks bank asks)
-
--- EMAILMSGSRQV1, of which no request is read yet.
-abbrev pub IsMaybeMail : Item → Type 0
-IsMaybeMail ofx =
-    IsNone (codes "EMAILMSGSRQV1") ofx
-    ⊎ ((mail : Item) × IsOnly (codes "EMAILMSGSRQV1") ofx mail × (list_any (is_named_one_of unread_mail_names) (children mail) ≡ false))
-
--- OFX: the message set of the signon, and perhaps those of the bank and of mail.
-pub record IsRequest (ofx : Item) (user pass : List ℕ) (asks : List Ask) : Type 0 where
-  pub signon_set : Item
-  pub has_signon_set : IsOnly (codes "SIGNONMSGSRQV1") ofx signon_set
-  pub sonrq : Item
-  pub has_sonrq : IsOnly (codes "SONRQ") signon_set sonrq
-  pub is_signon : IsSignon sonrq user pass
-  pub are_bank_asks : AreMaybeBankAsks ofx asks
-  pub is_mail : IsMaybeMail ofx
-
--- The first node with all that stands in it.
-abbrev pub IsRoot : List TagNode → Item → Type 0
-IsRoot nodes ofx = (inner : List TagNode) × (nodes ≡ ofx.node ∷ inner) × (ofx.first ≡ 1) × (ofx.inner ≡ inner)

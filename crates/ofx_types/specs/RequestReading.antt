@@ -1,10 +1,9 @@
 -- How the forms of a request file are read: form by form, the named children of each in order, and the first fault.
-use Rattle.std.specs.Prelude.{ℕ, List, [], ◌∷◌, codes, Option, None, Some, Result, Ok, Err, if◌then◌else◌}
+use Rattle.std.specs.Prelude.{ℕ, List, codes, Option, None, Some, Result, Ok, Err, if◌then◌else◌}
 use Rattle.std.specs.Str.{bytes_eq}
 use Rattle.ofx_types.specs.ValueForm.{value_of}
-use Rattle.ofx_types.specs.Nodes.{TagNode, Item, children}
-use Rattle.ofx_types.specs.FormWords.{has_name, ◌>>=◌, one, maybe, text_in, flag_in, maybe_moment_in}
-use Rattle.ofx_types.specs.RequestForm.{is_named_one_of, unread_bank_names, unread_mail_names}
+use Rattle.ofx_types.specs.Nodes.{TagNode, Item}
+use Rattle.ofx_types.specs.FormWords.{◌>>=◌, one, maybe, text_in, flag_in, maybe_moment_in}
 use Rattle.ofx_types.specs.declared.fault.TreeFault.{TreeFault}
 use Rattle.ofx_types.specs.declared.fault.TreeFault.TheVariants.{Value}
 use Rattle.ofx_types.specs.declared.account.AcctKind.{AcctKind}
@@ -13,12 +12,6 @@ use Rattle.ofx_types.specs.declared.account.AcctName.{AcctName}
 use Rattle.ofx_types.specs.declared.request.Period.{Period}
 use Rattle.ofx_types.specs.declared.request.Ask.{Ask}
 use Rattle.ofx_types.specs.declared.request.Ask.TheVariants.{Statement}
-
--- what a request says
-pub record RequestParts : Type 0 where
-  pub user : List ℕ
-  pub pass : List ℕ
-  pub asks : List Ask
 
 -- who signs on: the name and the password
 unfoldable pub signon_of : Item → Result (List ℕ × List ℕ) TreeFault
@@ -75,37 +68,3 @@ statement_of stmttrnrq = do
   inctran ← maybe (codes "INCTRAN") stmtrq
   period ← period_in inctran
   Ok (Statement trnuid account period)
-
--- the requests among the children of the bank's message set, in the order of the file
-abbrev pub onto : Ask → List Ask → Result (List Ask) TreeFault
-onto ask asks = Ok (ask ∷ asks)
-
-unfoldable pub bank_asks_of : List Item → Result (List Ask) TreeFault
-bank_asks_of [] = Ok []
-bank_asks_of (child ∷ more) =
-    if has_name (codes "STMTTRNRQ") child then (statement_of child >>= λ ask. bank_asks_of more >>= onto ask)
-    else (if is_named_one_of unread_bank_names child then Err (Value child.node.place) else bank_asks_of more)
-
-abbrev pub bank_asks_in : Option Item → Result (List Ask) TreeFault
-bank_asks_in None = Ok []
-bank_asks_in (Some bank) = bank_asks_of (children bank)
-
-unfoldable pub no_mail_in : List Item → Result (Unit {0}) TreeFault
-no_mail_in [] = Ok tt
-no_mail_in (child ∷ more) =
-    if is_named_one_of unread_mail_names child then Err (Value child.node.place) else no_mail_in more
-
-abbrev pub no_mail_of : Option Item → Result (Unit {0}) TreeFault
-no_mail_of None = Ok tt
-no_mail_of (Some mail) = no_mail_in (children mail)
-
-unfoldable pub request_of : Item → Result RequestParts TreeFault
-request_of ofx = do
-  signon_set ← one (codes "SIGNONMSGSRQV1") ofx
-  sonrq ← one (codes "SONRQ") signon_set
-  signon ← signon_of sonrq
-  bank ← maybe (codes "BANKMSGSRQV1") ofx
-  asks ← bank_asks_in bank
-  mail ← maybe (codes "EMAILMSGSRQV1") ofx
-  no_mail ← no_mail_of mail
-  Ok (record { user = signon.0; pass = signon.1; asks = asks })

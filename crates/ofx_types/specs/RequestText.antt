@@ -3,7 +3,7 @@ use Rattle.std.specs.Prelude.{ℕ, List, [], ◌++◌, codes, Option, None, Some
 use Rattle.ofx_types.specs.Sheet.{element, aggregate}
 use Rattle.ofx_types.specs.DateForm.{moment_text}
 use Rattle.ofx_types.specs.FormWords.{flag_word}
-use Rattle.ofx_types.specs.ReplyForm.{account_from}
+use Rattle.ofx_types.specs.CommonText.{account_from}
 use Rattle.ofx_types.specs.declared.account.AcctName.{AcctName}
 use Rattle.ofx_types.specs.declared.number.Moment.{Moment}
 use Rattle.ofx_types.specs.declared.request.Period.{Period}

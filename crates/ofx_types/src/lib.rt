@@ -14,13 +14,14 @@ mod request;
 mod sequence;
 mod text;
 mod told;
+mod transfer;
 mod uid;
 
 pub use account::{AcctKind, AcctName};
 pub use duplicate::Duplicate;
 pub use fault::{FileFault, HeaderFault, TapeFault, TreeFault};
 pub use memory::OutOfMemory;
-pub use number::{AcctId, Cents, Day, Moment, Status, UserId};
+pub use number::{AcctId, Cents, Day, Moment, ObjectId, Status, UserId};
 pub use reply::{
     AskReplies, AskReply, Lines, ReplyFile, StatementBody, StatementLine, StatementList,
 };
@@ -28,6 +29,7 @@ pub use request::{Ask, Asks, Period, RequestFile};
 pub use sequence::Sequence;
 pub use text::{Text, TextFault, is_white_space, trim};
 pub use told::{Note, Told};
+pub use transfer::{Change, Deed, DeedReply, Family, TransferRow, XferCode, XferInfo};
 pub use uid::{FileUid, TrnUid};
 
 #[cfg(test)]

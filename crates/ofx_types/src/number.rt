@@ -23,6 +23,11 @@ pub struct AcctId(pub u32);
 #[derive(Clone, Copy, Debug, PartialEq, Eq, PartialOrd, Ord)]
 pub struct UserId(pub u32);
 
+/// What is synchronised, by its number. Account a has its transfers at 3a, its recurring transfers at 3a + 1 and its
+/// mail at 3a + 2; behind those of all accounts the mail of user u stands at u.
+#[derive(Clone, Copy, Debug, PartialEq, Eq, PartialOrd, Ord)]
+pub struct ObjectId(pub u32);
+
 /// The status with which a run of a program ends.
 #[derive(Clone, Copy, Debug, PartialEq, Eq)]
 pub struct Status(pub u8);

@@ -5,6 +5,7 @@ use crate::duplicate::Duplicate;
 use crate::memory::OutOfMemory;
 use crate::number::{Cents, Moment};
 use crate::sequence::Sequence;
+use crate::transfer::DeedReply;
 use crate::uid::{FileUid, TrnUid};
 
 /// A posted transfer as a statement lists it (STMTTRN).
@@ -53,6 +54,8 @@ pub enum AskReply {
     /// The answer to a statement request (STMTTRNRS): its status code, and the statement exactly where the
     /// code is 0.
     Statement(TrnUid, u16, Option<StatementBody>),
+    /// The answer to a deed (INTRATRNRS).
+    One(DeedReply),
 }
 
 /// The answers of a file, in the order of its asks.
@@ -107,6 +110,7 @@ impl Duplicate for AskReply {
             AskReply::Statement(trnuid, code, body) => {
                 Ok(AskReply::Statement(trnuid.copy()?, *code, body.copy()?))
             }
+            AskReply::One(reply) => Ok(AskReply::One(reply.copy()?)),
         }
     }
 }

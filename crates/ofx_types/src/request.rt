@@ -6,6 +6,7 @@ use crate::memory::OutOfMemory;
 use crate::number::Moment;
 use crate::sequence::Sequence;
 use crate::text::Text;
+use crate::transfer::Deed;
 use crate::uid::{FileUid, TrnUid};
 
 /// Which transactions a statement is to list (INCTRAN).
@@ -24,6 +25,8 @@ pub struct Period {
 pub enum Ask {
     /// A statement of an account (STMTTRNRQ), with the period of its list where one was given.
     Statement(TrnUid, AcctName, Option<Period>),
+    /// A deed under a uid of its own (INTRATRNRQ).
+    One(TrnUid, Deed),
 }
 
 /// The asks of a file, in the order in which they are answered.
@@ -52,6 +55,7 @@ impl Duplicate for Ask {
             Ask::Statement(trnuid, account, period) => {
                 Ok(Ask::Statement(trnuid.copy()?, account.copy()?, *period))
             }
+            Ask::One(trnuid, deed) => Ok(Ask::One(trnuid.copy()?, deed.copy()?)),
         }
     }
 }

@@ -78,7 +78,9 @@ fn a_request_file_is_copied(rt: HostRuntime) -> Result<(), Fail> {
     assert!(rt; copy.user == file.user);
     assert_eq!(rt; copy.asks.items().len(), 1);
     for ask in copy.asks.items() {
-        let Ask::Statement(trnuid, account, period) = ask;
+        let Ask::Statement(trnuid, account, period) = ask else {
+            return Err("a statement".into());
+        };
         assert_eq!(rt; trnuid.as_bytes(), b"s1".as_slice());
         assert_eq!(rt; account.number.as_bytes(), b"1001".as_slice());
         assert!(rt; period.is_some());

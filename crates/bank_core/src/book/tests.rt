@@ -1,17 +1,16 @@
-//! A bank of two users and two accounts answers statements, and its days go on.
+//! A bank of two users and two accounts opens, its days go on, and a file that comes again gets its kept reply.
 
-ghost use Rattle.std.specs.Prelude.{◌≡◌, ◌∷◌, [], IfOk, IsTrue};
+ghost use Rattle.std.specs.Prelude.{◌≡◌, ◌∷◌, [], IfOk, IsTrue, negsuc};
 ghost use Rattle.ofx_types.specs.ReplyForm.{reply_text};
-ghost use Rattle.bank_model.specs.Rules.{IsLegal, account_named, named};
-ghost use Rattle.bank_core.specs.Sample.{sample, account_name, empty_reply};
+ghost use Rattle.bank_model.specs.Rules.{IsLegal, named};
+ghost use Rattle.bank_core.specs.Sample.{sample, account_name, empty_reply, named_reply};
 
-use super::{Book, raised};
-use crate::account::Account;
-use crate::held::Held;
-use bank_model::{AccountLine, Event, Printer, Setup, State, User};
+use super::Book;
+use bank_accounts::{Account, Held};
+use bank_model::{AccountLine, Event, Printer, Setup, User};
 use ofx_types::{
-    AcctId, AcctKind, AcctName, Ask, AskReply, Cents, Day, Moment, OutOfMemory, Period, ReplyFile,
-    RequestFile, Sequence, StatementBody, StatementList, Text, TrnUid, UserId,
+    AcctId, AcctKind, AcctName, Cents, Day, FileUid, Moment, OutOfMemory, ReplyFile, RequestFile,
+    Sequence, Text, UserId,
 };
 use std::alloc::Global;
 use std::process::Abort;
@@ -37,12 +36,25 @@ fn empty_reply_bytes() -> &'static [u8]
     <DTSERVER>19000102120000\r\n<LANGUAGE>ENG\r\n</SONRS>\r\n</SIGNONMSGSRSV1>\r\n</OFX>\r\n"
 }
 
-/// A printer of that reply alone.
+/// The reply at `SECOND_NOON` to a file of the name `f1` that asks for nothing.
+fn named_reply_bytes() -> &'static [u8]
+    ensures { result.now ≡ reply_text named_reply }
+{
+    b"OFXHEADER:100\r\nDATA:OFXSGML\r\nVERSION:102\r\nSECURITY:NONE\r\nENCODING:USASCII\r\n\
+    CHARSET:1252\r\nCOMPRESSION:NONE\r\nOLDFILEUID:NONE\r\nNEWFILEUID:f1\r\n\r\n<OFX>\r\n\
+    <SIGNONMSGSRSV1>\r\n<SONRS>\r\n<STATUS>\r\n<CODE>0\r\n<SEVERITY>INFO\r\n</STATUS>\r\n\
+    <DTSERVER>19000102120000\r\n<LANGUAGE>ENG\r\n</SONRS>\r\n</SIGNONMSGSRSV1>\r\n</OFX>\r\n"
+}
+
+/// A printer of those two replies alone.
 #[derive(Clone, Copy)]
 struct EmptyReplies;
 
 impl Printer for EmptyReplies {
     fn print(&self, alloc: Global, reply: &ReplyFile) -> Result<Vec<u8>, OutOfMemory> {
+        if is_named_file(reply) {
+            return Ok(Vec::from_slice(alloc, named_reply_bytes())?);
+        }
         if !is_empty_file(reply) {
             return Err(OutOfMemory);
         }
@@ -50,14 +62,31 @@ impl Printer for EmptyReplies {
     }
 }
 
-/// Whether it is the file that the printer prints.
+/// Whether it is the file without a name that the printer prints.
 fn is_empty_file(reply: &ReplyFile) -> bool
     ensures { IsTrue result → reply.now ≡ empty_reply }
 {
-    if reply.version != 102 || reply.signon != 0 || reply.moment.0 != SECOND_NOON.0 {
+    is_plain_file(reply) && reply.newer.is_none()
+}
+
+/// Whether it is the file with a name that the printer prints.
+fn is_named_file(reply: &ReplyFile) -> bool
+    ensures { IsTrue result → reply.now ≡ named_reply }
+{
+    if !is_plain_file(reply) {
         return false;
     }
-    if reply.newer.is_some() {
+    match &reply.newer {
+        Some(name) => name.as_bytes() == b"f1".as_slice(),
+        None => false,
+    }
+}
+
+/// Whether all but the name is as in the files that the printer prints.
+fn is_plain_file(reply: &ReplyFile) -> bool
+    ensures { IsTrue result → reply.now ≡ record { version = 102; newer = reply.now.newer; signon = 0; moment = record { 0 = negsuc 2208859199 }; replies = [] } }
+{
+    if reply.version != 102 || reply.signon != 0 || reply.moment.0 != SECOND_NOON.0 {
         return false;
     }
     reply.replies.items().is_empty()
@@ -146,49 +175,32 @@ fn sample_setup(rt: &impl Abort, alloc: Global) -> Result<Setup, Fail>
     })
 }
 
-/// A file at version 102 with these asks.
-fn file(rt: &impl Abort, alloc: Global, asks: Sequence<Ask>) -> Result<RequestFile, Fail>
-    ensures version { IfOk result (λ file. file.version ≡ 102) }
-    ensures asks { IfOk result (λ file. file.asks ≡ asks) }
-{
-    Ok(RequestFile {
-        version: 102,
-        older: None,
-        newer: None,
-        user: text(rt, alloc, b"alice".as_slice())?,
-        pass: text(rt, alloc, b"secret".as_slice())?,
-        asks,
-    })
-}
-
-/// What asks for a statement of 1001 with its list.
-fn asked(rt: &impl Abort, alloc: Global) -> Result<Ask, Fail>
-    ensures { IfOk result (λ ask. account_named sample ask ≡ Some (record { 0 = 0 })) }
-{
-    let period = Period {
-        start: None,
-        end: None,
-        include: true,
-    };
-    let account = account(rt, alloc, b"1001".as_slice(), AcctKind::Checking)?;
-    Ok(Ask::Statement(TrnUid::new(b"s1".as_slice())?, account, Some(period)))
-}
-
-/// The answer to a user who asks for a statement of 1001, whose account is held.
-fn answered(
+/// A file of alice at version 102 that asks for nothing, with these names.
+fn empty_event(
     rt: &impl Abort,
     alloc: Global,
-    book: &Book<EmptyReplies>,
-    user: UserId,
-) -> Result<ReplyFile, Fail>
-    requires { book.now.setup ≡ sample }
+    older: Option<FileUid>,
+    newer: Option<FileUid>,
+) -> Result<Event, Fail>
+    ensures legal { IfOk result (λ event. IsLegal sample event) }
+    ensures named { IfOk result (λ event. named sample event ≡ []) }
 {
-    let ask = asked(rt, alloc)?;
-    let asks = one(alloc, ask)?;
-    let file = file(rt, alloc, asks)?;
-    let mut held = Held::new(alloc);
-    held.add(Account::new(AcctId(0), Cents(10_000)))?;
-    Ok(book.reply_file(alloc, &held, user, NOON, &file)?)
+    Ok(Event::File(
+        ALICE,
+        RequestFile {
+            version: 102,
+            older,
+            newer,
+            user: text(rt, alloc, b"alice".as_slice())?,
+            pass: text(rt, alloc, b"secret".as_slice())?,
+            asks: Sequence::new(alloc),
+        },
+    ))
+}
+
+/// The name `f1`.
+fn first_name() -> Result<FileUid, Fail> {
+    Ok(FileUid::new(b"f1".as_slice())?)
 }
 
 /// The sample's bank as it opens, with its accounts.
@@ -199,16 +211,12 @@ fn opened(rt: &impl Abort, alloc: Global) -> Result<(Book<EmptyReplies>, Vec<Acc
     Ok(Book::begin(alloc, setup, EmptyReplies)?)
 }
 
-/// Whether it is the reply to a file that asks for nothing.
-fn is_empty_reply(bytes: &[u8]) -> bool {
-    bytes == empty_reply_bytes()
-}
-
 #[test]
 fn opens_accounts(rt: HostRuntime) -> Result<(), Fail> {
     let alloc = rt.alloc();
     let (book, accounts) = opened(&rt, alloc)?;
     assert_eq!(rt; book.setup().lead, 5);
+    assert_eq!(rt; book.next_number(), Some(1));
     match accounts.as_slice() {
         [checking, savings] => {
             assert_eq!(rt; checking.number(), AcctId(0));
@@ -221,120 +229,55 @@ fn opens_accounts(rt: HostRuntime) -> Result<(), Fail> {
     Ok(())
 }
 
-/// Looks at the statement of 1001 to alice.
-fn expect_statement(rt: &impl Abort, body: &StatementBody) {
-    assert!(rt; body.account.bank.as_bytes() == b"121099999".as_slice());
-    assert!(rt; body.account.number.as_bytes() == b"1001".as_slice());
-    assert_eq!(rt; body.account.kind, AcctKind::Checking);
-    assert_eq!(rt; body.ledger, Cents(10_000));
-    assert_eq!(rt; body.available, Cents(10_000));
-    assert_eq!(rt; body.moment, NOON);
-}
-
-/// Looks at the list of that statement.
-fn expect_list(rt: &impl Abort, list: &StatementList) {
-    assert_eq!(rt; list.start, Moment(-2_208_988_800));
-    assert_eq!(rt; list.end, NOON);
-    assert!(rt; list.lines.items().is_empty());
-}
-
-fn expect_head(rt: &impl Abort, reply: &ReplyFile) {
-    assert_eq!(rt; reply.version, 102);
-    assert!(rt; reply.newer.is_none());
-    assert_eq!(rt; reply.signon, 0);
-    assert_eq!(rt; reply.moment, NOON);
-}
-
-/// The body of the one answer of that status.
-fn only_body(reply: &ReplyFile, status: u16) -> Option<&StatementBody> {
-    match reply.replies.items() {
-        [AskReply::Statement(_, code, Some(body))] if *code == status => Some(body),
-        _ => None,
-    }
-}
-
-/// Whether the one answer has that status and no body.
-fn is_refused(reply: &ReplyFile, status: u16) -> bool {
-    match reply.replies.items() {
-        [AskReply::Statement(_, code, None)] => *code == status,
-        _ => false,
-    }
-}
-
-#[test]
-fn answers_statements(rt: HostRuntime) -> Result<(), Fail> {
-    let alloc = rt.alloc();
-    let (book, _accounts) = opened(&rt, alloc)?;
-    let reply = answered(&rt, alloc, &book, ALICE)?;
-    expect_head(&rt, &reply);
-    let body = only_body(&reply, 0).expect(&rt, "alice has 1001");
-    expect_statement(&rt, body);
-    expect_list(
-        &rt,
-        body.list.as_ref().expect(&rt, "the list was asked for"),
-    );
-    let refused = answered(&rt, alloc, &book, BOB)?;
-    assert!(rt; is_refused(&refused, 2003), "bob has no part in 1001");
-    Ok(())
-}
-
-/// A file of alice that asks for nothing.
-fn empty_event(rt: &impl Abort, alloc: Global) -> Result<Event, Fail>
-    ensures legal { IfOk result (λ event. IsLegal sample event) }
-    ensures named { IfOk result (λ event. named sample event ≡ []) }
-{
-    Ok(Event::File(ALICE, file(rt, alloc, Sequence::new(alloc))?))
-}
-
 fn business_day(book: &Book<EmptyReplies>) -> Day {
-    book.state.day
+    book.ledger.day()
 }
 
 #[test]
 fn takes_steps(rt: HostRuntime) -> Result<(), Fail> {
     let alloc = rt.alloc();
     let (mut book, _accounts) = opened(&rt, alloc)?;
-    let event = empty_event(&rt, alloc)?;
+    let event = empty_event(&rt, alloc, None, None)?;
     let mut held = Held::new(alloc);
     let prepared = book.answer(alloc, &mut held, &event, SECOND_NOON)?;
-    assert!(rt; is_empty_reply(prepared.reply()));
+    assert!(rt; prepared.reply() == empty_reply_bytes());
+    assert!(rt; prepared.entries().is_empty());
     assert_eq!(rt; business_day(&book), Day(-25_567));
     let reply = book.adopt(&mut held, prepared);
-    assert!(rt; is_empty_reply(reply.as_slice()));
+    assert!(rt; reply.as_slice() == empty_reply_bytes());
     assert_eq!(rt; business_day(&book), Day(-25_566));
     Ok(())
 }
 
+/// Whether a reply of alice is kept under the name `f1`.
+fn is_kept(book: &Book<EmptyReplies>, name: &FileUid) -> bool {
+    book.ledger.kept(ALICE, name).is_some()
+}
+
 #[test]
-fn makes_steps(rt: HostRuntime) -> Result<(), Fail> {
+fn keeps_replies(rt: HostRuntime) -> Result<(), Fail> {
     let alloc = rt.alloc();
     let (mut book, _accounts) = opened(&rt, alloc)?;
-    let event = empty_event(&rt, alloc)?;
     let mut held = Held::new(alloc);
-    let reply = book.step(alloc, &mut held, &event, SECOND_NOON)?;
-    assert!(rt; is_empty_reply(reply.as_slice()));
-    assert_eq!(rt; business_day(&book), Day(-25_566));
+    let event = empty_event(&rt, alloc, None, Some(first_name()?))?;
+    let first = book.step(alloc, &mut held, &event, SECOND_NOON)?;
+    assert!(rt; first.as_slice() == named_reply_bytes());
+    let again = book.step(alloc, &mut held, &event, NOON)?;
+    assert!(rt; again.as_slice() == named_reply_bytes());
+    assert_eq!(rt; business_day(&book), Day(19_753));
+    assert!(rt; is_kept(&book, &first_name()?));
     Ok(())
 }
 
 #[test]
-fn holds_accounts(rt: HostRuntime) -> Result<(), Fail> {
-    let mut held = Held::new(rt.alloc());
-    held.add(Account::new(AcctId(0), Cents(10_000)))?;
-    held.add(Account::new(AcctId(3), Cents(5)))?;
-    assert_eq!(rt; held.accounts().len(), 2);
-    assert_eq!(rt; held.balance(AcctId(3)), Some(Cents(5)));
-    assert_eq!(rt; held.balance(AcctId(1)), None);
-    assert_eq!(rt; held.pop().map(|account| account.number()), Some(AcctId(3)));
-    assert_eq!(rt; held.pop().map(|account| account.number()), Some(AcctId(0)));
-    assert!(rt; held.pop().is_none());
+fn releases_replies(rt: HostRuntime) -> Result<(), Fail> {
+    let alloc = rt.alloc();
+    let (mut book, _accounts) = opened(&rt, alloc)?;
+    let mut held = Held::new(alloc);
+    let event = empty_event(&rt, alloc, None, Some(first_name()?))?;
+    let _reply = book.step(alloc, &mut held, &event, SECOND_NOON)?;
+    let received = empty_event(&rt, alloc, Some(first_name()?), None)?;
+    let _reply = book.step(alloc, &mut held, &received, SECOND_NOON)?;
+    assert!(rt; !is_kept(&book, &first_name()?));
     Ok(())
-}
-
-#[test]
-fn raises_the_business_day(rt: HostRuntime) {
-    let opened = State { day: Day(-25_567) };
-    let later = raised(opened, NOON);
-    assert_eq!(rt; later.day, Day(19_753));
-    assert_eq!(rt; raised(later, SECOND_NOON).day, Day(19_753));
 }

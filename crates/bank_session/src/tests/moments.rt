@@ -1,6 +1,7 @@
 //! The moments of frames: of the clock, and of the words.
 
-use super::sample::{SETUP, replies, reply_at, requests};
+use super::sample::{SETUP, replies, reply_at, reply_with, request_with, requests};
+use super::transfer::{PAID, POSTED, SOURCE_BALANCE, TRANSFER};
 use super::{ROOM, told_with};
 use ofx_ports::{Clock, MemClock, MemSink, MemSource};
 use ofx_types::{Moment, Status};
@@ -34,6 +35,32 @@ fn each_frame_has_the_next_moment_of_the_clock(rt: HostRuntime) -> Result<(), Fa
     assert_eq!(rt; told.status, Status(0));
     assert_eq!(rt; written.as_slice(), expected.as_bytes());
     assert_eq!(rt; clock.now(), Moment(0));
+    Ok(())
+}
+
+/// 1 February 2024 at 12:00:00, and the day before at the same hour.
+const GOING_BACK: [Moment; 2] = [Moment(1_706_788_800), Moment(1_706_702_400)];
+
+/// The day on which the transfer is due, a day after that of its file.
+const DUE: (&str, &str) = ("<DTDUE>20240131", "<DTDUE>20240201");
+
+/// The transfer names no day. It is due on the business day, the latest day so far, and has its file's moment, which lies
+/// before that day.
+#[test]
+fn the_business_day_does_not_go_back(rt: HostRuntime) -> Result<(), Fail> {
+    let alloc = rt.alloc();
+    let mut bytes = request_with(alloc, &[])?;
+    bytes.push_str(&request_with(alloc, &[TRANSFER])?)?;
+    let setup = MemSource::new(alloc, SETUP)?;
+    let input = MemSource::new(alloc, bytes.as_bytes())?;
+    let out = MemSink::new(alloc, ROOM)?;
+    let mut clock = MemClock::new(alloc, &GOING_BACK)?;
+    let (told, written) = told_with(alloc, &WORDS, setup, input, out, &mut clock)?;
+    let mut expected = reply_at(alloc, b"s1", "20240201120000")?;
+    let paid = [POSTED, DUE, PAID, SOURCE_BALANCE, SOURCE_BALANCE];
+    expected.push_str(&reply_with(alloc, &paid)?)?;
+    assert_eq!(rt; told.status, Status(0));
+    assert_eq!(rt; written.as_slice(), expected.as_bytes());
     Ok(())
 }
 

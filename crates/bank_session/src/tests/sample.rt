@@ -184,12 +184,31 @@ pub fn requests(alloc: Global, names: &[&[u8; 2]]) -> Result<Vec<u8>, AllocError
 
 /// The sample's request with the first `old` in it turned into `new`, in its frame.
 pub fn changed_request(alloc: Global, old: &str, new: &str) -> Result<String, Fail> {
+    request_with(alloc, &[(old, new)])
+}
+
+/// The sample's request with the first of each text in it turned into the other, in its frame.
+pub fn request_with(alloc: Global, changes: &[(&str, &str)]) -> Result<String, Fail> {
     let framed = requests(alloc, &[b"s1"])?;
     let text = str::from_utf8(&framed)?;
-    let file = text
-        .strip_prefix("FILE 529\n")
-        .unwrap_or(text)
-        .replacen(alloc, old, new, 1)?;
+    let file = text.strip_prefix("FILE 529\n").unwrap_or(text);
+    changed(alloc, file, changes)
+}
+
+/// The sample's reply with the first of each text in it turned into the other, in its frame.
+pub fn reply_with(alloc: Global, changes: &[(&str, &str)]) -> Result<String, Fail> {
+    let framed = replies(alloc, &[b"s1"])?;
+    let text = str::from_utf8(&framed)?;
+    let file = text.strip_prefix("FILE 752\n").unwrap_or(text);
+    changed(alloc, file, changes)
+}
+
+/// The bytes of a file with the first of each text in it turned into the other, in their frame.
+fn changed(alloc: Global, file: &str, changes: &[(&str, &str)]) -> Result<String, Fail> {
+    let mut file = String::from_str(alloc, file)?;
+    for (old, new) in changes {
+        file = file.replacen(alloc, old, new, 1)?;
+    }
     Ok(format!(in alloc; "FILE {}\n{file}", file.len())?)
 }
 

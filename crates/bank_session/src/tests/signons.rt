@@ -53,19 +53,16 @@ fn a_failed_signon_repeats_the_version(rt: HostRuntime) -> Result<(), Fail> {
     Ok(())
 }
 
-/// Uids are judged before users. Line 8 begins at 107, and line 9 at 124.
+/// The reply has the request's NEWFILEUID, whether it is kept for a user or not.
 #[test]
-fn a_uid_is_refused_whoever_signs_on(rt: HostRuntime) -> Result<(), Fail> {
+fn a_failed_signon_repeats_the_name_of_the_file(rt: HostRuntime) -> Result<(), Fail> {
     let alloc = rt.alloc();
-    for (name, expected) in [("OLDFILEUID", "BAD 107\n"), ("NEWFILEUID", "BAD 124\n")] {
-        let none = format!(in alloc; "{name}:NONE")?;
-        let named = format!(in alloc; "{name}:f1")?;
-        let file = changed_request(alloc, none.as_str(), named.as_str())?;
-        let stranger = file.replacen(alloc, "<USERPASS>secret", "<USERPASS>hunter", 1)?;
-        let (status, written) = written_for(alloc, stranger.as_bytes())?;
-        assert_eq!(rt; status, Status(0), "for {name}");
-        assert_eq!(rt; written.as_slice(), expected.as_bytes(), "for {name}");
-    }
+    let stranger = changed_request(alloc, "<USERPASS>secret", "<USERPASS>hunter")?;
+    let named = stranger.replacen(alloc, "NEWFILEUID:NONE", "NEWFILEUID:week", 1)?;
+    let expected = DENIAL.replacen(alloc, "NEWFILEUID:NONE", "NEWFILEUID:week", 1)?;
+    let (status, written) = written_for(alloc, named.as_bytes())?;
+    assert_eq!(rt; status, Status(0));
+    assert_eq!(rt; written.as_slice(), expected.as_bytes());
     Ok(())
 }
 

@@ -4,11 +4,11 @@ ghost use Rattle.std.specs.Prelude.{◌≡◌, ◌++◌, IfErr, OnOk, option_to_
 ghost use Rattle.ofx_types.specs.Nodes.{children};
 ghost use Rattle.ofx_types.specs.FormWords.{Gives};
 ghost use Rattle.ofx_types.specs.TagNames.{is_one_of};
-ghost use Rattle.ofx_types.specs.RequestForm.{unread_bank_names};
-ghost use Rattle.ofx_types.specs.RequestReading as reading;
+ghost use Rattle.ofx_types.specs.MessageForm.{bank_names, unread_bank_names};
+ghost use Rattle.ofx_types.specs.MessageReading as reading;
 ghost use Rattle.ofx_file.specs.RequestSteps as steps;
 
-use msg_bank::read_statement;
+use msg_bank::{read_deed, read_statement};
 use ofx_tree::Cursor;
 use ofx_types::{Ask, Asks, OutOfMemory, TreeFault};
 use std::alloc::Global;
@@ -54,8 +54,8 @@ fn put(found: Option<Ask>, asks: &mut Asks) -> Result<(), TreeFault>
 fn ask_at(alloc: Global, child: &Cursor<'_>) -> Result<Option<Ask>, TreeFault>
     ensures { Gives result (steps.ask_at child.now) }
 {
-    if child.name() == b"STMTTRNRQ".as_slice() {
-        return Ok(Some(read_statement(alloc, child)?));
+    if is_read(child.name()) {
+        return Ok(Some(bank_ask(alloc, child)?));
     }
     if is_unread(child.name()) {
         return Err(TreeFault::Value(child.place() as u64));
@@ -63,12 +63,30 @@ fn ask_at(alloc: Global, child: &Cursor<'_>) -> Result<Option<Ask>, TreeFault>
     Ok(None)
 }
 
+/// The ask that a statement request (STMTTRNRQ) or a transfer request (INTRATRNRQ) is, by its name.
+#[tactic(auto, unfolding(ofx_types::specs::MessageReading::bank_ask_of))]
+fn bank_ask(alloc: Global, request: &Cursor<'_>) -> Result<Ask, TreeFault>
+    ensures { Gives result (reading.bank_ask_of request.now) }
+{
+    if request.name() == b"STMTTRNRQ".as_slice() {
+        return read_statement(alloc, request);
+    }
+    let (trnuid, deed) = read_deed(alloc, request)?;
+    Ok(Ask::One(trnuid, deed))
+}
+
+/// Whether a name is that of a request that has a form.
+fn is_read(name: &[u8]) -> bool
+    ensures { result ≡ is_one_of bank_names name.now }
+{
+    name == b"STMTTRNRQ".as_slice() || name == b"INTRATRNRQ".as_slice()
+}
+
 /// Whether a name is that of a request that has no form yet.
 fn is_unread(name: &[u8]) -> bool
     ensures { result ≡ is_one_of unread_bank_names name.now }
 {
-    name == b"INTRATRNRQ".as_slice()
-        || name == b"RECINTRATRNRQ".as_slice()
+    name == b"RECINTRATRNRQ".as_slice()
         || name == b"BANKMAILTRNRQ".as_slice()
         || name == b"INTRASYNCRQ".as_slice()
         || name == b"RECINTRASYNCRQ".as_slice()

@@ -3,8 +3,8 @@
 ghost use Rattle.std.specs.Prelude.{◌≡◌};
 ghost use Rattle.ofx_types.specs.Nodes.{children};
 ghost use Rattle.ofx_types.specs.TagNames.{is_one_of};
-ghost use Rattle.ofx_types.specs.RequestForm.{unread_mail_names};
-ghost use Rattle.ofx_types.specs.RequestReading as reading;
+ghost use Rattle.ofx_types.specs.MessageForm.{unread_mail_names};
+ghost use Rattle.ofx_types.specs.MessageReading as reading;
 
 use ofx_tree::Cursor;
 use ofx_types::TreeFault;
@@ -19,7 +19,7 @@ pub(crate) fn no_mail_of(mail: Option<Cursor<'_>>) -> Result<(), TreeFault>
     }
 }
 
-#[tactic(auto, unfolding(ofx_types::specs::RequestReading::no_mail_in))]
+#[tactic(auto, unfolding(ofx_types::specs::MessageReading::no_mail_in))]
 fn no_mail_in(mail: &Cursor<'_>) -> Result<(), TreeFault>
     ensures { result ≡ reading.no_mail_in (children mail.now) }
 {

@@ -2,10 +2,10 @@ use Rattle.bank_session.proofs.LineLemmas.{same_place, unanswered, undenied}
 use Rattle.bank_session.proofs.laws.one_refusal.Goals as goal
 
 pub returns-clause-place : goal.returns-clause-place
-returns-clause-place c = same_place c.one_file.ensures c.one_fault.ensures c.faults_spell_nothing.ensures
+returns-clause-place c = same_place c.one_fault.ensures
 
 pub returns-clause-unanswered : goal.returns-clause-unanswered
-returns-clause-unanswered c = unanswered c.one_file.ensures c.faults_spell_nothing.ensures
+returns-clause-unanswered c = unanswered c.faults_spell_nothing.ensures
 
 pub returns-clause-undenied : goal.returns-clause-undenied
-returns-clause-undenied c = undenied c.one_file.ensures c.faults_spell_nothing.ensures
+returns-clause-undenied c = undenied c.faults_spell_nothing.ensures

@@ -1,6 +1,6 @@
 use Rattle.std.proofs.Common.{arith, ◌≡◌, ◌∙◌}
 use Rattle.std.proofs.lemmas.Result.{err_from_is_err_and}
-use Rattle.bank_session.proofs.RunLemmas.{next_turn, frame_is_small, stopped_in_turn, stopped_at_frame, ended_behind, stopped_at_once}
+use Rattle.bank_session.proofs.RunLemmas.{next_turn, frame_is_small, stopped_in_turn, stopped_at_frame, finished, ended_behind, stopped_at_once}
 use Rattle.bank_session.proofs.run.answer_frames.Goals as goal
 
 pub returns-in_err-desk-clause-ends : goal.returns-in_err-desk-clause-ends
@@ -25,6 +25,11 @@ pub returns-in-NoFrame-clause-ends : goal.returns-in-NoFrame-clause-ends
 returns-in-NoFrame-clause-ends g c left left' faults faults' =
     let none = rw c.in-NoFrame.is at c.in_ok-size.ensures.turn in
     stopped_at_frame c.args.setup c.args.at _ _ c.loop-turns.turns c.loop-turns.place c.loop-turns.desk _ _ _ _ c.loop-turns.invariant.standing c.loop-turns.invariant.few none.0 none.1
+
+pub returns-in-AtEnd-clause-ends : goal.returns-in-AtEnd-clause-ends
+returns-in-AtEnd-clause-ends g c left left' faults faults' =
+    let none = rw c.in-AtEnd.is at c.in_ok-size.ensures.turn in
+    finished c.args.setup c.args.at _ _ c.loop-turns.turns c.loop-turns.place c.loop-turns.desk _ _ _ _ c.loop-turns.invariant.standing c.loop-turns.invariant.few none.0 none.1
 
 pub loop-turns-preserved : goal.loop-turns-preserved
 loop-turns-preserved g c =

@@ -4,5 +4,6 @@ use Rattle.ofx_file.proofs.laws.request_faults_have_places.Goals as goal
 pub returns : goal.returns
 returns c = request_within (record {
   statements = c.statement_faults_have_places.ensures;
+  deeds = c.deed_faults_have_places.ensures;
   signons = c.signon_faults_have_places.ensures;
 })

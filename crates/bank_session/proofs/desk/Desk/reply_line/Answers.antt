@@ -1,5 +1,4 @@
-use Rattle.std.proofs.Common.{◌∙◌, ap}
-use Rattle.bank_core.specs.BookView.{BookView}
+use Rattle.std.proofs.Common.{◌∙◌}
 use Rattle.bank_session.proofs.DeskLemmas.{all_held, still_held}
 use Rattle.bank_session.proofs.desk.Desk.reply_line.Goals as goal
 
@@ -8,10 +7,11 @@ answer-requires-clause-named c = all_held c.self.inside.book.setup c.self.inside
 
 pub adopt-reply-requires-clause-named : goal.adopt-reply-requires-clause-named
 adopt-reply-requires-clause-named c =
-    rw (c.answer.ensures.accounts, c.answer.ensures.book) (all_held c.self.inside.book.setup c.self.inside.held c.in_ok-prepared.prepared.event c.self.invariant.0.all)
+    rw (c.answer.ensures.accounts, c.answer.ensures.setup) (all_held c.self.inside.book.setup c.self.inside.held c.in_ok-prepared.prepared.event c.self.invariant.0.all)
 
 pub invariant_of-self-2 : goal.invariant_of-self-2
 invariant_of-self-2 c =
-    let kept = c.adopt-reply.ensures.setup ∙ ap (λ (b : BookView). b.setup) c.answer.ensures.book in
-    let held = c.adopt-reply.ensures.accounts ∙ c.answer.ensures.accounts in
-    (rw held (still_held c.self.inside.book c.adopt-reply.new.self c.self.inside.held kept c.self.invariant.0), rw kept c.self.invariant.1)
+    let setup = c.adopt-reply.ensures.setup ∙ c.answer.ensures.setup in
+    let numbers = rw c.answer.ensures.accounts at c.adopt-reply.ensures.numbers in
+    let balanced = rw setup at c.adopt-reply.ensures.balanced in
+    (rw setup (still_held c.self.inside.book.setup c.self.inside.book.state c.adopt-reply.new.self.state c.self.inside.held c.adopt-reply.new.held numbers balanced c.self.invariant.0), rw setup c.self.invariant.1)

@@ -1,6 +1,6 @@
 use Rattle.std.proofs.Common.{◌≡◌}
 use Rattle.ofx_types.specs.Nodes.{children}
-use Rattle.ofx_types.specs.RequestReading as reading
+use Rattle.ofx_types.specs.MessageReading as reading
 use Rattle.ofx_file.specs.RequestSteps as steps
 use Rattle.ofx_file.proofs.request.asks.asks_of.Given as goal
 

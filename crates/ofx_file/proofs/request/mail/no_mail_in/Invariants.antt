@@ -1,6 +1,6 @@
 use Rattle.std.proofs.Common.{◌≡◌}
 use Rattle.ofx_types.specs.Nodes.{children}
-use Rattle.ofx_types.specs.RequestReading as reading
+use Rattle.ofx_types.specs.MessageReading as reading
 use Rattle.ofx_file.proofs.request.mail.no_mail_in.Given as goal
 
 -- what is still to come decides

@@ -1,0 +1,2 @@
+pub mod AccountView
+pub mod HeldAccounts

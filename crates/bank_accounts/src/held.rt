@@ -1,0 +1,142 @@
+//! The accounts that are held while an event is answered.
+
+ghost use Rattle.std.specs.Prelude.{◌≡◌, ◌∷◌, ◌++◌, [], map, pos, ◌≤ℤ◌, OnOk, IfErr, OnErr, IfSome, IfNone};
+ghost use Rattle.bank_accounts.specs.HeldAccounts.{NumbersRise, balance_held, settled};
+ghost use Rattle.bank_accounts.specs.HeldAccounts as changes;
+ghost use Rattle.bank_accounts.specs.declared.held.HeldFault.TheVariants.{NoMemory};
+
+use crate::account::Account;
+use ofx_types::{AcctId, Cents, Duplicate, OutOfMemory};
+use std::alloc::Global;
+use std::marker::Model;
+
+/// Accounts in the order of their numbers, each once.
+#[derive(Debug, Drop)]
+pub struct Held {
+    accounts: Vec<Account>,
+}
+
+impl Model for Held {
+    ghost use Rattle.std.specs.Prelude.{List};
+    ghost use Rattle.bank_accounts.specs.AccountView.{AccountView};
+    ghost use Rattle.bank_accounts.specs.HeldAccounts.{NumbersRise};
+
+    ghost Value = { List AccountView };
+
+    ghost view = { λ h. h.accounts.items };
+
+    ghost invariant = { λ h. NumbersRise h.accounts.items };
+}
+
+/// Why an account wasn't taken among those held.
+#[derive(Debug, Drop)]
+pub enum HeldFault {
+    /// Memory was refused. Here is the account again.
+    NoMemory(Account),
+}
+
+impl Held {
+    /// No accounts.
+    pub fn new(alloc: Global) -> Held
+        ensures { result ≡ [] }
+    {
+        Held {
+            accounts: Vec::new(alloc),
+        }
+    }
+
+    /// The accounts of a vector, which takes no memory. Their numbers rise.
+    pub fn from_vec(accounts: Vec<Account>) -> Held
+        requires { NumbersRise accounts.items }
+        ensures { result ≡ accounts.items }
+    {
+        Held { accounts }
+    }
+
+    /// Takes an account whose number is above those held.
+    ///
+    /// Where memory is refused, what is held is as before and the account is handed back.
+    pub fn add(&mut self, account: Account) -> Result<(), HeldFault>
+        requires { NumbersRise (self.old ++ account ∷ []) }
+        ensures ok { OnOk result (self.new ≡ self.old ++ account ∷ []) }
+        ensures err { OnErr result (self.new ≡ self.old) }
+        ensures handed_back { IfErr result (λ fault. fault ≡ NoMemory account) }
+    {
+        match self.accounts.push(account) {
+            Ok(()) => Ok(()),
+            Err(refused) => Err(HeldFault::NoMemory(refused.value)),
+        }
+    }
+
+    /// Gives up the last account. None exactly where none is held. Takes no memory.
+    pub fn pop(&mut self) -> Option<Account>
+        ensures last { IfSome result (λ account. self.old ≡ self.new ++ account ∷ []) }
+        ensures none { IfNone result ((self.old ≡ []) × (self.new ≡ [])) }
+    {
+        self.accounts.pop()
+    }
+
+    /// The accounts held, lent.
+    pub fn accounts(&self) -> &[Account]
+        ensures accounts { result.now ≡ self.now }
+        ensures rising { NumbersRise self.now }
+    {
+        self.accounts.as_slice()
+    }
+
+    /// The balance of an account, in cents. None exactly where it isn't held. Takes no memory.
+    pub fn balance(&self, number: AcctId) -> Option<Cents>
+        ensures { result ≡ balance_held self.now number }
+    {
+        self.accounts
+            .iter()
+            .find(|account| account.number().0 == number.0)
+            .map(|account| account.balance())
+    }
+
+    /// Gives the account of that number another balance, 0 or more. Where it isn't held, nothing changes. Takes no
+    /// memory.
+    pub fn set(&mut self, number: AcctId, amount: Cents)
+        requires { pos 0 ≤ℤ amount.0 }
+        ensures { self.new ≡ map (changes.set_if_named number amount) self.old }
+    {
+        for account in self.accounts.iter_mut() {
+            set_if_named(account, number, amount);
+        }
+    }
+
+    /// Gives each account the balance that it has among the others, where it is one of them. Takes no memory.
+    pub fn settle(&mut self, others: &Held)
+        ensures { self.new ≡ map (settled others.now) self.old }
+    {
+        for account in self.accounts.iter_mut() {
+            settle_one(account, others);
+        }
+    }
+}
+
+impl Duplicate for Held {
+    fn copy(&self) -> Result<Held, OutOfMemory> {
+        let mut copies = Vec::with_capacity(*self.accounts.allocator(), self.accounts.len())?;
+        for account in &self.accounts {
+            copies.push(account.copy()?)?;
+        }
+        Ok(Held { accounts: copies })
+    }
+}
+
+fn set_if_named(account: &mut Account, number: AcctId, amount: Cents)
+    ensures { account.new ≡ changes.set_if_named number amount account.old }
+{
+    if account.number().0 == number.0 {
+        account.set(amount);
+    }
+}
+
+fn settle_one(account: &mut Account, others: &Held)
+    ensures { account.new ≡ settled others.now account.old }
+{
+    if let Some(amount) = others.balance(account.number()) {
+        account.set(amount);
+    }
+}

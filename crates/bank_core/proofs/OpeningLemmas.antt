@@ -1,0 +1,56 @@
+-- A bank that opens: its state is sound, and each account has its opening balance.
+use Rattle.std.proofs.Common.{◌≡◌, ℕ, zero, suc, ◌<◌, Bool, true, false, ltb, List, [], ◌∷◌, ◌++◌, length, length-append, get_or, Some, ℤ, pos, ◌≤ℤ◌, refl, sym, ap, ◌∙◌, arith}
+use Rattle.std.specs.List.{AllByRecursion, IsDistinct, slice_get}
+use Rattle.std.proofs.lemmas.Bool.{ltb-true, ltb-false}
+use Rattle.std.proofs.lemmas.List.{get_or_append_left, get_or_push}
+use Rattle.std.proofs.lemmas.Int.{ints}
+use Rattle.std.proofs.lemmas.Option.{slice_get-get_or}
+use Rattle.bank_accounts.specs.AccountView.{AccountView}
+use Rattle.bank_model.specs.declared.setup.AccountLine.{AccountLine}
+use Rattle.bank_model.specs.declared.setup.Setup.{Setup}
+use Rattle.bank_model.specs.SetupForm.{IsAccountOf, IsWithinLimits}
+use Rattle.bank_model.specs.SetupLookups.{line_at}
+use Rattle.bank_model.specs.Ledger.{balance_on, balance, moved, sum_from}
+use Rattle.bank_model.specs.Rules.{opening_state}
+use Rattle.bank_core.specs.Standing.{IsSoundState}
+
+balance_on-opened : (line : AccountLine) → balance_on [] (Some line) ≡ line.opening.0
+unfolding moved sum_from
+balance_on-opened line = refl
+
+-- the balance of the account at a place, before any entry
+pub balance-opened : (setup : Setup) (lines : List AccountLine) (place : ℕ) (line : AccountLine) → lines ≡ setup.accounts → place < length lines → line ≡ get_or lines place line → line.opening ≡ record { 0 = balance setup [] (record { 0 = place }) }
+balance-opened setup lines place line are below is =
+    let found : line_at setup (record { 0 = place }) ≡ Some line =
+    ap (λ (l : List AccountLine). slice_get l place) (sym are) ∙ slice_get-get_or lines place line below ∙ ap (λ (x : AccountLine). Some x) (sym is) in
+    sym (ap (λ (z : ℤ). record { 0 = z }) (ap (balance_on []) found ∙ balance_on-opened line))
+
+not_negative : (setup : Setup) (lines : List AccountLine) (k : ℕ) → AllByRecursion (IsAccountOf setup.bank setup.users) lines → pos 0 ≤ℤ balance_on [] (slice_get lines k)
+not_negative setup [] k all = omega (arith, ints)
+not_negative setup (line ∷ lines) zero all = rw (balance_on-opened line) all.0.opening
+not_negative setup (line ∷ lines) (suc k) all = not_negative setup lines k all.1
+
+pub IsSoundState-opening : (setup : Setup) → IsWithinLimits setup → IsSoundState setup opening_state
+unfolding IsDistinct
+IsSoundState-opening setup within = record {
+  numbered = λ k d below. absurd (omega arith);
+  few = omega arith;
+  rows = tt;
+  made = tt;
+  covered = λ account. not_negative setup setup.accounts account.0 within.lines.accounts;
+  used = tt;
+  kept = tt;
+  day = (omega (arith, ints), omega (arith, ints));
+}
+
+-- one account more, numbered by its place
+pub numbered_push : (accounts : List AccountView) (account : AccountView) (place : ℕ) → length accounts ≡ place → ((k : ℕ) (d : AccountView) → k < length accounts → (get_or accounts k d).number.0 ≡ k) → account.number.0 ≡ place → (k : ℕ) (d : AccountView) → k < length (accounts ++ account ∷ []) → (get_or (accounts ++ account ∷ []) k d).number.0 ≡ k
+numbered_push accounts account place count numbered is k d below = number_at (ltb k (length accounts)) refl
+  where
+    number_at : (b : Bool) → ltb k (length accounts) ≡ b → (get_or (accounts ++ account ∷ []) k d).number.0 ≡ k
+    number_at true less =
+        let here : k < length accounts = ltb-true k (length accounts) less in
+        ap (λ (a : AccountView). a.number.0) (get_or_append_left accounts (account ∷ []) d k here) ∙ numbered k d here
+    number_at false least =
+        let last : length accounts ≡ k = omega (arith, ltb-false k (length accounts) least, length-append accounts (account ∷ [])) in
+        ap (λ (a : AccountView). a.number.0) (get_or_push accounts account d k last) ∙ is ∙ sym count ∙ last

@@ -1,0 +1,150 @@
+-- What a file leaves and is answered, by the draft of its asks.
+use Rattle.std.proofs.Common.{◌≡◌, ℕ, true, List, [], ◌∷◌, ◌++◌, Option, None, Some, refl, sym, ap, ◌∙◌, subst}
+use Rattle.std.specs.Prelude.{is_some}
+use Rattle.std.specs.List.{flat_map}
+use Rattle.std.specs.Option.{IfSome}
+use Rattle.std.proofs.lemmas.List.{append-nil}
+use Rattle.ofx_types.specs.Calendar.{IsMoment}
+use Rattle.ofx_types.specs.ReplyForm.{reply_text}
+use Rattle.ofx_types.specs.declared.number.UserId.{UserId}
+use Rattle.ofx_types.specs.declared.number.Moment.{Moment}
+use Rattle.ofx_types.specs.declared.request.Ask.{Ask}
+use Rattle.ofx_types.specs.declared.request.RequestFile.{RequestFile}
+use Rattle.ofx_types.specs.declared.reply.AskReply.{AskReply}
+use Rattle.ofx_types.specs.declared.reply.ReplyFile.{ReplyFile}
+use Rattle.bank_model.specs.declared.once.KeptReply.{KeptReply}
+use Rattle.bank_model.specs.declared.setup.Setup.{Setup}
+use Rattle.bank_model.specs.declared.event.State.{State}
+use Rattle.bank_model.specs.declared.event.Event.{Event}
+use Rattle.bank_model.specs.declared.event.Event.TheVariants.{File}
+use Rattle.bank_model.specs.SetupForm.{IsWithinLimits}
+use Rattle.bank_model.specs.Once.{reply_kept}
+use Rattle.bank_model.specs.Rules.{Outcome, raised, ask_answers, reply_file, release, keep, with_kept, kept_for, outcome_with, new_outcome, outcome_or_kept, file_outcome, step, state_after, answer_to, named_by, named, IsLegal}
+use Rattle.bank_accounts.specs.AccountView.{AccountView}
+use Rattle.bank_accounts.specs.HeldAccounts.{AreHeld}
+use Rattle.bank_core.specs.Balanced.{AreBalanced}
+use Rattle.bank_core.specs.BookView.{PreparedView}
+use Rattle.bank_core.specs.Standing.{IsSoundState}
+use Rattle.bank_core.specs.DraftView.{DraftView, drafted, prepared_after, IsDraft, IsPrepared, IsSameFile}
+use Rattle.bank_core.proofs.DraftLemmas.{empty_draft, IsDraft-none}
+use Rattle.bank_core.proofs.DeedAnswers.{same_state}
+use Rattle.bank_core.proofs.StateLemmas.{IsSoundState-raised, IsSoundState-step, absent-release}
+
+abbrev pub started : State → UserId → Moment → List AccountView → DraftView
+started S user at accounts = empty_draft user at (raised S at).day accounts
+
+-- A draft in which nothing is added yet makes the raised state.
+pub drafted-started : (S : State) (user : UserId) (at : Moment) (accounts : List AccountView) → drafted S (started S user at accounts) ≡ raised S at
+drafted-started S user at accounts = same_state _ _ _ _ S.kept (raised S at).day (raised S at).day (append-nil S.entries) (append-nil S.used) refl
+
+pub IsSoundState-started : (setup : Setup) (S : State) (user : UserId) (at : Moment) (accounts : List AccountView) → IsSoundState setup S → IsMoment at.0 → IsSoundState setup (drafted S (started S user at accounts))
+IsSoundState-started setup S user at accounts sound moment =
+    subst (IsSoundState setup) (sym (drafted-started S user at accounts)) (IsSoundState-raised setup S at sound moment)
+
+kept_for-raised : (S : State) (user : UserId) (at : Moment) (newer : Option (List ℕ)) → kept_for (raised S at) user newer ≡ kept_for S user newer
+kept_for-raised S user at None = refl
+kept_for-raised S user at (Some newer) = refl
+
+-- ---- a file whose name is kept
+
+pub again_outcome : (setup : Setup) (S : State) (user : UserId) (at : Moment) (file : RequestFile) (reply : List ℕ) → kept_for S user file.newer ≡ Some reply → file_outcome setup (raised S at) user at file ≡ record { reply = reply; after = raised S at }
+unfolding file_outcome
+again_outcome setup S user at file reply kept =
+    ap (outcome_or_kept setup (raised S at) user at file) (kept_for-raised S user at file.newer ∙ kept)
+
+abbrev pub prepared_with : Setup → State → Event → State → List ℕ → PreparedView
+prepared_with setup S event after reply = record { setup = setup; before = S; event = event; after = after; reply = reply }
+
+same_prepared : (setup : Setup) (S : State) (event : Event) (after other : State) (reply told : List ℕ) → after ≡ other → reply ≡ told → prepared_with setup S event after reply ≡ prepared_with setup S event other told
+same_prepared setup S event after other reply told is_after is_reply =
+    ap (λ (T : State). prepared_with setup S event T reply) is_after ∙ ap (prepared_with setup S event other) is_reply
+
+pub IsPrepared-again : (setup : Setup) (S : State) (draft : DraftView) (user : UserId) (at : Moment) (accounts : List AccountView) (bytes : List ℕ) → draft ≡ started S user at accounts → IsSoundState setup S → IsMoment at.0 → AreBalanced setup S accounts → IsPrepared setup S draft None None bytes
+IsPrepared-again setup S draft user at accounts bytes is sound moment balanced =
+    subst (λ (d : DraftView). IsPrepared setup S d None None bytes) (sym is) (record {
+      draft_of = IsDraft-none setup S user at (raised S at).day accounts balanced;
+      sound = IsSoundState-started setup S user at accounts sound moment;
+      absent = tt;
+    })
+
+pub again_is : (setup : Setup) (S : State) (event : Event) (draft : DraftView) (user : UserId) (at : Moment) (accounts : List AccountView) (file : RequestFile) (bytes reply told : List ℕ) → event ≡ File user file → draft ≡ started S user at accounts → kept_for S user file.newer ≡ Some reply → told ≡ reply → prepared_with setup S event (prepared_after S draft None None bytes) told ≡ prepared_with setup S event (state_after setup S at event) (answer_to setup S at event)
+again_is setup S event draft user at accounts file bytes reply told is_file is kept same =
+    let outcome : step setup S at event ≡ record { reply = reply; after = raised S at } = ap (step setup S at) is_file ∙ again_outcome setup S user at file reply kept in
+    same_prepared setup S event _ _ told _
+    (ap (λ (d : DraftView). prepared_after S d None None bytes) is ∙ drafted-started S user at accounts ∙ sym (ap (λ (o : Outcome). o.after) outcome))
+    (same ∙ sym (ap (λ (o : Outcome). o.reply) outcome))
+
+-- ---- a file that is answered anew
+
+anew_outcome : (setup : Setup) (S : State) (user : UserId) (at : Moment) (file : RequestFile) → kept_for S user file.newer ≡ None → file_outcome setup (raised S at) user at file ≡ outcome_with (ask_answers setup (raised S at) user at file.asks).after user file (reply_text (reply_file at file (ask_answers setup (raised S at) user at file.asks).replies))
+unfolding file_outcome new_outcome
+anew_outcome setup S user at file absent =
+    ap (outcome_or_kept setup (raised S at) user at file) (kept_for-raised S user at file.newer ∙ absent)
+
+same_keep : (user : UserId) (newer : Option (List ℕ)) (reply copy : List ℕ) (kept : List KeptReply) → (is_some newer ≡ true → copy ≡ reply) → keep user newer copy kept ≡ keep user newer reply kept
+same_keep user None reply copy kept same = refl
+same_keep user (Some newer) reply copy kept same = ap (λ (bytes : List ℕ). kept ++ record { user = user; file = newer; reply = bytes } ∷ []) (same refl)
+
+-- what is known when the asks of a file are answered and the reply is printed
+pub record IsAnswered (setup : Setup) (S : State) (user : UserId) (at : Moment) (accounts : List AccountView) (file : RequestFile) (draft : DraftView) (reply copy : List ℕ) : Type 0 where
+  pub same : IsSameFile (started S user at accounts) draft
+  pub after : drafted S draft ≡ (ask_answers setup (raised S at) user at file.asks).after
+  pub told : reply ≡ reply_text (reply_file at file (ask_answers setup (raised S at) user at file.asks).replies)
+  pub copied : is_some file.newer ≡ true → copy ≡ reply
+
+pub anew_after : (setup : Setup) (S : State) (user : UserId) (at : Moment) (accounts : List AccountView) (file : RequestFile) (draft : DraftView) (reply copy : List ℕ) → kept_for S user file.newer ≡ None → IsAnswered setup S user at accounts file draft reply copy → prepared_after S draft file.older file.newer copy ≡ state_after setup S at (File user file)
+anew_after setup S user at accounts file draft reply copy absent answered =
+    let after : State = (ask_answers setup (raised S at) user at file.asks).after in
+    let outcome = anew_outcome setup S user at file absent in
+    ap (λ (u : UserId). with_kept (drafted S draft) (keep u file.newer copy (release u file.older S.kept))) answered.same.user
+    ∙ ap (λ (kept : List KeptReply). with_kept (drafted S draft) kept) (same_keep user file.newer reply copy (release user file.older S.kept) answered.copied)
+    ∙ ap (λ (T : State). with_kept T (keep user file.newer reply (release user file.older T.kept))) answered.after
+    ∙ ap (λ (bytes : List ℕ). with_kept after (keep user file.newer bytes (release user file.older after.kept))) answered.told
+    ∙ sym (ap (λ (o : Outcome). o.after) outcome)
+
+pub anew_is : (setup : Setup) (S : State) (event : Event) (user : UserId) (at : Moment) (accounts : List AccountView) (file : RequestFile) (draft : DraftView) (reply copy : List ℕ) → event ≡ File user file → kept_for S user file.newer ≡ None → IsAnswered setup S user at accounts file draft reply copy → prepared_with setup S event (prepared_after S draft file.older file.newer copy) reply ≡ prepared_with setup S event (state_after setup S at event) (answer_to setup S at event)
+anew_is setup S event user at accounts file draft reply copy is_file absent answered =
+    same_prepared setup S event _ _ reply _
+    (anew_after setup S user at accounts file draft reply copy absent answered ∙ sym (ap (state_after setup S at) is_file))
+    (answered.told ∙ sym (ap (λ (o : Outcome). o.reply) (anew_outcome setup S user at file absent)) ∙ sym (ap (answer_to setup S at) is_file))
+
+absent_named : (S : State) (user other : UserId) (older newer : Option (List ℕ)) → other ≡ user → kept_for S user newer ≡ None → IfSome newer (λ (file : List ℕ). reply_kept other file (release other older S.kept) ≡ None)
+absent_named S user other older None same absent = tt
+absent_named S user other older (Some file) same absent =
+    subst (λ (u : UserId). reply_kept u file (release u older S.kept) ≡ None) (sym same) (absent-release user user file older S.kept absent)
+
+pub IsPrepared-anew : (setup : Setup) (S : State) (event : Event) (user : UserId) (at : Moment) (accounts : List AccountView) (file : RequestFile) (draft : DraftView) (reply copy : List ℕ) → event ≡ File user file → IsWithinLimits setup → IsSoundState setup S → IsMoment at.0 → IsLegal setup event → kept_for S user file.newer ≡ None → IsAnswered setup S user at accounts file draft reply copy → IsDraft setup S draft → IsPrepared setup S draft file.older file.newer copy
+IsPrepared-anew setup S event user at accounts file draft reply copy is_file within sound moment legal absent answered is = record {
+  draft_of = is;
+  sound = subst (IsSoundState setup) (sym (anew_after setup S user at accounts file draft reply copy absent answered)) (IsSoundState-step setup S at (File user file) within sound moment (subst (IsLegal setup) is_file legal));
+  absent = absent_named S user draft.user file.older file.newer answered.same.user absent;
+}
+
+-- ---- the asks of a file that is answered anew
+
+pub asks_replies-are : (setup : Setup) (S : State) (user : UserId) (at : Moment) (accounts : List AccountView) (draft : DraftView) (asks items : List Ask) (replies : List AskReply) → draft ≡ started S user at accounts → items ≡ asks → replies ≡ (ask_answers setup (drafted S draft) draft.user draft.at items).replies → replies ≡ (ask_answers setup (raised S at) user at asks).replies
+asks_replies-are setup S user at accounts draft asks items replies is are replied =
+    replied
+    ∙ ap (λ (l : List Ask). (ask_answers setup (drafted S draft) draft.user draft.at l).replies) are
+    ∙ ap (λ (d : DraftView). (ask_answers setup (drafted S d) d.user d.at asks).replies) is
+    ∙ ap (λ (T : State). (ask_answers setup T user at asks).replies) (drafted-started S user at accounts)
+
+pub asks_after-is : (setup : Setup) (S next : State) (user : UserId) (at : Moment) (accounts : List AccountView) (draft : DraftView) (asks items : List Ask) → draft ≡ started S user at accounts → items ≡ asks → next ≡ (ask_answers setup (drafted S draft) draft.user draft.at items).after → next ≡ (ask_answers setup (raised S at) user at asks).after
+asks_after-is setup S next user at accounts draft asks items is are after =
+    after
+    ∙ ap (λ (l : List Ask). (ask_answers setup (drafted S draft) draft.user draft.at l).after) are
+    ∙ ap (λ (d : DraftView). (ask_answers setup (drafted S d) d.user d.at asks).after) is
+    ∙ ap (λ (T : State). (ask_answers setup T user at asks).after) (drafted-started S user at accounts)
+
+pub named_asks : (setup : Setup) (accounts others : List AccountView) (event : Event) (user : UserId) (file : RequestFile) (items : List Ask) → event ≡ File user file → items ≡ file.asks → others ≡ accounts → AreHeld accounts (named setup event) → AreHeld others (flat_map (named_by setup) items)
+named_asks setup accounts others event user file items is are same held =
+    let asked : AreHeld accounts (flat_map (named_by setup) file.asks) = subst (λ (e : Event). AreHeld accounts (named setup e)) is held in
+    rw (same, are) asked
+
+pub answered_of : (setup : Setup) (S : State) (user : UserId) (at : Moment) (accounts : List AccountView) (file : RequestFile) (draft more : DraftView) (items : List Ask) (replies : List AskReply) (reply : ReplyFile) (told copy : List ℕ) → draft ≡ started S user at accounts → items ≡ file.asks → IsSameFile draft more → drafted S more ≡ (ask_answers setup (drafted S draft) draft.user draft.at items).after → replies ≡ (ask_answers setup (drafted S draft) draft.user draft.at items).replies → reply ≡ reply_file at file replies → told ≡ reply_text reply → (is_some file.newer ≡ true → copy ≡ told) → IsAnswered setup S user at accounts file more told copy
+answered_of setup S user at accounts file draft more items replies reply told copy is are same after replied is_reply is_told copied = record {
+  same = subst (λ (d : DraftView). IsSameFile d more) is same;
+  after = asks_after-is setup S (drafted S more) user at accounts draft file.asks items is are after;
+  told = is_told ∙ ap reply_text (is_reply ∙ ap (reply_file at file) (asks_replies-are setup S user at accounts draft file.asks items replies is are replied));
+  copied = copied;
+}

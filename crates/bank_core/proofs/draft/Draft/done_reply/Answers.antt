@@ -1,0 +1,30 @@
+use Rattle.std.proofs.Common.{None}
+use Rattle.bank_core.specs.DraftView.{drafted}
+use Rattle.bank_core.proofs.DraftLemmas.{IsDraft-uid}
+use Rattle.bank_core.proofs.StateLemmas.{IsAllowed-from_code, few_next}
+use Rattle.bank_core.proofs.DeedAnswers.{done_reply-is, done_after-is, IsSameFile-added}
+use Rattle.bank_core.proofs.draft.Draft.done_reply.Goals as goal
+
+pub perform-requires-clause-few : goal.perform-requires-clause-few
+perform-requires-clause-few c =
+    few_next c.args.setup.now (drafted c.args.ledger.now.state c.args.self.now) c.args.self.now.user None c.args.self.now.at c.args.trnuid.now c.args.deed.now c.requires.within c.requires.sound c.requires.moment c.requires.deed c.requires.done
+
+pub perform-requires-clause-judged : goal.perform-requires-clause-judged
+perform-requires-clause-judged c = (IsAllowed-from_code c.args.setup.now (drafted c.args.ledger.now.state c.args.self.now) c.args.self.now.user None c.args.self.now.at c.args.trnuid.now c.args.deed.now c.requires.done).judged
+
+pub returns-clause-reply : goal.returns-clause-reply
+returns-clause-reply c =
+    rw c.in_ok-trnuid.ensures (done_reply-is c.args.setup.now (drafted c.args.ledger.now.state c.args.self.now) c.args.self.now.user None c.args.self.now.at c.args.trnuid.now c.args.deed.now c.in_ok-change.change c.requires.done c.in_ok-change.ensures.change)
+
+pub returns-clause-after : goal.returns-clause-after
+returns-clause-after c =
+    rw (c.in_ok-use_up.ensures, c.in_ok-uid.ensures)
+    (done_after-is c.args.setup.now c.args.ledger.now.state c.args.self.now c.perform.new.self None c.args.trnuid.now c.args.deed.now c.requires.done c.in_ok-change.ensures.added)
+
+pub returns-clause-draft : goal.returns-clause-draft
+returns-clause-draft c =
+    rw c.in_ok-use_up.ensures (IsDraft-uid c.args.setup.now c.args.ledger.now.state c.perform.new.self c.in_ok-uid.uid c.in_ok-change.ensures.added.draft)
+
+pub returns-clause-file : goal.returns-clause-file
+returns-clause-file c =
+    rw c.in_ok-use_up.ensures (IsSameFile-added c.args.setup.now c.args.ledger.now.state c.args.self.now c.perform.new.self _ c.in_ok-uid.uid c.in_ok-change.ensures.added)

@@ -1,0 +1,19 @@
+use Rattle.std.proofs.Common.{None}
+use Rattle.bank_core.specs.DraftView.{drafted}
+use Rattle.bank_core.proofs.DeedAnswers.{judged_transfer-is, judged_modify-is, judged_cancel-is}
+use Rattle.bank_core.proofs.draft.Draft.judged.Goals as goal
+
+pub returns-in-Transfer : goal.returns-in-Transfer
+returns-in-Transfer c =
+    judged_transfer-is c.args.setup.now (drafted c.args.ledger.now.state c.args.self.now) c.args.self.now.user None c.args.self.now.accounts c.args.deed.now c.in-Transfer.info c.judge_transfer.result c.source_balance-balance.result.0 c.in-Transfer.is c.requires.draft.balanced c.requires.named c.source_balance-balance.ensures
+    (rw (c.user.ensures, c.day.ensures) at c.judge_transfer.ensures)
+
+pub returns-in-ModifyTransfer : goal.returns-in-ModifyTransfer
+returns-in-ModifyTransfer c =
+    judged_modify-is c.args.setup.now (drafted c.args.ledger.now.state c.args.self.now) c.args.self.now.user None c.args.deed.now c.in-ModifyTransfer.id c.in-ModifyTransfer.info c.row-row.result c.judge_modify.result c.in-ModifyTransfer.is c.row-row.ensures
+    (rw (c.user-in-ModifyTransfer.ensures, c.day-in-ModifyTransfer.ensures) at c.judge_modify.ensures)
+
+pub returns-in-CancelTransfer : goal.returns-in-CancelTransfer
+returns-in-CancelTransfer c =
+    judged_cancel-is c.args.setup.now (drafted c.args.ledger.now.state c.args.self.now) c.args.self.now.user None c.args.deed.now c.in-CancelTransfer.id c.row-row-in-CancelTransfer.result c.judge_cancel.result c.in-CancelTransfer.is c.row-row-in-CancelTransfer.ensures
+    (rw c.user-in-CancelTransfer.ensures at c.judge_cancel.ensures)

@@ -1,0 +1,18 @@
+use Rattle.std.proofs.Common.{map, sym, subst}
+use Rattle.bank_accounts.specs.HeldAccounts.{settled}
+use Rattle.bank_core.specs.Balanced.{AreBalanced}
+use Rattle.bank_core.specs.BookView.{PreparedView}
+use Rattle.bank_core.proofs.DraftLemmas.{HaveBalances}
+use Rattle.bank_core.proofs.SettledLemmas.{HaveSameNumbers-settled, HaveBalances-settled}
+use Rattle.bank_core.proofs.prepared.Prepared.take_step.Goals as goal
+
+pub returns-clause-numbers : goal.returns-clause-numbers
+returns-clause-numbers c = rw c.settle.ensures (HaveSameNumbers-settled c.accounts.result.now c.args.held.now)
+
+pub returns-clause-balanced : goal.returns-clause-balanced
+returns-clause-balanced c =
+    let before : AreBalanced c.self.inside.setup.value c.self.inside.before.value.state c.args.held.now =
+    subst (λ (p : PreparedView). AreBalanced p.setup p.before c.args.held.now) (sym c.self.view_is) c.requires.balanced in
+    let settled_by = HaveBalances-settled c.self.inside.setup.value c.self.inside.before.value.state c.self.inside.draft c.args.held.now c.self.invariant.draft_of before in
+    let after = subst (λ (p : PreparedView). HaveBalances p.setup p.after.entries (map (settled c.self.inside.draft.accounts) c.args.held.now)) c.self.view_is settled_by in
+    rw (c.settle.ensures, c.accounts.ensures) after

@@ -1,0 +1,110 @@
+//! The rows that deeds make, and the object in whose history they stand.
+
+ghost use Rattle.std.specs.Prelude.{◌≡◌, IfOk, Some, true, is_some, int_le};
+ghost use Rattle.ofx_types.specs.Calendar.{IsDay};
+ghost use Rattle.std.specs.Option.{IfSome};
+ghost use Rattle.bank_model.specs.SetupForm.{IsWithinLimits};
+ghost use Rattle.bank_model.specs.SetupLookups.{account_of};
+ghost use Rattle.bank_model.specs.Judging as judging;
+ghost use Rattle.bank_model.specs.Deeds as deeds;
+
+use bank_model::Setup;
+use ofx_types::{
+    AcctId, AcctName, Day, Duplicate, Moment, ObjectId, OutOfMemory, TransferRow, XferCode,
+    XferInfo,
+};
+use ofx_values::midnight;
+
+/// The row of a new transfer, which is due on a business day or waits.
+#[tactic(auto, unfolding(bank_model::specs::Deeds::new_row))]
+pub(crate) fn new_row(
+    id: u64,
+    at: Moment,
+    day: Day,
+    info: &XferInfo,
+) -> Result<TransferRow, OutOfMemory>
+    requires day { IsDay day.0 }
+    requires due { IfSome info.now.due (λ due. IsDay due.0) }
+    ensures { IfOk result (λ row. row ≡ deeds.new_row id at day info.now) }
+{
+    let due = due_day(info, day);
+    let posted = is_due(due, day);
+    Ok(TransferRow {
+        id,
+        model: 0,
+        from: info.from.copy()?,
+        to: info.to.copy()?,
+        amount: info.amount,
+        due,
+        code: if posted {
+            XferCode::Posted
+        } else {
+            XferCode::Waiting
+        },
+        stamp: if posted { at } else { midnight(due) },
+    })
+}
+
+/// The row of a transfer that waits, changed on a business day.
+#[tactic(auto, unfolding(bank_model::specs::Deeds::changed_row))]
+pub(crate) fn changed_row(
+    day: Day,
+    info: &XferInfo,
+    row: &TransferRow,
+) -> Result<TransferRow, OutOfMemory>
+    requires day { IsDay day.0 }
+    requires due { IfSome info.now.due (λ due. IsDay due.0) }
+    ensures { IfOk result (λ changed. changed ≡ deeds.changed_row day info.now row.now) }
+{
+    let due = due_day(info, day);
+    Ok(TransferRow {
+        id: row.id,
+        model: row.model,
+        from: row.from.copy()?,
+        to: info.to.copy()?,
+        amount: info.amount,
+        due,
+        code: XferCode::Waiting,
+        stamp: midnight(due),
+    })
+}
+
+/// The day on which a transfer is due.
+fn due_day(info: &XferInfo, day: Day) -> Day
+    requires day { IsDay day.0 }
+    requires due { IfSome info.now.due (λ due. IsDay due.0) }
+    ensures value { result ≡ judging.due_day info.now day }
+    ensures known { IsDay result.0 }
+{
+    match info.due {
+        Some(due) => due,
+        None => day,
+    }
+}
+
+fn is_due(due: Day, day: Day) -> bool
+    ensures { result ≡ int_le due.0 day.0 }
+{
+    due.0 <= day.0
+}
+
+/// The account of that name, which the setup has.
+pub(crate) fn account_named(setup: &Setup, name: &AcctName) -> AcctId
+    requires within { IsWithinLimits setup.now }
+    requires there { is_some (account_of setup.now name.now) ≡ true }
+    ensures { account_of setup.now name.now ≡ Some result }
+{
+    match setup.account(name) {
+        Some(account) => account,
+        None => unreachable!(),
+    }
+}
+
+/// The object of the transfers out of the account of that name.
+pub(crate) fn object_of(setup: &Setup, source: &AcctName) -> ObjectId
+    requires within { IsWithinLimits setup.now }
+    requires there { is_some (account_of setup.now source.now) ≡ true }
+    ensures { result ≡ deeds.object_of setup.now source.now }
+{
+    ObjectId(3 * account_named(setup, source).0)
+}

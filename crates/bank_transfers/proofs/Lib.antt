@@ -1,0 +1,4 @@
+pub mod GrowthLemmas
+pub mod StandsLemmas
+pub mod LineLemmas
+pub mod TogetherLemmas

@@ -1,0 +1,4 @@
+pub mod TransfersView
+pub mod Held
+pub mod Growth
+pub mod Together

@@ -1,0 +1,219 @@
+//! What is refused of a transfer, of its change and of its cancellation (OFX 1.6, "Intrabank Funds Transfer").
+
+ghost use Rattle.std.specs.Prelude.{◌≡◌, ◌∷◌, [], not, ℤ, pos, int_lt, int_le, unwrap_or};
+ghost use Rattle.std.specs.Option.{option_map};
+ghost use Rattle.ofx_types.specs.AccountForm.{same_account};
+ghost use Rattle.bank_model.specs.SetupForm.{IsWithinLimits};
+ghost use Rattle.bank_model.specs.Judging as rules;
+ghost use Rattle.bank_model.specs.Judging.{refused, first_of, transfer_code, modify_code, cancel_code};
+
+use bank_model::Setup;
+use ofx_types::{AcctId, AcctName, Cents, Day, TransferRow, UserId, XferCode, XferInfo};
+
+/// Nothing is refused.
+const DONE: u16 = 0;
+
+/// The source isn't an account of the user, or isn't the transfer's.
+const SOURCE_NOT_FOUND: u16 = 2006;
+
+/// The destination isn't an account of the bank, or is the source.
+const DESTINATION_NOT_FOUND: u16 = 2009;
+
+/// The amount isn't positive.
+const INVALID_AMOUNT: u16 = 2012;
+
+/// The day is absent, or isn't after the business day.
+const DATE_TOO_SOON: u16 = 2014;
+
+/// The transfer is posted, or closed without funds.
+const ALREADY_COMMITTED: u16 = 2016;
+
+/// The transfer is cancelled.
+const ALREADY_CANCELED: u16 = 2017;
+
+/// There is no transfer with this id out of an account of the user.
+const UNKNOWN_SERVER_ID: u16 = 2018;
+
+/// The transfer is due and its source has no cover.
+const INSUFFICIENT_FUNDS: u16 = 10504;
+
+/// The code of a transfer that a user asks for on a business day, when its source has that balance.
+///
+/// Where the deed stands in the synchronisation of one account, `only` is that account. Takes no memory.
+#[tactic(auto, unfolding(bank_model::specs::Judging::transfer_code))]
+pub fn judge_transfer(
+    setup: &Setup,
+    user: UserId,
+    only: Option<AcctId>,
+    info: &XferInfo,
+    day: Day,
+    balance: Cents,
+) -> u16
+    requires { IsWithinLimits setup.now }
+    ensures { result ≡ transfer_code setup.now user only info.now day balance.0 }
+{
+    if !is_own(setup, user, only, &info.from) {
+        return SOURCE_NOT_FOUND;
+    }
+    if !is_destination(setup, info) {
+        return DESTINATION_NOT_FOUND;
+    }
+    if !is_positive(info) {
+        return INVALID_AMOUNT;
+    }
+    if is_due(info, day) && balance.0 < info.amount.0 {
+        return INSUFFICIENT_FUNDS;
+    }
+    DONE
+}
+
+/// The code of a change of the transfer that has that row, on a business day. Takes no memory.
+#[tactic(auto, unfolding(bank_model::specs::Judging::modify_code))]
+pub fn judge_modify(
+    setup: &Setup,
+    user: UserId,
+    only: Option<AcctId>,
+    row: Option<&TransferRow>,
+    info: &XferInfo,
+    day: Day,
+) -> u16
+    requires { IsWithinLimits setup.now }
+    ensures { result ≡ modify_code setup.now user only (option_map (λ r. r.now) row.entry) info.now day }
+{
+    match row {
+        Some(found) => change_code(setup, user, only, found, info, day),
+        None => UNKNOWN_SERVER_ID,
+    }
+}
+
+/// The code of a cancellation of the transfer that has that row. Takes no memory.
+#[tactic(auto, unfolding(bank_model::specs::Judging::cancel_code))]
+pub fn judge_cancel(
+    setup: &Setup,
+    user: UserId,
+    only: Option<AcctId>,
+    row: Option<&TransferRow>,
+) -> u16
+    requires { IsWithinLimits setup.now }
+    ensures { result ≡ cancel_code setup.now user only (option_map (λ r. r.now) row.entry) }
+{
+    match row {
+        Some(found) => standing_code(setup, user, only, found),
+        None => UNKNOWN_SERVER_ID,
+    }
+}
+
+/// What is refused of a change of a transfer that there is.
+#[tactic(auto, unfolding(bank_model::specs::Judging::modify_code, bank_model::specs::Judging::cancel_code))]
+fn change_code(
+    setup: &Setup,
+    user: UserId,
+    only: Option<AcctId>,
+    found: &TransferRow,
+    info: &XferInfo,
+    day: Day,
+) -> u16
+    requires { IsWithinLimits setup.now }
+    ensures { result ≡ modify_code setup.now user only (Some found.now) info.now day }
+{
+    match standing_code(setup, user, only, found) {
+        DONE => asked_code(setup, found, info, day),
+        refusal => refusal,
+    }
+}
+
+/// What is refused of a change for what it asks.
+fn asked_code(setup: &Setup, found: &TransferRow, info: &XferInfo, day: Day) -> u16
+    requires { IsWithinLimits setup.now }
+    ensures { result ≡ first_of (
+        refused 2006 (not (same_account info.now.from found.now.from))
+        ∷ refused 2009 (not (rules.is_destination setup.now info.now))
+        ∷ refused 2012 (not (rules.is_positive info.now))
+        ∷ refused 2014 (not (rules.is_after info.now.due day))
+        ∷ []) }
+{
+    if info.from != found.from {
+        return SOURCE_NOT_FOUND;
+    }
+    if !is_destination(setup, info) {
+        return DESTINATION_NOT_FOUND;
+    }
+    if !is_positive(info) {
+        return INVALID_AMOUNT;
+    }
+    if !is_after(info.due, day) {
+        return DATE_TOO_SOON;
+    }
+    DONE
+}
+
+/// What a change and a cancellation refuse alike.
+#[tactic(auto, unfolding(bank_model::specs::Judging::cancel_code))]
+fn standing_code(setup: &Setup, user: UserId, only: Option<AcctId>, found: &TransferRow) -> u16
+    requires { IsWithinLimits setup.now }
+    ensures { result ≡ cancel_code setup.now user only (Some found.now) }
+{
+    if !is_own(setup, user, only, &found.from) {
+        return UNKNOWN_SERVER_ID;
+    }
+    match found.code {
+        XferCode::Waiting => DONE,
+        XferCode::Posted | XferCode::NoFunds => ALREADY_COMMITTED,
+        XferCode::Cancelled => ALREADY_CANCELED,
+    }
+}
+
+/// Whether the account of this name is the user's, and the only one that counts.
+fn is_own(setup: &Setup, user: UserId, only: Option<AcctId>, name: &AcctName) -> bool
+    requires { IsWithinLimits setup.now }
+    ensures { result ≡ rules.is_own setup.now user only name.now }
+{
+    match setup.account(name) {
+        Some(account) => setup.owns(user, account) && is_only(only, account),
+        None => false,
+    }
+}
+
+/// Whether it is the account that alone counts, where there is such a one.
+fn is_only(only: Option<AcctId>, account: AcctId) -> bool
+    ensures { result ≡ rules.is_only only account }
+{
+    match only {
+        Some(only) => only.0 == account.0,
+        None => true,
+    }
+}
+
+/// Whether the destination is an account of the bank, and not the source.
+fn is_destination(setup: &Setup, info: &XferInfo) -> bool
+    requires { IsWithinLimits setup.now }
+    ensures { result ≡ rules.is_destination setup.now info.now }
+{
+    setup.account(&info.to).is_some() && info.to != info.from
+}
+
+fn is_positive(info: &XferInfo) -> bool
+    ensures { result ≡ rules.is_positive info.now }
+{
+    info.amount.0 > 0
+}
+
+/// Whether it is due on or before the business day, as it is without a day.
+fn is_due(info: &XferInfo, day: Day) -> bool
+    ensures { result ≡ rules.is_due info.now day }
+{
+    match info.due {
+        Some(due) => due.0 <= day.0,
+        None => true,
+    }
+}
+
+/// Whether a day stands, and is after the business day.
+fn is_after(due: Option<Day>, day: Day) -> bool
+    ensures { result ≡ rules.is_after due day }
+{
+    match due {
+        Some(due) => day.0 < due.0,
+        None => false,
+    }
+}

@@ -1,0 +1,203 @@
+-- The documents of transfer requests and their replies: they print the forms, and those of sound ones are lawful.
+use Rattle.std.proofs.Common.{◌≡◌, ℕ, ◌-◌, ◌<◌, Bool, true, false, cond, nat_eq, List, [], ◌++◌, codes, Option, None, Some, ℤ, refl, ◌∙◌, arith, append-nil}
+use Rattle.std.proofs.lemmas.Int.{ints}
+use Rattle.std.specs.Option.{IfSome}
+use Rattle.std.specs.Fmt.{decimal}
+use Rattle.ofx_types.specs.Calendar.{IsMoment, IsDay, midnight}
+use Rattle.ofx_types.specs.Sheet as sheet
+use Rattle.ofx_types.specs.TransferForm.{code_word, info_of}
+use Rattle.ofx_types.specs.TransferText as text
+use Rattle.ofx_types.specs.declared.account.AcctName.{AcctName}
+use Rattle.ofx_types.specs.declared.number.Day.{Day}
+use Rattle.ofx_types.specs.declared.number.Moment.{Moment}
+use Rattle.ofx_types.specs.declared.transfer.XferInfo.{XferInfo}
+use Rattle.ofx_types.specs.declared.transfer.Deed.{Deed}
+use Rattle.ofx_types.specs.declared.transfer.Deed.TheVariants.{Transfer, ModifyTransfer, CancelTransfer}
+use Rattle.ofx_types.specs.declared.transfer.XferCode.{XferCode}
+use Rattle.ofx_types.specs.declared.transfer.XferCode.TheVariants.{Waiting, Posted, NoFunds, Cancelled}
+use Rattle.ofx_types.specs.declared.transfer.TransferRow.{TransferRow}
+use Rattle.ofx_types.specs.declared.transfer.Change.{Change}
+use Rattle.ofx_types.specs.declared.transfer.Change.TheVariants.{NewTransfer, SetTransfer, DropTransfer}
+use Rattle.ofx_types.specs.declared.transfer.DeedReply.{DeedReply}
+use Rattle.ofx_tree.specs.PrintedForm.{IsElementName}
+use Rattle.ofx_tree.specs.Documents.{Documents, empty, leaf, branch, printed, AreLawful, IsLeaf, IsBranch}
+use Rattle.ofx_tree.proofs.Leaves.{amount_leaf, moment_leaf, number_leaf}
+use Rattle.msg_bank.specs.AsDocuments.{account_documents}
+use Rattle.msg_bank.specs.DeedsAsDocuments.{due_document, info_documents, request_name, request_documents, deed_documents, processing_documents, model_document, set_documents, change_name, change_documents, change_document, deed_reply_documents, DeedsAreDocuments, DeedsAreLawful, DeedRepliesAreDocuments, DeedRepliesAreLawful}
+use Rattle.msg_bank.specs.Sound.{IsSoundId, IsSoundDay, IsSoundMoment, IsSoundInfo, IsSoundDeed, IsSoundDeedRequest, IsSoundRow, IsSoundChange, IsSoundChangeByCode, IsSoundDeedReply}
+use Rattle.msg_bank.proofs.Lawful.{named, is_branch, text_leaf, currency_leaf, account_lawful, status_lawful}
+use Rattle.msg_bank.proofs.PrintedDocuments.{account_printed, status_printed}
+
+-- ---- with a recurring transfer or with none
+
+abbrev model_with : (is_none : Bool) → ℕ → Documents → Documents
+model_with is_none model behind = cond is_none behind (leaf (codes "RECSRVRTID") (decimal model) behind)
+
+-- the documents of a new transfer, by whether its model is 0
+abbrev pub new_with : (is_none : Bool) → TransferRow → Documents
+new_with is_none row =
+    leaf (codes "CURDEF") (codes "USD")
+    (leaf (codes "SRVRTID") (decimal row.id)
+    (branch (codes "XFERINFO") (info_documents (info_of row))
+    (model_with is_none row.model (branch (codes "XFERPRCSTS") (processing_documents row.code row.stamp) empty))))
+
+-- ---- they print the forms
+
+account_to_printed : (account : AcctName) → sheet.aggregate (codes "BANKACCTTO") (printed (account_documents account)) ≡ text.account_to account
+unfolding text.account_to
+account_to_printed account = rw append-nil refl
+
+due_printed : (due : Option Day) → printed (due_document due) ≡ text.due_text due
+unfolding text.due_text
+due_printed None = refl
+due_printed (Some day) = append-nil _
+
+info_printed : (info : XferInfo) → sheet.aggregate (codes "XFERINFO") (printed (info_documents info)) ≡ text.info_text info
+unfolding text.info_text
+info_printed info = rw (account_printed info.from, account_to_printed info.to, due_printed info.due) refl
+
+request_printed : (deed : Deed) → sheet.aggregate (request_name deed) (printed (request_documents deed)) ≡ text.request_text deed
+unfolding text.request_text
+request_printed (Transfer info) = rw (append-nil, info_printed info) refl
+request_printed (ModifyTransfer id info) = rw (append-nil, info_printed info) refl
+request_printed (CancelTransfer id) = rw append-nil refl
+
+pub deeds_printed : DeedsAreDocuments
+unfolding text.deed_text
+deeds_printed trnuid deed behind = rw (append-nil (sheet.aggregate (request_name deed) (printed (request_documents deed))), request_printed deed) refl
+
+processing_printed : (code : XferCode) (stamp : Moment) → sheet.aggregate (codes "XFERPRCSTS") (printed (processing_documents code stamp)) ≡ text.processing_text code stamp
+unfolding text.processing_text
+processing_printed code stamp = rw append-nil refl
+
+model_with-printed : (is_none : Bool) (model : ℕ) (behind : Documents) →
+    printed (model_with is_none model behind) ≡ cond is_none [] (text.id_text (codes "RECSRVRTID") model) ++ printed behind
+model_with-printed true model behind = refl
+model_with-printed false model behind = refl
+
+model_printed : (model : ℕ) (behind : Documents) → printed (model_document model behind) ≡ text.model_text model ++ printed behind
+unfolding text.model_text
+model_printed model behind = model_with-printed (nat_eq model 0) model behind
+
+change_printed : (change : Change) → sheet.aggregate (change_name change) (printed (change_documents change)) ≡ text.change_text change
+unfolding text.change_text
+change_printed (NewTransfer row) =
+    rw (info_printed (info_of row), model_printed row.model (branch (codes "XFERPRCSTS") (processing_documents row.code row.stamp) empty), processing_printed row.code row.stamp, append-nil) refl
+change_printed (SetTransfer row) = rw (info_printed (info_of row), processing_printed row.code row.stamp, append-nil) refl
+change_printed (DropTransfer id) = rw append-nil refl
+
+maybe_change_printed : (change : Option Change) → printed (change_document change) ≡ text.maybe_change_text change
+unfolding text.maybe_change_text
+maybe_change_printed None = refl
+maybe_change_printed (Some change) = append-nil _ ∙ change_printed change
+
+pub deed_replies_printed : DeedRepliesAreDocuments
+unfolding text.deed_reply_text
+deed_replies_printed reply behind = rw (status_printed reply.code, maybe_change_printed reply.change) refl
+
+-- ---- they are lawful
+
+pub IsMoment-midnight : (day : ℤ) → IsDay day → IsMoment (midnight day)
+IsMoment-midnight day is = (omega (arith, ints), omega (arith, ints))
+
+pub code_leaf : (code : XferCode) → IsLeaf (codes "XFERPRCCODE") (code_word code)
+code_leaf Waiting = record { has_name = named (codes "XFERPRCCODE") refl refl; is_text = record { is_trimmed = refl; is_clean = refl; is_short = omega arith }; is_there = omega arith }
+code_leaf Posted = record { has_name = named (codes "XFERPRCCODE") refl refl; is_text = record { is_trimmed = refl; is_clean = refl; is_short = omega arith }; is_there = omega arith }
+code_leaf NoFunds = record { has_name = named (codes "XFERPRCCODE") refl refl; is_text = record { is_trimmed = refl; is_clean = refl; is_short = omega arith }; is_there = omega arith }
+code_leaf Cancelled = record { has_name = named (codes "XFERPRCCODE") refl refl; is_text = record { is_trimmed = refl; is_clean = refl; is_short = omega arith }; is_there = omega arith }
+
+pub id_leaf : (name : List ℕ) (id : ℕ) → IsElementName name → IsSoundId id → IsLeaf name (decimal id)
+id_leaf name id n h = number_leaf name id n (omega (arith, h))
+
+due_lawful : (room : ℕ) (due : Option Day) → IfSome due IsSoundDay → AreLawful room (due_document due)
+due_lawful room None h = tt
+due_lawful room (Some day) h = (moment_leaf (codes "DTDUE") (midnight day.0) (named (codes "DTDUE") refl refl) (IsMoment-midnight day.0 h), tt)
+
+pub info_lawful : (room : ℕ) (info : XferInfo) → 0 < room → IsSoundInfo info → AreLawful room (info_documents info)
+info_lawful room info some i = (
+  is_branch (codes "BANKACCTFROM") refl refl refl,
+  some,
+  account_lawful (room - 1) info.from i.from,
+  (
+    is_branch (codes "BANKACCTTO") refl refl refl,
+    some,
+    account_lawful (room - 1) info.to i.to,
+    (amount_leaf (codes "TRNAMT") info.amount.0 (named (codes "TRNAMT") refl refl) i.amount, due_lawful room info.due i.due),
+  ),
+)
+
+-- XFERINFO in front of more
+pub info_in_lawful : (room : ℕ) (info : XferInfo) (behind : Documents) → 1 < room → IsSoundInfo info → AreLawful room behind →
+    AreLawful room (branch (codes "XFERINFO") (info_documents info) behind)
+info_in_lawful room info behind some i more =
+    (is_branch (codes "XFERINFO") refl refl refl, omega arith, info_lawful (room - 1) info (omega arith) i, more)
+
+request_branch : (deed : Deed) → IsBranch (request_name deed)
+request_branch (Transfer info) = is_branch (codes "INTRARQ") refl refl refl
+request_branch (ModifyTransfer id info) = is_branch (codes "INTRAMODRQ") refl refl refl
+request_branch (CancelTransfer id) = is_branch (codes "INTRACANRQ") refl refl refl
+
+pub request_lawful : (room : ℕ) (deed : Deed) → 1 < room → IsSoundDeed deed → AreLawful room (request_documents deed)
+request_lawful room (Transfer info) some d = info_in_lawful room info empty some d tt
+request_lawful room (ModifyTransfer id info) some d =
+    (id_leaf (codes "SRVRTID") id (named (codes "SRVRTID") refl refl) d.0, info_in_lawful room info empty some d.1 tt)
+request_lawful room (CancelTransfer id) some d = (id_leaf (codes "SRVRTID") id (named (codes "SRVRTID") refl refl) d, tt)
+
+pub deed_lawful : (room : ℕ) (trnuid : List ℕ) (deed : Deed) → 2 < room → IsSoundDeedRequest trnuid deed → AreLawful room (deed_documents trnuid deed)
+deed_lawful room trnuid deed some d = (
+  text_leaf (codes "TRNUID") 36 trnuid (named (codes "TRNUID") refl refl) d.is_uid,
+  (request_branch deed, omega arith, request_lawful (room - 1) deed (omega arith) d.is_deed, tt),
+)
+
+pub deeds_lawful : DeedsAreLawful
+deeds_lawful room trnuid deed behind some d more =
+    (is_branch (codes "INTRATRNRQ") refl refl refl, omega arith, deed_lawful (room - 1) trnuid deed (omega arith) d, more)
+
+pub processing_lawful : (room : ℕ) (code : XferCode) (stamp : Moment) → IsSoundMoment stamp → AreLawful room (processing_documents code stamp)
+processing_lawful room code stamp m = (code_leaf code, (moment_leaf (codes "DTXFERPRC") stamp.0 (named (codes "DTXFERPRC") refl refl) m, tt))
+
+-- XFERPRCSTS as the last
+processing_in_lawful : (room : ℕ) (row : TransferRow) → 0 < room → IsSoundRow row →
+    AreLawful room (branch (codes "XFERPRCSTS") (processing_documents row.code row.stamp) empty)
+processing_in_lawful room row some r =
+    (is_branch (codes "XFERPRCSTS") refl refl refl, some, processing_lawful (room - 1) row.code row.stamp r.stamp, tt)
+
+model_lawful : (room : ℕ) (is_none : Bool) (model : ℕ) (behind : Documents) → IsSoundId model → AreLawful room behind →
+    AreLawful room (model_with is_none model behind)
+model_lawful room true model behind h more = more
+model_lawful room false model behind h more = (id_leaf (codes "RECSRVRTID") model (named (codes "RECSRVRTID") refl refl) h, more)
+
+pub new_lawful : (room : ℕ) (is_none : Bool) (row : TransferRow) → 1 < room → IsSoundRow row → IsSoundId row.model → AreLawful room (new_with is_none row)
+new_lawful room is_none row some r m = (
+  currency_leaf,
+  (id_leaf (codes "SRVRTID") row.id (named (codes "SRVRTID") refl refl) r.id, info_in_lawful room (info_of row) _ some r.info (model_lawful room is_none row.model _ m (processing_in_lawful room row (omega arith) r))),
+)
+
+pub set_lawful : (room : ℕ) (row : TransferRow) → 1 < room → IsSoundRow row → AreLawful room (set_documents row)
+set_lawful room row some r =
+    (id_leaf (codes "SRVRTID") row.id (named (codes "SRVRTID") refl refl) r.id, info_in_lawful room (info_of row) (branch (codes "XFERPRCSTS") (processing_documents row.code row.stamp) empty) some r.info (processing_in_lawful room row (omega arith) r))
+
+change_branch : (change : Change) → IsBranch (change_name change)
+change_branch (NewTransfer row) = is_branch (codes "INTRARS") refl refl refl
+change_branch (SetTransfer row) = is_branch (codes "INTRAMODRS") refl refl refl
+change_branch (DropTransfer id) = is_branch (codes "INTRACANRS") refl refl refl
+
+pub change_lawful : (room : ℕ) (change : Change) → 1 < room → IsSoundChange change → AreLawful room (change_documents change)
+change_lawful room (NewTransfer row) some c = new_lawful room (nat_eq row.model 0) row some c.0 c.1
+change_lawful room (SetTransfer row) some c = set_lawful room row some c
+change_lawful room (DropTransfer id) some c = (id_leaf (codes "SRVRTID") id (named (codes "SRVRTID") refl refl) c, tt)
+
+maybe_change_lawful : (room code : ℕ) (change : Option Change) → 2 < room → IsSoundChangeByCode code change → AreLawful room (change_document change)
+maybe_change_lawful room code None some c = tt
+maybe_change_lawful room code (Some change) some c = (change_branch change, omega arith, change_lawful (room - 1) change (omega arith) c.1, tt)
+
+pub deed_reply_lawful : (room : ℕ) (reply : DeedReply) → 2 < room → IsSoundDeedReply reply →
+    AreLawful room (deed_reply_documents reply.trnuid reply.code reply.change)
+deed_reply_lawful room reply some r = (
+  text_leaf (codes "TRNUID") 36 reply.trnuid (named (codes "TRNUID") refl refl) r.is_uid,
+  (is_branch (codes "STATUS") refl refl refl, omega arith, status_lawful (room - 1) reply.code r.is_code, maybe_change_lawful room reply.code reply.change some r.is_change),
+)
+
+pub deed_replies_lawful : DeedRepliesAreLawful
+deed_replies_lawful room reply behind some r more =
+    (is_branch (codes "INTRATRNRS") refl refl refl, omega arith, deed_reply_lawful (room - 1) reply (omega arith) r, more)

@@ -1,0 +1,149 @@
+-- Sound transfer replies read back as they were written, a changed row with model 0.
+use Rattle.std.proofs.Common.{◌≡◌, ◌≢◌, ℕ, inl, inr, Bool, true, false, not, ◌&&◌, nat_eq, filter, List, [], codes, Option, None, Some, refl, ap, ◌∙◌, arith}
+use Rattle.std.proofs.lemmas.Grind.{common_steps}
+use Rattle.std.specs.Fmt.{decimal}
+use Rattle.std.specs.Option.{option_map}
+use Rattle.ofx_types.specs.FormWords.{has_name, is_absent, IsOnly}
+use Rattle.ofx_types.specs.Nodes.{Item}
+use Rattle.ofx_types.specs.TagNames.{is_one_of}
+use Rattle.ofx_types.specs.ReplyReading.{code_of, status_of}
+use Rattle.ofx_types.specs.TransferForm.{info_of, code_word, IsProcessing, IsRow, transfer_replies, IsTransferReply, IsChangeByCode}
+use Rattle.ofx_types.specs.declared.number.Moment.{Moment}
+use Rattle.ofx_types.specs.declared.transfer.XferCode.{XferCode}
+use Rattle.ofx_types.specs.declared.transfer.XferCode.TheVariants.{Cancelled}
+use Rattle.ofx_types.specs.declared.transfer.TransferRow.{TransferRow}
+use Rattle.ofx_types.specs.declared.transfer.Change.{Change}
+use Rattle.ofx_types.specs.declared.transfer.Change.TheVariants.{NewTransfer, SetTransfer, DropTransfer}
+use Rattle.ofx_tree.specs.Documents.{leaf_item, branch_item, items_of}
+use Rattle.ofx_tree.proofs.FormLaws.{bind_to, one_again, text_in_found, moment_in_found}
+use Rattle.ofx_tree.proofs.DocumentItems.{children_of_branch, named_of_branch, value_of_leaf}
+use Rattle.ofx_tree.proofs.Leaves.{text_of_leaf, moment_of_leaf}
+use Rattle.msg_bank.specs.DeedsAsDocuments.{info_documents, processing_documents, set_documents, change_name, change_documents, change_document, deed_reply_documents, DeedRepliesReadBack}
+use Rattle.msg_bank.specs.Sound.{IsSoundId, IsSoundMoment, IsSoundRow, IsSoundChange, IsSoundChangeByCode}
+use Rattle.msg_bank.specs.Wire.{without_model, wire_change, wire}
+use Rattle.msg_bank.proofs.Lawful.{named}
+use Rattle.msg_bank.proofs.Statuses.{status_found}
+use Rattle.msg_bank.proofs.RepliesBack.{statuses_back}
+use Rattle.msg_bank.proofs.DeedReplies.{reply_again}
+use Rattle.msg_bank.proofs.DeedDocuments.{new_with, code_leaf, processing_lawful, new_lawful, set_lawful, change_lawful, deed_reply_lawful}
+use Rattle.msg_bank.proofs.DeedsBack.{is_id_of_leaf, only_in_front, info_stands}
+
+-- ---- how far a transfer is
+
+processing_stands : (place index : ℕ) (parent : Item) (code : XferCode) (stamp : Moment) → code ≢ Cancelled → IsSoundMoment stamp →
+    IsOnly (codes "XFERPRCSTS") parent (branch_item place index (codes "XFERPRCSTS") (processing_documents code stamp)) → IsProcessing parent code stamp
+processing_stands place index parent code stamp told m only =
+    let inner = processing_documents code stamp in
+    let lawful = processing_lawful 0 code stamp m in
+    let item = branch_item place index (codes "XFERPRCSTS") inner in
+    record {
+      xferprcsts = item;
+      has_xferprcsts = only;
+      word = _;
+      has_word = named_of_branch place index 0 (codes "XFERPRCSTS") (codes "XFERPRCCODE") inner lawful;
+      is_word = (value_of_leaf 0 0 (codes "XFERPRCCODE") (code_word code) (code_leaf code)).0;
+      is_told = told;
+      has_stamp = moment_in_found (codes "DTXFERPRC") item stamp (moment_of_leaf (codes "DTXFERPRC") stamp _ _ item (named (codes "DTXFERPRC") refl refl) m (named_of_branch place index 0 (codes "XFERPRCSTS") (codes "DTXFERPRC") inner lawful));
+    }
+
+-- ---- rows
+
+-- what INTRARS and INTRAMODRS share
+row_stands : (first one second two third three : ℕ) (reply : Item) (row : TransferRow) → IsSoundRow row
+    → IsOnly (codes "SRVRTID") reply (leaf_item first one (codes "SRVRTID") (decimal row.id))
+    → IsOnly (codes "XFERINFO") reply (branch_item second two (codes "XFERINFO") (info_documents (info_of row)))
+    → IsOnly (codes "XFERPRCSTS") reply (branch_item third three (codes "XFERPRCSTS") (processing_documents row.code row.stamp))
+    → IsRow reply row
+row_stands first one second two third three reply row r id info processing = record {
+  id = is_id_of_leaf (codes "SRVRTID") row.id first one reply (named (codes "SRVRTID") refl refl) r.id id;
+  info = (_, info, info_stands second two (info_of row) r.info);
+  processing = processing_stands third three reply row.code row.stamp r.told r.stamp processing;
+}
+
+new_stands : (place index : ℕ) (is_none : Bool) (row : TransferRow) → nat_eq row.model 0 ≡ is_none → IsSoundRow row → IsSoundId row.model →
+    IsTransferReply (branch_item place index (codes "INTRARS") (new_with is_none row)) (NewTransfer row)
+new_stands place index true row none r m =
+    let inner = new_with true row in
+    let lawful = new_lawful 2 true row (omega arith) r m in
+    let item = branch_item place index (codes "INTRARS") inner in
+    let stands = row_stands _ _ _ _ _ _ item row r
+    (named_of_branch place index 2 (codes "INTRARS") (codes "SRVRTID") inner lawful)
+    (named_of_branch place index 2 (codes "INTRARS") (codes "XFERINFO") inner lawful)
+    (named_of_branch place index 2 (codes "INTRARS") (codes "XFERPRCSTS") inner lawful) in
+    let zero : row.model ≡ 0 = grind (arith, common_steps, none) in
+    (refl, stands, inl (named_of_branch place index 2 (codes "INTRARS") (codes "RECSRVRTID") inner lawful, zero))
+new_stands place index false row some r m =
+    let inner = new_with false row in
+    let lawful = new_lawful 2 false row (omega arith) r m in
+    let item = branch_item place index (codes "INTRARS") inner in
+    let stands = row_stands _ _ _ _ _ _ item row r
+    (named_of_branch place index 2 (codes "INTRARS") (codes "SRVRTID") inner lawful)
+    (named_of_branch place index 2 (codes "INTRARS") (codes "XFERINFO") inner lawful)
+    (named_of_branch place index 2 (codes "INTRARS") (codes "XFERPRCSTS") inner lawful) in
+    (refl, stands, inr (is_id_of_leaf (codes "RECSRVRTID") row.model _ _ item (named (codes "RECSRVRTID") refl refl) m (named_of_branch place index 2 (codes "INTRARS") (codes "RECSRVRTID") inner lawful)))
+
+set_stands : (place index : ℕ) (row : TransferRow) → IsSoundRow row →
+    IsTransferReply (branch_item place index (codes "INTRAMODRS") (set_documents row)) (SetTransfer (without_model row))
+set_stands place index row r =
+    let inner = set_documents row in
+    let lawful = set_lawful 2 row (omega arith) r in
+    let item = branch_item place index (codes "INTRAMODRS") inner in
+    let stands = row_stands _ _ _ _ _ _ item row r
+    (named_of_branch place index 2 (codes "INTRAMODRS") (codes "SRVRTID") inner lawful)
+    (named_of_branch place index 2 (codes "INTRAMODRS") (codes "XFERINFO") inner lawful)
+    (named_of_branch place index 2 (codes "INTRAMODRS") (codes "XFERPRCSTS") inner lawful) in
+    (refl, record { id = stands.id; info = stands.info; processing = stands.processing }, refl)
+
+-- ---- changes
+
+change_stands : (place index : ℕ) (change : Change) → IsSoundChange change → IsTransferReply (branch_item place index (change_name change) (change_documents change)) (wire_change change)
+change_stands place index (NewTransfer row) c = new_stands place index (nat_eq row.model 0) row refl c.0 c.1
+change_stands place index (SetTransfer row) c = set_stands place index row c
+change_stands place index (DropTransfer id) c =
+    let inner = change_documents (DropTransfer id) in
+    let lawful = change_lawful 2 (DropTransfer id) (omega arith) c in
+    let item = branch_item place index (codes "INTRACANRS") inner in
+    (refl, is_id_of_leaf (codes "SRVRTID") id _ _ item (named (codes "SRVRTID") refl refl) c (named_of_branch place index 2 (codes "INTRACANRS") (codes "SRVRTID") inner lawful))
+
+-- ---- INTRATRNRS
+
+abbrev reply_item : ℕ → ℕ → List ℕ → ℕ → Option Change → Item
+reply_item place index trnuid code change = branch_item place index (codes "INTRATRNRS") (deed_reply_documents trnuid code change)
+
+-- those with the name of a reply
+abbrev replies_of : List Item → List Item
+replies_of items = filter (λ child. is_one_of transfer_replies child.node.name && not (is_absent child.node)) items
+
+change_by_code_stands : (place index : ℕ) (trnuid : List ℕ) (code : ℕ) (change : Option Change) → IsSoundChangeByCode code change →
+    IsChangeByCode code (reply_item place index trnuid code change) (option_map wire_change change)
+change_by_code_stands place index trnuid code None c = c
+change_by_code_stands place index trnuid code (Some (NewTransfer row)) c =
+    (c.0, (_, ap replies_of (children_of_branch place index (codes "INTRATRNRS") (deed_reply_documents trnuid code (Some (NewTransfer row)))), change_stands _ _ (NewTransfer row) c.1))
+change_by_code_stands place index trnuid code (Some (SetTransfer row)) c =
+    (c.0, (_, ap replies_of (children_of_branch place index (codes "INTRATRNRS") (deed_reply_documents trnuid code (Some (SetTransfer row)))), change_stands _ _ (SetTransfer row) c.1))
+change_by_code_stands place index trnuid code (Some (DropTransfer id)) c =
+    (c.0, (_, ap replies_of (children_of_branch place index (codes "INTRATRNRS") (deed_reply_documents trnuid code (Some (DropTransfer id)))), change_stands _ _ (DropTransfer id) c.1))
+
+-- no change has the name of the uid or of the status
+other_names : (change : Option Change) (place index : ℕ) →
+    (filter (λ item. has_name (codes "TRNUID") item) (items_of place index (change_document change)) ≡ [])
+    × (filter (λ item. has_name (codes "STATUS") item) (items_of place index (change_document change)) ≡ [])
+other_names None place index = (refl, refl)
+other_names (Some (NewTransfer row)) place index = (refl, refl)
+other_names (Some (SetTransfer row)) place index = (refl, refl)
+other_names (Some (DropTransfer id)) place index = (refl, refl)
+
+pub deed_replies_back : DeedRepliesReadBack
+unfolding status_of
+deed_replies_back place index reply r =
+    let inner = deed_reply_documents reply.trnuid reply.code reply.change in
+    let item = reply_item place index reply.trnuid reply.code reply.change in
+    let lawful = deed_reply_lawful 3 reply (omega arith) r in
+    let uid = only_in_front (codes "TRNUID") item _ (change_document reply.change) _ _ (other_names reply.change _ _).0 (named_of_branch place index 3 (codes "INTRATRNRS") (codes "TRNUID") inner lawful) in
+    let status = only_in_front (codes "STATUS") item _ (change_document reply.change) _ _ (other_names reply.change _ _).1 (named_of_branch place index 3 (codes "INTRATRNRS") (codes "STATUS") inner lawful) in
+    reply_again item (wire reply) (record {
+      has_trnuid = text_in_found (codes "TRNUID") 36 item reply.trnuid (text_of_leaf (codes "TRNUID") reply.trnuid 36 _ _ item lawful.0 r.is_uid.is_within uid);
+      has_status = status_found item reply.code (bind_to _ code_of _ (one_again (codes "STATUS") item _ status) ∙ statuses_back _ _ reply.code r.is_code);
+      is_change = change_by_code_stands place index reply.trnuid reply.code reply.change r.is_change;
+      family = r.is_intra;
+    })

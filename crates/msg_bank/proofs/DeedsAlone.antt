@@ -1,0 +1,25 @@
+-- Transfer requests and replies that are written alone between the tags of OFX read back.
+use Rattle.std.proofs.Common.{◌∙◌, codes, arith, append-nil}
+use Rattle.ofx_types.specs.TransferReading.{deed_of, deed_reply_of}
+use Rattle.ofx_types.specs.TransferText.{deed_text, deed_reply_text}
+use Rattle.ofx_tree.specs.Documents.{empty}
+use Rattle.msg_bank.specs.DeedsAsDocuments.{deed_documents, deed_reply_documents, DeedsReadBackAlone, DeedRepliesReadBackAlone}
+use Rattle.msg_bank.specs.Wire.{wire}
+use Rattle.msg_bank.proofs.Alone.{read_alone}
+use Rattle.msg_bank.proofs.DeedDocuments.{deeds_printed, deeds_lawful, deed_replies_printed, deed_replies_lawful}
+use Rattle.msg_bank.proofs.DeedsBack.{deeds_back}
+use Rattle.msg_bank.proofs.DeedRepliesBack.{deed_replies_back}
+
+pub deeds_alone : DeedsReadBackAlone
+deeds_alone trnuid deed d =
+    read_alone (codes "INTRATRNRQ") (deed_text trnuid deed) (deed_documents trnuid deed) deed_of (trnuid, deed)
+    (deeds_printed trnuid deed empty ∙ append-nil (deed_text trnuid deed))
+    (deeds_lawful 15 trnuid deed empty (omega arith) d tt)
+    (λ place index. deeds_back place index trnuid deed d)
+
+pub deed_replies_alone : DeedRepliesReadBackAlone
+deed_replies_alone reply r =
+    read_alone (codes "INTRATRNRS") (deed_reply_text reply) (deed_reply_documents reply.trnuid reply.code reply.change) deed_reply_of (wire reply)
+    (deed_replies_printed reply empty ∙ append-nil (deed_reply_text reply))
+    (deed_replies_lawful 15 reply empty (omega arith) r tt)
+    (λ place index. deed_replies_back place index reply r)

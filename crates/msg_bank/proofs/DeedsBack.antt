@@ -1,0 +1,158 @@
+-- Sound transfer requests read back as they were written.
+use Rattle.std.proofs.Common.{◌≡◌, ℕ, suc, ◌+◌, ◌*◌, ◌/◌, ◌≤◌, ℤ, pos, negsuc, neg_ℤ, false, not, ◌&&◌, filter, List, [], ◌∷◌, length, codes, Option, None, Some, refl, sym, ap, ◌∙◌, arith}
+use Rattle.std.proofs.lemmas.Int.{ints}
+use Rattle.std.proofs.lemmas.Fmt.{length-decimal-le}
+use Rattle.std.specs.Fmt.{decimal}
+use Rattle.std.specs.Prelude.{unwrap_or}
+use Rattle.std.specs.Str.{bytes_eq}
+use Rattle.ofx_types.specs.Calendar.{day_of, midnight}
+use Rattle.ofx_types.specs.FormWords.{has_name, is_absent, named, IsOnly, IsOnlyOf, IsIdIn}
+use Rattle.ofx_types.specs.Nodes.{Item}
+use Rattle.ofx_types.specs.TagNames.{is_one_of}
+use Rattle.ofx_types.specs.TransferForm.{IsMaybeDue, IsXferInfo, transfer_requests, IsTransferRequest}
+use Rattle.ofx_types.specs.declared.account.AcctName.{AcctName}
+use Rattle.ofx_types.specs.declared.number.Cents.{Cents}
+use Rattle.ofx_types.specs.declared.number.Day.{Day}
+use Rattle.ofx_types.specs.declared.number.Moment.{Moment}
+use Rattle.ofx_types.specs.declared.transfer.XferInfo.{XferInfo}
+use Rattle.ofx_types.specs.declared.transfer.Deed.{Deed}
+use Rattle.ofx_types.specs.declared.transfer.Deed.TheVariants.{Transfer, ModifyTransfer, CancelTransfer}
+use Rattle.ofx_values.proofs.PrintedLemmas.{number_printed}
+use Rattle.ofx_tree.specs.PrintedForm.{IsElementName}
+use Rattle.ofx_tree.specs.Documents.{Documents, empty, branch, leaf_item, branch_item, items_of}
+use Rattle.ofx_tree.proofs.FormLaws.{text_in_found, amount_in_found, moment_in_found}
+use Rattle.ofx_tree.proofs.DocumentItems.{children_of_branch, named_of_branch}
+use Rattle.ofx_tree.proofs.Leaves.{text_of_leaf, amount_of_leaf, moment_of_leaf}
+use Rattle.msg_bank.specs.DeedsAsDocuments.{due_document, info_documents, request_name, request_documents, deed_documents, DeedsReadBack}
+use Rattle.msg_bank.specs.Sound.{IsSoundId, IsSoundInfo, IsSoundDeed}
+use Rattle.msg_bank.specs.Steps.{info_with}
+use Rattle.msg_bank.proofs.Lawful as lawful
+use Rattle.msg_bank.proofs.StatementLaws.{account_found}
+use Rattle.msg_bank.proofs.RequestsBack.{account_back}
+use Rattle.msg_bank.proofs.Deeds.{deed_again}
+use Rattle.msg_bank.proofs.DeedDocuments.{IsMoment-midnight, id_leaf, info_lawful, request_lawful, deed_lawful}
+
+-- What is printed of an id is read as that id.
+pub is_id_of_leaf : (name : List ℕ) (id place index : ℕ) (parent : Item) → IsElementName name → IsSoundId id →
+    IsOnly name parent (leaf_item place index name (decimal id)) → IsIdIn name parent id
+is_id_of_leaf name id place index parent named h only =
+    let short : length (decimal id) ≤ 64 = omega (arith, length-decimal-le 20 id (omega arith) (omega arith) (omega (arith, h))) in
+    record {
+      text = decimal id;
+      has_text = text_in_found name 64 parent (decimal id) (text_of_leaf name (decimal id) 64 place index parent (id_leaf name id named h) short only);
+      is_id = sym (ap (λ (read : Option ℕ). unwrap_or read 0) (number_printed 10 id (omega arith) (omega (arith, h)) (omega (arith, h))));
+    }
+
+-- The only one of its name in front of documents that don't have the name.
+pub only_in_front : (name : List ℕ) (parent child : Item) (behind : Documents) (place index : ℕ) →
+    filter (λ item. has_name name item) (items_of place index behind) ≡ [] →
+    named name parent ≡ child ∷ filter (λ item. has_name name item) (items_of place index behind) → IsOnly name parent child
+only_in_front name parent child behind place index none found = found ∙ ap (λ (more : List Item). child ∷ more) none
+
+-- ---- what is said of a transfer
+
+other_due : (name : List ℕ) → bytes_eq (codes "DTDUE") name ≡ false → (due : Option Day) (place index : ℕ) →
+    filter (λ item. has_name name item) (items_of place index (due_document due)) ≡ []
+other_due name other None place index = refl
+other_due name other (Some day) place index = rw other refl
+
+-- A midnight lies in its day.
+day_of-midnight : (day : ℤ) → day ≡ day_of (midnight day)
+day_of-midnight (pos n) = omega (arith, ints)
+day_of-midnight (negsuc n) =
+    let before : suc n * 86400 ≡ suc (n * 86400 + 86399) = omega arith in
+    let same : n ≡ (n * 86400 + 86399) / 86400 = omega arith in
+    ap negsuc same ∙ sym (ap (λ (seconds : ℕ). day_of (neg_ℤ (pos seconds))) before)
+
+due_stands : (place index : ℕ) (from to : AcctName) (amount : Cents) (due : Option Day) → IsSoundInfo (info_with from to amount due) →
+    IsMaybeDue (branch_item place index (codes "XFERINFO") (info_documents (info_with from to amount due))) due
+due_stands place index from to amount None i =
+    let info = info_with from to amount None in
+    named_of_branch place index 1 (codes "XFERINFO") (codes "DTDUE") (info_documents info) (info_lawful 1 info (omega arith) i)
+due_stands place index from to amount (Some day) i =
+    let info = info_with from to amount (Some day) in
+    let item = branch_item place index (codes "XFERINFO") (info_documents info) in
+    let only = named_of_branch place index 1 (codes "XFERINFO") (codes "DTDUE") (info_documents info) (info_lawful 1 info (omega arith) i) in
+    let at : Moment = record { 0 = midnight day.0 } in
+    (at, moment_in_found (codes "DTDUE") item at (moment_of_leaf (codes "DTDUE") at _ _ item (lawful.named (codes "DTDUE") refl refl) (IsMoment-midnight day.0 i.due) only), day_of-midnight day.0)
+
+pub info_stands : (place index : ℕ) (info : XferInfo) → IsSoundInfo info →
+    IsXferInfo (branch_item place index (codes "XFERINFO") (info_documents info)) info
+info_stands place index info i =
+    let inner = info_documents info in
+    let item = branch_item place index (codes "XFERINFO") inner in
+    let sound = info_lawful 1 info (omega arith) i in
+    let from = only_in_front (codes "BANKACCTFROM") item _ (due_document info.due) _ _ (other_due (codes "BANKACCTFROM") refl info.due _ _) (named_of_branch place index 1 (codes "XFERINFO") (codes "BANKACCTFROM") inner sound) in
+    let to = only_in_front (codes "BANKACCTTO") item _ (due_document info.due) _ _ (other_due (codes "BANKACCTTO") refl info.due _ _) (named_of_branch place index 1 (codes "XFERINFO") (codes "BANKACCTTO") inner sound) in
+    let amount = only_in_front (codes "TRNAMT") item _ (due_document info.due) _ _ (other_due (codes "TRNAMT") refl info.due _ _) (named_of_branch place index 1 (codes "XFERINFO") (codes "TRNAMT") inner sound) in
+    record {
+      bankacctfrom = _;
+      has_from = from;
+      is_from = account_found _ info.from (account_back _ _ (codes "BANKACCTFROM") info.from i.from);
+      bankacctto = _;
+      has_to = to;
+      is_to = account_found _ info.to (account_back _ _ (codes "BANKACCTTO") info.to i.to);
+      amount = amount_in_found (codes "TRNAMT") item info.amount (amount_of_leaf (codes "TRNAMT") info.amount _ _ item (lawful.named (codes "TRNAMT") refl refl) i.amount amount);
+      due = due_stands place index info.from info.to info.amount info.due (record { from = i.from; to = i.to; amount = i.amount; due = i.due });
+    }
+
+-- ---- the three requests
+
+request_stands : (place index : ℕ) (deed : Deed) → IsSoundDeed deed → IsTransferRequest (branch_item place index (request_name deed) (request_documents deed)) deed
+request_stands place index (Transfer info) d =
+    let inner = request_documents (Transfer info) in
+    let sound = request_lawful 2 (Transfer info) (omega arith) d in
+    (refl, (_, named_of_branch place index 2 (codes "INTRARQ") (codes "XFERINFO") inner sound, info_stands _ _ info d))
+request_stands place index (ModifyTransfer id info) d =
+    let inner = request_documents (ModifyTransfer id info) in
+    let sound = request_lawful 2 (ModifyTransfer id info) (omega arith) d in
+    let item = branch_item place index (codes "INTRAMODRQ") inner in (
+      refl,
+      is_id_of_leaf (codes "SRVRTID") id _ _ item (lawful.named (codes "SRVRTID") refl refl) d.0 (named_of_branch place index 2 (codes "INTRAMODRQ") (codes "SRVRTID") inner sound),
+      (_, named_of_branch place index 2 (codes "INTRAMODRQ") (codes "XFERINFO") inner sound, info_stands _ _ info d.1),
+    )
+request_stands place index (CancelTransfer id) d =
+    let inner = request_documents (CancelTransfer id) in
+    let sound = request_lawful 2 (CancelTransfer id) (omega arith) d in
+    let item = branch_item place index (codes "INTRACANRQ") inner in
+    (refl, is_id_of_leaf (codes "SRVRTID") id _ _ item (lawful.named (codes "SRVRTID") refl refl) d (named_of_branch place index 2 (codes "INTRACANRQ") (codes "SRVRTID") inner sound))
+
+-- ---- INTRATRNRQ
+
+abbrev deed_item : ℕ → ℕ → List ℕ → Deed → Item
+deed_item place index trnuid deed = branch_item place index (codes "INTRATRNRQ") (deed_documents trnuid deed)
+
+-- those with the name of a request
+abbrev requests_of : List Item → List Item
+requests_of items = filter (λ child. is_one_of transfer_requests child.node.name && not (is_absent child.node)) items
+
+only_request : (place index : ℕ) (trnuid : List ℕ) (deed : Deed) → IsSoundDeed deed →
+    (request : Item) × IsOnlyOf transfer_requests (deed_item place index trnuid deed) request × IsTransferRequest request deed
+only_request place index trnuid (Transfer info) d =
+    (_, ap requests_of (children_of_branch place index (codes "INTRATRNRQ") (deed_documents trnuid (Transfer info))), request_stands _ _ (Transfer info) d)
+only_request place index trnuid (ModifyTransfer id info) d =
+    (_, ap requests_of (children_of_branch place index (codes "INTRATRNRQ") (deed_documents trnuid (ModifyTransfer id info))), request_stands _ _ (ModifyTransfer id info) d)
+only_request place index trnuid (CancelTransfer id) d =
+    (_, ap requests_of (children_of_branch place index (codes "INTRATRNRQ") (deed_documents trnuid (CancelTransfer id))), request_stands _ _ (CancelTransfer id) d)
+
+-- no request has the name of the uid
+abbrev request_document : Deed → Documents
+request_document deed = branch (request_name deed) (request_documents deed) empty
+
+no_uid : (deed : Deed) (place index : ℕ) → filter (λ item. has_name (codes "TRNUID") item) (items_of place index (request_document deed)) ≡ []
+no_uid (Transfer info) place index = refl
+no_uid (ModifyTransfer id info) place index = refl
+no_uid (CancelTransfer id) place index = refl
+
+pub deeds_back : DeedsReadBack
+deeds_back place index trnuid deed d =
+    let item = deed_item place index trnuid deed in
+    let sound = deed_lawful 3 trnuid deed (omega arith) d in
+    let only = only_in_front (codes "TRNUID") item _ (request_document deed) _ _ (no_uid deed _ _) (named_of_branch place index 3 (codes "INTRATRNRQ") (codes "TRNUID") (deed_documents trnuid deed) sound) in
+    let request = only_request place index trnuid deed d.is_deed in
+    deed_again item trnuid deed (record {
+      has_trnuid = record { text = text_in_found (codes "TRNUID") 36 item trnuid (text_of_leaf (codes "TRNUID") trnuid 36 _ _ item sound.0 d.is_uid.is_within only); is_own = d.is_own };
+      request = request.0;
+      has_request = request.1;
+      is_request = request.2;
+    })

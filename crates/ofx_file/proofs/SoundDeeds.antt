@@ -1,0 +1,96 @@
+-- A deed that is read is within the bounds of a bank: its accounts, its amount, its due day and its id.
+use Rattle.std.proofs.Common.{◌≡◌, ℕ, zero, suc, ◌≤◌, Bool, true, false, cond, ◌&&◌, nat_le, ℤ, pos, negsuc, unsigned_abs, List, length, Option, None, Some, codes, refl, ap, ◌∙◌, arith, rules}
+use Rattle.std.proofs.lemmas.Bool.{and_parts, leb-true}
+use Rattle.std.proofs.lemmas.Int.{ints}
+use Rattle.std.proofs.lemmas.Str.Parse.{IsNumeralModel, numerals_by_value, digits_value_short}
+use Rattle.std.specs.Char.{is_ascii_digit}
+use Rattle.std.specs.List.{list_all}
+use Rattle.std.specs.Option.{IfSome}
+use Rattle.std.specs.Prelude.{unwrap_or}
+use Rattle.std.specs.Str.Parse.{digits_value}
+use Rattle.ofx_types.proofs.Trimming.{faultless}
+use Rattle.ofx_types.specs.TextRules.{is_refused_in_text}
+use Rattle.ofx_types.specs.Calendar.{IsMoment, IsDay, day_of}
+use Rattle.ofx_types.specs.Digits.{signed}
+use Rattle.ofx_types.specs.AmountForm.{IsAmount}
+use Rattle.ofx_types.specs.NumberReading.{is_number_within, number_at}
+use Rattle.ofx_types.specs.Nodes.{Item}
+use Rattle.ofx_types.specs.FormWords.{IsTextIn, id_of, IsIdIn}
+use Rattle.ofx_types.specs.RequestForm.{IsAccount}
+use Rattle.ofx_types.specs.TransferForm.{IsMaybeDue, HasXferInfo, IsTransferRequest}
+use Rattle.ofx_types.specs.declared.account.AcctName.{AcctName}
+use Rattle.ofx_types.specs.declared.number.Day.{Day}
+use Rattle.ofx_types.specs.declared.transfer.XferInfo.{XferInfo}
+use Rattle.ofx_types.specs.declared.transfer.Deed.{Deed}
+use Rattle.ofx_types.specs.declared.transfer.Deed.TheVariants.{Transfer, ModifyTransfer, CancelTransfer}
+use Rattle.bank_model.specs.Sound.{HasLength, IsSoundAccount, IsSoundInfo, IsId, IsSoundDeed}
+
+-- ---- accounts
+
+within : (name : List ℕ) (most : ℕ) (parent : Item) (text : List ℕ) → IsTextIn name most parent text → HasLength most text
+within name most parent text t = (t.stands.is_there, (faultless is_refused_in_text most text t.stands.is_faultless).0)
+
+pub sound_account : (aggregate : Item) (account : AcctName) → IsAccount aggregate account → IsSoundAccount account
+sound_account aggregate account a =
+    (within (codes "BANKID") 32 aggregate account.bank a.bank, within (codes "ACCTID") 32 aggregate account.number a.number)
+
+-- ---- amounts
+
+signed_size : (negative : Bool) (magnitude : ℕ) → unsigned_abs (signed negative magnitude) ≡ magnitude
+signed_size true zero = refl
+signed_size true (suc n) = refl
+signed_size false n = refl
+
+at_most : (a b most : ℕ) → a ≡ b → b ≤ most → a ≤ most
+at_most a b most same h = rw same h
+
+amount_within : (raw : List ℕ) (cents : ℤ) → IsAmount raw cents → unsigned_abs cents ≤ 9999999999999
+amount_within raw cents a = at_most _ _ 9999999999999 (ap unsigned_abs a.meant ∙ signed_size a.negative _) a.is_bounded
+
+-- ---- days
+
+day_within : (moment : ℤ) → IsMoment moment → IsDay (day_of moment)
+day_within (pos n) h = omega (arith, ints)
+day_within (negsuc n) h = omega (arith, ints)
+
+sound_due : (xferinfo : Item) (due : Option Day) → IsMaybeDue xferinfo due → IfSome due (λ (day : Day). IsDay day.0)
+sound_due xferinfo None h = tt
+sound_due xferinfo (Some day) (moment, there, same) = let stands = there.stands in rw same (day_within moment.0 stands.is_moment)
+
+-- ---- ids
+
+numerals : IsNumeralModel (λ ds. list_all is_ascii_digit ds ≡ true) (digits_value 10)
+numerals = numerals_by_value _ (search rules)
+
+-- ten digits stay below 10,000,000,000
+digits_within : (text : List ℕ) → is_number_within 10 text ≡ true → digits_value 10 text ≤ 9999999999
+digits_within text h =
+    let parts = and_parts (nat_le 1 (length text) && nat_le (length text) 10) (list_all is_ascii_digit text) h in
+    let short : length text ≤ 10 = leb-true (length text) 10 (and_parts (nat_le 1 (length text)) _ parts.0).1 in
+    omega (arith, digits_value_short numerals text 10 parts.1 short)
+
+id_within : (text : List ℕ) → IsId (id_of text)
+unfolding number_at
+id_within text = by_test (is_number_within 10 text) (digits_within text)
+  where
+    by_test : (b : Bool) → (b ≡ true → digits_value 10 text ≤ 9999999999) → IsId (unwrap_or (cond b (Some (digits_value 10 text)) None) 0)
+    by_test true small = small refl
+    by_test false small = omega arith
+
+sound_id : (name : List ℕ) (parent : Item) (id : ℕ) → IsIdIn name parent id → IsId id
+sound_id name parent id i = rw i.is_id (id_within i.text)
+
+-- ---- deeds
+
+sound_info : (parent : Item) (info : XferInfo) → HasXferInfo parent info → IsSoundInfo info
+sound_info parent info (xferinfo, only, i) = record {
+  from = sound_account i.bankacctfrom info.from i.is_from;
+  to = sound_account i.bankacctto info.to i.is_to;
+  amount = let stands = i.amount.stands in amount_within _ info.amount.0 stands;
+  due = sound_due xferinfo info.due i.due;
+}
+
+pub sound_deed : (request : Item) (deed : Deed) → IsTransferRequest request deed → IsSoundDeed deed
+sound_deed request (Transfer info) (name, has) = sound_info request info has
+sound_deed request (ModifyTransfer id info) (name, has_id, has) = (sound_id (codes "SRVRTID") request id has_id, sound_info request info has)
+sound_deed request (CancelTransfer id) (name, has_id) = sound_id (codes "SRVRTID") request id has_id

@@ -1,0 +1,160 @@
+//! Transfers inside the bank: what a client asks for, the rows that the bank keeps, and what is told of them
+//! (OFX 1.6, "Intrabank Funds Transfer").
+
+use crate::account::AcctName;
+use crate::duplicate::Duplicate;
+use crate::memory::OutOfMemory;
+use crate::number::{Cents, Day, Moment};
+use crate::uid::TrnUid;
+
+/// What a client says of a transfer (XFERINFO).
+#[derive(Debug, Drop)]
+pub struct XferInfo {
+    /// The source (BANKACCTFROM).
+    pub from: AcctName,
+    /// The destination (BANKACCTTO).
+    pub to: AcctName,
+    /// The amount (TRNAMT).
+    pub amount: Cents,
+    /// The day on which it is due (DTDUE). None is the business day.
+    pub due: Option<Day>,
+}
+
+/// What a client asks to be done.
+#[derive(Debug, Drop)]
+pub enum Deed {
+    /// A transfer (INTRARQ).
+    Transfer(XferInfo),
+    /// A change of the transfer with this id (INTRAMODRQ).
+    ModifyTransfer(u64, XferInfo),
+    /// The cancellation of the transfer with this id (INTRACANRQ).
+    CancelTransfer(u64),
+}
+
+/// How far a transfer is (XFERPRCCODE).
+#[derive(Clone, Copy, Debug, PartialEq, Eq)]
+pub enum XferCode {
+    /// It waits for its day (WILLPROCESSON).
+    Waiting,
+    /// It is posted (POSTEDON).
+    Posted,
+    /// It is closed, since the source had no cover (NOFUNDSON).
+    NoFunds,
+    /// It is cancelled (CANCELEDON).
+    Cancelled,
+}
+
+/// A transfer as the bank keeps it.
+#[derive(Debug, Drop)]
+pub struct TransferRow {
+    /// Its id (SRVRTID): the number of the entry that made it.
+    pub id: u64,
+    /// The recurring transfer that made it (RECSRVRTID). 0 is none.
+    pub model: u64,
+    /// The source.
+    pub from: AcctName,
+    /// The destination.
+    pub to: AcctName,
+    /// The amount.
+    pub amount: Cents,
+    /// The day on which it is due.
+    pub due: Day,
+    /// How far it is.
+    pub code: XferCode,
+    /// When it was posted or closed, and while it waits the midnight of its due day (DTXFERPRC).
+    pub stamp: Moment,
+}
+
+/// What an entry of the bank's history says.
+#[derive(Debug, Drop)]
+pub enum Change {
+    /// A new transfer.
+    NewTransfer(TransferRow),
+    /// A transfer has this row from now on.
+    SetTransfer(TransferRow),
+    /// The transfer with this id is cancelled.
+    DropTransfer(u64),
+}
+
+/// The kinds of what is synchronised.
+#[derive(Clone, Copy, Debug, PartialEq, Eq)]
+pub enum Family {
+    /// Transfers.
+    Intra,
+    /// Recurring transfers.
+    RecIntra,
+    /// Mail about an account.
+    BankMail,
+    /// Mail.
+    Mail,
+}
+
+/// The answer to a deed.
+#[derive(Debug, Drop)]
+pub struct DeedReply {
+    /// The uid that the client gave to it (TRNUID), `0` where the bank acted by itself.
+    pub trnuid: TrnUid,
+    /// What it belongs to.
+    pub family: Family,
+    /// Its status code.
+    pub code: u16,
+    /// What was done, exactly where the code is 0.
+    pub change: Option<Change>,
+}
+
+impl Duplicate for XferInfo {
+    fn copy(&self) -> Result<XferInfo, OutOfMemory> {
+        Ok(XferInfo {
+            from: self.from.copy()?,
+            to: self.to.copy()?,
+            amount: self.amount,
+            due: self.due,
+        })
+    }
+}
+
+impl Duplicate for Deed {
+    fn copy(&self) -> Result<Deed, OutOfMemory> {
+        match self {
+            Deed::Transfer(info) => Ok(Deed::Transfer(info.copy()?)),
+            Deed::ModifyTransfer(id, info) => Ok(Deed::ModifyTransfer(*id, info.copy()?)),
+            Deed::CancelTransfer(id) => Ok(Deed::CancelTransfer(*id)),
+        }
+    }
+}
+
+impl Duplicate for TransferRow {
+    fn copy(&self) -> Result<TransferRow, OutOfMemory> {
+        Ok(TransferRow {
+            id: self.id,
+            model: self.model,
+            from: self.from.copy()?,
+            to: self.to.copy()?,
+            amount: self.amount,
+            due: self.due,
+            code: self.code,
+            stamp: self.stamp,
+        })
+    }
+}
+
+impl Duplicate for Change {
+    fn copy(&self) -> Result<Change, OutOfMemory> {
+        match self {
+            Change::NewTransfer(row) => Ok(Change::NewTransfer(row.copy()?)),
+            Change::SetTransfer(row) => Ok(Change::SetTransfer(row.copy()?)),
+            Change::DropTransfer(id) => Ok(Change::DropTransfer(*id)),
+        }
+    }
+}
+
+impl Duplicate for DeedReply {
+    fn copy(&self) -> Result<DeedReply, OutOfMemory> {
+        Ok(DeedReply {
+            trnuid: self.trnuid.copy()?,
+            family: self.family,
+            code: self.code,
+            change: self.change.copy()?,
+        })
+    }
+}
