@@ -1,4 +1,4 @@
-"""Request files of bank messages in a few words, and the two replies to a transfer that most answers are near to.
+"""Request files of bank messages in a few words, and the replies that most answers are near to.
 
     {"user": "NAME PASSWORD", "old": UID, "new": UID, "asks": [ASK, ..], "changes": CHANGES}
 
@@ -9,49 +9,16 @@ is one of these texts:
     transfer TRNUID ACCOUNT ACCOUNT AMOUNT [DUE]        INTRARQ
     change TRNUID ID ACCOUNT ACCOUNT AMOUNT [DUE]       INTRAMODRQ
     cancel TRNUID ID                                    INTRACANRQ
+    repeat TRNUID SERIES ACCOUNT ACCOUNT AMOUNT [DUE]   RECINTRARQ
+    rewrite TRNUID ID PENDING SERIES ACCOUNT ACCOUNT AMOUNT [DUE]
+                                                        RECINTRAMODRQ, with MODPENDING
+    stop TRNUID ID PENDING                              RECINTRACANRQ, with CANPENDING
 
-An account is 1001 or 1002, those of samples/setup, or `NUMBER/KIND`, or `BANK/NUMBER/KIND`. START is `-` where only the
-end stands.
+A SERIES is FREQ, or `FREQ*NINSTS`. An account is 1001 or 1002, those of samples/setup, or `NUMBER/KIND`, or
+`BANK/NUMBER/KIND`. START is `-` where only the end stands.
 """
 BANK = "121099999"
 ACCOUNTS = {"1001": "1001/CHECKING", "1002": "1002/SAVINGS"}
-
-POSTED = "".join(line + "\r\n" for line in """<INTRATRNRS>
-<TRNUID>x1
-<STATUS>
-<CODE>0
-<SEVERITY>INFO
-</STATUS>
-<INTRARS>
-<CURDEF>USD
-<SRVRTID>1
-<XFERINFO>
-<BANKACCTFROM>
-<BANKID>121099999
-<ACCTID>1001
-<ACCTTYPE>CHECKING
-</BANKACCTFROM>
-<BANKACCTTO>
-<BANKID>121099999
-<ACCTID>1002
-<ACCTTYPE>SAVINGS
-</BANKACCTTO>
-<TRNAMT>10.00
-<DTDUE>20240131000000
-</XFERINFO>
-<XFERPRCSTS>
-<XFERPRCCODE>POSTEDON
-<DTXFERPRC>20240131120000
-</XFERPRCSTS>
-</INTRARS>
-</INTRATRNRS>""".splitlines())
-REFUSED = "".join(line + "\r\n" for line in """<INTRATRNRS>
-<TRNUID>x1
-<STATUS>
-<CODE>2019
-<SEVERITY>ERROR
-</STATUS>
-</INTRATRNRS>""".splitlines())
 
 
 def lines(tree):
@@ -91,7 +58,55 @@ def cancel(trnuid, id):
     return ("INTRATRNRQ", [("TRNUID", trnuid), ("INTRACANRQ", [("SRVRTID", id)])])
 
 
-ASKS = {"statement": statement, "transfer": transfer, "change": change, "cancel": cancel}
+def series(text):
+    frequency, *count = text.split("*")
+    return ("RECURRINST", [("NINSTS", number) for number in count] + [("FREQ", frequency)])
+
+
+def printed(tree):
+    return "".join(line + "\r\n" for line in lines(tree))
+
+
+def status(code):
+    return ("STATUS", [("CODE", code), ("SEVERITY", "INFO" if code == "0" else "ERROR")])
+
+
+def answered(family, trnuid, *done):
+    """The printed answer to a deed that is done, or that was done before."""
+    return printed([(family, [("TRNUID", trnuid), status("0" if done else "2019"), *done])])
+
+
+POSTED = answered("INTRATRNRS", "x1", ("INTRARS", [
+    ("CURDEF", "USD"), ("SRVRTID", "1"), terms("1001", "1002", "10.00", "20240131000000"),
+    ("XFERPRCSTS", [("XFERPRCCODE", "POSTEDON"), ("DTXFERPRC", "20240131120000")]),
+]))
+REFUSED = answered("INTRATRNRS", "x1")
+REPEATED = answered("RECINTRATRNRS", "x1", ("RECINTRARS", [
+    ("RECSRVRTID", "1"), series("MONTHLY"), ("INTRARS", [
+        ("CURDEF", "USD"), ("SRVRTID", "1"), terms("1001", "1002", "10.00", "20240201000000"), ("RECSRVRTID", "1"),
+    ]),
+]))
+STOPPED = answered("RECINTRATRNRS", "x2", ("RECINTRACANRS", [("RECSRVRTID", "1"), ("CANPENDING", "Y")]))
+
+
+def repeat(trnuid, often, *words):
+    return ("RECINTRATRNRQ", [("TRNUID", trnuid), ("RECINTRARQ", [series(often), ("INTRARQ", [terms(*words)])])])
+
+
+def rewrite(trnuid, id, pending, often, *words):
+    model = [series(often), ("INTRARQ", [terms(*words)])]
+    deed = [("RECSRVRTID", id)] + model + [("MODPENDING", pending)]
+    return ("RECINTRATRNRQ", [("TRNUID", trnuid), ("RECINTRAMODRQ", deed)])
+
+
+def stop(trnuid, id, pending):
+    return ("RECINTRATRNRQ", [("TRNUID", trnuid), ("RECINTRACANRQ", [("RECSRVRTID", id), ("CANPENDING", pending)])])
+
+
+ASKS = {
+    "statement": statement, "transfer": transfer, "change": change, "cancel": cancel, "repeat": repeat,
+    "rewrite": rewrite, "stop": stop,
+}
 
 
 def asked(header, what):

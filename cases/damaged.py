@@ -1,19 +1,22 @@
-"""Request files at random, most of them damaged. Each file comes from its seed and its number alone.
+"""Frames at random: request files, most of them damaged, and some DUE. Each comes from its seed and its number alone.
 
-The files of a batch go to one bank, one after the other.
+The frames of a batch go to one bank, one after the other.
 """
 import random
 import re
 
 from dated import any_date
+from frames import DUE, frame
 from pieces import FILES
 from priced import any_amount
 from reference.names import AGGREGATES, ELEMENTS
-from spelled import FORMS, LEAVES, ONE_LINE, VALUES, spelled, stranger
+from reference.requests import FREQUENCIES
+from spelled import ANY_COUNTS, ANY_FREQUENCIES, FLAGS, FORMS, LEAVES, ONE_LINE, VALUES, spelled, stranger
 
 IN_A_BATCH = 500
 # Well spelled files that a batch does its damage to.
 BASES = 40
+DUE_SHARE = 0.05
 MOST_BYTES = 262144
 
 TAG = re.compile(rb"</?[A-Za-z0-9._-]+>")
@@ -21,6 +24,8 @@ START_TAG = re.compile(rb"<([A-Za-z0-9._-]+)>")
 DATE = re.compile(rb"<DT[A-Z]+>([^<>]+)(?=<)")
 AMOUNT = re.compile(rb"<TRNAMT>([^<>]+)(?=<)")
 DEED_TAG = re.compile(rb"</?(?:INTRATRNRQ|INTRARQ|INTRAMODRQ|INTRACANRQ|XFERINFO)>")
+MODEL_TAG = re.compile(rb"</?(?:RECINTRATRNRQ|RECINTRARQ|RECINTRAMODRQ|RECINTRACANRQ|RECURRINST|INTRARQ)>")
+MODEL_VALUE = re.compile(rb"<(?:NINSTS|FREQ|MODPENDING|CANPENDING|RECSRVRTID)>([^<>]+)(?=<)")
 # The number in a name of a file, or in a TRNUID of a transfer.
 NAME_NUMBER = re.compile(rb"((?:NEWFILEUID:|<TRNUID>)[ \t\r\n]*[ux])[0-9]+")
 PERIOD_TAG = re.compile(rb"</?INCTRAN>|<INCLUDE>")
@@ -29,7 +34,8 @@ ELEMENT = re.compile(rb"<([A-Za-z0-9._-]+)>([^<>]+)(?=<)")
 KNOWN = sorted(ELEMENTS | AGGREGATES)
 NAMES = [b"A", b"X", b"INTU.BID", b"X-C_d.9", b"ofx", b"Sonrq", b"N" * 32, b"N" * 33, b""]
 LIMITS = {
-    b"USERID": 32, b"USERPASS": 64, b"TRNUID": 36, b"BANKID": 32, b"ACCTID": 32, b"SRVRTID": 64, b"TRNAMT": 32,
+    b"USERID": 32, b"USERPASS": 64, b"TRNUID": 36, b"BANKID": 32, b"ACCTID": 32, b"SRVRTID": 64, b"RECSRVRTID": 64,
+    b"TRNAMT": 32, b"NINSTS": 3,
 }
 BYTES = b"\x00\x01\x08\t\n\x0b\x0c\r\x1f <>&/;:.-_0AZaz\x7f\x80\xff"
 ENTITIES = [b"&lt;", b"&gt;", b"&amp;", b"&amp;lt;", b"&", b"&lt", b"&LT;", b"&#60;"]
@@ -139,12 +145,27 @@ def a_date(r, file):
     dates = list(DATE.finditer(file))
     if not dates:
         return a_period(r, file)
-    start, end = r.choice(dates).span(1)
-    at = r.randrange(start, end + 1)
+    span = r.choice(dates).span(1)
+    at = r.randrange(span[0], span[1] + 1)
     return r.choice((
-        file[:start] + any_date(r) + file[end:], file[:start] + any_date(r) + file[end:],
-        file[:at] + r.choice(ENTITIES) + file[at:],
+        replaced(file, span, any_date(r)), replaced(file, span, any_date(r)), with_entity(r, file, at),
     ))
+
+
+def replaced(file, span, new):
+    start, end = span
+    return file[:start] + new + file[end:]
+
+
+def with_entity(r, file, at):
+    return file[:at] + r.choice(ENTITIES) + file[at:]
+
+
+def another_value(r, file, values, new):
+    """One of the values that were found is replaced, or gets an entity in it."""
+    span = r.choice(values).span(1)
+    at = r.randrange(span[0], span[1] + 1)
+    return replaced(file, span, new(r)) if r.random() < 0.8 else with_entity(r, file, at)
 
 
 def a_period(r, file):
@@ -161,13 +182,7 @@ def a_period(r, file):
 def an_amount(r, file):
     """An amount is replaced, or gets an entity in it."""
     amounts = list(AMOUNT.finditer(file))
-    if not amounts:
-        return a_value(r, file)
-    start, end = r.choice(amounts).span(1)
-    at = r.randrange(start, end + 1)
-    if r.random() < 0.8:
-        return file[:start] + any_amount(r) + file[end:]
-    return file[:at] + r.choice(ENTITIES) + file[at:]
+    return another_value(r, file, amounts, any_amount) if amounts else a_value(r, file)
 
 
 def a_deed(r, file):
@@ -183,6 +198,32 @@ def a_deed(r, file):
         b"<INTRATRNRQ></INTRATRNRQ>",
     ))
     return file[:at] + new + file[at:]
+
+
+def a_model(r, file):
+    """A child of one of the forms of a model is put into one of them or beside it."""
+    places = [tag.start() for tag in MODEL_TAG.finditer(file)]
+    if not places:
+        return a_deed(r, file)
+    at = r.choice(places)
+    new = r.choice((
+        b"<RECINTRARQ></RECINTRARQ>", b"<RECINTRAMODRQ></RECINTRAMODRQ>", b"<RECINTRATRNRQ></RECINTRATRNRQ>",
+        b"<RECINTRACANRQ><RECSRVRTID>%d<CANPENDING>Y</RECINTRACANRQ>" % r.randrange(99), b"<INTRARQ></INTRARQ>",
+        b"<RECURRINST></RECURRINST>", b"<RECURRINST><FREQ>WEEKLY</RECURRINST>", b"<NINSTS>" + r.choice(ANY_COUNTS),
+        b"<FREQ>" + r.choice(ANY_FREQUENCIES + list(FREQUENCIES)), b"<MODPENDING>" + r.choice(FLAGS + [b"Y", b"N"]),
+        b"<CANPENDING>" + r.choice(FLAGS + [b"Y", b"N"]), b"<RECSRVRTID>" + b"1" * r.randrange(1, 66),
+    ))
+    return file[:at] + new + file[at:]
+
+
+def a_model_value(r, file):
+    """How often a model makes transfers, which model it is, or a flag: replaced, or with an entity in it."""
+    values = list(MODEL_VALUE.finditer(file))
+    return another_value(r, file, values, any_model_value) if values else a_value(r, file)
+
+
+def any_model_value(r):
+    return r.choice(r.choice((ANY_COUNTS, ANY_FREQUENCIES + list(FREQUENCIES), FLAGS + [b"Y", b"N"])))
 
 
 def an_aggregate(r, file):
@@ -265,7 +306,7 @@ def a_filling(r, file):
 DEEDS = (
     a_byte, a_byte, a_byte, a_cut, a_span, two_spans, a_tag, a_tag, between_tags, between_tags, a_value, a_value,
     a_value, an_aggregate, an_aggregate, a_nest, an_insert, an_insert, a_header_line, a_filling, a_date, a_date, a_date,
-    a_period, a_period, an_amount, an_amount, a_deed, a_deed,
+    a_period, a_period, an_amount, an_amount, a_deed, a_deed, a_model, a_model, a_model_value, a_model_value,
 )
 COUNTS = (0, 0, 0, 1, 1, 1, 1, 1, 1, 2, 2, 3, 6)
 
@@ -285,7 +326,9 @@ def damaged(r, file):
 
 
 def batch(seed, number):
-    """The files of one batch; batch 0 has the files 0 to 499."""
+    """The frames of one batch; batch 0 has the frames 0 to 499."""
     r = random.Random("%d/%d" % (seed, number))
     bases = [FILES["request"], ONE_LINE] * 4 + [spelled(r) for _ in range(BASES - 8)]
-    return [damaged(r, renamed(r, r.choice(bases))) for _ in range(IN_A_BATCH)]
+    return [
+        DUE if r.random() < DUE_SHARE else frame(damaged(r, renamed(r, r.choice(bases)))) for _ in range(IN_A_BATCH)
+    ]

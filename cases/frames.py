@@ -5,6 +5,8 @@ import re
 LINE = re.compile(rb"[^\n]*\n|[^\n]+\Z")
 FILE_LINE = re.compile(rb"FILE ([0-9]+)\n")
 
+DUE = b"DUE\n"
+
 
 def frame(file):
     return b"FILE %d\n" % len(file) + file

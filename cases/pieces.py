@@ -7,6 +7,8 @@
     {"no account": N}          N copies of the reply to the sample request where its account isn't the user's
     {"posted": N}              N copies of the reply to the first transfer at the sample's bank, x1 of 10.00 from 1001
     {"refused": N}             N copies of the reply to that transfer where x1 is used
+    {"repeated": N}            N copies of the reply to the first model at that bank, x1 of 10.00 from 1001, MONTHLY
+    {"stopped": N}             N copies of the reply to x2, which cancels it with what waits
     {"request": CHANGES}       one frame, of the file in samples/statement.request with changes; the replies likewise
     {"sample": NAME}           the bytes of the file of this name in samples/
     {"header": CHANGES}        the header of the sample files, with its empty line, with changes
@@ -24,7 +26,7 @@ pairs before have left, and the pieces that take its place.
 """
 import os
 
-from asks import POSTED, REFUSED, asked
+from asks import POSTED, REFUSED, REPEATED, STOPPED, asked
 from frames import frame
 
 SAMPLES = os.path.join(os.path.dirname(os.path.abspath(__file__)), "..", "samples")
@@ -51,7 +53,7 @@ GOOD, WRONG = b"<CODE>0\r\n<SEVERITY>INFO\r\n", b"<CODE>%d\r\n<SEVERITY>ERROR\r\
 FILES = {"request": sample_file("statement.request"), "reply": sample_file("statement.reply")}
 FILES["denied"] = without(FILES["reply"], b"BANKMSGSRSV1").replace(GOOD, WRONG % 15500)
 FILES["no account"] = (WRONG % 2003).join(without(FILES["reply"], b"STMTRS").rsplit(GOOD, 1))
-for name, reply in (("posted", POSTED), ("refused", REFUSED)):
+for name, reply in (("posted", POSTED), ("refused", REFUSED), ("repeated", REPEATED), ("stopped", STOPPED)):
     bank_messages = "<BANKMSGSRSV1>\r\n%s</BANKMSGSRSV1>\r\n" % reply
     FILES[name] = without(FILES["reply"], b"BANKMSGSRSV1").replace(b"</OFX>", bank_messages.encode() + b"</OFX>")
 FRAMES = {name: frame(file) for name, file in FILES.items()}
@@ -94,6 +96,8 @@ KINDS = {
     "no account": sample_frame("no account"),
     "posted": sample_frame("posted"),
     "refused": sample_frame("refused"),
+    "repeated": sample_frame("repeated"),
+    "stopped": sample_frame("stopped"),
     "sample": sample,
     "header": lambda changes: changed(HEADER, changes),
     "asked": lambda what: frame(changed(asked(HEADER, what), what.get("changes", []))),

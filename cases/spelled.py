@@ -3,6 +3,7 @@ from dated import any_date, date
 from pieces import HEADER
 from priced import amount, any_amount
 from reference.names import ELEMENTS
+from reference.requests import FREQUENCIES
 
 LEAVES = sorted(ELEMENTS)
 # The forms of bank and mail messages beside the statement request.
@@ -15,6 +16,12 @@ VALUES = [
     b"alice", b"bob", b"secret", b"hunter", b"1001", b"1002", b"121099999", b"&lt;", b"&amp;lt;", b"&", b"a>b",
     b"\xe9\xff\x7f", b"20240131", b"20240131120000.000[-5:EST]", b"a\tb", b"a\r\nb",
 ]
+
+COUNTS = [b"1", b"1", b"2", b"3", b"12", b"007", b"999"]
+# With those that have no form.
+ANY_COUNTS = COUNTS + [b"", b"0", b"000", b"1000", b"0001", b"+1", b"-1", b"1.0", b"x", b"1 2", b"\xb2"]
+ANY_FREQUENCIES = [b"", b"weekly", b"Monthly", b"DAILY", b"YEARLY", b"WEEK LY", b"TWICEMONTHL", b"ANNUALLYX"]
+FLAGS = [b"", b"y", b"n", b"YES", b"1", b"Y N"]
 
 # A realistic file of a finance program: a few long lines, elements without end tags, children that no form names.
 ONE_LINE = HEADER + (
@@ -89,7 +96,7 @@ def spelled(r):
         password = b"wrong"
     sonrq = [element(b"DTCLIENT", b"20240131120000"), element(b"USERID", user), element(b"USERPASS", password)]
     sonrq += [element(b"LANGUAGE", b"ENG"), element(b"APPID", b"QWIN"), element(b"APPVER", b"0900")]
-    asks = [r.choice((statement, transfer))(r, style, user) for _ in range(r.choice((0, 1, 1, 1, 2, 3, 6)))]
+    asks = [r.choice((statement, transfer, recurring))(r, style, user) for _ in range(r.choice((0, 1, 1, 1, 2, 3, 6)))]
     if r.random() < 0.05:
         asks.append(aggregate(r.choice(FORMS), []))
     sets = [aggregate(b"SIGNONMSGSRQV1", [aggregate(b"SONRQ", sonrq)])]
@@ -132,6 +139,26 @@ def transfer(r, style, user):
         deed.append(terms(r, style, user, 0.9 if name == b"INTRAMODRQ" else 0.5))
     trnuid = style.element(b"TRNUID", b"x%d" % r.randrange(1000))
     return style.aggregate(b"INTRATRNRQ", [trnuid, style.aggregate(name, deed)])
+
+
+def recurring(r, style, user):
+    """A model of transfers, or a change or a cancellation of one that may be there."""
+    name = r.choice((b"RECINTRARQ", b"RECINTRARQ", b"RECINTRAMODRQ", b"RECINTRACANRQ"))
+    deed = []
+    if name != b"RECINTRARQ":
+        number = b"%d" % r.randrange(1, r.choice((4, 12, 40)))
+        deed.append(style.element(b"RECSRVRTID", r.choice((number,) * 9 + (b"0" + number, b"0", b"x", b"1" * 64))))
+    if name != b"RECINTRACANRQ":
+        series = [style.element(b"FREQ", r.choice(FREQUENCIES) if r.random() < 0.97 else r.choice(ANY_FREQUENCIES))]
+        if r.random() < 0.6:
+            series.append(style.element(b"NINSTS", r.choice(COUNTS if r.random() < 0.9 else ANY_COUNTS)))
+        deed.append(style.aggregate(b"RECURRINST", series))
+        deed.append(style.aggregate(b"INTRARQ", [terms(r, style, user, 0.95)]))
+    if name != b"RECINTRARQ":
+        flag = b"MODPENDING" if name == b"RECINTRAMODRQ" else b"CANPENDING"
+        deed.append(style.element(flag, r.choice((b"Y", b"N") if r.random() < 0.97 else FLAGS)))
+    trnuid = style.element(b"TRNUID", b"x%d" % r.randrange(1000))
+    return style.aggregate(b"RECINTRATRNRQ", [trnuid, style.aggregate(name, deed)])
 
 
 def terms(r, style, user, dated):

@@ -1,4 +1,4 @@
-"""A whole run of `ofxbank answer`: its words, its frames, and what it writes for each of them."""
+"""A whole run of `ofxbank answer` or `ofxbank due`: its words, its frames, and what it writes for each of them."""
 import re
 from datetime import datetime, timezone
 from typing import NamedTuple, Optional
@@ -6,6 +6,7 @@ from typing import NamedTuple, Optional
 from . import replies
 from .bank import Bank
 from .dates import read_moment
+from .due import due_run
 from .fault import Fault
 from .kept import exchanged
 from .requests import read_request
@@ -17,7 +18,7 @@ MOST_FRAMES = 1000000
 MOST_BYTES = 262144
 MOST_IN_A_WORD = 10000
 
-FILE_LINE = re.compile(rb"FILE (0|[1-9][0-9]{0,5})\n")
+FRAME_LINE = re.compile(rb"(?:FILE (0|[1-9][0-9]{0,5})|DUE)\n")
 
 
 class Outcome(NamedTuple):
@@ -29,9 +30,11 @@ class Outcome(NamedTuple):
 def answer(words, setup_text, frames, takes_output=True):
     """The outcome of a run with these words, whose second one is the path of the setup's text, on an input of frames.
 
-    Text and frames are None where they can't be read. A frame is a line `FILE n` and n bytes, n from 0 to 262,144. A
-    run reads at most 1,000,000 of them.
+    Text and frames are None where they can't be read. A frame is a line `FILE n` and n bytes, n from 0 to 262,144, or a
+    line `DUE`. A run reads at most 1,000,000 of them. With the word `due` the run is over one frame DUE, and it reads
+    no input.
     """
+    words = [trimmed(word) for word in words]
     clock = clock_of(words)
     if clock is None:
         return Outcome(2, b"", "usage")
@@ -41,16 +44,19 @@ def answer(words, setup_text, frames, takes_output=True):
         setup = read_setup(setup_text)
     except SetupFault as fault:
         return Outcome(3, b"", "setup line %d" % fault.line)
+    if words[0] == b"due":
+        frames = b"DUE\n"
     if frames is None:
         return Outcome(5, b"", "read failed")
     bank, written, place = Bank(setup), [], 0
     while place < len(frames):
-        line = FILE_LINE.match(frames, place)
-        size = int(line[1]) if line else MOST_BYTES + 1
+        line = FRAME_LINE.match(frames, place)
+        size = int(line[1] or 0) if line else MOST_BYTES + 1
         if len(written) == MOST_FRAMES or size > MOST_BYTES or len(frames) < line.end() + size:
             return Outcome(4, b"".join(written), "frame at %d" % place)
         place = line.end() + size
-        written.append(answered(bank, frames[line.end():place], clock()))
+        file = None if line[1] is None else frames[line.end():place]
+        written.append(answered(bank, file, clock()))
         if not takes_output:
             return Outcome(6, b"", "write failed")
     return Outcome(0, b"".join(written), None)
@@ -66,14 +72,13 @@ def is_word(word):
 
 
 def clock_of(words):
-    """What tells the moment of a frame. None where the words are others than `answer SETUP -`, perhaps with `--at` and
-    a date, which then is every frame's moment."""
-    words = [trimmed(word) for word in words]
-    if len(words) not in (3, 5) or not all(map(is_word, words)) or words[0] != b"answer" or words[2] != b"-":
+    """What tells the moment of a frame. None where the words are others than `due SETUP -` or `answer SETUP -`, the
+    latter perhaps with `--at` and a date, which then is every frame's moment."""
+    if not all(map(is_word, words)) or len(words) not in (3, 5) or words[2] != b"-":
         return None
     if len(words) == 3:
-        return now
-    at = read_moment(words[4]) if words[3] == b"--at" else None
+        return now if words[0] in (b"answer", b"due") else None
+    at = read_moment(words[4]) if (words[0], words[3]) == (b"answer", b"--at") else None
     return None if at is None else lambda: at
 
 
@@ -82,7 +87,10 @@ def now():
 
 
 def answered(bank, file, at):
-    """What is written for a file: a frame with the reply, or the line BAD with the place of the file's first fault."""
+    """What is written for a file: a frame with the reply, or the line BAD with the place of the file's first fault. For
+    a frame DUE, where the file is None, it is the line DUE with the number of events."""
+    if file is None:
+        return b"DUE %d\n" % due_run(bank, at)
     try:
         request = read_request(file)
     except Fault as fault:

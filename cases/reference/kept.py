@@ -2,8 +2,8 @@
 
 The names are the file uids of the header, each of them a user's own.
 """
-from . import replies, transfers
-from .requests import Statement
+from . import models, replies, transfers
+from .requests import Statement, Transfer
 
 
 def exchanged(bank, request, at):
@@ -27,8 +27,11 @@ def exchanged(bank, request, at):
 def reply_to(bank, user, ask, at):
     if isinstance(ask, Statement):
         return statement(bank, user, ask, at)
-    code, row = transfers.code_and_row(bank, user, ask, at)
-    return replies.refused(b"INTRATRNRS", ask, code) if code else replies.transfer(ask, row)
+    if isinstance(ask, Transfer):
+        code, row = transfers.code_and_row(bank, user, ask, at)
+        return replies.refused(b"INTRATRNRS", ask, code) if code else replies.transfer(ask, row)
+    code, model = models.code_and_model(bank, user, ask)
+    return replies.refused(b"RECINTRATRNRS", ask, code) if code else replies.recurring(ask, model)
 
 
 def statement(bank, user, ask, at):

@@ -92,12 +92,37 @@ def transfer(ask, row):
 
 
 def standing(row):
-    """XFERINFO, whose DTDUE is the midnight of the due day, and XFERPRCSTS."""
-    terms = [
-        (b"BANKACCTFROM", account(row.terms.source)), (b"BANKACCTTO", account(row.terms.target)),
-        (b"TRNAMT", written_amount(row.terms.cents)), (b"DTDUE", moment(datetime.combine(row.terms.due, time()))),
+    return [
+        terms(row.terms), (b"XFERPRCSTS", [(b"XFERPRCCODE", row.code), (b"DTXFERPRC", moment(row.stamp))]),
     ]
-    return [(b"XFERINFO", terms), (b"XFERPRCSTS", [(b"XFERPRCCODE", row.code), (b"DTXFERPRC", moment(row.stamp))])]
+
+
+def terms(what):
+    """XFERINFO, whose DTDUE is the midnight of the due day."""
+    return (b"XFERINFO", [
+        (b"BANKACCTFROM", account(what.source)), (b"BANKACCTTO", account(what.target)),
+        (b"TRNAMT", written_amount(what.cents)), (b"DTDUE", moment(datetime.combine(what.due, time()))),
+    ])
+
+
+def recurring(ask, model):
+    """RECINTRATRNRS for a deed that was done, with the model as it then stands, None for one that is cancelled.
+
+    The model stands as a transfer of the first day, without a word on how that came out.
+    """
+    number = (b"RECSRVRTID", b"%d" % (ask.id if model is None else model.id))
+    if model is not None:
+        count = [] if model.series.count is None else [(b"NINSTS", b"%d" % model.series.count)]
+        first = [(b"CURDEF", b"USD"), (b"SRVRTID", number[1]), terms(model.terms), number]
+        series = [(b"RECURRINST", count + [(b"FREQ", model.series.frequency)]), (b"INTRARS", first)]
+    pending = b"Y" if ask.pending else b"N"
+    if ask.form == b"RECINTRACANRQ":
+        done = (b"RECINTRACANRS", [number, (b"CANPENDING", pending)])
+    elif ask.form == b"RECINTRAMODRQ":
+        done = (b"RECINTRAMODRS", [number] + series + [(b"MODPENDING", pending)])
+    else:
+        done = (b"RECINTRARS", [number] + series)
+    return (b"RECINTRATRNRS", [(b"TRNUID", ask.trnuid), status(0), done])
 
 
 def account(name):

@@ -3,15 +3,20 @@ import re
 from datetime import date, datetime
 from typing import NamedTuple, Optional
 
-from .children import all_of, amount, maybe, maybe_moment, one, text, word
+from .children import all_of, amount, maybe, maybe_moment, one, read, text, word
 from .fault import Fault
 from .header import Header, read_header
 from .tags import read_tags
 
 KINDS = (b"CHECKING", b"SAVINGS", b"MONEYMRKT", b"CREDITLINE")
+FREQUENCIES = (
+    b"WEEKLY", b"BIWEEKLY", b"TWICEMONTHLY", b"MONTHLY", b"FOURWEEKS", b"BIMONTHLY", b"QUARTERLY", b"SEMIANNUALLY",
+    b"ANNUALLY",
+)
+FLAGS = (b"Y", b"N")
 
 # The forms of the message sets that aren't read yet.
-UNBUILT_BANK = (b"RECINTRATRNRQ", b"BANKMAILTRNRQ", b"INTRASYNCRQ", b"RECINTRASYNCRQ", b"BANKMAILSYNCRQ")
+UNBUILT_BANK = (b"BANKMAILTRNRQ", b"INTRASYNCRQ", b"RECINTRASYNCRQ", b"BANKMAILSYNCRQ")
 UNBUILT_MAIL = (b"MAILTRNRQ", b"MAILSYNCRQ")
 
 
@@ -51,6 +56,25 @@ class Transfer(NamedTuple):
     terms: Optional[Terms]
 
 
+class Series(NamedTuple):
+    """How often a recurring transfer is made."""
+
+    count: Optional[int]  # None where it never ends
+    frequency: bytes
+
+
+class Recurring(NamedTuple):
+    """One of three deeds: a new model of transfers (RECINTRARQ), a change of a model (RECINTRAMODRQ), or its
+    cancellation (RECINTRACANRQ). The terms' due day is the first day."""
+
+    trnuid: bytes
+    form: bytes
+    id: Optional[int]  # which model is changed or cancelled
+    series: Optional[Series]
+    terms: Optional[Terms]
+    pending: Optional[bool]  # whether the model's waiting transfers are changed or cancelled with it
+
+
 class Request(NamedTuple):
     header: Header
     user: bytes
@@ -73,10 +97,10 @@ def signon(sonrq):
 
 def bank_messages(messages):
     asks = []
-    for child in all_of(messages, (b"STMTTRNRQ", b"INTRATRNRQ") + UNBUILT_BANK) if messages else ():
+    for child in all_of(messages, tuple(BANK_FORMS) + UNBUILT_BANK) if messages else ():
         if child.name in UNBUILT_BANK:
             raise Fault("Unbuilt", child.at)
-        asks.append(statement(child) if child.name == b"STMTTRNRQ" else transfer(child))
+        asks.append(BANK_FORMS[child.name](child))
     return asks
 
 
@@ -104,7 +128,7 @@ def statement(stmttrnrq):
 
 def period(inctran):
     start, end = maybe_moment(inctran, b"DTSTART"), maybe_moment(inctran, b"DTEND")
-    return Period(start, end, word(inctran, b"INCLUDE", (b"Y", b"N")) == b"Y")
+    return Period(start, end, word(inctran, b"INCLUDE", FLAGS) == b"Y")
 
 
 def transfer(intratrnrq):
@@ -112,6 +136,33 @@ def transfer(intratrnrq):
     deed = one(intratrnrq, b"INTRARQ", b"INTRAMODRQ", b"INTRACANRQ")
     number = None if deed.name == b"INTRARQ" else entry_number(text(deed, b"SRVRTID", 64))
     return Transfer(trnuid, deed.name, number, None if deed.name == b"INTRACANRQ" else terms(one(deed, b"XFERINFO")))
+
+
+def recurring(recintratrnrq):
+    """A cancellation has neither a series nor terms, and a new model has no id and nothing that waits."""
+    trnuid = transaction_uid(recintratrnrq)
+    deed = one(recintratrnrq, b"RECINTRARQ", b"RECINTRAMODRQ", b"RECINTRACANRQ")
+    number = how_often = what = pending = None
+    if deed.name != b"RECINTRARQ":
+        number = entry_number(text(deed, b"RECSRVRTID", 64))
+    if deed.name != b"RECINTRACANRQ":
+        how_often = series(one(deed, b"RECURRINST"))
+        what = terms(one(one(deed, b"INTRARQ"), b"XFERINFO"))
+    if deed.name != b"RECINTRARQ":
+        flag = b"MODPENDING" if deed.name == b"RECINTRAMODRQ" else b"CANPENDING"
+        pending = word(deed, flag, FLAGS) == b"Y"
+    return Recurring(trnuid, deed.name, number, how_often, what, pending)
+
+
+def series(recurrinst):
+    number = maybe(recurrinst, b"NINSTS")
+    count = None if number is None else read(number, read_count)
+    return Series(count, word(recurrinst, b"FREQ", FREQUENCIES))
+
+
+def read_count(value):
+    """How many transfers a series has, in 1 to 3 digits. None where it isn't so, or 0."""
+    return int(value) or None if re.fullmatch(rb"[0-9]{1,3}", value) else None
 
 
 def entry_number(value):
@@ -128,3 +179,6 @@ def terms(xferinfo):
 
 def bank_account(node):
     return Account(text(node, b"BANKID", 32), text(node, b"ACCTID", 32), word(node, b"ACCTTYPE", KINDS))
+
+
+BANK_FORMS = {b"STMTTRNRQ": statement, b"INTRATRNRQ": transfer, b"RECINTRATRNRQ": recurring}

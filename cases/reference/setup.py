@@ -29,6 +29,7 @@ class SetupFault(Exception):
 
 class Setup(NamedTuple):
     bank: bytes
+    lead: int  # how many days ahead of its day a recurring transfer is made
     most_entries: int
     users: dict  # name: password
     accounts: dict  # Account: (opening in cents, owners)
@@ -62,7 +63,7 @@ def read_setup(text):
         raise SetupFault(count + 1)
     if setup.window * (3 * len(setup.accounts) + len(setup.users)) > MOST_OBJECTS:
         raise SetupFault(count)
-    return Setup(setup.bank, setup.most_entries, setup.users, setup.accounts)
+    return Setup(setup.bank, setup.lead_days, setup.most_entries, setup.users, setup.accounts)
 
 
 class Lines:
@@ -70,7 +71,7 @@ class Lines:
 
     def __init__(self):
         self.first = [self.format, self.bank_id, self.lead, self.window_size, self.entries]
-        self.bank = self.window = self.most_entries = None
+        self.bank = self.lead_days = self.window = self.most_entries = None
         self.users = {}
         self.accounts = {}
 
@@ -90,7 +91,8 @@ class Lines:
         return len(words) == 2 and words[0] == b"BANK"
 
     def lead(self, words):
-        return len(words) == 2 and words[0] == b"LEAD" and number(words[1], 0, 30) is not None
+        self.lead_days = number(words[-1], 0, 30)
+        return len(words) == 2 and words[0] == b"LEAD" and self.lead_days is not None
 
     def window_size(self, words):
         self.window = number(words[-1], 1, 10000)

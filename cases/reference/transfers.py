@@ -11,7 +11,7 @@ OTHER_SOURCE = 2006
 NO_TARGET = 2009
 NO_AMOUNT = 2012
 NO_DUE_DAY = 2014
-POSTED_ALREADY = 2016
+CLOSED_ALREADY = 2016  # posted, or closed without funds
 CANCELLED_ALREADY = 2017
 NO_TRANSFER = 2018
 USED_TRNUID = 2019
@@ -27,15 +27,14 @@ def code_and_row(bank, user, ask, at):
     if (user, ask.trnuid) in bank.used:
         return USED_TRNUID, None
     bank.used.add((user, ask.trnuid))
-    code = REFUSALS[ask.form](bank, user, ask) or (NO_ROOM if bank.next_number() is None else 0)
+    code = REFUSALS[ask.form](bank, user, ask) or (0 if bank.has_room(1) else NO_ROOM)
     if code != 0:
         return code, None
-    if ask.form == b"INTRARQ":
-        number, account, row = bank.next_number(), ask.terms.source, new_row(bank, ask.terms, at)
-    else:
-        number, account = ask.id, bank.last_entry(ask.id).account
-        row = waiting_row(number, ask.terms) if ask.form == b"INTRAMODRQ" else None
-    bank.enter(account, number, row)
+    if ask.form == b"INTRACANRQ":
+        bank.cancel(ask.id)
+        return 0, None
+    row = new_row(bank, ask.terms, at) if ask.form == b"INTRARQ" else changed_row(bank, ask)
+    bank.put_transfer(row)
     return 0, row
 
 
@@ -48,12 +47,17 @@ def new_row(bank, terms, at):
     """What is due by the business day is posted at once, though its due day stays the asked one; the rest waits."""
     terms = terms._replace(due=due_day(bank, terms))
     if terms.due > bank.day:
-        return waiting_row(bank.next_number(), terms)
-    return Row(bank.next_number(), terms, POSTED, at)
+        return waiting_row(bank.next_number(), None, terms)
+    return Row(bank.next_number(), None, terms, POSTED, at)
 
 
-def waiting_row(number, terms):
-    return Row(number, terms, WAITING, datetime.combine(terms.due, time()))
+def changed_row(bank, ask):
+    """A transfer that came from a model still counts as the model's."""
+    return waiting_row(ask.id, bank.transfers[ask.id].model, ask.terms)
+
+
+def waiting_row(number, model, terms):
+    return Row(number, model, terms, WAITING, datetime.combine(terms.due, time()))
 
 
 def refusal_of_new(bank, user, ask):
@@ -75,25 +79,30 @@ def refusal_of_terms(bank, terms):
 
 
 def refusal_of_change(bank, user, ask):
-    wrong = refusal_of_cancellation(bank, user, ask)
-    if wrong:
-        return wrong
-    if ask.terms.source != bank.last_entry(ask.id).account:
+    return refusal_of_cancellation(bank, user, ask) or refusal_of_new_terms(
+        bank, ask.terms, bank.transfers[ask.id].terms)
+
+
+def refusal_of_new_terms(bank, terms, old):
+    """A change keeps the source."""
+    if terms.source != old.source:
         return OTHER_SOURCE
-    wrong = refusal_of_terms(bank, ask.terms)
-    if wrong:
-        return wrong
-    return NO_DUE_DAY if ask.terms.due is None or ask.terms.due <= bank.day else None
+    return refusal_of_terms(bank, terms) or refusal_of_day(bank, terms)
+
+
+def refusal_of_day(bank, terms):
+    """What is to wait has a day, behind the business day."""
+    return NO_DUE_DAY if terms.due is None or terms.due <= bank.day else None
 
 
 def refusal_of_cancellation(bank, user, ask):
     """Only what waits can be changed or cancelled."""
-    last = bank.last_entry(ask.id)
-    if last is None or not bank.owns(user, last.account):
+    row = bank.transfers.get(ask.id)
+    if row is None or not bank.owns(user, row.terms.source):
         return NO_TRANSFER
-    if last.row is None:
+    if row.id in bank.cancelled:
         return CANCELLED_ALREADY
-    return POSTED_ALREADY if last.row.code == POSTED else None
+    return None if row.code == WAITING else CLOSED_ALREADY
 
 
 REFUSALS = {

@@ -14,14 +14,19 @@ use Rattle.ofx_types.specs.declared.number.UserId.{UserId}
 use Rattle.ofx_types.specs.declared.number.Moment.{Moment}
 use Rattle.ofx_types.specs.declared.number.Day.{Day}
 use Rattle.ofx_types.specs.declared.transfer.Change.{Change}
-use Rattle.ofx_types.specs.declared.transfer.Change.TheVariants.{NewTransfer, SetTransfer, DropTransfer}
+use Rattle.ofx_types.specs.declared.transfer.Change.TheVariants.{NewTransfer, SetTransfer, DropTransfer, NewModel}
+use Rattle.ofx_types.specs.declared.recurring.ModelRow.{ModelRow}
+use Rattle.ofx_types.specs.declared.recurring.Recur.{Recur}
+use Rattle.bank_core.specs.declared.effect.Effect.TheVariants as effects
 use Rattle.ofx_types.specs.declared.transfer.XferCode.TheVariants.{Cancelled}
 use Rattle.ofx_types.specs.declared.transfer.Deed.{Deed}
-use Rattle.ofx_types.specs.declared.transfer.Deed.TheVariants.{Transfer, ModifyTransfer, CancelTransfer}
+use Rattle.ofx_types.specs.declared.transfer.Deed.TheVariants.{Transfer, ModifyTransfer, CancelTransfer, Model, ModifyModel, CancelModel}
 use Rattle.ofx_types.specs.declared.transfer.TransferRow.{TransferRow}
 use Rattle.ofx_types.specs.declared.transfer.XferInfo.{XferInfo}
 use Rattle.ofx_types.specs.declared.transfer.DeedReply.{DeedReply}
-use Rattle.ofx_types.specs.declared.transfer.Family.TheVariants.{Intra}
+use Rattle.ofx_types.specs.DeedForm.{family_of}
+use Rattle.ofx_types.specs.declared.transfer.XferCode.{XferCode}
+use Rattle.bank_core.specs.declared.effect.Effect.TheVariants.{Row}
 use Rattle.bank_model.specs.declared.entry.Entry.{Entry}
 use Rattle.bank_model.specs.declared.once.UsedPair.{UsedPair}
 use Rattle.bank_model.specs.declared.once.KeptReply.{KeptReply}
@@ -29,19 +34,20 @@ use Rattle.bank_model.specs.declared.setup.Setup.{Setup}
 use Rattle.bank_model.specs.declared.event.State.{State}
 use Rattle.bank_model.specs.SetupForm.{IsWithinLimits}
 use Rattle.bank_model.specs.Once.{is_used}
-use Rattle.bank_model.specs.Ledger.{balance, row_of, with_code, is_posted}
+use Rattle.bank_model.specs.Ledger.{balance, row_of, with_code, is_posted, posting_of}
 use Rattle.bank_model.specs.SetupLookups.{account_of}
-use Rattle.bank_model.specs.Judging.{transfer_code, modify_code, cancel_code}
+use Rattle.bank_model.specs.Models.{model_of, is_model_dropped}
+use Rattle.bank_model.specs.Judging.{transfer_code, modify_code, cancel_code, model_code, model_modify_code, model_cancel_code}
 use Rattle.bank_model.specs.Rules.{named_by_deed}
 use Rattle.bank_model.specs.Sound.{IsSoundDeed}
 use Rattle.bank_model.proofs.SetupWords.{some_is}
-use Rattle.bank_model.specs.Deeds.{balance_if_any, object_of, new_row, changed_row, next_entry, judged, done, is_full, code_of, used_up, first_change, answer_with, deed_answer}
+use Rattle.bank_model.specs.Deeds.{balance_if_any, object_of, model_object_of, new_row, changed_row, new_model, next_entry, judged, done, is_full, code_of, used_up, first_change, answer_with, deed_answer}
 use Rattle.bank_accounts.specs.AccountView.{AccountView}
 use Rattle.bank_accounts.specs.HeldAccounts.{IsHeld, AreHeld, balance_held}
 use Rattle.bank_accounts.proofs.HeldLemmas.{balance_held-some}
 use Rattle.bank_core.specs.DraftView.{DraftView, pair_of, drafted, with_uid, amount_held, IsNext, HasAdded, HasBothHeld, IsSameFile}
 use Rattle.bank_core.specs.Standing.{IsSoundState}
-use Rattle.bank_core.proofs.DeedLemmas.{taken_entry, new_fields, changed_fields, transfer_next, transfer_entries, modify_row, modify_entries, modify_next, cancel_row, cancel_entries, cancel_next}
+use Rattle.bank_core.proofs.DeedLemmas.{taken_entry, new_fields, changed_fields, transfer_next, transfer_entries, modify_row, modify_entries, modify_next, cancel_row, cancel_entries, cancel_next, model_taken, model_entry, model_entries, model_next}
 use Rattle.bank_core.proofs.DraftLemmas.{HaveBalances}
 use Rattle.bank_core.proofs.EnteringLemmas.{balance_held-balanced}
 
@@ -65,12 +71,12 @@ answer_is : (setup : Setup) (S : State) (user : UserId) (only : Option AcctId) (
 unfolding deed_answer
 answer_is setup S user only at trnuid deed code is = ap (answer_with setup S user at trnuid deed) is
 
-pub done_reply-is : (setup : Setup) (S : State) (user : UserId) (only : Option AcctId) (at : Moment) (trnuid : List ℕ) (deed : Deed) (change : Change) → code_of setup S user only at trnuid deed ≡ 0 → first_change (done setup S at trnuid deed) ≡ Some change → (record { trnuid = trnuid; family = Intra; code = 0; change = Some change }) ≡ (deed_answer setup S user only at trnuid deed).reply
+pub done_reply-is : (setup : Setup) (S : State) (user : UserId) (only : Option AcctId) (at : Moment) (trnuid : List ℕ) (deed : Deed) (change : Change) → code_of setup S user only at trnuid deed ≡ 0 → first_change (done setup S at trnuid deed) ≡ Some change → (record { trnuid = trnuid; family = family_of deed; code = 0; change = Some change }) ≡ (deed_answer setup S user only at trnuid deed).reply
 done_reply-is setup S user only at trnuid deed change is first =
     ap (λ (c : Option Change). reply_with c) (sym first) ∙ sym (ap (λ a. a.reply) (answer_is setup S user only at trnuid deed 0 is))
   where
     reply_with : Option Change → DeedReply
-    reply_with c = record { trnuid = trnuid; family = Intra; code = 0; change = c }
+    reply_with c = record { trnuid = trnuid; family = family_of deed; code = 0; change = c }
 
 -- A draft with the entries of a deed that is done, and its uid.
 pub done_after-is : (setup : Setup) (S : State) (draft more : DraftView) (only : Option AcctId) (trnuid : List ℕ) (deed : Deed) → code_of setup (drafted S draft) draft.user only draft.at trnuid deed ≡ 0 → HasAdded setup S draft more (done setup (drafted S draft) draft.at trnuid deed) → drafted S (with_uid more trnuid) ≡ (deed_answer setup (drafted S draft) draft.user only draft.at trnuid deed).after
@@ -92,12 +98,12 @@ no_entries : (code : ℕ) (zero : Bool) (some entries : List Entry) → eqb code
 no_entries code true some entries is other = absurd (other (eqb-true code 0 is))
 no_entries code false some entries is other = append-nil entries
 
-pub refused_reply-is : (setup : Setup) (S : State) (user : UserId) (only : Option AcctId) (at : Moment) (trnuid : List ℕ) (deed : Deed) (code : ℕ) → code_of setup S user only at trnuid deed ≡ code → code ≢ 0 → (record { trnuid = trnuid; family = Intra; code = code; change = None }) ≡ (deed_answer setup S user only at trnuid deed).reply
+pub refused_reply-is : (setup : Setup) (S : State) (user : UserId) (only : Option AcctId) (at : Moment) (trnuid : List ℕ) (deed : Deed) (code : ℕ) → code_of setup S user only at trnuid deed ≡ code → code ≢ 0 → (record { trnuid = trnuid; family = family_of deed; code = code; change = None }) ≡ (deed_answer setup S user only at trnuid deed).reply
 refused_reply-is setup S user only at trnuid deed code is other =
     sym (ap (λ a. a.reply) (answer_is setup S user only at trnuid deed code is) ∙ ap reply_with (no_change code (eqb code 0) (done setup S at trnuid deed) refl other))
   where
     reply_with : Option Change → DeedReply
-    reply_with c = record { trnuid = trnuid; family = Intra; code = code; change = c }
+    reply_with c = record { trnuid = trnuid; family = family_of deed; code = code; change = c }
 
 -- A refused deed uses up its uid, and adds nothing else.
 pub refused_after-is : (setup : Setup) (S : State) (draft : DraftView) (only : Option AcctId) (trnuid : List ℕ) (deed : Deed) (code : ℕ) → code_of setup (drafted S draft) draft.user only draft.at trnuid deed ≡ code → code ≢ 0 → code ≢ 2019 → drafted S (with_uid draft trnuid) ≡ (deed_answer setup (drafted S draft) draft.user only draft.at trnuid deed).after
@@ -124,9 +130,9 @@ pub used_code-is : (setup : Setup) (S : State) (user : UserId) (only : Option Ac
 unfolding code_of
 used_code-is setup S user only at trnuid deed used = rw used refl
 
-pub room_code-is : (setup : Setup) (S : State) (user : UserId) (only : Option AcctId) (at : Moment) (trnuid : List ℕ) (deed : Deed) → is_used user trnuid S.used ≡ false → judged setup S user only deed ≡ 0 → length (done setup S at trnuid deed) ≡ 1 → code_of setup S user only at trnuid deed ≡ cond (is_full setup (length S.entries + 1)) 2000 0
+pub room_code-is : (setup : Setup) (S : State) (user : UserId) (only : Option AcctId) (at : Moment) (trnuid : List ℕ) (deed : Deed) (count : ℕ) → is_used user trnuid S.used ≡ false → judged setup S user only deed ≡ 0 → length (done setup S at trnuid deed) ≡ count → code_of setup S user only at trnuid deed ≡ cond (is_full setup (length S.entries + count)) 2000 0
 unfolding code_of
-room_code-is setup S user only at trnuid deed unused none one = rw (unused, none, one) refl
+room_code-is setup S user only at trnuid deed count unused none is = rw (unused, none, is) refl
 
 other_code : (code : ℕ) (full zero : Bool) → eqb code 0 ≡ zero → code ≢ 0 → cond zero (cond full 2000 0) code ≡ code
 other_code code full true is other = absurd (other (eqb-true code 0 is))
@@ -181,23 +187,23 @@ judged_cancel-is setup S user only deed id found result is row code =
 
 -- ---- what is entered
 
-abbrev entry_of : ℕ → ObjectId → List ℕ → Change → Entry
+abbrev pub entry_of : ℕ → ObjectId → List ℕ → Change → Entry
 entry_of number object trnuid change = record { number = number; object = object; trnuid = trnuid; change = change }
 
-entry_is : (n m : ℕ) (o p : ObjectId) (t u : List ℕ) (c d : Change) → n ≡ m → o ≡ p → t ≡ u → c ≡ d → entry_of n o t c ≡ entry_of m p u d
+pub entry_is : (n m : ℕ) (o p : ObjectId) (t u : List ℕ) (c d : Change) → n ≡ m → o ≡ p → t ≡ u → c ≡ d → entry_of n o t c ≡ entry_of m p u d
 entry_is n m o p t u c d number object trnuid change =
     ap (λ (x : ℕ). entry_of x o t c) number ∙ ap (λ (x : ObjectId). entry_of m x t c) object ∙ ap (λ (x : List ℕ). entry_of m p x c) trnuid ∙ ap (entry_of m p u) change
 
-next_as : (setup : Setup) (S : State) (entry other : Entry) (row held : TransferRow) → other ≡ entry → held ≡ row → IsNext setup S entry row → IsNext setup S other held
+pub next_as : (setup : Setup) (S : State) (entry other : Entry) (row held : TransferRow) → other ≡ entry → held ≡ row → IsNext setup S entry (Row row) → IsNext setup S other (Row held)
 next_as setup S entry other row held same_entry same_row next =
-    subst (λ (e : Entry). IsNext setup S e held) (sym same_entry) (subst (IsNext setup S entry) (sym same_row) next)
+    subst (λ (e : Entry). IsNext setup S e (Row held)) (sym same_entry) (subst (λ (r : TransferRow). IsNext setup S entry (Row r)) (sym same_row) next)
 
 pub added_as : (setup : Setup) (S : State) (old new : DraftView) (entries other : List Entry) → entries ≡ other → HasAdded setup S old new entries → HasAdded setup S old new other
 added_as setup S old new entries other same has = subst (HasAdded setup S old new) same has
 
 -- What a transfer enters, by the parts that are made of it.
 pub record IsTransferEntry (setup : Setup) (S : State) (at : Moment) (trnuid : List ℕ) (info : XferInfo) (number : ℕ) (object : ObjectId) (uid : List ℕ) (row told : TransferRow) : Type 0 where
-  pub next : IsNext setup S (entry_of number object uid (NewTransfer told)) row
+  pub next : IsNext setup S (entry_of number object uid (NewTransfer told)) (Row row)
   pub first : first_change (done setup S at trnuid (Transfer info)) ≡ Some (NewTransfer told)
   pub entries : entry_of number object uid (NewTransfer told) ∷ [] ≡ done setup S at trnuid (Transfer info)
   pub held : (accounts : List AccountView) → AreHeld accounts (named_by_deed setup (Transfer info)) → HasBothHeld setup accounts row
@@ -226,15 +232,15 @@ IsTransferEntry-of setup S user only at trnuid info number object uid row told w
 
 -- What a change of a transfer enters.
 pub record IsModifyEntry (setup : Setup) (S : State) (at : Moment) (trnuid : List ℕ) (id : ℕ) (info : XferInfo) (number : ℕ) (object : ObjectId) (uid : List ℕ) (row told : TransferRow) : Type 0 where
-  pub next : IsNext setup S (entry_of number object uid (SetTransfer told)) row
+  pub next : IsNext setup S (entry_of number object uid (SetTransfer told)) (Row row)
   pub first : first_change (done setup S at trnuid (ModifyTransfer id info)) ≡ Some (SetTransfer told)
   pub entries : entry_of number object uid (SetTransfer told) ∷ [] ≡ done setup S at trnuid (ModifyTransfer id info)
-  pub waits : is_posted row.code ≡ false
+  pub nothing : posting_of number (Some told) ≡ []
 
 pub modify_there : (setup : Setup) (S : State) (user : UserId) (only : Option AcctId) (id : ℕ) (info : XferInfo) → judged setup S user only (ModifyTransfer id info) ≡ 0 → is_some (row_of id S.entries) ≡ true
 modify_there setup S user only id info none = ap is_some (modify_row setup S user only id info none).1
 
-some_row : (found : Option TransferRow) (change : TransferRow → TransferRow) (first row : TransferRow) → found ≡ Some first → option_map change found ≡ Some row → row ≡ change first
+pub some_row : (found : Option TransferRow) (change : TransferRow → TransferRow) (first row : TransferRow) → found ≡ Some first → option_map change found ≡ Some row → row ≡ change first
 some_row found change first row there is = sym (some_is (change first) row (sym (ap (option_map change) there) ∙ is))
 
 pub modify_from : (setup : Setup) (S : State) (user : UserId) (only : Option AcctId) (id : ℕ) (info : XferInfo) (row : TransferRow) → judged setup S user only (ModifyTransfer id info) ≡ 0 → option_map (changed_row S.day info) (row_of id S.entries) ≡ Some row → is_some (account_of setup row.from) ≡ true
@@ -257,15 +263,14 @@ IsModifyEntry-of setup S user only at trnuid id info number object uid row told 
       next = next_as setup S _ _ (changed_row S.day info found.0) row entry row_is (modify_next setup S trnuid id info found.0 sound deed found.1 found.2);
       first = ap first_change (sym entries);
       entries = entries;
-      waits = ap (λ (r : TransferRow). is_posted r.code) row_is ∙ ap is_posted fields.1;
+      nothing = ap (λ (r : TransferRow). posting_of number (Some r)) (is_told ∙ row_is) ∙ ap (λ (c : XferCode). cond (is_posted c) (record { number = number; row = changed_row S.day info found.0 } ∷ []) []) fields.1;
     }
 
 -- What a cancellation enters.
 pub record IsCancelEntry (setup : Setup) (S : State) (at : Moment) (trnuid : List ℕ) (id : ℕ) (number : ℕ) (object : ObjectId) (uid : List ℕ) (row : TransferRow) : Type 0 where
-  pub next : IsNext setup S (entry_of number object uid (DropTransfer id)) row
+  pub next : IsNext setup S (entry_of number object uid (DropTransfer id)) (Row row)
   pub first : first_change (done setup S at trnuid (CancelTransfer id)) ≡ Some (DropTransfer id)
   pub entries : entry_of number object uid (DropTransfer id) ∷ [] ≡ done setup S at trnuid (CancelTransfer id)
-  pub waits : is_posted row.code ≡ false
 
 pub cancel_there : (setup : Setup) (S : State) (user : UserId) (only : Option AcctId) (id : ℕ) → judged setup S user only (CancelTransfer id) ≡ 0 → is_some (row_of id S.entries) ≡ true
 cancel_there setup S user only id none = ap is_some (cancel_row setup S user only id none).1
@@ -286,8 +291,53 @@ IsCancelEntry-of setup S user only at trnuid id number object uid row sound none
     let entries : entry_of number object uid (DropTransfer id) ∷ [] ≡ done setup S at trnuid (CancelTransfer id) =
     ap (λ (e : Entry). e ∷ []) entry ∙ sym (cancel_entries setup S at trnuid id found.0 found.1) in
     record {
-      next = next_as setup S _ _ (with_code Cancelled found.0) row entry row_is (cancel_next setup S trnuid id found.0 sound found.1);
+      next = next_as setup S _ _ (with_code Cancelled found.0) row entry row_is (cancel_next setup S trnuid id found.0 sound found.1 found.2);
       first = ap first_change (sym entries);
       entries = entries;
-      waits = ap (λ (r : TransferRow). is_posted r.code) row_is;
     }
+
+pub model_as : (setup : Setup) (S : State) (entry other : Entry) (row held : ModelRow) → other ≡ entry → held ≡ row → IsNext setup S entry (effects.Model row) → IsNext setup S other (effects.Model held)
+model_as setup S entry other row held same_entry same_row next =
+    subst (λ (e : Entry). IsNext setup S e (effects.Model held)) (sym same_entry) (subst (λ (r : ModelRow). IsNext setup S entry (effects.Model r)) (sym same_row) next)
+
+-- What a new recurring transfer enters.
+pub record IsModelEntry (setup : Setup) (S : State) (at : Moment) (trnuid : List ℕ) (recur : Recur) (info : XferInfo) (number : ℕ) (object : ObjectId) (uid : List ℕ) (row told : ModelRow) : Type 0 where
+  pub next : IsNext setup S (entry_of number object uid (NewModel told)) (effects.Model row)
+  pub first : first_change (done setup S at trnuid (Model recur info)) ≡ Some (NewModel told)
+  pub entries : entry_of number object uid (NewModel told) ∷ [] ≡ done setup S at trnuid (Model recur info)
+
+pub model_from : (setup : Setup) (S : State) (user : UserId) (only : Option AcctId) (recur : Recur) (info : XferInfo) → judged setup S user only (Model recur info) ≡ 0 → is_some (account_of setup info.from) ≡ true
+model_from setup S user only recur info none = (model_taken setup S user only recur info none).from
+
+pub IsModelEntry-of : (setup : Setup) (S : State) (user : UserId) (only : Option AcctId) (at : Moment) (trnuid : List ℕ) (recur : Recur) (info : XferInfo) (number : ℕ) (object : ObjectId) (uid : List ℕ) (row told : ModelRow) → IsSoundState setup S → IsSoundDeed (Model recur info) → judged setup S user only (Model recur info) ≡ 0 → number ≡ length S.entries + 1 → object ≡ model_object_of setup info.from → uid ≡ trnuid → row ≡ new_model number S.day recur info → told ≡ row → IsModelEntry setup S at trnuid recur info number object uid row told
+IsModelEntry-of setup S user only at trnuid recur info number object uid row told sound deed none is_number is_object is_uid is_row is_told =
+    let row_is : row ≡ new_model (length S.entries + 1) S.day recur info = is_row ∙ ap (λ (n : ℕ). new_model n S.day recur info) is_number in
+    let entry : entry_of number object uid (NewModel told) ≡ model_entry setup S trnuid recur info =
+    entry_is _ _ _ _ _ _ _ _ is_number is_object is_uid (ap (λ (r : ModelRow). NewModel r) (is_told ∙ row_is)) in
+    let entries : entry_of number object uid (NewModel told) ∷ [] ≡ done setup S at trnuid (Model recur info) =
+    ap (λ (e : Entry). e ∷ []) entry ∙ sym (model_entries setup S at trnuid recur info) in
+    record {
+      next = model_as setup S (model_entry setup S trnuid recur info) _ (new_model (length S.entries + 1) S.day recur info) row entry row_is (model_next setup S user only trnuid recur info sound deed none);
+      first = ap first_change (sym entries);
+      entries = entries;
+    }
+
+-- ---- what is judged of recurring transfers
+
+pub judged_model-is : (setup : Setup) (S : State) (user : UserId) (only : Option AcctId) (deed : Deed) (recur : Recur) (info : XferInfo) (result : ℕ) → deed ≡ Model recur info → result ≡ model_code setup user only info S.day → result ≡ judged setup S user only deed
+unfolding judged
+judged_model-is setup S user only deed recur info result is code = code ∙ sym (ap (judged setup S user only) is)
+
+model_copied : (found : Option (Bor ModelRow)) → option_map (λ (row : Bor ModelRow). row.now) found ≡ option_copied found
+model_copied None = refl
+model_copied (Some row) = refl
+
+pub judged_model_modify-is : (setup : Setup) (S : State) (user : UserId) (only : Option AcctId) (deed : Deed) (id : ℕ) (recur : Recur) (info : XferInfo) (also : Bool) (found : Option (Bor ModelRow)) (cancelled : Bool) (result : ℕ) → deed ≡ ModifyModel id recur info also → option_copied found ≡ model_of id S.entries → cancelled ≡ is_model_dropped id S.entries → result ≡ model_modify_code setup user only (option_map (λ (row : Bor ModelRow). row.now) found) cancelled info S.day → result ≡ judged setup S user only deed
+unfolding judged
+judged_model_modify-is setup S user only deed id recur info also found cancelled result is row gone code =
+    code ∙ ap (λ (r : Option ModelRow). model_modify_code setup user only r cancelled info S.day) (model_copied found ∙ row) ∙ ap (λ (b : Bool). model_modify_code setup user only (model_of id S.entries) b info S.day) gone ∙ sym (ap (judged setup S user only) is)
+
+pub judged_model_cancel-is : (setup : Setup) (S : State) (user : UserId) (only : Option AcctId) (deed : Deed) (id : ℕ) (also : Bool) (found : Option (Bor ModelRow)) (cancelled : Bool) (result : ℕ) → deed ≡ CancelModel id also → option_copied found ≡ model_of id S.entries → cancelled ≡ is_model_dropped id S.entries → result ≡ model_cancel_code setup user only (option_map (λ (row : Bor ModelRow). row.now) found) cancelled → result ≡ judged setup S user only deed
+unfolding judged
+judged_model_cancel-is setup S user only deed id also found cancelled result is row gone code =
+    code ∙ ap (λ (r : Option ModelRow). model_cancel_code setup user only r cancelled) (model_copied found ∙ row) ∙ ap (λ (b : Bool). model_cancel_code setup user only (model_of id S.entries) b) gone ∙ sym (ap (judged setup S user only) is)

@@ -1,10 +1,6 @@
--- A deed keeps the bank's state sound.
-use Rattle.std.proofs.Common.{◌≡◌, ℕ, ◌+◌, ◌<◌, ◌≤◌, Bool, true, false, cond, ltb, List, [], ◌∷◌, ◌++◌, length, length-append, get_or, Option, None, Some, ℤ, pos, ◌≤ℤ◌, refl, sym, ap, ◌∙◌, subst, arith}
+-- The entries of a deed that isn't refused may come next.
+use Rattle.std.proofs.Common.{◌≡◌, ℕ, ◌+◌, Bool, true, false, cond, List, [], ◌∷◌, ◌++◌, length, Option, None, Some, ℤ, pos, ◌≤ℤ◌, refl, sym, ap, ◌∙◌, subst, arith}
 use Rattle.std.specs.Prelude.{is_some}
-use Rattle.std.specs.Option.{option_map}
-use Rattle.std.proofs.lemmas.Bool.{ltb-true, ltb-false}
-use Rattle.std.proofs.lemmas.List.{get_or_push}
-use Rattle.std.proofs.Math.ListN.{get_or-append}
 use Rattle.std.proofs.lemmas.Int.{ints}
 use Rattle.ofx_types.specs.Calendar.{IsMoment}
 use Rattle.ofx_types.specs.declared.number.AcctId.{AcctId}
@@ -15,39 +11,28 @@ use Rattle.ofx_types.specs.declared.number.Moment.{Moment}
 use Rattle.ofx_types.specs.declared.transfer.TransferRow.{TransferRow}
 use Rattle.ofx_types.specs.declared.transfer.XferInfo.{XferInfo}
 use Rattle.ofx_types.specs.declared.transfer.XferCode.TheVariants.{Waiting, Posted, Cancelled}
-use Rattle.ofx_types.specs.declared.transfer.Change.TheVariants.{NewTransfer, SetTransfer, DropTransfer}
-use Rattle.ofx_types.specs.declared.transfer.Deed.{Deed}
-use Rattle.ofx_types.specs.declared.transfer.Deed.TheVariants.{Transfer, ModifyTransfer, CancelTransfer}
+use Rattle.ofx_types.specs.declared.transfer.Change.TheVariants.{NewTransfer, SetTransfer, DropTransfer, NewModel, SetModel, DropModel}
+use Rattle.ofx_types.specs.declared.transfer.Deed.TheVariants.{Transfer, ModifyTransfer, CancelTransfer, Model, ModifyModel, CancelModel}
+use Rattle.ofx_types.specs.declared.recurring.ModelRow.{ModelRow}
+use Rattle.ofx_types.specs.declared.recurring.Recur.{Recur}
 use Rattle.bank_model.specs.declared.entry.Entry.{Entry}
-use Rattle.bank_model.specs.declared.once.UsedPair.{UsedPair}
 use Rattle.bank_model.specs.declared.setup.Setup.{Setup}
 use Rattle.bank_model.specs.declared.event.State.{State}
 use Rattle.bank_model.specs.SetupForm.{IsWithinLimits}
 use Rattle.bank_model.specs.SetupLookups.{account_of}
-use Rattle.bank_model.specs.Ledger.{is_posted, posting_of, is_dropped, with_code, row_of, balance, is_covered}
+use Rattle.bank_model.specs.Ledger.{is_posted, posting_of, with_code, row_of, balance, is_covered}
+use Rattle.bank_model.specs.Models.{model_of, is_model_dropped}
 use Rattle.bank_model.specs.Judging.{is_due, is_cancelled}
-use Rattle.bank_model.specs.Deeds.{source_balance, judged, object_of, new_row, changed_row, next_entry, entry_on, done}
-use Rattle.bank_model.specs.Sound.{IsSoundDeed}
-use Rattle.bank_model.proofs.SetupParts.{all_push}
-use Rattle.bank_transfers.proofs.GrowthLemmas.{HasId, row_of-id}
-use Rattle.bank_core.specs.Standing.{IsSoundRow, HasSoundRow, IsSoundState, transfer_in}
+use Rattle.bank_model.specs.Deeds.{source_balance, judged, object_of, model_object_of, new_row, changed_row, new_model, changed_model, next_entry, entry_on, done}
+use Rattle.bank_model.specs.Sound.{IsSoundInfo, IsSoundDeed}
+use Rattle.bank_core.specs.declared.effect.Effect.TheVariants.{Row, NoModel}
+use Rattle.bank_core.specs.declared.effect.Effect.TheVariants as effects
+use Rattle.bank_core.specs.Standing.{IsSoundRow, IsSoundState}
 use Rattle.bank_core.specs.DraftView.{IsNext}
 use Rattle.bank_core.proofs.LedgerSteps.{balance-kept, covered-posted}
-use Rattle.bank_core.proofs.Verdicts.{IsTaken, IsTaken-from_code, IsChange, IsChange-from_code, IsOpen, IsOpen-from_code}
-use Rattle.bank_core.proofs.RowLemmas.{IsSoundRow-new, IsSoundRow-changed, AreMade-more, is_dropped-new, id_made, is_dropped-open}
-
-has_id : (id : ℕ) (found : Option TransferRow) (row : TransferRow) → HasId id found → found ≡ Some row → row.id ≡ id
-has_id id None row has is = cc
-has_id id (Some held) row has is = let e : held ≡ row = cc in sym (ap (λ (r : TransferRow). r.id) e) ∙ has
-
--- ---- one entry more
-
--- the entries of a deed that is done: one, which gives a row
-pub record IsDone (setup : Setup) (S : State) (entries : List Entry) : Type 0 where
-  pub entry : Entry
-  pub row : TransferRow
-  pub only : entries ≡ entry ∷ []
-  pub next : IsNext setup S entry row
+use Rattle.bank_core.proofs.Verdicts.{IsTaken, IsTaken-from_code, IsChange, IsChange-from_code, IsOpen, IsOpen-from_code, waits_open, IsTakenModel, IsTakenModel-from_code, IsModelChange, IsModelChange-from_code, IsModelOpen-from_code}
+use Rattle.bank_core.proofs.RowLemmas.{IsSoundRow-new, IsSoundRow-changed, IsSoundModel-new, IsSoundModel-changed, model_of-named}
+use Rattle.bank_core.proofs.NextLemmas.{row_of-named, covered_nothing, new_next, set_next, drop_next, new_model_next, set_model_next, drop_model_next}
 
 pub some_of : {X : Type 0} (found : Option X) → is_some found ≡ true → (x : X) × (found ≡ Some x)
 some_of None is = cc
@@ -73,11 +58,11 @@ new_kept : (id : ℕ) (at : Moment) (day : Day) (info : XferInfo) → is_cancell
 unfolding new_row
 new_kept id at day info = new_open (is_due info day)
 
-pub new_fields : (id : ℕ) (at : Moment) (day : Day) (info : XferInfo) → ((new_row id at day info).id ≡ id) × ((new_row id at day info).from ≡ info.from) × ((new_row id at day info).amount ≡ info.amount) × ((new_row id at day info).to ≡ info.to)
+pub new_fields : (id : ℕ) (at : Moment) (day : Day) (info : XferInfo) → ((new_row id at day info).id ≡ id) × ((new_row id at day info).from ≡ info.from) × ((new_row id at day info).amount ≡ info.amount) × ((new_row id at day info).to ≡ info.to) × ((new_row id at day info).model ≡ 0)
 unfolding new_row
-new_fields id at day info = (refl, refl, refl, refl)
+new_fields id at day info = (refl, refl, refl, refl, refl)
 
-covers : (amount balance : ℤ) → is_covered amount balance ≡ true → amount ≤ℤ balance
+pub covers : (amount balance : ℤ) → is_covered amount balance ≡ true → amount ≤ℤ balance
 covers amount balance enough = grind (arith, ints)
 
 taken_covered : (setup : Setup) (S : State) (at : Moment) (trnuid : List ℕ) (info : XferInfo) (due : Bool) → is_due info S.day ≡ due → IsWithinLimits setup → IsSoundState setup S → IsTaken setup info S.day (source_balance setup S info) → IsSoundRow setup (new_row (length S.entries + 1) at S.day info) → (account : AcctId) → pos 0 ≤ℤ balance setup (S.entries ++ taken_entry setup S at trnuid info ∷ []) account
@@ -97,20 +82,15 @@ taken_covered setup S at trnuid info false due within sound taken row account =
     rw (balance-kept setup S.entries (taken_entry setup S at trnuid info) account (new_waits (length S.entries + 1) (length S.entries + 1) at S.day info due))
     (sound.covered account)
 
-pub transfer_next : (setup : Setup) (S : State) (user : UserId) (only : Option AcctId) (at : Moment) (trnuid : List ℕ) (info : XferInfo) → IsWithinLimits setup → IsSoundState setup S → IsMoment at.0 → IsSoundDeed (Transfer info) → judged setup S user only (Transfer info) ≡ 0 → IsNext setup S (taken_entry setup S at trnuid info) (new_row (length S.entries + 1) at S.day info)
+pub transfer_next : (setup : Setup) (S : State) (user : UserId) (only : Option AcctId) (at : Moment) (trnuid : List ℕ) (info : XferInfo) → IsWithinLimits setup → IsSoundState setup S → IsMoment at.0 → IsSoundDeed (Transfer info) → judged setup S user only (Transfer info) ≡ 0 → IsNext setup S (taken_entry setup S at trnuid info) (Row (new_row (length S.entries + 1) at S.day info))
 unfolding judged
 transfer_next setup S user only at trnuid info within sound moment deed none =
     let id : ℕ = length S.entries + 1 in
     let taken : IsTaken setup info S.day (source_balance setup S info) = IsTaken-from_code setup user only info S.day (source_balance setup S info) none in
     let row : IsSoundRow setup (new_row id at S.day info) = IsSoundRow-new setup id at S.day (source_balance setup S info) info moment sound.day deed taken in
     let same : (new_row id at S.day info).id ≡ id = (new_fields id at S.day info).0 in
-    record {
-      number = refl;
-      sound = row;
-      made = omega (arith, same);
-      covered = taken_covered setup S at trnuid info (is_due info S.day) refl within sound taken row;
-      gives = (refl, new_kept id at S.day info, is_dropped-new (length S.entries) (new_row id at S.day info).id S.entries sound.made (omega (arith, same)));
-    }
+    new_next setup S (object_of setup info.from) trnuid (new_row id at S.day info) sound same (new_fields id at S.day info).4 (new_kept id at S.day info) row
+    (taken_covered setup S at trnuid info (is_due info S.day) refl within sound taken row)
 
 -- a transfer that is taken goes out of an account of the bank
 pub transfer_from : (setup : Setup) (S : State) (user : UserId) (only : Option AcctId) (info : XferInfo) → judged setup S user only (Transfer info) ≡ 0 → is_some (account_of setup info.from) ≡ true
@@ -123,9 +103,9 @@ transfer_entries setup S at trnuid info = refl
 
 -- ---- changes and cancellations
 
-pub changed_fields : (day : Day) (info : XferInfo) (row : TransferRow) → ((changed_row day info row).id ≡ row.id) × ((changed_row day info row).code ≡ Waiting) × ((changed_row day info row).from ≡ row.from)
+pub changed_fields : (day : Day) (info : XferInfo) (row : TransferRow) → ((changed_row day info row).id ≡ row.id) × ((changed_row day info row).code ≡ Waiting) × ((changed_row day info row).from ≡ row.from) × ((changed_row day info row).model ≡ row.model)
 unfolding changed_row
-changed_fields day info row = (refl, refl, refl)
+changed_fields day info row = (refl, refl, refl, refl)
 
 changed_waits : (number : ℕ) (day : Day) (info : XferInfo) (row : TransferRow) → posting_of number (Some (changed_row day info row)) ≡ []
 unfolding changed_row
@@ -140,19 +120,19 @@ unfolding done
 modify_entries setup S at trnuid id info row found =
     ap (λ (r : Option TransferRow). entry_on setup S trnuid r (λ held. SetTransfer (changed_row S.day info held))) found
 
-pub modify_next : (setup : Setup) (S : State) (trnuid : List ℕ) (id : ℕ) (info : XferInfo) (row : TransferRow) → IsSoundState setup S → IsSoundDeed (ModifyTransfer id info) → row_of id S.entries ≡ Some row → IsChange setup row info S.day → IsNext setup S (next_entry S (object_of setup row.from) trnuid (SetTransfer (changed_row S.day info row))) (changed_row S.day info row)
+pub modify_next : (setup : Setup) (S : State) (trnuid : List ℕ) (id : ℕ) (info : XferInfo) (row : TransferRow) → IsSoundState setup S → IsSoundDeed (ModifyTransfer id info) → row_of id S.entries ≡ Some row → IsChange setup row info S.day → IsNext setup S (next_entry S (object_of setup row.from) trnuid (SetTransfer (changed_row S.day info row))) (Row (changed_row S.day info row))
 modify_next setup S trnuid id info row sound deed found change =
     let new : TransferRow = changed_row S.day info row in
     let fields = changed_fields S.day info row in
-    let same : row.id ≡ id = has_id id (row_of id S.entries) row (row_of-id id S.entries) found in
-    let entry : Entry = next_entry S (object_of setup row.from) trnuid (SetTransfer new) in
-    record {
-      number = refl;
-      sound = IsSoundRow-changed setup S.day info row sound.day deed.1 change;
-      made = let known : id ≤ length S.entries = id_made (length S.entries) id S.entries row sound.made found in omega (arith, fields.0, same);
-      covered = λ account. rw (balance-kept setup S.entries entry account (changed_waits (length S.entries + 1) S.day info row)) (sound.covered account);
-      gives = (refl, ap is_cancelled fields.1, ap (λ (n : ℕ). is_dropped n S.entries) (fields.0 ∙ same) ∙ is_dropped-open id S.entries row found change.is_open.cancelled);
-    }
+    let same : row.id ≡ id = row_of-named id S.entries row found in
+    let there : row_of new.id S.entries ≡ Some row = ap (λ (n : ℕ). row_of n S.entries) (fields.0 ∙ same) ∙ found in
+    set_next setup S (object_of setup row.from) trnuid row new sound there
+    (waits_open row.code change.is_open.cancelled change.is_open.closed)
+    (sym fields.3)
+    (sym fields.2)
+    (ap is_cancelled fields.1)
+    (IsSoundRow-changed setup S.day info row sound.day deed.1 change)
+    (covered_nothing setup S (next_entry S (object_of setup row.from) trnuid (SetTransfer new)) sound (changed_waits (length S.entries + 1) S.day info row))
 
 pub cancel_row : (setup : Setup) (S : State) (user : UserId) (only : Option AcctId) (id : ℕ) → judged setup S user only (CancelTransfer id) ≡ 0 → (row : TransferRow) × (row_of id S.entries ≡ Some row) × IsOpen setup row
 unfolding judged
@@ -162,63 +142,80 @@ pub cancel_entries : (setup : Setup) (S : State) (at : Moment) (trnuid : List �
 unfolding done
 cancel_entries setup S at trnuid id row found = ap (λ (r : Option TransferRow). entry_on setup S trnuid r (λ held. DropTransfer id)) found
 
-pub cancel_next : (setup : Setup) (S : State) (trnuid : List ℕ) (id : ℕ) (row : TransferRow) → IsSoundState setup S → row_of id S.entries ≡ Some row → IsNext setup S (next_entry S (object_of setup row.from) trnuid (DropTransfer id)) (with_code Cancelled row)
-cancel_next setup S trnuid id row sound found =
-    let entry : Entry = next_entry S (object_of setup row.from) trnuid (DropTransfer id) in
-    record {
-      number = refl;
-      sound = tt;
-      made = let known : id ≤ length S.entries = id_made (length S.entries) id S.entries row sound.made found in omega arith;
-      covered = λ account. rw (balance-kept setup S.entries entry account refl) (sound.covered account);
-      gives = ap (option_map (with_code Cancelled)) found;
-    }
+pub cancel_next : (setup : Setup) (S : State) (trnuid : List ℕ) (id : ℕ) (row : TransferRow) → IsSoundState setup S → row_of id S.entries ≡ Some row → IsOpen setup row → IsNext setup S (next_entry S (object_of setup row.from) trnuid (DropTransfer id)) (Row (with_code Cancelled row))
+cancel_next setup S trnuid id row sound found is_open =
+    drop_next setup S (object_of setup row.from) trnuid id row sound found (waits_open row.code is_open.cancelled is_open.closed)
 
-pub deed_done : (setup : Setup) (S : State) (user : UserId) (only : Option AcctId) (at : Moment) (trnuid : List ℕ) (deed : Deed) → IsWithinLimits setup → IsSoundState setup S → IsMoment at.0 → IsSoundDeed deed → judged setup S user only deed ≡ 0 → IsDone setup S (done setup S at trnuid deed)
-deed_done setup S user only at trnuid (Transfer info) within sound moment deed none = record {
-  entry = taken_entry setup S at trnuid info;
-  row = new_row (length S.entries + 1) at S.day info;
-  only = transfer_entries setup S at trnuid info;
-  next = transfer_next setup S user only at trnuid info within sound moment deed none;
-}
-deed_done setup S user only at trnuid (ModifyTransfer id info) within sound moment deed none =
-    let change = modify_row setup S user only id info none in
-    record {
-      entry = next_entry S (object_of setup change.0.from) trnuid (SetTransfer (changed_row S.day info change.0));
-      row = changed_row S.day info change.0;
-      only = modify_entries setup S at trnuid id info change.0 change.1;
-      next = modify_next setup S trnuid id info change.0 sound deed change.1 change.2;
-    }
-deed_done setup S user only at trnuid (CancelTransfer id) within sound moment deed none =
-    let cancelled = cancel_row setup S user only id none in
-    record {
-      entry = next_entry S (object_of setup cancelled.0.from) trnuid (DropTransfer id);
-      row = with_code Cancelled cancelled.0;
-      only = cancel_entries setup S at trnuid id cancelled.0 cancelled.1;
-      next = cancel_next setup S trnuid id cancelled.0 sound cancelled.1;
-    }
+-- ---- recurring transfers
 
--- ---- the state behind it
+pub new_model_fields : (id : ℕ) (day : Day) (recur : Recur) (info : XferInfo) → ((new_model id day recur info).id ≡ id) × ((new_model id day recur info).from ≡ info.from)
+unfolding new_model
+new_model_fields id day recur info = (refl, refl)
 
-abbrev AreNumbered : List Entry → Type 0
-AreNumbered entries = (k : ℕ) (d : Entry) → k < length entries → (get_or entries k d).number ≡ k + 1
+pub changed_model_fields : (day : Day) (recur : Recur) (info : XferInfo) (row : ModelRow) → ((changed_model day recur info row).id ≡ row.id) × ((changed_model day recur info row).from ≡ row.from)
+unfolding changed_model
+changed_model_fields day recur info row = (refl, refl)
 
-numbered_more : (entries : List Entry) (entry : Entry) → AreNumbered entries → entry.number ≡ length entries + 1 → AreNumbered (entries ++ entry ∷ [])
-numbered_more entries entry numbered next k d below = numbered_at (ltb k (length entries)) refl
-  where
-    numbered_at : (b : Bool) → ltb k (length entries) ≡ b → (get_or (entries ++ entry ∷ []) k d).number ≡ k + 1
-    numbered_at true less = rw (get_or-append entries (entry ∷ []) d k (ltb-true k (length entries) less)) (numbered k d (ltb-true k (length entries) less))
-    numbered_at false least =
-        let last : length entries ≡ k = omega (arith, ltb-false k (length entries) least, length-append entries (entry ∷ [])) in
-        rw (get_or_push entries entry d k last) (next ∙ ap (λ (n : ℕ). n + 1) last)
+abbrev pub model_entry : Setup → State → List ℕ → Recur → XferInfo → Entry
+model_entry setup S trnuid recur info =
+    next_entry S (model_object_of setup info.from) trnuid (NewModel (new_model (length S.entries + 1) S.day recur info))
 
-pub sound_more : (setup : Setup) (S : State) (entry : Entry) (row : TransferRow) (used : List UsedPair) → IsSoundState setup S → IsNext setup S entry row → length S.entries + 1 ≤ setup.entries → IsSoundState setup (record { entries = S.entries; used = used; kept = S.kept; day = S.day }) → IsSoundState setup (record { entries = S.entries ++ entry ∷ []; used = used; kept = S.kept; day = S.day })
-sound_more setup S entry row used sound next few rest = record {
-  numbered = numbered_more S.entries entry sound.numbered next.number;
-  few = omega (arith, length-append S.entries (entry ∷ []));
-  rows = all_push (HasSoundRow setup) S.entries entry sound.rows next.sound;
-  made = all_push (λ (e : Entry). transfer_in e.change ≤ length (S.entries ++ entry ∷ [])) S.entries entry (AreMade-more (length S.entries) (length (S.entries ++ entry ∷ [])) S.entries (omega (arith, length-append S.entries (entry ∷ []))) sound.made) (omega (arith, length-append S.entries (entry ∷ []), next.made));
-  covered = next.covered;
-  used = rest.used;
-  kept = rest.kept;
-  day = rest.day;
-}
+pub model_entries : (setup : Setup) (S : State) (at : Moment) (trnuid : List ℕ) (recur : Recur) (info : XferInfo) → done setup S at trnuid (Model recur info) ≡ model_entry setup S trnuid recur info ∷ []
+unfolding done
+model_entries setup S at trnuid recur info = refl
+
+pub model_taken : (setup : Setup) (S : State) (user : UserId) (only : Option AcctId) (recur : Recur) (info : XferInfo) → judged setup S user only (Model recur info) ≡ 0 → IsTakenModel setup info S.day
+unfolding judged
+model_taken setup S user only recur info none = IsTakenModel-from_code setup user only info S.day none
+
+pub model_next : (setup : Setup) (S : State) (user : UserId) (only : Option AcctId) (trnuid : List ℕ) (recur : Recur) (info : XferInfo) → IsSoundState setup S → IsSoundDeed (Model recur info) → judged setup S user only (Model recur info) ≡ 0 → IsNext setup S (model_entry setup S trnuid recur info) (effects.Model (new_model (length S.entries + 1) S.day recur info))
+model_next setup S user only trnuid recur info sound deed none =
+    let id : ℕ = length S.entries + 1 in
+    new_model_next setup S (model_object_of setup info.from) trnuid (new_model id S.day recur info) sound (new_model_fields id S.day recur info).0
+    (IsSoundModel-new setup id S.day recur info sound.day deed.1 (model_taken setup S user only recur info none))
+
+-- a recurring transfer that may be changed
+pub record IsToChange (setup : Setup) (S : State) (id : ℕ) (info : XferInfo) : Type 0 where
+  pub row : ModelRow
+  pub found : model_of id S.entries ≡ Some row
+  pub goes_on : is_model_dropped id S.entries ≡ false
+  pub change : IsModelChange setup row info S.day
+
+pub to_change : (setup : Setup) (S : State) (user : UserId) (only : Option AcctId) (id : ℕ) (recur : Recur) (info : XferInfo) (also : Bool) → judged setup S user only (ModifyModel id recur info also) ≡ 0 → IsToChange setup S id info
+unfolding judged
+to_change setup S user only id recur info also none =
+    let change = IsModelChange-from_code setup user only (model_of id S.entries) (is_model_dropped id S.entries) info S.day none in
+    record { row = change.0; found = change.1; goes_on = change.2; change = change.3 }
+
+pub record IsToDrop (setup : Setup) (S : State) (id : ℕ) : Type 0 where
+  pub row : ModelRow
+  pub found : model_of id S.entries ≡ Some row
+  pub goes_on : is_model_dropped id S.entries ≡ false
+  pub own : is_some (account_of setup row.from) ≡ true
+
+pub to_drop : (setup : Setup) (S : State) (user : UserId) (only : Option AcctId) (id : ℕ) (also : Bool) → judged setup S user only (CancelModel id also) ≡ 0 → IsToDrop setup S id
+unfolding judged
+to_drop setup S user only id also none =
+    let drop = IsModelOpen-from_code setup user only (model_of id S.entries) (is_model_dropped id S.entries) none in
+    record { row = drop.0; found = drop.1; goes_on = drop.2.goes_on; own = drop.2.own }
+
+abbrev pub set_entry : Setup → State → List ℕ → Recur → XferInfo → Bool → ModelRow → Entry
+set_entry setup S trnuid recur info also row =
+    next_entry S (model_object_of setup row.from) trnuid (SetModel (changed_model S.day recur info row) also)
+
+abbrev pub drop_entry : Setup → State → List ℕ → ℕ → Bool → ModelRow → Entry
+drop_entry setup S trnuid id also row = next_entry S (model_object_of setup row.from) trnuid (DropModel id also)
+
+pub set_model : (setup : Setup) (S : State) (trnuid : List ℕ) (id : ℕ) (recur : Recur) (info : XferInfo) (also : Bool) → IsSoundState setup S → IsSoundInfo info → (to : IsToChange setup S id info) → IsNext setup S (set_entry setup S trnuid recur info also to.row) (effects.Model (changed_model S.day recur info to.row))
+set_model setup S trnuid id recur info also sound known to =
+    let fields = changed_model_fields S.day recur info to.row in
+    let same : to.row.id ≡ id = model_of-named id S.entries to.row to.found in
+    let named : (changed_model S.day recur info to.row).id ≡ id = fields.0 ∙ same in
+    set_model_next setup S (model_object_of setup to.row.from) trnuid to.row (changed_model S.day recur info to.row) also sound
+    (ap (λ (n : ℕ). model_of n S.entries) named ∙ to.found)
+    (ap (λ (n : ℕ). is_model_dropped n S.entries) named ∙ to.goes_on)
+    (sym fields.1)
+    (IsSoundModel-changed setup S.day recur info to.row sound.day known to.change)
+
+pub drop_model : (setup : Setup) (S : State) (trnuid : List ℕ) (id : ℕ) (also : Bool) → IsSoundState setup S → (to : IsToDrop setup S id) → IsNext setup S (drop_entry setup S trnuid id also to.row) (NoModel id)
+drop_model setup S trnuid id also sound to = drop_model_next setup S (model_object_of setup to.row.from) trnuid id to.row also sound to.found to.goes_on

@@ -12,7 +12,9 @@ use Rattle.ofx_types.specs.declared.number.Cents.{Cents}
 use Rattle.ofx_types.specs.declared.transfer.TransferRow.{TransferRow}
 use Rattle.ofx_types.specs.declared.transfer.XferCode.TheVariants.{Cancelled}
 use Rattle.ofx_types.specs.declared.transfer.Change.{Change}
-use Rattle.ofx_types.specs.declared.transfer.Change.TheVariants.{NewTransfer, SetTransfer, DropTransfer}
+use Rattle.ofx_types.specs.declared.transfer.Change.TheVariants.{NewTransfer, SetTransfer, DropTransfer, NewModel, SetModel, DropModel}
+use Rattle.ofx_types.specs.Calendar.{IsDay}
+use Rattle.ofx_types.specs.declared.recurring.ModelRow.{ModelRow}
 use Rattle.bank_model.specs.declared.entry.Entry.{Entry}
 use Rattle.bank_model.specs.declared.setup.Setup.{Setup}
 use Rattle.bank_model.specs.declared.event.State.{State}
@@ -24,20 +26,29 @@ use Rattle.bank_transfers.specs.TransfersView.{GivesRow, IsWithinAmounts}
 use Rattle.bank_transfers.proofs.StandsLemmas.{given_posting}
 use Rattle.bank_accounts.specs.AccountView.{AccountView}
 use Rattle.bank_accounts.specs.HeldAccounts.{IsHeld, balance_held, set_if_named}
-use Rattle.bank_core.specs.Standing.{IsSoundRow, HasSoundRow, IsSoundState}
+use Rattle.bank_model.specs.Models.{model_in}
+use Rattle.bank_recur.specs.ModelsView.{GivesModel}
+use Rattle.bank_core.specs.declared.effect.Effect.{Effect}
+use Rattle.bank_core.specs.declared.effect.Effect.TheVariants.{Row, Made, Model, NoModel}
+use Rattle.bank_core.specs.Effects.{row_given_by, IsKnown}
+use Rattle.bank_core.proofs.GivenLemmas.{model_given, model_dropped, no_row}
+use Rattle.bank_core.specs.Standing.{IsSoundRow, IsSoundModel, HasSoundRow, IsSoundState}
 use Rattle.bank_core.specs.DraftView.{DraftView, drafted, IsDraft, IsNext, HasAdded}
 use Rattle.bank_core.proofs.AccountPlaces.{same_account-self, line_of-account}
 use Rattle.bank_core.proofs.LedgerSteps.{Posts, PostsNothing, balance-kept}
 use Rattle.bank_core.proofs.PostingLemmas.{posting_is}
-use Rattle.bank_core.proofs.DeedLemmas.{sound_more}
+use Rattle.bank_core.proofs.StandingLemmas.{sound_more}
 use Rattle.bank_core.proofs.DraftLemmas.{HaveBalances, with_entry, IsDraft-entry}
 use Rattle.bank_core.proofs.MoneyLemmas.{shift, balance-moved, moved_account, HaveBalances-posted, HaveSameNumbers-moved, balance-unheld, balance-most}
 
 -- ---- rows that entries give
 
 sound_given : (setup : Setup) (entries : List Entry) (change : Change) (row : TransferRow) → GivesRow entries change row → IfSome (row_in change) (IsSoundRow setup) → is_posted row.code ≡ true → IsSoundRow setup row
-sound_given setup entries (NewTransfer given) row gives sound posted = subst (IsSoundRow setup) gives.0 sound
-sound_given setup entries (SetTransfer given) row gives sound posted = subst (IsSoundRow setup) gives.0 sound
+sound_given setup entries (NewTransfer given) row gives sound posted = subst (IsSoundRow setup) gives.0.0 sound
+sound_given setup entries (SetTransfer given) row gives sound posted = subst (IsSoundRow setup) gives.0.0 sound
+sound_given setup entries (NewModel given) row gives sound posted = absurd gives
+sound_given setup entries (SetModel given pending) row gives sound posted = absurd gives
+sound_given setup entries (DropModel id pending) row gives sound posted = absurd gives
 sound_given setup entries (DropTransfer id) row gives sound posted = absurd (unposted (row_of id entries) row gives posted)
   where
     unposted : (found : Option TransferRow) (row : TransferRow) → option_map (with_code Cancelled) found ≡ Some row → is_posted row.code ≡ true → ⊥
@@ -48,8 +59,8 @@ sound_given setup entries (DropTransfer id) row gives sound posted = absurd (unp
         cc
 
 -- The row that an entry gives next is sound where it is posted.
-pub IsSoundRow-next : (setup : Setup) (S : State) (entry : Entry) (row : TransferRow) → IsNext setup S entry row → is_posted row.code ≡ true → IsSoundRow setup row
-IsSoundRow-next setup S entry row next posted = sound_given setup S.entries entry.change row next.gives next.sound posted
+pub IsSoundRow-next : (setup : Setup) (S : State) (entry : Entry) (row : TransferRow) → IsNext setup S entry (Row row) → is_posted row.code ≡ true → IsSoundRow setup row
+IsSoundRow-next setup S entry row next posted = sound_given setup S.entries entry.change row next.gives.0 next.sound posted
 
 abbrev AmountKnown : Option TransferRow → Type 0
 AmountKnown row = IfSome row IsWithinAmounts
@@ -85,16 +96,41 @@ amount_dropped setup id entries row sound is =
     amount_coded (is_dropped id entries) (last_row id entries) row (known_fold setup id None entries sound tt) is
 
 amount_given : (setup : Setup) (entries : List Entry) (change : Change) (row : TransferRow) → AllByRecursion (HasSoundRow setup) entries → GivesRow entries change row → IfSome (row_in change) (IsSoundRow setup) → IsWithinAmounts row
-amount_given setup entries (NewTransfer given) row rows gives sound = subst IsWithinAmounts gives.0 sound.amount
-amount_given setup entries (SetTransfer given) row rows gives sound = subst IsWithinAmounts gives.0 sound.amount
+amount_given setup entries (NewTransfer given) row rows gives sound = subst IsWithinAmounts gives.0.0 sound.amount
+amount_given setup entries (SetTransfer given) row rows gives sound = subst IsWithinAmounts gives.0.0 sound.amount
 amount_given setup entries (DropTransfer id) row rows gives sound = amount_dropped setup id entries row rows gives
+amount_given setup entries (NewModel given) row rows gives sound = absurd gives
+amount_given setup entries (SetModel given pending) row rows gives sound = absurd gives
+amount_given setup entries (DropModel id pending) row rows gives sound = absurd gives
 
--- The amount of the row that an entry gives next is within the bounds.
-pub IsWithinAmounts-next : (setup : Setup) (S : State) (entry : Entry) (row : TransferRow) → IsSoundState setup S → IsNext setup S entry row → IsWithinAmounts row
-IsWithinAmounts-next setup S entry row sound next = amount_given setup S.entries entry.change row sound.rows next.gives next.sound
+first_given : (setup : Setup) (entries : List Entry) (change : Change) (row : ModelRow) → GivesModel entries change row → IfSome (model_in change) (IsSoundModel setup) → IsDay row.first.0
+first_given setup entries (NewTransfer given) row gives sound = absurd gives
+first_given setup entries (SetTransfer given) row gives sound = absurd gives
+first_given setup entries (DropTransfer id) row gives sound = absurd gives
+first_given setup entries (NewModel given) row gives sound = subst (λ (r : ModelRow). IsDay r.first.0) gives.0 sound.first
+first_given setup entries (SetModel given pending) row gives sound = subst (λ (r : ModelRow). IsDay r.first.0) gives.0 sound.first
+first_given setup entries (DropModel id pending) row gives sound = absurd gives
 
-pub posts-next : (setup : Setup) (S : State) (entry : Entry) (row : TransferRow) → IsNext setup S entry row → posting_of entry.number (row_in entry.change) ≡ posting_of entry.number (Some row)
-posts-next setup S entry row next = sym (given_posting entry.number S.entries entry.change row next.gives)
+-- What an entry gives next is within the bounds.
+pub IsKnown-next : (setup : Setup) (S : State) (entry : Entry) (effect : Effect) → IsSoundState setup S → IsNext setup S entry effect → IsKnown effect
+IsKnown-next setup S entry (Row row) sound next = amount_given setup S.entries entry.change row sound.rows next.gives.0 next.sound
+IsKnown-next setup S entry (Made row) sound next = amount_given setup S.entries entry.change row sound.rows next.gives.0 next.sound
+IsKnown-next setup S entry (Model row) sound next = first_given setup S.entries entry.change row next.gives next.sound_model
+IsKnown-next setup S entry (NoModel id) sound next = tt
+
+pub posts-next : (setup : Setup) (S : State) (entry : Entry) (row : TransferRow) → IsNext setup S entry (Row row) → posting_of entry.number (row_in entry.change) ≡ posting_of entry.number (Some row)
+posts-next setup S entry row next = sym (given_posting entry.number S.entries entry.change row next.gives.0)
+
+-- An entry whose row isn't posted posts nothing.
+pub posts_nothing : (setup : Setup) (S : State) (entry : Entry) (row : TransferRow) → IsNext setup S entry (Row row) → is_posted row.code ≡ false → PostsNothing entry
+posts_nothing setup S entry row next waits = posts-next setup S entry row next ∙ ap (λ (b : Bool). cond b (record { number = entry.number; row = row } ∷ []) []) waits
+
+-- What an entry posts next is what it gives.
+pub effect_posts : (setup : Setup) (S : State) (entry : Entry) (effect : Effect) → IsNext setup S entry effect → posting_of entry.number (row_in entry.change) ≡ posting_of entry.number (row_given_by effect)
+effect_posts setup S entry (Row row) next = sym (given_posting entry.number S.entries entry.change row next.gives.0)
+effect_posts setup S entry (Made row) next = sym (given_posting entry.number S.entries entry.change row next.gives.0)
+effect_posts setup S entry (Model row) next = ap (posting_of entry.number) (no_row entry.change (model_given S.entries entry.change row next.gives))
+effect_posts setup S entry (NoModel id) next = ap (posting_of entry.number) (no_row entry.change (model_dropped S.entries entry.change id next.gives))
 
 -- ---- the money of a posted row
 
@@ -115,7 +151,7 @@ apart_places setup row from to sound source target same =
     let names : row.to ≡ row.from = sym second.2 ∙ ap (λ l. l.name) (sym line) ∙ first.2 in
     true≢false (sym (ap (same_account row.to) (sym names) ∙ same_account-self row.to) ∙ sound.apart)
 
-posts_row : (setup : Setup) (S : State) (entry : Entry) (row : TransferRow) → IsNext setup S entry row → is_posted row.code ≡ true → Posts entry row
+posts_row : (setup : Setup) (S : State) (entry : Entry) (row : TransferRow) → IsNext setup S entry (Row row) → is_posted row.code ≡ true → Posts entry row
 posts_row setup S entry row next posted = posts-next setup S entry row next ∙ posting_is entry.number row posted
 
 shift_from : (amount : ℤ) (from to : AcctId) → from.0 ≢ to.0 → shift amount from to from ≡ pos 0 -ℤ amount
@@ -126,12 +162,12 @@ shift_to : (amount : ℤ) (from to : AcctId) → from.0 ≢ to.0 → shift amoun
 shift_to amount from to apart =
     rw (eq-eqb to.0 to.0 refl, false_from_ne_true (eqb to.0 from.0) (λ same. apart (sym (eqb-true to.0 from.0 same)))) refl
 
-pub IsPayable-next : (setup : Setup) (S : State) (entry : Entry) (row : TransferRow) (from to : AcctId) → IsWithinLimits setup → IsSoundState setup S → length S.entries + 1 ≤ setup.entries → IsNext setup S entry row → is_posted row.code ≡ true → account_of setup row.from ≡ Some from → account_of setup row.to ≡ Some to → IsPayable row.amount.0 (balance setup S.entries from) (balance setup S.entries to)
+pub IsPayable-next : (setup : Setup) (S : State) (entry : Entry) (row : TransferRow) (from to : AcctId) → IsWithinLimits setup → IsSoundState setup S → length S.entries + 1 ≤ setup.entries → IsNext setup S entry (Row row) → is_posted row.code ≡ true → account_of setup row.from ≡ Some from → account_of setup row.to ≡ Some to → IsPayable row.amount.0 (balance setup S.entries from) (balance setup S.entries to)
 IsPayable-next setup S entry row from to within sound few next posted source target =
     let good = IsSoundRow-next setup S entry row next posted in
     let posts = posts_row setup S entry row next posted in
     let apart = apart_places setup row from to good source target in
-    let after : IsSoundState setup (record { entries = S.entries ++ entry ∷ []; used = S.used; kept = S.kept; day = S.day }) = sound_more setup S entry row S.used sound next few sound in
+    let after : IsSoundState setup (record { entries = S.entries ++ entry ∷ []; used = S.used; kept = S.kept; day = S.day }) = sound_more setup S entry (Row row) S.used sound next few sound in
     let behind_from = next.covered from in
     let moved_from = balance-moved setup S.entries entry row from to from within posts source target ∙ ap (λ (z : ℤ). balance setup S.entries from +ℤ z) (shift_from row.amount.0 from to apart) in
     let moved_to = balance-moved setup S.entries entry row from to to within posts source target ∙ ap (λ (z : ℤ). balance setup S.entries to +ℤ z) (shift_to row.amount.0 from to apart) in
@@ -173,9 +209,8 @@ balance_held-balanced setup entries (account ∷ accounts) number amount balance
 
 -- ---- the draft behind it
 
-pub HasAdded-waiting : (setup : Setup) (S : State) (draft : DraftView) (entry : Entry) (row : TransferRow) → IsSoundState setup (drafted S draft) → IsDraft setup S draft → IsNext setup (drafted S draft) entry row → is_posted row.code ≡ false → HasAdded setup S draft (with_entry draft entry row draft.accounts) (entry ∷ [])
-HasAdded-waiting setup S draft entry row sound is next waits =
-    let nothing : PostsNothing entry = posts-next setup (drafted S draft) entry row next ∙ ap (λ (b : Bool). cond b (record { number = entry.number; row = row } ∷ []) []) waits in
+pub HasAdded-nothing : (setup : Setup) (S : State) (draft : DraftView) (entry : Entry) (effect : Effect) → IsSoundState setup (drafted S draft) → IsDraft setup S draft → IsNext setup (drafted S draft) entry effect → PostsNothing entry → HasAdded setup S draft (with_entry draft entry effect draft.accounts) (entry ∷ [])
+HasAdded-nothing setup S draft entry effect sound is next nothing =
     let same : (account : AcctId) → balance setup ((S.entries ++ draft.entries) ++ entry ∷ []) account ≡ balance setup (S.entries ++ draft.entries) account = λ account. balance-kept setup (S.entries ++ draft.entries) entry account nothing in
     record {
       user = refl;
@@ -184,12 +219,12 @@ HasAdded-waiting setup S draft entry row sound is next waits =
       entries = refl;
       uids = refl;
       numbers = refl;
-      draft = IsDraft-entry setup S draft entry row draft.accounts is next.gives (IsWithinAmounts-next setup (drafted S draft) entry row sound next) refl
+      draft = IsDraft-entry setup S draft entry effect draft.accounts is next.gives (IsKnown-next setup (drafted S draft) entry effect sound next) refl
           (λ k d below. is.balanced k d below ∙ ap (λ (z : ℤ). record { 0 = z }) (sym (same _)))
           (λ account none. same account);
     }
 
-pub HasAdded-posted : (setup : Setup) (S : State) (draft : DraftView) (entry : Entry) (row : TransferRow) (from to : AcctId) (less more : Cents) → IsWithinLimits setup → IsSoundState setup (drafted S draft) → IsDraft setup S draft → IsNext setup (drafted S draft) entry row → is_posted row.code ≡ true → account_of setup row.from ≡ Some from → account_of setup row.to ≡ Some to → IsHeld draft.accounts from → IsHeld draft.accounts to → less ≡ record { 0 = balance setup (S.entries ++ draft.entries) from -ℤ row.amount.0 } → more ≡ record { 0 = balance setup (S.entries ++ draft.entries) to +ℤ row.amount.0 } → HasAdded setup S draft (with_entry draft entry row (map (set_if_named to more) (map (set_if_named from less) draft.accounts))) (entry ∷ [])
+pub HasAdded-posted : (setup : Setup) (S : State) (draft : DraftView) (entry : Entry) (row : TransferRow) (from to : AcctId) (less more : Cents) → IsWithinLimits setup → IsSoundState setup (drafted S draft) → IsDraft setup S draft → IsNext setup (drafted S draft) entry (Row row) → is_posted row.code ≡ true → account_of setup row.from ≡ Some from → account_of setup row.to ≡ Some to → IsHeld draft.accounts from → IsHeld draft.accounts to → less ≡ record { 0 = balance setup (S.entries ++ draft.entries) from -ℤ row.amount.0 } → more ≡ record { 0 = balance setup (S.entries ++ draft.entries) to +ℤ row.amount.0 } → HasAdded setup S draft (with_entry draft entry (Row row) (map (set_if_named to more) (map (set_if_named from less) draft.accounts))) (entry ∷ [])
 HasAdded-posted setup S draft entry row from to less more within sound is next posted source target held_from held_to is_less is_more =
     let posts = posts_row setup (drafted S draft) entry row next posted in
     let good = IsSoundRow-next setup (drafted S draft) entry row next posted in
@@ -203,7 +238,7 @@ HasAdded-posted setup S draft entry row from to less more within sound is next p
       entries = refl;
       uids = refl;
       numbers = HaveSameNumbers-moved from to less more draft.accounts;
-      draft = IsDraft-entry setup S draft entry row (map (moved_account from to less more) draft.accounts) is next.gives (IsWithinAmounts-next setup (drafted S draft) entry row sound next)
+      draft = IsDraft-entry setup S draft entry (Row row) (map (moved_account from to less more) draft.accounts) is next.gives (IsKnown-next setup (drafted S draft) entry (Row row) sound next)
           (HaveSameNumbers-moved from to less more draft.accounts)
           (HaveBalances-posted setup (S.entries ++ draft.entries) entry row from to less more draft.accounts within posts source target apart is_less is_more is.balanced)
           (λ account none. balance-unheld setup (S.entries ++ draft.entries) entry row from to account draft.accounts within posts source target held_from held_to none);
@@ -218,7 +253,7 @@ pub record IsPaid (setup : Setup) (entries : List Entry) (row : TransferRow) (fr
   pub source_is : source ≡ record { 0 = balance setup entries from }
   pub destination_is : destination ≡ record { 0 = balance setup entries to }
 
-pub IsPaid-next : (setup : Setup) (S : State) (draft : DraftView) (entry : Entry) (row : TransferRow) (from to : AcctId) (source destination : Cents) → IsWithinLimits setup → IsSoundState setup (drafted S draft) → length (S.entries ++ draft.entries) + 1 ≤ setup.entries → IsDraft setup S draft → IsNext setup (drafted S draft) entry row → is_posted row.code ≡ true → account_of setup row.from ≡ Some from → account_of setup row.to ≡ Some to → balance_held draft.accounts from ≡ Some source → balance_held draft.accounts to ≡ Some destination → IsPaid setup (S.entries ++ draft.entries) row from to source destination
+pub IsPaid-next : (setup : Setup) (S : State) (draft : DraftView) (entry : Entry) (row : TransferRow) (from to : AcctId) (source destination : Cents) → IsWithinLimits setup → IsSoundState setup (drafted S draft) → length (S.entries ++ draft.entries) + 1 ≤ setup.entries → IsDraft setup S draft → IsNext setup (drafted S draft) entry (Row row) → is_posted row.code ≡ true → account_of setup row.from ≡ Some from → account_of setup row.to ≡ Some to → balance_held draft.accounts from ≡ Some source → balance_held draft.accounts to ≡ Some destination → IsPaid setup (S.entries ++ draft.entries) row from to source destination
 IsPaid-next setup S draft entry row from to source destination within sound few is next posted from_is to_is held_source held_destination =
     let entries : List Entry = S.entries ++ draft.entries in
     let first = balance_held-balanced setup entries draft.accounts from source is.balanced held_source in

@@ -15,10 +15,11 @@ use Rattle.ofx_types.specs.declared.transfer.TransferRow.{TransferRow}
 use Rattle.ofx_types.specs.declared.transfer.XferCode.{XferCode}
 use Rattle.ofx_types.specs.declared.transfer.XferCode.TheVariants.{Waiting, Posted, NoFunds, Cancelled}
 use Rattle.ofx_types.specs.declared.transfer.Change.{Change}
-use Rattle.ofx_types.specs.declared.transfer.Change.TheVariants.{NewTransfer, SetTransfer, DropTransfer}
+use Rattle.ofx_types.specs.declared.transfer.Change.TheVariants.{NewTransfer, SetTransfer, DropTransfer, NewModel, SetModel, DropModel}
 use Rattle.bank_model.specs.declared.entry.Entry.{Entry}
 use Rattle.bank_model.specs.declared.once.UsedPair.{UsedPair}
 use Rattle.bank_model.specs.Ledger.{Posting, row_in, drops, is_dropped, is_posted, posting_of, moved, is_about, is_within_period, line_for, lines_of}
+use Rattle.bank_model.specs.Models.{is_waiting}
 use Rattle.bank_model.specs.Judging.{is_cancelled}
 use Rattle.bank_model.specs.Once.{is_pair, is_used}
 use Rattle.bank_transfers.specs.TransfersView.{TransfersView, StandsFor, GivesRow}
@@ -30,19 +31,25 @@ pub HoldsPostings-none : (transfers : TransfersView) → StandsFor transfers [] 
 unfolding is_dropped
 HoldsPostings-none transfers stands = record { posted = []; stands = stands; moved = refl; kept = λ id. refl }
 
--- the same rows and postings, with another room
-pub HoldsPostings-room : (old new : TransfersView) (entries : List Entry) → new.rows ≡ old.rows → new.postings ≡ old.postings → HoldsPostings old entries → HoldsPostings new entries
-HoldsPostings-room old new entries rows postings holds = record {
+-- what stands for the same entries, with another room
+pub HoldsPostings-room : (old new : TransfersView) (entries : List Entry) → ((posted : List Entry) → StandsFor old posted → StandsFor new posted) → HoldsPostings old entries → HoldsPostings new entries
+HoldsPostings-room old new entries same holds = record {
   posted = holds.posted;
-  stands = StandsFor-room old new holds.posted rows postings holds.stands;
+  stands = same holds.posted holds.stands;
   moved = holds.moved;
   kept = holds.kept;
 }
-  where
-    StandsFor-room : (old new : TransfersView) (posted : List Entry) → new.rows ≡ old.rows → new.postings ≡ old.postings → StandsFor old posted → StandsFor new posted
-    StandsFor-room old new posted rows postings stands = record { rows = λ id. rw rows (stands.rows id); postings = postings ∙ stands.postings }
 
 -- ---- an entry that posts nothing
+
+-- an entry that gives no transfer a row
+pub HoldsPostings-nothing : (transfers : TransfersView) (entries : List Entry) (entry : Entry) → HoldsPostings transfers entries → posting_of entry.number (row_in entry.change) ≡ [] → HoldsPostings transfers (entries ++ entry ∷ [])
+HoldsPostings-nothing transfers entries entry holds nothing = record {
+  posted = holds.posted;
+  stands = holds.stands;
+  moved = holds.moved ∙ sym (moved-push entries entry ∙ ap (λ (l : List Posting). moved entries ++ l) nothing ∙ append-nil (moved entries));
+  kept = holds.kept;
+}
 
 unposted : (code : XferCode) (number : ℕ) (row : TransferRow) → row.code ≡ code → is_posted code ≡ false → posting_of number (Some row) ≡ []
 unposted code number row is none = ap (λ (c : XferCode). cond (is_posted c) (record { number = number; row = row } ∷ []) []) is ∙ ap (λ (b : Bool). cond b (record { number = number; row = row } ∷ []) []) none
@@ -73,15 +80,27 @@ row_posted given row number false same = cc
 pub posting_is : (number : ℕ) (row : TransferRow) → is_posted row.code ≡ true → posting_of number (Some row) ≡ record { number = number; row = row } ∷ []
 posting_is number row posted = ap (λ (b : Bool). cond b (record { number = number; row = row } ∷ []) []) posted
 
+never_waits : (code : XferCode) → is_posted code ≡ true → is_waiting code ≡ true → ⊥
+never_waits Waiting posted waits = cc
+never_waits Posted posted waits = cc
+never_waits NoFunds posted waits = cc
+never_waits Cancelled posted waits = cc
+
 gives_posted : (posted : List Entry) (number : ℕ) (change : Change) (row : TransferRow) → ((id : ℕ) → is_dropped id posted ≡ false) → posting_of number (row_in change) ≡ record { number = number; row = row } ∷ [] → is_posted row.code ≡ true → GivesRow posted change row
-gives_posted posted number (NewTransfer given) row kept same here = (row_posted given row number (is_posted given.code) same, posted_open row.code here, kept row.id)
-gives_posted posted number (SetTransfer given) row kept same here = (row_posted given row number (is_posted given.code) same, posted_open row.code here, kept row.id)
+gives_posted posted number (NewTransfer given) row kept same here = ((row_posted given row number (is_posted given.code) same, posted_open row.code here, kept row.id), λ waits. absurd (never_waits row.code here waits))
+gives_posted posted number (SetTransfer given) row kept same here = ((row_posted given row number (is_posted given.code) same, posted_open row.code here, kept row.id), λ waits. absurd (never_waits row.code here waits))
 gives_posted posted number (DropTransfer id) row kept same here = cc
+gives_posted posted number (NewModel given) row kept same here = cc
+gives_posted posted number (SetModel given also) row kept same here = cc
+gives_posted posted number (DropModel id also) row kept same here = cc
 
 drops_nothing : (number id : ℕ) (change : Change) (row : TransferRow) → posting_of number (row_in change) ≡ record { number = number; row = row } ∷ [] → drops id change ≡ false
 drops_nothing number id (NewTransfer given) row same = refl
 drops_nothing number id (SetTransfer given) row same = refl
 drops_nothing number id (DropTransfer dropped) row same = cc
+drops_nothing number id (NewModel given) row same = refl
+drops_nothing number id (SetModel given also) row same = refl
+drops_nothing number id (DropModel gone also) row same = refl
 
 pub HoldsPostings-posted : (old new : TransfersView) (entries : List Entry) (entry : Entry) (row : TransferRow) → HoldsPostings old entries → posting_of entry.number (row_in entry.change) ≡ posting_of entry.number (Some row) → is_posted row.code ≡ true → ((posted : List Entry) → StandsFor old posted → GivesRow posted entry.change row → StandsFor new (posted ++ entry ∷ [])) → HoldsPostings new (entries ++ entry ∷ [])
 HoldsPostings-posted old new entries entry row holds posts here stands =

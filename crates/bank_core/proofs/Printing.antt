@@ -20,7 +20,7 @@ use Rattle.ofx_types.specs.declared.transfer.TransferRow.{TransferRow}
 use Rattle.ofx_types.specs.declared.transfer.XferCode.{XferCode}
 use Rattle.ofx_types.specs.declared.transfer.XferCode.TheVariants.{Cancelled}
 use Rattle.ofx_types.specs.declared.transfer.Change.{Change}
-use Rattle.ofx_types.specs.declared.transfer.Change.TheVariants.{NewTransfer, SetTransfer, DropTransfer}
+use Rattle.ofx_types.specs.declared.transfer.Change.TheVariants.{NewTransfer, SetTransfer, DropTransfer, NewModel, SetModel, DropModel}
 use Rattle.bank_model.specs.declared.entry.Entry.{Entry}
 use Rattle.bank_model.specs.declared.setup.Setup.{Setup}
 use Rattle.bank_model.specs.declared.event.State.{State}
@@ -31,8 +31,13 @@ use Rattle.bank_model.specs.Deeds.{done, code_of, first_change, deed_answer}
 use Rattle.bank_model.specs.Rules.{own_account, asked_list, list_of, statement_reply, ask_answer, ask_answers, reply_file}
 use Rattle.bank_model.specs.Sound.{IsSoundAsk, IsSoundDeed, IsSoundPeriod}
 use Rattle.bank_transfers.specs.TransfersView.{GivesRow}
-use Rattle.bank_core.specs.Standing.{IsSoundRow, HasSoundRow, IsSoundState}
-use Rattle.bank_core.proofs.DeedLemmas.{IsDone, deed_done}
+use Rattle.bank_model.specs.Models.{model_in}
+use Rattle.bank_core.specs.declared.effect.Effect.{Effect}
+use Rattle.bank_core.specs.declared.effect.Effect.TheVariants.{Row, Made, Model, NoModel}
+use Rattle.bank_core.specs.Standing.{IsSoundRow, IsSoundModel, HasSoundRow, IsSoundState}
+use Rattle.bank_core.specs.DraftView.{IsNext}
+use Rattle.bank_core.proofs.GivenLemmas.{IsOfModel, model_given, model_dropped}
+use Rattle.bank_core.proofs.DoneLemmas.{IsDone, deed_done}
 use Rattle.bank_core.proofs.StateLemmas.{IsAllowed-from_code, IsSoundState-ask}
 
 -- ---- statements
@@ -112,14 +117,31 @@ printable_row setup given row same here sound = record {
 }
 
 printable_change : (setup : Setup) (entries : List Entry) (change : Change) (row : TransferRow) → GivesRow entries change row → IfSome (row_in change) (IsSoundRow setup) → IsPrintableChange change
-printable_change setup entries (NewTransfer given) row gives sound = printable_row setup given row gives.0 gives.1 sound
-printable_change setup entries (SetTransfer given) row gives sound = printable_row setup given row gives.0 gives.1 sound
+printable_change setup entries (NewTransfer given) row gives sound = printable_row setup given row gives.0.0 gives.0.1 sound
+printable_change setup entries (SetTransfer given) row gives sound = printable_row setup given row gives.0.0 gives.0.1 sound
 printable_change setup entries (DropTransfer id) row gives sound = tt
+printable_change setup entries (NewModel given) row gives sound = absurd gives
+printable_change setup entries (SetModel given also) row gives sound = absurd gives
+printable_change setup entries (DropModel id also) row gives sound = absurd gives
+
+printable_model : (setup : Setup) (change : Change) → IsOfModel change → IfSome (model_in change) (IsSoundModel setup) → IsPrintableChange change
+printable_model setup (NewTransfer given) of sound = absurd of
+printable_model setup (SetTransfer given) of sound = absurd of
+printable_model setup (DropTransfer id) of sound = tt
+printable_model setup (NewModel given) of sound = sound.first
+printable_model setup (SetModel given also) of sound = sound.first
+printable_model setup (DropModel id also) of sound = tt
+
+printable_next : (setup : Setup) (S : State) (entry : Entry) (effect : Effect) → IsNext setup S entry effect → IsPrintableChange entry.change
+printable_next setup S entry (Row row) next = printable_change setup S.entries entry.change row next.gives.0 next.sound
+printable_next setup S entry (Made row) next = printable_change setup S.entries entry.change row next.gives.0 next.sound
+printable_next setup S entry (Model row) next = printable_model setup entry.change (model_given S.entries entry.change row next.gives) next.sound_model
+printable_next setup S entry (NoModel id) next = printable_model setup entry.change (model_dropped S.entries entry.change id next.gives) next.sound_model
 
 printable_done : (setup : Setup) (S : State) (entries : List Entry) → IsDone setup S entries → HasChangeByCode 0 (first_change entries)
 printable_done setup S entries does =
-    subst (λ (l : List Entry). HasChangeByCode 0 (first_change l)) (sym does.only)
-    (refl, printable_change setup S.entries does.entry.change does.row does.next.gives does.next.sound)
+    subst (λ (l : List Entry). HasChangeByCode 0 (first_change l)) (sym does.are)
+    (refl, printable_next setup S does.entry does.effect does.next)
 
 printable_coded : (setup : Setup) (S : State) (code : ℕ) (zero : Bool) (entries : List Entry) → eqb code 0 ≡ zero → (code ≡ 0 → IsDone setup S entries) → HasChangeByCode code (first_change (cond zero entries []))
 printable_coded setup S code true entries is does =
@@ -132,7 +154,7 @@ unfolding deed_answer
 printable_deed setup S user only at trnuid deed within good lawful sound =
     let code : ℕ = code_of setup S user only at trnuid deed in
     printable_coded setup S code (eqb code 0) (done setup S at trnuid deed) refl
-    (λ none. deed_done setup S user only at trnuid deed within good lawful sound (IsAllowed-from_code setup S user only at trnuid deed none).judged)
+    (λ none. deed_done setup S user only at trnuid deed within good lawful sound (IsAllowed-from_code setup S user only at trnuid deed none).judged (IsAllowed-from_code setup S user only at trnuid deed none).few)
 
 -- ---- asks and files
 

@@ -13,7 +13,7 @@ use Rattle.bank_model.specs.declared.once.KeptReply.{KeptReply}
 use Rattle.bank_model.specs.declared.setup.Setup.{Setup}
 use Rattle.bank_model.specs.declared.event.State.{State}
 use Rattle.bank_model.specs.declared.event.Event.{Event}
-use Rattle.bank_model.specs.declared.event.Event.TheVariants.{File}
+use Rattle.bank_model.specs.declared.event.Event.TheVariants.{File, Post, Spawn}
 use Rattle.bank_model.specs.SetupForm.{IsWithinLimits, openings}
 use Rattle.bank_model.specs.Once.{is_named, reply_kept, released}
 use Rattle.bank_model.specs.Rules.{Outcome, opening_state, raised, ask_answers, reply_file, release, keep, kept_for, new_outcome, outcome_or_kept, file_outcome, state_after, answer_to}
@@ -30,16 +30,16 @@ use Rattle.bank_core.proofs.Outcomes.{again_outcome}
 
 -- ---- any events
 
-sound_all : (setup : Setup) (S : State) (run : List Happening) → IsWithinLimits setup → IsSoundState setup S → AreLegal setup run → IsSoundState setup (after_all setup S run)
+sound_all : (setup : Setup) (S : State) (run : List Happening) → IsWithinLimits setup → IsSoundState setup S → AreLegal setup S run → IsSoundState setup (after_all setup S run)
 sound_all setup S [] within sound legal = sound
 sound_all setup S (first ∷ more) within sound legal =
     sound_all setup (state_after setup S first.at first.event) more within (IsSoundState-step setup S first.at first.event within sound legal.0.0 legal.0.1) legal.1
 
 -- After any legal events from its opening a bank's state is sound.
-pub IsSoundState-run : (setup : Setup) (run : List Happening) → IsWithinLimits setup → AreLegal setup run → IsSoundState setup (after_all setup opening_state run)
+pub IsSoundState-run : (setup : Setup) (run : List Happening) → IsWithinLimits setup → AreLegal setup opening_state run → IsSoundState setup (after_all setup opening_state run)
 IsSoundState-run setup run within legal = sound_all setup opening_state run within (IsSoundState-opening setup within) legal
 
-pub balances-run : (setup : Setup) (run : List Happening) → IsWithinLimits setup → AreLegal setup run → balances setup (after_all setup opening_state run).entries ≡ openings setup.accounts
+pub balances-run : (setup : Setup) (run : List Happening) → IsWithinLimits setup → AreLegal setup opening_state run → balances setup (after_all setup opening_state run).entries ≡ openings setup.accounts
 balances-run setup run within legal =
     balances_stay setup (after_all setup opening_state run).entries within (inside_all setup (after_all setup opening_state run).entries (IsSoundState-run setup run within legal).rows)
 
@@ -98,6 +98,8 @@ stays : (setup : Setup) (S : State) (user : UserId) (name bytes : List ℕ) (at 
 unfolding file_outcome
 stays setup S user name bytes at (File other file) apart found =
     stays_or setup (raised S at) user other at file name bytes (kept_for (raised S at) other file.newer) apart found
+stays setup S user name bytes at (Post id) apart found = found
+stays setup S user name bytes at (Spawn id place) apart found = found
 
 stays_kept : (setup : Setup) (S : State) (user : UserId) (name bytes : List ℕ) (run : List Happening) → reply_kept user name S.kept ≡ Some bytes → AllByRecursion (λ (happening : Happening). releases user name happening.event ≡ false) run → StaysKept setup S user name run
 stays_kept setup S user name bytes [] found apart = tt
@@ -214,6 +216,8 @@ kept_still : (setup : Setup) (S : State) (user : UserId) (name bytes : List ℕ)
 unfolding file_outcome
 kept_still setup S user name bytes at (File other file) found some =
     kept_still_or setup (raised S at) user other at file name bytes (kept_for (raised S at) other file.newer) refl found some
+kept_still setup S user name bytes at (Post id) found some = found
+kept_still setup S user name bytes at (Spawn id place) found some = found
 
 kept_still_all : (setup : Setup) (S : State) (user : UserId) (name bytes : List ℕ) (run : List Happening) → StaysKept setup S user name run → reply_kept user name S.kept ≡ Some bytes → reply_kept user name (after_all setup S run).kept ≡ Some bytes
 kept_still_all setup S user name bytes [] stays found = found

@@ -1,5 +1,5 @@
 -- An event keeps the bank's state sound.
-use Rattle.std.proofs.Common.{◌≡◌, ℕ, ◌+◌, ◌≤◌, Bool, true, false, not, cond, eqb, List, [], ◌∷◌, ◌++◌, length, Option, None, Some, refl, ap, ◌∙◌, arith}
+use Rattle.std.proofs.Common.{◌≡◌, ℕ, ◌+◌, ◌≤◌, Bool, true, false, not, cond, eqb, List, [], ◌∷◌, ◌++◌, length, Option, None, Some, refl, sym, ap, ◌∙◌, subst, arith}
 use Rattle.std.specs.List.{AllByRecursion, find}
 use Rattle.std.specs.Option.{option_map}
 use Rattle.std.proofs.lemmas.Bool.{eqb-true, eq-eqb, ltb-false}
@@ -17,17 +17,25 @@ use Rattle.bank_model.specs.declared.once.KeptReply.{KeptReply}
 use Rattle.bank_model.specs.declared.setup.Setup.{Setup}
 use Rattle.bank_model.specs.declared.event.State.{State}
 use Rattle.bank_model.specs.declared.event.Event.{Event}
-use Rattle.bank_model.specs.declared.event.Event.TheVariants.{File}
+use Rattle.bank_model.specs.declared.event.Event.TheVariants.{File, Post, Spawn}
 use Rattle.bank_model.specs.SetupForm.{IsWithinLimits}
 use Rattle.bank_model.specs.Once.{is_used, is_named, reply_kept, released}
 use Rattle.bank_model.specs.Deeds.{judged, done, is_full, unless_full, code_of, used_up, deed_answer}
-use Rattle.bank_model.specs.Rules.{raised, ask_answer, ask_answers, release, keep, with_kept, kept_for, new_outcome, outcome_or_kept, file_outcome, state_after, IsLegal}
+use Rattle.bank_model.specs.declared.entry.Entry.{Entry}
+use Rattle.bank_model.specs.Ledger.{row_of}
+use Rattle.bank_model.specs.Due.{may_post, posts, settled_row, has_cover, may_spawn, spawns, spawned_row}
+use Rattle.bank_model.specs.Rules.{with_entries, raised, ask_answer, ask_answers, release, keep, with_kept, kept_for, new_outcome, outcome_or_kept, file_outcome, state_after, IsLegal}
 use Rattle.bank_model.specs.Sound.{IsSoundDeed, IsSoundAsk}
 use Rattle.once_records.specs.RecordsView.{UsedOnce, KeptOnce}
 use Rattle.once_records.proofs.OnceLemmas.{UsedOnce-push, KeptOnce-push, KeptOnce-released}
 use Rattle.bank_core.specs.Standing.{IsSoundState}
 use Rattle.bank_core.proofs.RowLemmas.{IsDay-of_moment, IsDay-max}
-use Rattle.bank_core.proofs.DeedLemmas.{IsDone, deed_done, sound_more}
+use Rattle.bank_core.specs.declared.effect.Effect.{Effect}
+use Rattle.bank_core.specs.declared.effect.Effect.TheVariants.{Row, Made}
+use Rattle.bank_core.specs.DraftView.{IsNext}
+use Rattle.bank_core.proofs.StandingLemmas.{sound_more, sound_all}
+use Rattle.bank_core.proofs.DoneLemmas.{deed_done, all_next}
+use Rattle.bank_core.proofs.EventLemmas.{few_number, to_post, post_entry, post_next, post_entries, to_spawn, spawn_entry, spawn_next, spawn_entries, date_known}
 
 -- ---- the code of a deed
 
@@ -57,15 +65,6 @@ IsAllowed-from_code setup S user only at trnuid deed none =
       few = ltb-false setup.entries count parts.2;
     }
 
--- there is room for the entry of a deed with code 0
-pub few_next : (setup : Setup) (S : State) (user : UserId) (only : Option AcctId) (at : Moment) (trnuid : List ℕ) (deed : Deed) → IsWithinLimits setup → IsSoundState setup S → IsMoment at.0 → IsSoundDeed deed → code_of setup S user only at trnuid deed ≡ 0 → length S.entries + 1 ≤ setup.entries
-few_next setup S user only at trnuid deed within sound moment known none =
-    let allowed = IsAllowed-from_code setup S user only at trnuid deed none in
-    let does = deed_done setup S user only at trnuid deed within sound moment known allowed.judged in
-    let one : length (done setup S at trnuid deed) ≡ 1 = ap length does.only in
-    let few = allowed.few in
-    omega (arith, one, few)
-
 unused_code : (used : Bool) (code : ℕ) → eqb (cond used 2019 code) 2019 ≡ false → used ≡ false
 unused_code true code other = cc
 unused_code false code other = refl
@@ -85,7 +84,11 @@ sound_used setup S used sound once = record {
   numbered = sound.numbered;
   few = sound.few;
   rows = sound.rows;
+  models = sound.models;
   made = sound.made;
+  lawful = sound.lawful;
+  sources = sound.sources;
+  places = sound.places;
   covered = sound.covered;
   used = once;
   kept = sound.kept;
@@ -96,14 +99,10 @@ used_once : (S : State) (user : UserId) (trnuid : List ℕ) (code : ℕ) (again 
 used_once S user trnuid code true is unused once = once
 used_once S user trnuid code false is unused once = UsedOnce-push S.used (record { user = user; trnuid = trnuid }) once (unused is)
 
-deed_state : (setup : Setup) (S : State) (user : UserId) (at : Moment) (trnuid : List ℕ) (deed : Deed) (code : ℕ) (zero : Bool) → eqb code 0 ≡ zero → (code ≡ 0 → IsDone setup S (done setup S at trnuid deed)) → (code ≡ 0 → length S.entries + length (done setup S at trnuid deed) ≤ setup.entries) → IsSoundState setup S → IsSoundState setup (with_used S (used_up code user trnuid S.used)) → IsSoundState setup (record { entries = S.entries ++ cond zero (done setup S at trnuid deed) []; used = used_up code user trnuid S.used; kept = S.kept; day = S.day })
-deed_state setup S user at trnuid deed code true is doing few sound used =
-    let none : code ≡ 0 = eqb-true code 0 is in
-    let does = doing none in
-    let one : length (done setup S at trnuid deed) ≡ 1 = ap length does.only in
-    let room : length S.entries + 1 ≤ setup.entries = let all = few none in omega (arith, all, one) in
-    rw does.only (sound_more setup S does.entry does.row (used_up code user trnuid S.used) sound does.next room used)
-deed_state setup S user at trnuid deed code false is doing few sound used = rw (append-nil S.entries) used
+deed_state : (setup : Setup) (S : State) (user : UserId) (at : Moment) (trnuid : List ℕ) (deed : Deed) (code : ℕ) (zero : Bool) → eqb code 0 ≡ zero → (code ≡ 0 → IsSoundState setup (with_entries S (done setup S at trnuid deed))) → IsSoundState setup S → UsedOnce (used_up code user trnuid S.used) → IsSoundState setup (record { entries = S.entries ++ cond zero (done setup S at trnuid deed) []; used = used_up code user trnuid S.used; kept = S.kept; day = S.day })
+deed_state setup S user at trnuid deed code true is doing sound once =
+    sound_used setup (with_entries S (done setup S at trnuid deed)) (used_up code user trnuid S.used) (doing (eqb-true code 0 is)) once
+deed_state setup S user at trnuid deed code false is doing sound once = rw (append-nil S.entries) (sound_used setup S (used_up code user trnuid S.used) sound once)
 
 pub IsSoundState-deed : (setup : Setup) (S : State) (user : UserId) (only : Option AcctId) (at : Moment) (trnuid : List ℕ) (deed : Deed) → IsWithinLimits setup → IsSoundState setup S → IsMoment at.0 → IsSoundDeed deed → IsSoundState setup (deed_answer setup S user only at trnuid deed).after
 unfolding deed_answer
@@ -113,10 +112,9 @@ IsSoundState-deed setup S user only at trnuid deed within sound moment known =
     let once : UsedOnce (used_up code user trnuid S.used) =
     used_once S user trnuid code (eqb code 2019) refl (unused-from_code setup S user only at trnuid deed) sound.used in
     deed_state setup S user at trnuid deed code (eqb code 0) refl
-    (λ none. deed_done setup S user only at trnuid deed within sound moment known (allowed none).judged)
-    (λ none. (allowed none).few)
+    (λ none. sound_all setup S (done setup S at trnuid deed) sound (all_next setup S (done setup S at trnuid deed) (deed_done setup S user only at trnuid deed within sound moment known (allowed none).judged (allowed none).few)) (allowed none).few)
     sound
-    (sound_used setup S (used_up code user trnuid S.used) sound once)
+    once
 
 -- ---- asks
 
@@ -150,7 +148,11 @@ sound_kept setup S kept sound once = record {
   numbered = sound.numbered;
   few = sound.few;
   rows = sound.rows;
+  models = sound.models;
   made = sound.made;
+  lawful = sound.lawful;
+  sources = sound.sources;
+  places = sound.places;
   covered = sound.covered;
   used = sound.used;
   kept = once;
@@ -209,15 +211,35 @@ IsSoundState-raised setup S at sound moment = record {
   numbered = sound.numbered;
   few = sound.few;
   rows = sound.rows;
+  models = sound.models;
   made = sound.made;
+  lawful = sound.lawful;
+  sources = sound.sources;
+  places = sound.places;
   covered = sound.covered;
   used = sound.used;
   kept = sound.kept;
   day = IsDay-max S.day.0 (day_of at.0) sound.day (IsDay-of_moment at.0 moment);
 }
 
+sound_one : (setup : Setup) (S : State) (entries : List Entry) (entry : Entry) (effect : Effect) → entries ≡ entry ∷ [] → IsSoundState setup S → IsNext setup S entry effect → length S.entries + 1 ≤ setup.entries → IsSoundState setup (with_entries S entries)
+sound_one setup S entries entry effect are sound next few =
+    subst (λ (l : List Entry). IsSoundState setup (with_entries S l)) (sym are) (sound_more setup S entry effect S.used sound next few sound)
+
+pub IsSoundState-post : (setup : Setup) (S : State) (at : Moment) (id : ℕ) → IsWithinLimits setup → IsSoundState setup S → IsMoment at.0 → may_post setup S (row_of id S.entries) ≡ true → IsSoundState setup (with_entries S (posts setup S at (row_of id S.entries)))
+IsSoundState-post setup S at id within sound moment may =
+    let to = to_post setup S id sound may in
+    sound_one setup S _ (post_entry setup S at to.row) (Row (settled_row (has_cover setup S to.row) at to.row)) (post_entries setup S at id to.row to.found) sound (post_next setup S id at within sound moment to) (few_number setup S to.number)
+
+pub IsSoundState-spawn : (setup : Setup) (S : State) (id place : ℕ) → IsWithinLimits setup → IsSoundState setup S → may_spawn setup S id place ≡ true → IsSoundState setup (with_entries S (spawns setup S id place))
+IsSoundState-spawn setup S id place within sound may =
+    let to = to_spawn setup S id place sound may in
+    sound_one setup S _ (spawn_entry setup S to.date to.row) (Made (spawned_row (length S.entries + 1) to.date to.row)) (spawn_entries setup S id place to) sound (spawn_next setup S id place sound to (date_known to.row to.date place to.sound.first to.has_date)) (few_number setup S to.number)
+
 -- An event keeps the state sound.
-pub IsSoundState-step : (setup : Setup) (S : State) (at : Moment) (event : Event) → IsWithinLimits setup → IsSoundState setup S → IsMoment at.0 → IsLegal setup event → IsSoundState setup (state_after setup S at event)
+pub IsSoundState-step : (setup : Setup) (S : State) (at : Moment) (event : Event) → IsWithinLimits setup → IsSoundState setup S → IsMoment at.0 → IsLegal setup S at event → IsSoundState setup (state_after setup S at event)
 unfolding file_outcome
 IsSoundState-step setup S at (File user file) within sound moment legal =
     outcome_sound setup (raised S at) user at file _ refl within (IsSoundState-raised setup S at sound moment) moment legal.1.asks
+IsSoundState-step setup S at (Post id) within sound moment legal = IsSoundState-post setup (raised S at) at id within (IsSoundState-raised setup S at sound moment) moment legal
+IsSoundState-step setup S at (Spawn id place) within sound moment legal = IsSoundState-spawn setup (raised S at) id place within (IsSoundState-raised setup S at sound moment) legal

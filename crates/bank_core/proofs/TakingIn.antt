@@ -2,12 +2,12 @@
 use Rattle.std.proofs.Common.{◌≡◌, ℕ, zero, suc, ◌+◌, ◌<◌, false, List, [], ◌∷◌, ◌++◌, length, length-append, map, take, drop, get_or, refl, sym, ap, ◌∙◌, subst, append_assoc, arith}
 use Rattle.std.proofs.lemmas.List.{map-append, get_or_at, take_more}
 use Rattle.ofx_types.specs.declared.number.UserId.{UserId}
-use Rattle.ofx_types.specs.declared.transfer.TransferRow.{TransferRow}
 use Rattle.bank_model.specs.declared.entry.Entry.{Entry}
 use Rattle.bank_model.specs.declared.once.UsedPair.{UsedPair}
 use Rattle.bank_model.specs.Once.{is_pair, is_used}
 use Rattle.bank_model.proofs.SetupParts.{distinct_front}
-use Rattle.bank_transfers.specs.TransfersView.{GivesRow}
+use Rattle.bank_core.specs.declared.effect.Effect.{Effect}
+use Rattle.bank_core.specs.Effects.{Gives, IsKnown}
 use Rattle.once_records.specs.RecordsView.{UsedOnce}
 use Rattle.bank_core.specs.DraftView.{pair_of}
 
@@ -34,25 +34,38 @@ head_at (y ∷ xs) (suc k) x rest is =
     let more = head_at xs k x rest is in
     record { below = let less = more.below in omega arith; here = more.here; behind = let same : suc k + 1 ≡ suc (k + 1) = omega arith in ap (λ (n : ℕ). drop n (y ∷ xs)) same ∙ more.behind }
 
--- The next row is given by the next entry.
-pub gives_next : (before entries all : List Entry) (rows done rest_rows : List TransferRow) (entry : Entry) (row : TransferRow) (rest : List Entry) → ((k : ℕ) (e : Entry) (r : TransferRow) → k < length entries → GivesRow (before ++ take k entries) (get_or entries k e).change (get_or rows k r)) → done ++ row ∷ rest_rows ≡ rows → drop (length done) entries ≡ entry ∷ rest → all ≡ before ++ take (length done) entries → GivesRow all entry.change row
-gives_next before entries all rows done rest_rows entry row rest given is_rows is_rest is_all =
+-- The next effect is given by the next entry.
+pub gives_next : (before entries all : List Entry) (effects done rest_effects : List Effect) (entry : Entry) (effect : Effect) (rest : List Entry) → ((k : ℕ) (e : Entry) (f : Effect) → k < length entries → Gives (before ++ take k entries) (get_or entries k e).change (get_or effects k f)) → done ++ effect ∷ rest_effects ≡ effects → drop (length done) entries ≡ entry ∷ rest → all ≡ before ++ take (length done) entries → Gives all entry.change effect
+gives_next before entries all effects done rest_effects entry effect rest given is_effects is_rest is_all =
     let head = head_at entries (length done) entry rest is_rest in
-    let held : get_or rows (length done) row ≡ row = ap (λ (l : List TransferRow). get_or l (length done) row) (sym is_rows) ∙ get_or_at done row rest_rows row (length done) refl in
-    let gives = given (length done) entry row head.below in
-    rw is_all (subst (λ (r : TransferRow). GivesRow (before ++ take (length done) entries) entry.change r) held
-    (subst (λ (e : Entry). GivesRow (before ++ take (length done) entries) e.change (get_or rows (length done) row)) head.here gives))
+    let held : get_or effects (length done) effect ≡ effect = ap (λ (l : List Effect). get_or l (length done) effect) (sym is_effects) ∙ get_or_at done effect rest_effects effect (length done) refl in
+    let gives = given (length done) entry effect head.below in
+    subst (λ (l : List Entry). Gives l entry.change effect) (sym is_all)
+    (subst (λ (f : Effect). Gives (before ++ take (length done) entries) entry.change f) held
+    (subst (λ (e : Entry). Gives (before ++ take (length done) entries) e.change (get_or effects (length done) effect)) head.here gives))
+
+-- What gives does so wherever it is held.
+pub given_moved : (before ledger entries items : List Entry) (effects held : List Effect) → ledger ≡ before → items ≡ entries → held ≡ effects → ((k : ℕ) (e : Entry) (f : Effect) → k < length entries → Gives (before ++ take k entries) (get_or entries k e).change (get_or effects k f)) → (k : ℕ) (e : Entry) (f : Effect) → k < length items → Gives (ledger ++ take k items) (get_or items k e).change (get_or held k f)
+given_moved before ledger entries items effects held is_before is_entries is_effects given =
+    rw (is_before, is_entries, is_effects) given
+
+-- The next effect is within the bounds.
+pub known_next : (entries : List Entry) (effects done rest_effects : List Effect) (entry : Entry) (effect : Effect) (rest : List Entry) → ((k : ℕ) (f : Effect) → k < length entries → IsKnown (get_or effects k f)) → done ++ effect ∷ rest_effects ≡ effects → drop (length done) entries ≡ entry ∷ rest → IsKnown effect
+known_next entries effects done rest_effects entry effect rest known is_effects is_rest =
+    let head = head_at entries (length done) entry rest is_rest in
+    let held : get_or effects (length done) effect ≡ effect = ap (λ (l : List Effect). get_or l (length done) effect) (sym is_effects) ∙ get_or_at done effect rest_effects effect (length done) refl in
+    subst IsKnown held (known (length done) effect head.below)
 
 -- one entry more is written down
-pub taken_more : (before entries : List Entry) (done : List TransferRow) (entry : Entry) (row : TransferRow) (rest : List Entry) → drop (length done) entries ≡ entry ∷ rest → (before ++ take (length done) entries) ++ entry ∷ [] ≡ before ++ take (length (done ++ row ∷ [])) entries
-taken_more before entries done entry row rest is =
+pub taken_more : (before entries : List Entry) (done : List Effect) (entry : Entry) (effect : Effect) (rest : List Entry) → drop (length done) entries ≡ entry ∷ rest → (before ++ take (length done) entries) ++ entry ∷ [] ≡ before ++ take (length (done ++ effect ∷ [])) entries
+taken_more before entries done entry effect rest is =
     let head = head_at entries (length done) entry rest is in
     let front : take (length done + 1) entries ≡ take (length done) entries ++ entry ∷ [] =
     take_more entries (length done) entry head.below ∙ ap (λ (e : Entry). take (length done) entries ++ e ∷ []) head.here in
     append_assoc before (take (length done) entries) (entry ∷ [])
     ∙ ap (λ (l : List Entry). before ++ l) (sym front)
-    ∙ ap (λ (n : ℕ). before ++ take n entries) (sym (length-append done (row ∷ [])))
+    ∙ ap (λ (n : ℕ). before ++ take n entries) (sym (length-append done (effect ∷ [])))
 
-pub rest_more : (entries : List Entry) (done : List TransferRow) (entry : Entry) (row : TransferRow) (rest : List Entry) → drop (length done) entries ≡ entry ∷ rest → rest ≡ drop (length (done ++ row ∷ [])) entries
-rest_more entries done entry row rest is =
-    sym ((head_at entries (length done) entry rest is).behind) ∙ ap (λ (n : ℕ). drop n entries) (sym (length-append done (row ∷ [])))
+pub rest_more : (entries : List Entry) (done : List Effect) (entry : Entry) (effect : Effect) (rest : List Entry) → drop (length done) entries ≡ entry ∷ rest → rest ≡ drop (length (done ++ effect ∷ [])) entries
+rest_more entries done entry effect rest is =
+    sym ((head_at entries (length done) entry rest is).behind) ∙ ap (λ (n : ℕ). drop n entries) (sym (length-append done (effect ∷ [])))

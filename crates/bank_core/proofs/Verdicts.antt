@@ -10,10 +10,14 @@ use Rattle.ofx_types.specs.declared.number.Day.{Day}
 use Rattle.ofx_types.specs.declared.account.AcctName.{AcctName}
 use Rattle.ofx_types.specs.declared.transfer.TransferRow.{TransferRow}
 use Rattle.ofx_types.specs.declared.transfer.XferInfo.{XferInfo}
+use Rattle.ofx_types.specs.declared.transfer.XferCode.{XferCode}
+use Rattle.ofx_types.specs.declared.transfer.XferCode.TheVariants.{Waiting, Posted, NoFunds, Cancelled}
+use Rattle.ofx_types.specs.declared.recurring.ModelRow.{ModelRow}
 use Rattle.bank_model.specs.declared.setup.Setup.{Setup}
+use Rattle.bank_model.specs.Models.{is_waiting}
 use Rattle.bank_model.specs.SetupLookups.{account_of}
 use Rattle.bank_model.specs.Ledger.{is_covered}
-use Rattle.bank_model.specs.Judging.{Refusal, refused, first_of, is_own, is_own_account, is_destination, is_positive, is_due, is_after, is_cancelled, is_closed, transfer_code, modify_code, cancel_code}
+use Rattle.bank_model.specs.Judging.{Refusal, refused, first_of, is_own, is_own_account, is_destination, is_positive, is_due, is_after, is_cancelled, is_closed, transfer_code, modify_code, cancel_code, model_code, model_modify_code, model_cancel_code}
 
 -- ---- a table in which nothing holds
 
@@ -136,3 +140,93 @@ unfolding cancel_code
 IsOpen-from_code setup user only None done = absurd (omega (arith, done))
 IsOpen-from_code setup user only (Some row) done =
     (row, refl, open_row setup user only row [] (none_holds (open_table setup user only row []) (lit< tt, (lit< tt, (lit< tt, tt))) done))
+
+-- A transfer that is neither cancelled nor closed waits.
+pub waits_open : (code : XferCode) → is_cancelled code ≡ false → is_closed code ≡ false → is_waiting code ≡ true
+waits_open Waiting here unclosed = refl
+waits_open Posted here unclosed = cc
+waits_open NoFunds here unclosed = cc
+waits_open Cancelled here unclosed = cc
+
+pub open_waits : (code : XferCode) → is_waiting code ≡ true → is_cancelled code ≡ false
+open_waits Waiting waits = refl
+open_waits Posted waits = cc
+open_waits NoFunds waits = cc
+open_waits Cancelled waits = cc
+
+-- ---- recurring transfers
+
+pub record IsTakenModel (setup : Setup) (info : XferInfo) (day : Day) : Type 0 where
+  pub from : IsInBank setup info.from
+  pub to : IsInBank setup info.to
+  pub apart : same_account info.to info.from ≡ false
+  pub positive : is_positive info ≡ true
+
+pub record IsModelOpen (setup : Setup) (row : ModelRow) (cancelled : Bool) : Type 0 where
+  pub own : IsInBank setup row.from
+  pub goes_on : cancelled ≡ false
+
+pub record IsModelChange (setup : Setup) (row : ModelRow) (info : XferInfo) (day : Day) : Type 0 where
+  pub own : IsInBank setup row.from
+  pub from : same_account info.from row.from ≡ true
+  pub to : IsInBank setup info.to
+  pub apart : same_account info.to info.from ≡ false
+  pub positive : is_positive info ≡ true
+
+pub IsTakenModel-from_code : (setup : Setup) (user : UserId) (only : Option AcctId) (info : XferInfo) (day : Day) → model_code setup user only info day ≡ 0 → IsTakenModel setup info day
+unfolding model_code
+IsTakenModel-from_code setup user only info day done =
+    let none = none_holds (
+    refused 2006 (not (is_own setup user only info.from))
+    ∷ refused 2009 (not (is_destination setup info))
+    ∷ refused 2012 (not (is_positive info))
+    ∷ refused 2014 (not (is_after info.due day))
+    ∷ []) (lit< tt, (lit< tt, (lit< tt, (lit< tt, tt)))) done in
+    let to = destination setup info (not_not (is_destination setup info) none.1.0) in
+    record {
+      from = own_some setup user only (account_of setup info.from) (not_not (is_own setup user only info.from) none.0);
+      to = to.0;
+      apart = to.1;
+      positive = not_not (is_positive info) none.1.1.0;
+    }
+
+abbrev model_table : Setup → UserId → Option AcctId → ModelRow → Bool → List Refusal → List Refusal
+model_table setup user only row cancelled more = refused 10518 (not (is_own setup user only row.from)) ∷ refused 10509 cancelled ∷ more
+
+open_model : (setup : Setup) (user : UserId) (only : Option AcctId) (row : ModelRow) (cancelled : Bool) (more : List Refusal) → AllByRecursion (λ (refusal : Refusal). refusal.holds ≡ false) (model_table setup user only row cancelled more) → IsModelOpen setup row cancelled
+open_model setup user only row cancelled more none = record {
+  own = own_some setup user only (account_of setup row.from) (not_not (is_own setup user only row.from) none.0);
+  goes_on = none.1.0;
+}
+
+pub IsModelChange-from_code : (setup : Setup) (user : UserId) (only : Option AcctId) (found : Option ModelRow) (cancelled : Bool) (info : XferInfo) (day : Day) → model_modify_code setup user only found cancelled info day ≡ 0 → (row : ModelRow) × (found ≡ Some row) × (cancelled ≡ false) × IsModelChange setup row info day
+unfolding model_modify_code
+IsModelChange-from_code setup user only None cancelled info day done = absurd (omega (arith, done))
+IsModelChange-from_code setup user only (Some row) cancelled info day done =
+    let more : List Refusal =
+    refused 2006 (not (same_account info.from row.from))
+    ∷ refused 2009 (not (is_destination setup info))
+    ∷ refused 2012 (not (is_positive info))
+    ∷ refused 2014 (not (is_after info.due day))
+    ∷ [] in
+    let none = none_holds (model_table setup user only row cancelled more) (lit< tt, (lit< tt, (lit< tt, (lit< tt, (lit< tt, (lit< tt, tt)))))) done in
+    let is_open = open_model setup user only row cancelled more none in
+    let asked = none.1.1 in
+    let to = destination setup info (not_not (is_destination setup info) asked.1.0) in (
+      row,
+      refl,
+      is_open.goes_on,
+      record {
+        own = is_open.own;
+        from = not_not (same_account info.from row.from) asked.0;
+        to = to.0;
+        apart = to.1;
+        positive = not_not (is_positive info) asked.1.1.0;
+      },
+    )
+
+pub IsModelOpen-from_code : (setup : Setup) (user : UserId) (only : Option AcctId) (found : Option ModelRow) (cancelled : Bool) → model_cancel_code setup user only found cancelled ≡ 0 → (row : ModelRow) × (found ≡ Some row) × IsModelOpen setup row cancelled
+unfolding model_cancel_code
+IsModelOpen-from_code setup user only None cancelled done = absurd (omega (arith, done))
+IsModelOpen-from_code setup user only (Some row) cancelled done =
+    (row, refl, open_model setup user only row cancelled [] (none_holds (model_table setup user only row cancelled []) (lit< tt, (lit< tt, tt)) done))

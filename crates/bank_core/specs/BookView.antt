@@ -3,18 +3,17 @@ use Rattle.std.specs.Prelude.{ℕ, ◌+◌, ◌<◌, ◌≤◌, List, length}
 use Rattle.bank_model.specs.declared.setup.Setup.{Setup}
 use Rattle.bank_model.specs.declared.event.State.{State}
 use Rattle.bank_model.specs.declared.event.Event.{Event}
-use Rattle.bank_model.specs.declared.event.Event.TheVariants.{File}
-use Rattle.ofx_types.specs.declared.request.Ask.{Ask}
 
 -- A book is of a setup, and stands in a state.
 pub record BookView : Type 0 where
   pub setup : Setup
   pub state : State
 
--- For how many more there is room: entries, their transfers, used uids and kept replies.
+-- For how many more there is room: entries, their transfers and recurring transfers, used uids and kept replies.
 pub record Room : Type 0 where
   pub entries : ℕ
   pub transfers : ℕ
+  pub models : ℕ
   pub pairs : ℕ
   pub files : ℕ
 
@@ -37,12 +36,10 @@ pub record PreparedView : Type 0 where
   pub after : State
   pub reply : List ℕ
 
-abbrev pub asks_in : Event → List Ask
-asks_in (File user file) = file.asks
-
 -- There is room for what lies between two states, and for one more reply.
 pub record HasRoom (room : Room) (before after : State) : Type 0 where
   pub entries : length after.entries ≤ length before.entries + room.entries
   pub transfers : length after.entries ≤ length before.entries + room.transfers
+  pub models : length after.entries ≤ length before.entries + room.models
   pub pairs : length after.used ≤ length before.used + room.pairs
   pub files : 0 < room.files

@@ -1,6 +1,5 @@
 -- What the asks of a file have added so far, and the state that it makes.
-use Rattle.std.specs.Prelude.{◌≡◌, ℕ, ◌+◌, ◌<◌, ◌≤◌, ◌==◌, ℤ, pos, ◌≤ℤ◌, unwrap_or, List, [], ◌∷◌, ◌++◌, length, map, reverse, take, slice_index_or, Option, None, Some}
-use Rattle.std.specs.List.{find}
+use Rattle.std.specs.Prelude.{◌≡◌, ℕ, ◌+◌, ◌<◌, ◌||◌, ℤ, pos, ◌≤ℤ◌, unwrap_or, List, [], ◌∷◌, ◌++◌, length, map, take, slice_index_or, Option, None, Some}
 use Rattle.std.specs.Option.{option_or, IfSome}
 use Rattle.ofx_types.specs.declared.number.AcctId.{AcctId}
 use Rattle.ofx_types.specs.declared.number.Day.{Day}
@@ -12,23 +11,26 @@ use Rattle.bank_model.specs.declared.once.UsedPair.{UsedPair}
 use Rattle.bank_model.specs.declared.setup.Setup.{Setup}
 use Rattle.bank_model.specs.declared.event.State.{State}
 use Rattle.bank_model.specs.Ledger.{row_of, balance}
-use Rattle.bank_transfers.specs.TransfersView.{GivesRow, IsWithinAmounts}
+use Rattle.bank_model.specs.Models.{model_of, is_model_dropped}
 use Rattle.bank_accounts.specs.AccountView.{AccountView}
 use Rattle.bank_accounts.specs.HeldAccounts.{balance_held, IsHeld, HaveSameNumbers}
 use Rattle.bank_model.specs.SetupLookups.{account_of}
 use Rattle.bank_model.specs.Once.{reply_kept}
 use Rattle.bank_model.specs.Rules.{with_kept, keep, release}
 use Rattle.bank_core.specs.Balanced.{AreBalanced}
-use Rattle.bank_core.specs.Standing.{HasSoundRow, IsSoundState, transfer_in}
+use Rattle.bank_core.specs.declared.effect.Effect.{Effect}
+use Rattle.bank_core.specs.Effects.{Gives, IsKnown, row_drafted, model_drafted, is_cancelled_in}
+use Rattle.bank_core.specs.Standing.{HasSoundRow, HasSoundModel, IsSoundState, IsLawful, IsNumbered}
 
--- A draft is of a user's file at a moment on a business day. It has the entries that are added with the row that each
--- gives, the uids that the user uses up, and the accounts that are held with the balances that they come to.
+-- A draft is of a user's file at a moment on a business day. It has the entries that are added with what each gives, the
+-- uids that the user uses up, and the accounts that are held with the balances that they come to. What the bank does by
+-- itself uses up no uid.
 pub record DraftView : Type 0 where
   pub user : UserId
   pub at : Moment
   pub day : Day
   pub entries : List Entry
-  pub rows : List TransferRow
+  pub effects : List Effect
   pub uids : List (List ℕ)
   pub accounts : List AccountView
 
@@ -44,18 +46,17 @@ drafted S draft = record {
   day = draft.day;
 }
 
--- the last row of the transfer with this id
-abbrev pub row_drafted : ℕ → List TransferRow → Option TransferRow
-row_drafted id rows = find (λ (row : TransferRow). row.id == id) (reverse rows)
-
--- Each entry gives its row. A transfer's row is the last in the draft, or else the bank's. Each account that is held has
--- its balance, and the balance of any other account is as before.
+-- Each entry gives its effect. A transfer's row is the last in the draft, or else the bank's; so it is with a recurring
+-- transfer, which is cancelled where the draft or the bank cancels it. Each account that is held has its balance, and the
+-- balance of any other account is as before.
 pub record IsDraft (setup : Setup) (S : State) (draft : DraftView) : Type 0 where
-  pub count : length draft.rows ≡ length draft.entries
-  pub given : (k : ℕ) (entry : Entry) (row : TransferRow) → k < length draft.entries →
-      GivesRow (S.entries ++ take k draft.entries) (slice_index_or draft.entries k entry).change (slice_index_or draft.rows k row)
-  pub amounts : (k : ℕ) (row : TransferRow) → k < length draft.entries → IsWithinAmounts (slice_index_or draft.rows k row)
-  pub rows : (id : ℕ) → row_of id (S.entries ++ draft.entries) ≡ option_or (row_drafted id draft.rows) (row_of id S.entries)
+  pub count : length draft.effects ≡ length draft.entries
+  pub given : (k : ℕ) (entry : Entry) (effect : Effect) → k < length draft.entries →
+      Gives (S.entries ++ take k draft.entries) (slice_index_or draft.entries k entry).change (slice_index_or draft.effects k effect)
+  pub known : (k : ℕ) (effect : Effect) → k < length draft.entries → IsKnown (slice_index_or draft.effects k effect)
+  pub rows : (id : ℕ) → row_of id (S.entries ++ draft.entries) ≡ option_or (row_drafted id draft.effects) (row_of id S.entries)
+  pub models : (id : ℕ) → model_of id (S.entries ++ draft.entries) ≡ option_or (model_drafted id draft.effects) (model_of id S.entries)
+  pub cancelled : (id : ℕ) → is_model_dropped id (S.entries ++ draft.entries) ≡ (is_model_dropped id S.entries || is_cancelled_in id draft.effects)
   pub balanced : AreBalanced setup (drafted S draft) draft.accounts
   pub others : (account : AcctId) → balance_held draft.accounts account ≡ None →
       balance setup (S.entries ++ draft.entries) account ≡ balance setup S.entries account
@@ -75,13 +76,15 @@ abbrev pub HasBothHeld : Setup → List AccountView → TransferRow → Type 0
 HasBothHeld setup accounts row =
     IfSome (account_of setup row.from) (IsHeld accounts) × IfSome (account_of setup row.to) (IsHeld accounts)
 
--- an entry that may come next in a sound state, and the row that it gives
-pub record IsNext (setup : Setup) (S : State) (entry : Entry) (row : TransferRow) : Type 0 where
+-- an entry that may come next in a sound state, and what it gives
+pub record IsNext (setup : Setup) (S : State) (entry : Entry) (effect : Effect) : Type 0 where
   pub number : entry.number ≡ length S.entries + 1
   pub sound : HasSoundRow setup entry
-  pub made : transfer_in entry.change ≤ length S.entries + 1
+  pub sound_model : HasSoundModel setup entry
+  pub made : IsNumbered (length S.entries + 1) entry
+  pub lawful : IsLawful S.entries entry.change
   pub covered : (account : AcctId) → pos 0 ≤ℤ balance setup (S.entries ++ entry ∷ []) account
-  pub gives : GivesRow S.entries entry.change row
+  pub gives : Gives S.entries entry.change effect
 
 -- A draft is still of the same file, and has the same accounts.
 pub record IsSameFile (old new : DraftView) : Type 0 where
@@ -102,7 +105,7 @@ with_uid draft uid = record {
   at = draft.at;
   day = draft.day;
   entries = draft.entries;
-  rows = draft.rows;
+  effects = draft.effects;
   uids = draft.uids ++ uid ∷ [];
   accounts = draft.accounts;
 }

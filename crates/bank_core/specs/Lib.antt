@@ -1,9 +1,13 @@
 pub mod Balanced
 pub mod BookView
 pub mod DraftView
+pub mod Effects
 pub mod Postings
 pub mod Standing
 pub mod Runs
 pub mod Books
 pub mod Opened
-pub mod Sample
+pub mod Pending
+pub mod Naming
+pub mod Series
+pub mod DueFirst

@@ -73,7 +73,7 @@ impl Draft {
                 Ok(reply)
             }
             Ask::One(trnuid, deed) => {
-                let reply = self.deed(setup, ledger, trnuid, deed)?;
+                let reply = self.deed(alloc, setup, ledger, trnuid, deed)?;
                 Ok(AskReply::One(reply))
             }
         }

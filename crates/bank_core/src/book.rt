@@ -1,8 +1,10 @@
 //! The book of the bank: the setup and the state, and the step that an event makes.
 
 mod answer;
-#[cfg(test)]
-mod tests;
+mod due;
+mod legal;
+mod named;
+mod unasked;
 
 ghost use Rattle.std.specs.Prelude.{◌≡◌, ◌+◌, ◌<◌, ◌≤◌, length, IfSome, IfNone, IfOk, OnErr};
 ghost use Rattle.ofx_types.specs.Calendar.{IsMoment};
@@ -10,7 +12,7 @@ ghost use Rattle.bank_model.specs.SetupForm.{IsWithinLimits};
 ghost use Rattle.bank_model.specs.Rules.{IsLegal, opening_state, state_after, answer_to, named};
 ghost use Rattle.bank_accounts.specs.HeldAccounts.{AreHeld, HaveSameNumbers};
 ghost use Rattle.bank_core.specs.Balanced.{AreBalanced};
-ghost use Rattle.bank_core.specs.BookView.{asks_in, HasRoom};
+ghost use Rattle.bank_core.specs.BookView.{HasRoom};
 ghost use Rattle.bank_core.specs.Opened.{AreOpened};
 ghost use Rattle.bank_core.specs.Standing.{IsSoundState};
 
@@ -100,8 +102,8 @@ impl<P: Printer> Book<P> {
         at: Moment,
     ) -> Result<Prepared, OutOfMemory>
         requires moment { IsMoment at.0 }
-        requires legal { IsLegal self.old.setup event.now }
-        requires named { AreHeld held.old (named self.old.setup event.now) }
+        requires legal { IsLegal self.old.setup self.old.state at event.now }
+        requires named { AreHeld held.old (named self.old.setup self.old.state event.now) }
         requires balanced { AreBalanced self.old.setup self.old.state held.old }
         ensures setup { self.new.setup ≡ self.old.setup }
         ensures state { self.new.state ≡ self.old.state }
@@ -115,12 +117,37 @@ impl<P: Printer> Book<P> {
             prepared.reply ≡ answer_to self.old.setup self.old.state at event.now) }
         ensures room { IfOk result (λ prepared. HasRoom self.new.room self.old.state prepared.after) }
     {
-        self.ledger.reserve(ask_count(&self.setup, event))?;
+        let prepared = self.prepare_event(alloc, held, event, at)?;
+        let entries = room_for(prepared.entries().len())?;
+        let uids = room_for(prepared.uid_count())?;
+        self.ledger.reserve(entries, uids)?;
+        Ok(prepared)
+    }
+
+    /// What the event makes, with no room for it yet.
+    fn prepare_event(
+        &self,
+        alloc: Global,
+        held: &Held,
+        event: &Event,
+        at: Moment,
+    ) -> Result<Prepared, OutOfMemory>
+        requires moment { IsMoment at.0 }
+        requires legal { IsLegal self.now.setup self.now.state at event.now }
+        requires named { AreHeld held.now (named self.now.setup self.now.state event.now) }
+        requires balanced { AreBalanced self.now.setup self.now.state held.now }
+        ensures { IfOk result (λ prepared. prepared ≡ record {
+          setup = self.now.setup;
+          before = self.now.state;
+          event = event.now;
+          after = state_after self.now.setup self.now.state at event.now;
+          reply = answer_to self.now.setup self.now.state at event.now;
+        }) }
+    {
         match event {
-            Event::File(user, file) => {
-                let prepared = self.prepare(alloc, held, event, (*user, at), file)?;
-                Ok(prepared)
-            }
+            Event::File(user, file) => self.prepare(alloc, held, event, (*user, at), file),
+            Event::Post(id) => self.prepare_post(alloc, held, event, *id, at),
+            Event::Spawn(id, place) => self.prepare_spawn(alloc, held, event, (*id, *place), at),
         }
     }
 
@@ -129,7 +156,7 @@ impl<P: Printer> Book<P> {
         requires of { prepared.setup ≡ self.old.setup }
         requires made { prepared.before ≡ self.old.state }
         requires room { HasRoom self.old.room self.old.state prepared.after }
-        requires named { AreHeld held.old (named self.old.setup prepared.event) }
+        requires named { AreHeld held.old (named self.old.setup self.old.state prepared.event) }
         requires balanced { AreBalanced self.old.setup self.old.state held.old }
         ensures setup { self.new.setup ≡ self.old.setup }
         ensures state { self.new.state ≡ prepared.after }
@@ -151,8 +178,8 @@ impl<P: Printer> Book<P> {
         at: Moment,
     ) -> Result<Vec<u8>, OutOfMemory>
         requires moment { IsMoment at.0 }
-        requires legal { IsLegal self.old.setup event.now }
-        requires named { AreHeld held.old (named self.old.setup event.now) }
+        requires legal { IsLegal self.old.setup self.old.state at event.now }
+        requires named { AreHeld held.old (named self.old.setup self.old.state event.now) }
         requires balanced { AreBalanced self.old.setup self.old.state held.old }
         ensures setup { self.new.setup ≡ self.old.setup }
         ensures numbers { HaveSameNumbers held.new held.old }
@@ -169,12 +196,12 @@ impl<P: Printer> Book<P> {
     }
 }
 
-/// How many asks an event has, at most 65,535.
-fn ask_count(setup: &Setup, event: &Event) -> u32
-    requires { IsLegal setup.now event.now }
-    ensures { result ≡ length (asks_in event.now) }
+/// So many items as room is made for. Where they are more than 4,294,967,295 there is no memory for them.
+fn room_for(count: usize) -> Result<u32, OutOfMemory>
+    ensures { IfOk result (λ room. room ≡ count) }
 {
-    match event {
-        Event::File(_, file) => file.asks.items().len() as u32,
+    match u32::try_from(count) {
+        Ok(room) => Ok(room),
+        Err(_) => Err(OutOfMemory),
     }
 }

@@ -1,36 +1,39 @@
-//! What the asks of a file have added so far, before the book takes it in.
+//! What the asks of a file, or due work, have added so far, before the book takes it in.
 
-ghost use Rattle.std.specs.Prelude.{◌≡◌, ◌+◌, ◌<◌, ◌≤◌, ◌∷◌, ◌++◌, [], List, Some, map, IfOk, OnOk, OnErr, pos, ◌≤ℤ◌, bytes_eq};
-ghost use Rattle.std.specs.List.{list_any};
+ghost use Rattle.std.specs.Prelude.{◌≡◌, ◌∷◌, ◌++◌, ◌||◌, [], List, Some, map, IfOk, OnOk, OnErr, pos, ◌≤ℤ◌, bytes_eq, length, reverse};
+ghost use Rattle.std.specs.List.{list_any, find};
 ghost use Rattle.std.specs.Option.{option_copied, option_or};
+ghost use Rattle.bank_model.specs.declared.entry.Entry.{Entry};
 ghost use Rattle.bank_model.specs.Ledger.{row_in, row_of, posting_of, moved, lines_of};
+ghost use Rattle.bank_model.specs.Models.{model_of, is_model_dropped};
 ghost use Rattle.bank_model.specs.Ledger as rules;
 ghost use Rattle.bank_model.specs.Once.{is_used};
 ghost use Rattle.bank_accounts.specs.HeldAccounts.{balance_held, set_if_named};
 ghost use Rattle.bank_transfers.specs.TransfersView.{IsWithinAmounts};
-ghost use Rattle.bank_model.specs.declared.entry.Entry.{Entry};
+ghost use Rattle.bank_core.specs.Effects.{IsKnown, has_row, has_model, row_given_by, row_drafted, model_drafted, is_cancelled_in};
 ghost use Rattle.bank_core.specs.Postings.{HoldsPostings};
-ghost use Rattle.bank_core.specs.DraftView.{drafted, row_drafted};
+ghost use Rattle.bank_core.specs.DraftView.{drafted};
 
+use crate::effect::Effect;
 use crate::ledger::Ledger;
 use bank_accounts::Held;
 use bank_model::Entry;
 use bank_transfers::Transfers;
 use ofx_types::{
-    AcctId, AcctName, Cents, Day, Duplicate, Lines, Moment, OutOfMemory, TransferRow, TrnUid,
-    UserId, XferCode,
+    AcctId, AcctName, Cents, Day, Duplicate, Lines, ModelRow, Moment, OutOfMemory, TransferRow,
+    TrnUid, UserId, XferCode,
 };
 use std::alloc::Global;
 use std::marker::Model;
 
-/// What a user's file adds to the state of a bank.
+/// What an event adds to the state of a bank. Due work uses up no uid, so its user is never looked at.
 #[derive(Drop)]
 pub(crate) struct Draft {
     user: UserId,
     at: Moment,
     day: Day,
     entries: Vec<Entry>,
-    rows: Vec<TransferRow>,
+    effects: Vec<Effect>,
     uids: Vec<TrnUid>,
     accounts: Held,
     postings: Transfers,
@@ -47,7 +50,7 @@ impl Model for Draft {
       at = d.at;
       day = d.day;
       entries = d.entries.items;
-      rows = d.rows.items;
+      effects = d.effects.items;
       uids = d.uids.items;
       accounts = d.accounts;
     } };
@@ -69,7 +72,7 @@ impl Draft {
           at = at;
           day = day;
           entries = [];
-          rows = [];
+          effects = [];
           uids = [];
           accounts = held.now;
         }) }
@@ -79,21 +82,21 @@ impl Draft {
             at,
             day,
             entries: Vec::new(alloc),
-            rows: Vec::new(alloc),
+            effects: Vec::new(alloc),
             uids: Vec::new(alloc),
             accounts: held.copy()?,
             postings: Transfers::new(alloc),
         })
     }
 
-    /// The user whose file it is.
+    /// The user whose file it is, who uses up the uids.
     pub(crate) fn user(&self) -> UserId
         ensures { result ≡ self.now.user }
     {
         self.user
     }
 
-    /// The moment of the file.
+    /// The moment of the event.
     pub(crate) fn at(&self) -> Moment
         ensures { result ≡ self.now.at }
     {
@@ -121,16 +124,23 @@ impl Draft {
         &self.accounts
     }
 
-    /// The entries, the row that each gives, and the uids.
-    pub(crate) fn into_parts(self) -> (Vec<Entry>, Vec<TransferRow>, Vec<TrnUid>)
-        ensures entries { result.0.items ≡ self.entries }
-        ensures rows { result.1.items ≡ self.rows }
-        ensures uids { result.2.items ≡ self.uids }
+    /// How many uids are used up.
+    pub(crate) fn uid_count(&self) -> usize
+        ensures { result ≡ length self.now.uids }
     {
-        (self.entries, self.rows, self.uids)
+        self.uids.len()
     }
 
-    /// Whether the user has used up the uid, before this file or in it.
+    /// The entries, what each gives, and the uids.
+    pub(crate) fn into_parts(self) -> (Vec<Entry>, Vec<Effect>, Vec<TrnUid>)
+        ensures entries { result.0.items ≡ self.entries }
+        ensures effects { result.1.items ≡ self.effects }
+        ensures uids { result.2.items ≡ self.uids }
+    {
+        (self.entries, self.effects, self.uids)
+    }
+
+    /// Whether the user has used up the uid, before this event or in it.
     #[tactic(auto, using(crate::proofs::PostingLemmas::used_drafted))]
     pub(crate) fn is_used(&self, ledger: &Ledger, trnuid: &TrnUid) -> bool
         ensures { result ≡ is_used self.now.user trnuid.now (drafted ledger.now.state self.now).used }
@@ -141,13 +151,34 @@ impl Draft {
     /// The row of the transfer with this id, lent.
     pub(crate) fn row<'a>(&'a self, ledger: &'a Ledger, id: u64) -> Option<&'a TransferRow>
         requires rows { row_of id (drafted ledger.now.state self.now).entries
-            ≡ option_or (row_drafted id self.now.rows) (row_of id ledger.now.state.entries) }
+            ≡ option_or (row_drafted id self.now.effects) (row_of id ledger.now.state.entries) }
         ensures { option_copied result ≡ row_of id (drafted ledger.now.state self.now).entries }
     {
-        match last_row(&self.rows, id) {
+        match last_row(&self.effects, id) {
             Some(row) => Some(row),
             None => ledger.row(id),
         }
+    }
+
+    /// The row of the recurring transfer with this id, lent.
+    pub(crate) fn model<'a>(&'a self, ledger: &'a Ledger, id: u64) -> Option<&'a ModelRow>
+        requires models { model_of id (drafted ledger.now.state self.now).entries
+            ≡ option_or (model_drafted id self.now.effects) (model_of id ledger.now.state.entries) }
+        ensures { option_copied result ≡ model_of id (drafted ledger.now.state self.now).entries }
+    {
+        match last_model(&self.effects, id) {
+            Some(row) => Some(row),
+            None => ledger.model(id),
+        }
+    }
+
+    /// Whether the recurring transfer with this id is cancelled.
+    pub(crate) fn is_cancelled(&self, ledger: &Ledger, id: u64) -> bool
+        requires cancelled { is_model_dropped id (drafted ledger.now.state self.now).entries
+            ≡ (is_model_dropped id ledger.now.state.entries || is_cancelled_in id self.now.effects) }
+        ensures { result ≡ is_model_dropped id (drafted ledger.now.state self.now).entries }
+    {
+        ledger.is_cancelled(id) || cancels_any(&self.effects, id)
     }
 
     /// The balance of an account, in cents, where it is held.
@@ -174,25 +205,26 @@ impl Draft {
         Ok(lines)
     }
 
-    /// Adds an entry with the row that it gives.
-    pub(crate) fn add(&mut self, entry: Entry, row: TransferRow) -> Result<(), OutOfMemory>
-        requires amount { IsWithinAmounts row }
-        requires posts { posting_of entry.number (row_in entry.change) ≡ posting_of entry.number (Some row) }
+    /// Adds an entry with what it gives.
+    pub(crate) fn add(&mut self, entry: Entry, effect: Effect) -> Result<(), OutOfMemory>
+        requires known { IsKnown effect }
+        requires posts { posting_of entry.number (row_in entry.change)
+            ≡ posting_of entry.number (row_given_by effect) }
         ensures { OnOk result (self.new ≡ record {
           user = self.old.user;
           at = self.old.at;
           day = self.old.day;
           entries = self.old.entries ++ entry ∷ [];
-          rows = self.old.rows ++ row ∷ [];
+          effects = self.old.effects ++ effect ∷ [];
           uids = self.old.uids;
           accounts = self.old.accounts;
         }) }
     {
         self.entries.reserve(1)?;
-        self.rows.reserve(1)?;
-        post(&mut self.postings, entry.number, &row)?;
+        self.effects.reserve(1)?;
+        post(&mut self.postings, entry.number, &effect)?;
         self.entries.push_reserved(entry);
-        self.rows.push_reserved(row);
+        self.effects.push_reserved(effect);
         Ok(())
     }
 
@@ -203,7 +235,7 @@ impl Draft {
           at = self.old.at;
           day = self.old.day;
           entries = self.old.entries;
-          rows = self.old.rows;
+          effects = self.old.effects;
           uids = self.old.uids ++ trnuid ∷ [];
           accounts = self.old.accounts;
         }) }
@@ -220,7 +252,7 @@ impl Draft {
           at = self.old.at;
           day = self.old.day;
           entries = self.old.entries;
-          rows = self.old.rows;
+          effects = self.old.effects;
           uids = self.old.uids;
           accounts = map (set_if_named account amount) self.old.accounts;
         } }
@@ -236,10 +268,41 @@ fn has_uid(uids: &[TrnUid], trnuid: &TrnUid) -> bool
 }
 
 /// The last row of the transfer with this id.
-fn last_row(rows: &[TransferRow], id: u64) -> Option<&TransferRow>
-    ensures { option_copied result ≡ row_drafted id rows.now }
+fn last_row(effects: &[Effect], id: u64) -> Option<&TransferRow>
+    ensures { option_copied result ≡ row_drafted id effects.now }
 {
-    rows.iter().rev().find(|row| row.id == id)
+    match last_with_row(effects, id) {
+        Some(effect) => effect.row(),
+        None => None,
+    }
+}
+
+fn last_with_row(effects: &[Effect], id: u64) -> Option<&Effect>
+    ensures { option_copied result ≡ find (has_row id) (reverse effects.now) }
+{
+    effects.iter().rev().find(|effect| effect.has_row(id))
+}
+
+/// The last row of the recurring transfer with this id.
+fn last_model(effects: &[Effect], id: u64) -> Option<&ModelRow>
+    ensures { option_copied result ≡ model_drafted id effects.now }
+{
+    match last_with_model(effects, id) {
+        Some(effect) => effect.model(),
+        None => None,
+    }
+}
+
+fn last_with_model(effects: &[Effect], id: u64) -> Option<&Effect>
+    ensures { option_copied result ≡ find (has_model id) (reverse effects.now) }
+{
+    effects.iter().rev().find(|effect| effect.has_model(id))
+}
+
+fn cancels_any(effects: &[Effect], id: u64) -> bool
+    ensures { result ≡ is_cancelled_in id effects.now }
+{
+    effects.iter().any(|effect| effect.cancels(id))
 }
 
 /// Whether a row with the code is posted.
@@ -249,8 +312,23 @@ pub(crate) fn is_posted(code: XferCode) -> bool
     code == XferCode::Posted
 }
 
-/// Puts a copy of the row that the entry with this number gives, where it is posted.
-fn post(postings: &mut Transfers, number: u64, row: &TransferRow) -> Result<(), OutOfMemory>
+/// Puts a copy of the row that the entry with this number gives to a transfer, where it is posted.
+fn post(postings: &mut Transfers, number: u64, effect: &Effect) -> Result<(), OutOfMemory>
+    requires known { IsKnown effect.now }
+    ensures ok { OnOk result ((entries : List Entry) (entry : Entry) → HoldsPostings postings.old entries
+        → entry.number ≡ number → posting_of entry.number (row_in entry.change) ≡ posting_of entry.number (row_given_by effect.now)
+        → HoldsPostings postings.new (entries ++ entry ∷ [])) }
+    ensures err { OnErr result ((entries : List Entry) → HoldsPostings postings.old entries → HoldsPostings postings.new entries) }
+{
+    match effect {
+        Effect::Row(row) => post_row(postings, number, row),
+        Effect::Made(row) => post_row(postings, number, row),
+        Effect::Model(_) => Ok(()),
+        Effect::NoModel(_) => Ok(()),
+    }
+}
+
+fn post_row(postings: &mut Transfers, number: u64, row: &TransferRow) -> Result<(), OutOfMemory>
     requires amount { IsWithinAmounts row.now }
     ensures ok { OnOk result ((entries : List Entry) (entry : Entry) → HoldsPostings postings.old entries
         → entry.number ≡ number → posting_of entry.number (row_in entry.change) ≡ posting_of entry.number (Some row.now)

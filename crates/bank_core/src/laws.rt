@@ -1,7 +1,10 @@
 //! What holds of a bank over any events from its opening, and of files that come again. Nothing here runs: each
 //! contract is a law of the rules.
 
-ghost use Rattle.std.specs.Prelude.{◌≡◌, ◌≢◌, ℕ, ◌+◌, ◌<◌, ◌≤◌, true, false, pos, ◌≤ℤ◌, List, [], ◌∷◌, ◌++◌, length, slice_index_or, Option, Some, is_some};
+mod due_first;
+mod series;
+
+ghost use Rattle.std.specs.Prelude.{◌≡◌, ◌≢◌, ℕ, ◌+◌, ◌<◌, ◌≤◌, ◌⊎◌, true, false, None, pos, ◌≤ℤ◌, List, [], ◌∷◌, ◌++◌, length, slice_index_or, Option, Some, is_some};
 ghost use Rattle.std.specs.List.{AllByRecursion};
 ghost use Rattle.ofx_types.specs.declared.number.AcctId.{AcctId};
 ghost use Rattle.ofx_types.specs.declared.number.Moment.{Moment};
@@ -10,51 +13,57 @@ ghost use Rattle.ofx_types.specs.declared.request.RequestFile.{RequestFile};
 ghost use Rattle.ofx_types.specs.declared.transfer.Deed.{Deed};
 ghost use Rattle.bank_model.specs.declared.entry.Entry.{Entry};
 ghost use Rattle.bank_model.specs.declared.event.State.{State};
+ghost use Rattle.bank_model.specs.declared.event.Event.{Event};
 ghost use Rattle.bank_model.specs.declared.event.Event.TheVariants.{File};
 ghost use Rattle.bank_model.specs.declared.setup.Setup.{Setup};
 ghost use Rattle.bank_model.specs.SetupForm.{IsWithinLimits, openings};
 ghost use Rattle.bank_model.specs.Deeds.{deed_answer};
 ghost use Rattle.bank_model.specs.Ledger.{balance};
 ghost use Rattle.bank_model.specs.Once.{is_used, reply_kept};
-ghost use Rattle.bank_model.specs.Rules.{opening_state, raised, kept_for, state_after, answer_to};
+ghost use Rattle.bank_model.specs.Rules.{IsLegal, opening_state, raised, kept_for, state_after, answer_to, due};
+ghost use Rattle.bank_model.specs.DueRun.{after_events, IsDueRun};
 ghost use Rattle.once_records.specs.RecordsView.{UsedOnce, KeptOnce};
 ghost use Rattle.bank_transfers.specs.Together.{balances};
+ghost use Rattle.bank_transfers.specs.Lawful.{PostsOnce};
 ghost use Rattle.bank_core.specs.Runs.{Happening, after_all, AreLegal, StaysKept, releases};
+
+pub use due_first::{due_work_is_least, waiting_ids_rise};
+pub use series::transfers_have_own_dates;
 
 /// No user's uid is used up twice.
 pub fn uids_work_once()
-    ensures { (setup : Setup) (run : List Happening) → IsWithinLimits setup → AreLegal setup run
+    ensures { (setup : Setup) (run : List Happening) → IsWithinLimits setup → AreLegal setup opening_state run
         → UsedOnce (after_all setup opening_state run).used }
 {}
 
 /// No file of a user has two kept replies.
 pub fn files_are_kept_once()
-    ensures { (setup : Setup) (run : List Happening) → IsWithinLimits setup → AreLegal setup run
+    ensures { (setup : Setup) (run : List Happening) → IsWithinLimits setup → AreLegal setup opening_state run
         → KeptOnce (after_all setup opening_state run).kept }
 {}
 
 /// All balances together are all openings together.
 pub fn money_stays()
-    ensures { (setup : Setup) (run : List Happening) → IsWithinLimits setup → AreLegal setup run
+    ensures { (setup : Setup) (run : List Happening) → IsWithinLimits setup → AreLegal setup opening_state run
         → balances setup (after_all setup opening_state run).entries ≡ openings setup.accounts }
 {}
 
 /// No balance is below zero.
 pub fn no_account_is_overdrawn()
-    ensures { (setup : Setup) (run : List Happening) (account : AcctId) → IsWithinLimits setup → AreLegal setup run
+    ensures { (setup : Setup) (run : List Happening) (account : AcctId) → IsWithinLimits setup → AreLegal setup opening_state run
         → pos 0 ≤ℤ balance setup (after_all setup opening_state run).entries account }
 {}
 
 /// Entry i, from 1, has the number i.
 pub fn entries_are_numbered()
-    ensures { (setup : Setup) (run : List Happening) (k : ℕ) (d : Entry) → IsWithinLimits setup → AreLegal setup run
+    ensures { (setup : Setup) (run : List Happening) (k : ℕ) (d : Entry) → IsWithinLimits setup → AreLegal setup opening_state run
         → k < length (after_all setup opening_state run).entries
         → (slice_index_or (after_all setup opening_state run).entries k d).number ≡ k + 1 }
 {}
 
 /// There are no more entries than the setup allows.
 pub fn entries_are_few()
-    ensures { (setup : Setup) (run : List Happening) → IsWithinLimits setup → AreLegal setup run
+    ensures { (setup : Setup) (run : List Happening) → IsWithinLimits setup → AreLegal setup opening_state run
         → length (after_all setup opening_state run).entries ≤ setup.entries }
 {}
 
@@ -109,4 +118,28 @@ pub fn entries_use_up_a_uid()
     ensures used { (setup : Setup) (S : State) (user : UserId) (only : Option AcctId) (at : Moment) (trnuid : List ℕ)
         (deed : Deed) → (deed_answer setup S user only at trnuid deed).after.entries ≢ S.entries
         → (deed_answer setup S user only at trnuid deed).after.used ≡ S.used ++ record { user = user; trnuid = trnuid } ∷ [] }
+{}
+
+/// What is due may be done: the event that the bank makes next by itself is legal.
+pub fn due_work_is_legal()
+    ensures { (setup : Setup) (S : State) (at : Moment) (event : Event) → due setup S at ≡ Some event
+        → IsLegal setup S at event }
+{}
+
+/// A run of due work is one: two runs from one state at one moment have the same events.
+pub fn due_work_is_one()
+    ensures { (setup : Setup) (S : State) (at : Moment) (events other : List Event) → IsDueRun setup S at events
+        → IsDueRun setup S at other → events ≡ other }
+{}
+
+/// Behind a run of due work nothing is due at its moment, unless it has stopped at 100,000 events.
+pub fn due_work_is_done()
+    ensures { (setup : Setup) (S : State) (at : Moment) (events : List Event) → IsDueRun setup S at events
+        → (length events ≡ 100000) ⊎ (due setup (after_events setup S at events) at ≡ None) }
+{}
+
+/// No transfer posts twice.
+pub fn transfers_post_once()
+    ensures { (setup : Setup) (run : List Happening) → IsWithinLimits setup → AreLegal setup opening_state run
+        → PostsOnce (after_all setup opening_state run).entries }
 {}

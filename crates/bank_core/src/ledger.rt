@@ -1,8 +1,10 @@
-//! What a bank has written down: its history, the rows of its transfers, used uids, kept replies and the business day.
+//! What a bank has written down: its history, the rows of its transfers and recurring transfers, used uids, kept replies
+//! and the business day.
+
+mod making;
 
 ghost use Rattle.std.specs.Prelude.{◌≡◌, ◌+◌, ◌<◌, ◌≤◌, ◌∷◌, ◌++◌, [], false, None, ℕ, length, map, take, slice_index_or, IfOk, OnOk};
-ghost use Rattle.std.specs.Option.{option_copied, IfSome};
-ghost use Rattle.ofx_types.specs.declared.transfer.TransferRow.{TransferRow};
+ghost use Rattle.std.specs.Option.{option_copied, option_map, IfSome};
 ghost use Rattle.bank_model.specs.declared.entry.Entry.{Entry};
 ghost use Rattle.bank_model.specs.Rules as rules;
 ghost use Rattle.once_records.specs.RecordsView.{UsedOnce};
@@ -10,11 +12,19 @@ ghost use Rattle.bank_core.specs.DraftView.{pair_of};
 ghost use Rattle.bank_model.specs.Ledger.{row_of, moved, lines_of};
 ghost use Rattle.bank_model.specs.Once.{is_used, reply_kept};
 ghost use Rattle.bank_model.specs.Rules.{opening_state};
-ghost use Rattle.bank_transfers.specs.TransfersView.{GivesRow, IsWithinAmounts};
+ghost use Rattle.bank_model.specs.Models.{model_of, is_model_dropped, next_place, waiting_of};
+ghost use Rattle.bank_model.specs.Due.{first_task, to_make, to_post};
+ghost use Rattle.bank_core.specs.Pending.{ids_of};
+ghost use Rattle.bank_core.specs.declared.effect.Effect.{Effect};
+ghost use Rattle.bank_core.specs.Effects.{Gives, IsKnown};
 
+use crate::effect::Effect;
 use bank_model::Entry;
+use bank_recur::Models;
 use bank_transfers::Transfers;
-use ofx_types::{AcctName, Day, FileUid, Lines, Moment, OutOfMemory, TransferRow, TrnUid, UserId};
+use ofx_types::{
+    AcctName, Day, FileUid, Lines, ModelRow, Moment, OutOfMemory, TransferRow, TrnUid, UserId,
+};
 use once_records::Records;
 use std::alloc::Global;
 use std::marker::Model;
@@ -27,6 +37,7 @@ const FIRST_DAY: Day = Day(-25_567);
 pub(crate) struct Ledger {
     entries: Vec<Entry>,
     transfers: Transfers,
+    models: Models,
     records: Records,
     day: Day,
 }
@@ -34,6 +45,7 @@ pub(crate) struct Ledger {
 impl Model for Ledger {
     ghost use Rattle.std.specs.Prelude.{◌-◌, vec_len, vec_capacity};
     ghost use Rattle.bank_transfers.specs.TransfersView.{StandsFor};
+    ghost use Rattle.bank_recur.specs.ModelsView as recurring;
     ghost use Rattle.bank_core.specs.BookView.{LedgerView};
 
     ghost Value = { LedgerView };
@@ -48,12 +60,13 @@ impl Model for Ledger {
       room = record {
         entries = vec_capacity l.entries - vec_len l.entries;
         transfers = l.transfers.room;
+        models = l.models.room;
         pairs = l.records.pairs;
         files = l.records.files;
       };
     } };
 
-    ghost invariant = { λ l. StandsFor l.transfers l.entries.items };
+    ghost invariant = { λ l. StandsFor l.transfers l.entries.items × recurring.StandsFor l.models l.entries.items };
 }
 
 impl Ledger {
@@ -64,6 +77,7 @@ impl Ledger {
         Ledger {
             entries: Vec::new(alloc),
             transfers: Transfers::new(alloc),
+            models: Models::new(alloc),
             records: Records::new(alloc),
             day: FIRST_DAY,
         }
@@ -104,6 +118,43 @@ impl Ledger {
         self.transfers.get(id)
     }
 
+    /// The row of the recurring transfer with this id, lent.
+    pub(crate) fn model(&self, id: u64) -> Option<&ModelRow>
+        ensures { option_copied result ≡ model_of id self.now.state.entries }
+    {
+        self.models.get(id)
+    }
+
+    /// Whether the recurring transfer with this id is cancelled.
+    pub(crate) fn is_cancelled(&self, id: u64) -> bool
+        ensures { result ≡ is_model_dropped id self.now.state.entries }
+    {
+        self.models.cancelled(id)
+    }
+
+    /// The ids of the transfers of a recurring transfer that wait.
+    pub(crate) fn waiting(&self, alloc: Global, model: u64) -> Result<Vec<u64>, OutOfMemory>
+        ensures { IfOk result (λ ids. ids.items ≡ ids_of (waiting_of model self.now.state.entries)) }
+    {
+        self.transfers.waiting(alloc, model)
+    }
+
+    /// The transfer that is to be posted first on a business day.
+    pub(crate) fn next_post(&self, day: Day) -> Option<u64>
+        ensures { result ≡ option_map (λ task. task.id) (first_task (to_post day self.now.state.entries)) }
+    {
+        self.transfers.due_on(day)
+    }
+
+    /// The recurring transfer that is to make its next transfer first, with its place, of those that make it by a last
+    /// day.
+    pub(crate) fn next_spawn(&self, last: Day) -> Option<(u64, u32)>
+        ensures { result ≡ option_map (λ task. (task.id, next_place task.id self.now.state.entries))
+            (first_task (to_make last self.now.state.entries)) }
+    {
+        self.models.next_spawn(last)
+    }
+
     /// What a statement of the account tells of a period.
     pub(crate) fn lines(
         &self,
@@ -116,25 +167,28 @@ impl Ledger {
         self.transfers.posted(alloc, name, period)
     }
 
-    /// Makes room for what so many asks of a file add, and for its reply.
-    pub(crate) fn reserve(&mut self, asks: u32) -> Result<(), OutOfMemory>
+    /// Makes room for so many entries and uids more, and for one more reply.
+    pub(crate) fn reserve(&mut self, entries: u32, uids: u32) -> Result<(), OutOfMemory>
         ensures state { self.new.state ≡ self.old.state }
-        ensures entries { OnOk result (asks ≤ self.new.room.entries) }
-        ensures transfers { OnOk result (asks ≤ self.new.room.transfers) }
-        ensures pairs { OnOk result (asks ≤ self.new.room.pairs) }
+        ensures entries { OnOk result (entries ≤ self.new.room.entries) }
+        ensures transfers { OnOk result (entries ≤ self.new.room.transfers) }
+        ensures models { OnOk result (entries ≤ self.new.room.models) }
+        ensures pairs { OnOk result (uids ≤ self.new.room.pairs) }
         ensures files { OnOk result (0 < self.new.room.files) }
     {
-        self.entries.reserve(asks as usize)?;
-        self.transfers.reserve(asks)?;
-        self.records.reserve(asks, 1)
+        self.entries.reserve(entries as usize)?;
+        self.transfers.reserve(entries)?;
+        self.models.reserve(entries)?;
+        self.records.reserve(uids, 1)
     }
 
-    /// Writes down an entry with the row that it gives. Takes no memory.
-    pub(crate) fn add(&mut self, entry: Entry, row: TransferRow)
+    /// Writes down an entry with what it gives. Takes no memory.
+    pub(crate) fn add(&mut self, entry: Entry, effect: Effect)
         requires entries { 0 < self.old.room.entries }
         requires transfers { 0 < self.old.room.transfers }
-        requires amount { IsWithinAmounts row }
-        requires gives { GivesRow self.old.state.entries entry.change row }
+        requires models { 0 < self.old.room.models }
+        requires known { IsKnown effect }
+        requires gives { Gives self.old.state.entries entry.change effect }
         ensures state { self.new.state ≡ record {
           entries = self.old.state.entries ++ entry ∷ [];
           used = self.old.state.used;
@@ -143,11 +197,30 @@ impl Ledger {
         } }
         ensures entries { self.old.room.entries ≤ self.new.room.entries + 1 }
         ensures transfers { self.old.room.transfers ≤ self.new.room.transfers + 1 }
+        ensures models { self.old.room.models ≤ self.new.room.models + 1 }
         ensures pairs { self.new.room.pairs ≡ self.old.room.pairs }
         ensures files { self.new.room.files ≡ self.old.room.files }
     {
-        self.transfers.put(entry.number, row);
-        self.entries.push_reserved(entry);
+        match effect {
+            Effect::Row(row) => {
+                self.transfers.put(entry.number, row);
+                self.entries.push_reserved(entry);
+            }
+            Effect::Made(row) => {
+                let model = row.model;
+                self.transfers.put(entry.number, row);
+                self.models.spawned(model);
+                self.entries.push_reserved(entry);
+            }
+            Effect::Model(row) => {
+                self.models.put(row);
+                self.entries.push_reserved(entry);
+            }
+            Effect::NoModel(id) => {
+                self.models.cancel(id);
+                self.entries.push_reserved(entry);
+            }
+        }
     }
 
     /// Uses up a uid that the user hasn't used. Takes no memory.
@@ -166,16 +239,17 @@ impl Ledger {
         self.records.use_up(user, trnuid);
     }
 
-    /// Writes down entries with the rows that they give. Takes no memory.
-    pub(crate) fn add_all(&mut self, entries: Vec<Entry>, rows: Vec<TransferRow>)
+    /// Writes down entries with what they give. Takes no memory.
+    pub(crate) fn add_all(&mut self, entries: Vec<Entry>, effects: Vec<Effect>)
         requires entries { length entries.items ≤ self.old.room.entries }
         requires transfers { length entries.items ≤ self.old.room.transfers }
-        requires count { length rows.items ≡ length entries.items }
-        requires amounts { (k : ℕ) (row : TransferRow) → k < length entries.items
-            → IsWithinAmounts (slice_index_or rows.items k row) }
-        requires given { (k : ℕ) (entry : Entry) (row : TransferRow) → k < length entries.items
-            → GivesRow (self.old.state.entries ++ take k entries.items) (slice_index_or entries.items k entry).change
-            (slice_index_or rows.items k row) }
+        requires models { length entries.items ≤ self.old.room.models }
+        requires count { length effects.items ≡ length entries.items }
+        requires known { (k : ℕ) (effect : Effect) → k < length entries.items
+            → IsKnown (slice_index_or effects.items k effect) }
+        requires given { (k : ℕ) (entry : Entry) (effect : Effect) → k < length entries.items
+            → Gives (self.old.state.entries ++ take k entries.items) (slice_index_or entries.items k entry).change
+            (slice_index_or effects.items k effect) }
         ensures state { self.new.state ≡ record {
           entries = self.old.state.entries ++ entries.items;
           used = self.old.state.used;
@@ -186,9 +260,9 @@ impl Ledger {
         ensures files { self.new.room.files ≡ self.old.room.files }
     {
         let mut rest = entries.into_iter();
-        for row in rows {
+        for effect in effects {
             match rest.next() {
-                Some(entry) => self.add(entry, row),
+                Some(entry) => self.add(entry, effect),
                 None => unreachable!(),
             }
         }

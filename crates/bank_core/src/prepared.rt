@@ -1,6 +1,6 @@
 //! An event that is answered, before the book takes its step.
 
-ghost use Rattle.std.specs.Prelude.{◌≡◌, ◌++◌};
+ghost use Rattle.std.specs.Prelude.{◌≡◌, ◌+◌, ◌++◌, [], length};
 ghost use Rattle.bank_accounts.specs.HeldAccounts.{HaveSameNumbers};
 ghost use Rattle.bank_core.specs.Balanced.{AreBalanced};
 ghost use Rattle.bank_core.specs.BookView.{HasRoom};
@@ -12,6 +12,7 @@ use crate::ledger::Ledger;
 use bank_accounts::Held;
 use bank_model::{Entry, Event, Setup};
 use ofx_types::FileUid;
+use std::alloc::Global;
 use std::marker::Model;
 use std::snapshot::Snapshot;
 
@@ -52,6 +53,19 @@ impl Model for Prepared {
     } };
 
     ghost invariant = { λ p. IsPrepared p.setup.value p.before.value.state p.draft p.older p.newer p.kept.items };
+}
+
+impl ReplyBytes {
+    /// No reply. Takes no memory.
+    pub(crate) fn none(alloc: Global) -> ReplyBytes
+        ensures kept { result.kept.items ≡ [] }
+        ensures told { result.told.items ≡ [] }
+    {
+        ReplyBytes {
+            kept: Vec::new(alloc),
+            told: Vec::new(alloc),
+        }
+    }
 }
 
 impl Prepared {
@@ -100,6 +114,13 @@ impl Prepared {
         self.draft.entries()
     }
 
+    /// How many uids the event uses up.
+    pub(crate) fn uid_count(&self) -> usize
+        ensures { length self.now.after.used ≡ length self.now.before.used + result }
+    {
+        self.draft.uid_count()
+    }
+
     /// Takes the step: the ledger takes in what is added, and the accounts have their new balances. Gives the bytes
     /// of the reply. Takes no memory.
     pub(crate) fn take_step(self, ledger: &mut Ledger, held: &mut Held) -> Vec<u8>
@@ -115,8 +136,8 @@ impl Prepared {
         held.settle(self.draft.accounts());
         let user = self.draft.user();
         let day = self.draft.day();
-        let (entries, rows, uids) = self.draft.into_parts();
-        ledger.add_all(entries, rows);
+        let (entries, effects, uids) = self.draft.into_parts();
+        ledger.add_all(entries, effects);
         ledger.use_up_all(user, uids);
         ledger.release(user, &self.older);
         ledger.keep(user, self.newer, self.kept);

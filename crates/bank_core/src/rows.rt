@@ -1,4 +1,4 @@
-//! The rows that deeds make, and the object in whose history they stand.
+//! The rows that deeds and due work make, and the object in whose history they stand.
 
 ghost use Rattle.std.specs.Prelude.{◌≡◌, IfOk, Some, true, is_some, int_le};
 ghost use Rattle.ofx_types.specs.Calendar.{IsDay};
@@ -7,11 +7,12 @@ ghost use Rattle.bank_model.specs.SetupForm.{IsWithinLimits};
 ghost use Rattle.bank_model.specs.SetupLookups.{account_of};
 ghost use Rattle.bank_model.specs.Judging as judging;
 ghost use Rattle.bank_model.specs.Deeds as deeds;
+ghost use Rattle.bank_model.specs.Due as due_work;
 
 use bank_model::Setup;
 use ofx_types::{
-    AcctId, AcctName, Day, Duplicate, Moment, ObjectId, OutOfMemory, TransferRow, XferCode,
-    XferInfo,
+    AcctId, AcctName, Day, Duplicate, ModelRow, Moment, ObjectId, OutOfMemory, Recur, TransferRow,
+    XferCode, XferInfo,
 };
 use ofx_values::midnight;
 
@@ -107,4 +108,117 @@ pub(crate) fn object_of(setup: &Setup, source: &AcctName) -> ObjectId
     ensures { result ≡ deeds.object_of setup.now source.now }
 {
     ObjectId(3 * account_named(setup, source).0)
+}
+
+/// The object of the recurring transfers out of the account of that name.
+pub(crate) fn model_object_of(setup: &Setup, source: &AcctName) -> ObjectId
+    requires within { IsWithinLimits setup.now }
+    requires there { is_some (account_of setup.now source.now) ≡ true }
+    ensures { result ≡ deeds.model_object_of setup.now source.now }
+{
+    ObjectId(3 * account_named(setup, source).0 + 1)
+}
+
+/// The row of a new recurring transfer.
+#[tactic(auto, unfolding(bank_model::specs::Deeds::new_model))]
+pub(crate) fn new_model(
+    id: u64,
+    day: Day,
+    recur: Recur,
+    info: &XferInfo,
+) -> Result<ModelRow, OutOfMemory>
+    requires day { IsDay day.0 }
+    requires due { IfSome info.now.due (λ due. IsDay due.0) }
+    ensures { IfOk result (λ row. row ≡ deeds.new_model id day recur info.now) }
+{
+    Ok(ModelRow {
+        id,
+        recur,
+        from: info.from.copy()?,
+        to: info.to.copy()?,
+        amount: info.amount,
+        first: due_day(info, day),
+    })
+}
+
+/// The row of a recurring transfer, changed on a business day.
+#[tactic(auto, unfolding(bank_model::specs::Deeds::changed_model))]
+pub(crate) fn changed_model(
+    day: Day,
+    recur: Recur,
+    info: &XferInfo,
+    row: &ModelRow,
+) -> Result<ModelRow, OutOfMemory>
+    requires day { IsDay day.0 }
+    requires due { IfSome info.now.due (λ due. IsDay due.0) }
+    ensures { IfOk result (λ changed. changed ≡ deeds.changed_model day recur info.now row.now) }
+{
+    Ok(ModelRow {
+        id: row.id,
+        recur,
+        from: row.from.copy()?,
+        to: info.to.copy()?,
+        amount: info.amount,
+        first: due_day(info, day),
+    })
+}
+
+/// The row of a transfer that waits while its recurring transfer is changed.
+#[tactic(auto, unfolding(bank_model::specs::Deeds::with_terms))]
+pub(crate) fn with_terms(info: &XferInfo, row: &TransferRow) -> Result<TransferRow, OutOfMemory>
+    ensures { IfOk result (λ changed. changed ≡ deeds.with_terms info.now row.now) }
+{
+    Ok(TransferRow {
+        id: row.id,
+        model: row.model,
+        from: row.from.copy()?,
+        to: info.to.copy()?,
+        amount: info.amount,
+        due: row.due,
+        code: row.code,
+        stamp: row.stamp,
+    })
+}
+
+/// The row of a transfer that is posted at a moment where there is cover, and closed otherwise.
+#[tactic(auto, unfolding(bank_model::specs::Due::settled_row))]
+pub(crate) fn settled_row(
+    covered: bool,
+    at: Moment,
+    row: &TransferRow,
+) -> Result<TransferRow, OutOfMemory>
+    ensures { IfOk result (λ settled. settled ≡ due_work.settled_row covered at row.now) }
+{
+    Ok(TransferRow {
+        id: row.id,
+        model: row.model,
+        from: row.from.copy()?,
+        to: row.to.copy()?,
+        amount: row.amount,
+        due: row.due,
+        code: if covered {
+            XferCode::Posted
+        } else {
+            XferCode::NoFunds
+        },
+        stamp: at,
+    })
+}
+
+/// The row of a transfer that a recurring one makes for a date.
+#[tactic(auto, unfolding(bank_model::specs::Due::spawned_row))]
+pub(crate) fn spawned_row(id: u64, date: Day, row: &ModelRow) -> Result<TransferRow, OutOfMemory>
+    requires { IsDay date.0 }
+    ensures { IfOk result (λ spawned. spawned ≡ due_work.spawned_row id date row.now) }
+{
+    Ok(TransferRow {
+        id,
+        model: row.id,
+        from: row.from.copy()?,
+        to: row.to.copy()?,
+        amount: row.amount,
+        due: date,
+        code: XferCode::Waiting,
+        stamp: midnight(date),
+    })
 }

@@ -1,6 +1,7 @@
 -- What a bank does for a deed: its code, the entries that it adds, and the state that it leaves.
-use Rattle.std.specs.Prelude.{ℕ, ◌+◌, ◌*◌, nat_lt, ◌==◌, Bool, if◌then◌else◌, ℤ, pos, List, [], ◌∷◌, ◌++◌, length, Option, None, Some, unwrap_or}
+use Rattle.std.specs.Prelude.{ℕ, ◌+◌, ◌*◌, nat_lt, ◌==◌, Bool, if◌then◌else◌, ℤ, pos, List, [], ◌∷◌, ◌++◌, length, codes, Option, None, Some}
 use Rattle.ofx_types.specs.Calendar.{midnight}
+use Rattle.ofx_types.specs.DeedForm.{family_of}
 use Rattle.ofx_types.specs.declared.account.AcctName.{AcctName}
 use Rattle.ofx_types.specs.declared.number.AcctId.{AcctId}
 use Rattle.ofx_types.specs.declared.number.ObjectId.{ObjectId}
@@ -10,11 +11,12 @@ use Rattle.ofx_types.specs.declared.number.Moment.{Moment}
 use Rattle.ofx_types.specs.declared.transfer.XferCode.TheVariants.{Waiting, Posted}
 use Rattle.ofx_types.specs.declared.transfer.XferInfo.{XferInfo}
 use Rattle.ofx_types.specs.declared.transfer.Deed.{Deed}
-use Rattle.ofx_types.specs.declared.transfer.Deed.TheVariants.{Transfer, ModifyTransfer, CancelTransfer}
+use Rattle.ofx_types.specs.declared.transfer.Deed.TheVariants.{Transfer, ModifyTransfer, CancelTransfer, Model, ModifyModel, CancelModel}
 use Rattle.ofx_types.specs.declared.transfer.TransferRow.{TransferRow}
+use Rattle.ofx_types.specs.declared.recurring.Recur.{Recur}
+use Rattle.ofx_types.specs.declared.recurring.ModelRow.{ModelRow}
 use Rattle.ofx_types.specs.declared.transfer.Change.{Change}
-use Rattle.ofx_types.specs.declared.transfer.Change.TheVariants.{NewTransfer, SetTransfer, DropTransfer}
-use Rattle.ofx_types.specs.declared.transfer.Family.TheVariants.{Intra}
+use Rattle.ofx_types.specs.declared.transfer.Change.TheVariants.{NewTransfer, SetTransfer, DropTransfer, NewModel, SetModel, DropModel}
 use Rattle.ofx_types.specs.declared.transfer.DeedReply.{DeedReply}
 use Rattle.bank_model.specs.declared.setup.Setup.{Setup}
 use Rattle.bank_model.specs.declared.entry.Entry.{Entry}
@@ -22,7 +24,8 @@ use Rattle.bank_model.specs.declared.once.UsedPair.{UsedPair}
 use Rattle.bank_model.specs.declared.event.State.{State}
 use Rattle.bank_model.specs.SetupLookups.{account_of}
 use Rattle.bank_model.specs.Ledger.{balance, row_of}
-use Rattle.bank_model.specs.Judging.{due_day, is_due, transfer_code, modify_code, cancel_code}
+use Rattle.bank_model.specs.Models.{model_of, is_model_dropped, waiting_of}
+use Rattle.bank_model.specs.Judging.{due_day, is_due, transfer_code, modify_code, cancel_code, model_code, model_modify_code, model_cancel_code}
 use Rattle.bank_model.specs.Once.{is_used}
 
 -- ---- what is refused
@@ -40,6 +43,11 @@ unfoldable pub judged : Setup → State → UserId → Option AcctId → Deed �
 judged setup S user only (Transfer info) = transfer_code setup user only info S.day (source_balance setup S info)
 judged setup S user only (ModifyTransfer id info) = modify_code setup user only (row_of id S.entries) info S.day
 judged setup S user only (CancelTransfer id) = cancel_code setup user only (row_of id S.entries)
+judged setup S user only (Model recur info) = model_code setup user only info S.day
+judged setup S user only (ModifyModel id recur info pending) =
+    model_modify_code setup user only (model_of id S.entries) (is_model_dropped id S.entries) info S.day
+judged setup S user only (CancelModel id pending) =
+    model_cancel_code setup user only (model_of id S.entries) (is_model_dropped id S.entries)
 
 -- ---- what is done
 
@@ -50,6 +58,14 @@ intra_of (Some account) = record { 0 = 3 * account.0 }
 
 abbrev pub object_of : Setup → AcctName → ObjectId
 object_of setup source = intra_of (account_of setup source)
+
+-- And its recurring transfers at 3a + 1.
+abbrev pub recurring_of : Option AcctId → ObjectId
+recurring_of None = record { 0 = 0 }
+recurring_of (Some account) = record { 0 = 3 * account.0 + 1 }
+
+abbrev pub model_object_of : Setup → AcctName → ObjectId
+model_object_of setup source = recurring_of (account_of setup source)
 
 -- A transfer that is due is posted at once, with the moment as its stamp. Any other waits, and its stamp is the midnight
 -- of its due day.
@@ -86,13 +102,75 @@ abbrev pub entry_on : Setup → State → List ℕ → Option TransferRow → (T
 entry_on setup S trnuid None change = []
 entry_on setup S trnuid (Some row) change = next_entry S (object_of setup row.from) trnuid (change row) ∷ []
 
--- The entries that a deed adds which isn't refused. They stand in the history of the source's transfers.
+-- A new recurring transfer. Its transfers begin on the day that was asked for.
+unfoldable pub new_model : ℕ → Day → Recur → XferInfo → ModelRow
+new_model id day recur info = record {
+  id = id;
+  recur = recur;
+  from = info.from;
+  to = info.to;
+  amount = info.amount;
+  first = due_day info day;
+}
+
+-- A changed one begins anew with the new destination, amount, first day, frequency and count.
+unfoldable pub changed_model : Day → Recur → XferInfo → ModelRow → ModelRow
+changed_model day recur info row = record {
+  id = row.id;
+  recur = recur;
+  from = row.from;
+  to = info.to;
+  amount = info.amount;
+  first = due_day info day;
+}
+
+-- A transfer that waits while its recurring transfer is changed has the new destination and amount, and keeps its due
+-- day.
+unfoldable pub with_terms : XferInfo → TransferRow → TransferRow
+with_terms info row = record {
+  id = row.id;
+  model = row.model;
+  from = row.from;
+  to = info.to;
+  amount = info.amount;
+  due = row.due;
+  code = row.code;
+  stamp = row.stamp;
+}
+
+-- What the bank does by itself has the uid `0`. The entries follow in the order of the transfers' ids.
+unfoldable pub entries_behind : Setup → ℕ → (TransferRow → Change) → List TransferRow → List Entry
+entries_behind setup count change [] = []
+entries_behind setup count change (row ∷ more) =
+    record { number = count + 1; object = object_of setup row.from; trnuid = codes "0"; change = change row }
+    ∷ entries_behind setup (count + 1) change more
+
+-- Where the client asks so, the transfers that wait are changed or cancelled too.
+abbrev pub if_pending : Bool → List Entry → List Entry
+if_pending pending entries = if pending then entries else []
+
+abbrev pub model_entries_on : Setup → State → List ℕ → Option ModelRow → (ModelRow → Change) → List Entry → List Entry
+model_entries_on setup S trnuid None change more = []
+model_entries_on setup S trnuid (Some row) change more =
+    next_entry S (model_object_of setup row.from) trnuid (change row) ∷ more
+
+-- The entries that a deed adds which isn't refused. Those of transfers stand in the history of the source's transfers,
+-- those of recurring transfers in the history of the source's recurring transfers.
 unfoldable pub done : Setup → State → Moment → List ℕ → Deed → List Entry
 done setup S at trnuid (Transfer info) =
     next_entry S (object_of setup info.from) trnuid (NewTransfer (new_row (length S.entries + 1) at S.day info)) ∷ []
 done setup S at trnuid (ModifyTransfer id info) =
     entry_on setup S trnuid (row_of id S.entries) (λ row. SetTransfer (changed_row S.day info row))
 done setup S at trnuid (CancelTransfer id) = entry_on setup S trnuid (row_of id S.entries) (λ row. DropTransfer id)
+done setup S at trnuid (Model recur info) =
+    next_entry S (model_object_of setup info.from) trnuid (NewModel (new_model (length S.entries + 1) S.day recur info)) ∷ []
+done setup S at trnuid (ModifyModel id recur info pending) =
+    model_entries_on setup S trnuid (model_of id S.entries) (λ row. SetModel (changed_model S.day recur info row) pending)
+    (if_pending pending (entries_behind setup (length S.entries + 1) (λ row. SetTransfer (with_terms info row))
+    (waiting_of id S.entries)))
+done setup S at trnuid (CancelModel id pending) =
+    model_entries_on setup S trnuid (model_of id S.entries) (λ row. DropModel id pending)
+    (if_pending pending (entries_behind setup (length S.entries + 1) (λ row. DropTransfer row.id) (waiting_of id S.entries)))
 
 -- ---- the code, the answer and the state behind it
 
@@ -139,7 +217,7 @@ abbrev pub answer_with : Setup → State → UserId → Moment → List ℕ → 
 answer_with setup S user at trnuid deed code =
     let entries = added setup S at trnuid deed code in
     record {
-      reply = record { trnuid = trnuid; family = Intra; code = code; change = first_change entries };
+      reply = record { trnuid = trnuid; family = family_of deed; code = code; change = first_change entries };
       after = after_deed S user trnuid code entries;
     }
 

@@ -1,4 +1,5 @@
--- What is refused of a transfer, of its change and of its cancellation, and with which code.
+-- What is refused of a transfer and of a recurring transfer, of their changes and of their cancellations, and with which
+-- code.
 use Rattle.std.specs.Prelude.{ℕ, Bool, true, false, not, ◌&&◌, ◌==◌, if◌then◌else◌, ℤ, pos, int_le, int_lt, List, [], ◌∷◌, Option, None, Some, is_some, unwrap_or}
 use Rattle.ofx_types.specs.AccountForm.{same_account}
 use Rattle.ofx_types.specs.declared.account.AcctName.{AcctName}
@@ -9,6 +10,7 @@ use Rattle.ofx_types.specs.declared.transfer.XferCode.{XferCode}
 use Rattle.ofx_types.specs.declared.transfer.XferCode.TheVariants.{Waiting, Posted, NoFunds, Cancelled}
 use Rattle.ofx_types.specs.declared.transfer.XferInfo.{XferInfo}
 use Rattle.ofx_types.specs.declared.transfer.TransferRow.{TransferRow}
+use Rattle.ofx_types.specs.declared.recurring.ModelRow.{ModelRow}
 use Rattle.bank_model.specs.declared.setup.Setup.{Setup}
 use Rattle.bank_model.specs.SetupLookups.{account_of, is_owner}
 use Rattle.bank_model.specs.Ledger.{is_covered}
@@ -111,3 +113,38 @@ modify_code setup user only row info day = row_code setup user only row (λ foun
 -- A cancellation has no more.
 unfoldable pub cancel_code : Setup → UserId → Option AcctId → Option TransferRow → ℕ
 cancel_code setup user only row = row_code setup user only row (λ found. [])
+
+-- ---- recurring transfers
+
+-- A recurring transfer: the source isn't the user's; the destination isn't an account of the bank, or is the source; the
+-- amount isn't positive; the first day is absent or not after the business day.
+unfoldable pub model_code : Setup → UserId → Option AcctId → XferInfo → Day → ℕ
+model_code setup user only info day = first_of (
+    refused 2006 (not (is_own setup user only info.from))
+    ∷ refused 2009 (not (is_destination setup info))
+    ∷ refused 2012 (not (is_positive info))
+    ∷ refused 2014 (not (is_after info.due day))
+    ∷ [])
+
+-- The refusals that its change and its cancellation share: there is no recurring transfer with this id out of an account
+-- of the user; it is cancelled. Behind them come those of the deed itself.
+abbrev pub model_row_code : Setup → UserId → Option AcctId → Option ModelRow → Bool → (ModelRow → List Refusal) → ℕ
+model_row_code setup user only None cancelled more = 10518
+model_row_code setup user only (Some row) cancelled more = first_of (
+    refused 10518 (not (is_own setup user only row.from))
+    ∷ refused 10509 cancelled
+    ∷ more row)
+
+-- A change: then the source differs from that of the recurring transfer; the destination isn't an account of the bank, or
+-- is the source; the amount isn't positive; the first day is absent or not after the business day.
+unfoldable pub model_modify_code : Setup → UserId → Option AcctId → Option ModelRow → Bool → XferInfo → Day → ℕ
+model_modify_code setup user only row cancelled info day = model_row_code setup user only row cancelled (λ found.
+    refused 2006 (not (same_account info.from found.from))
+    ∷ refused 2009 (not (is_destination setup info))
+    ∷ refused 2012 (not (is_positive info))
+    ∷ refused 2014 (not (is_after info.due day))
+    ∷ [])
+
+-- A cancellation has no more.
+unfoldable pub model_cancel_code : Setup → UserId → Option AcctId → Option ModelRow → Bool → ℕ
+model_cancel_code setup user only row cancelled = model_row_code setup user only row cancelled (λ found. [])

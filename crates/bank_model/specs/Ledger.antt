@@ -1,5 +1,5 @@
 -- What the entries of the history come to: the row of each transfer, the posted transfers, and the balances.
-use Rattle.std.specs.Prelude.{ℕ, ◌+◌, Bool, true, false, not, ◌&&◌, ◌==◌, if◌then◌else◌, ℤ, pos, ◌+ℤ◌, ◌-ℤ◌, int_le, int_lt, List, [], ◌∷◌, filter, map, fold, Option, None, Some, option_to_list}
+use Rattle.std.specs.Prelude.{ℕ, Bool, true, false, ◌&&◌, ◌==◌, if◌then◌else◌, ℤ, pos, ◌+ℤ◌, ◌-ℤ◌, int_le, int_lt, List, [], ◌∷◌, filter, map, fold, Option, None, Some}
 use Rattle.std.specs.Option.{option_map}
 use Rattle.std.specs.List.{flat_map, list_any}
 use Rattle.ofx_types.specs.AccountForm.{same_account}
@@ -11,7 +11,7 @@ use Rattle.ofx_types.specs.declared.transfer.XferCode.{XferCode}
 use Rattle.ofx_types.specs.declared.transfer.XferCode.TheVariants.{Waiting, Posted, NoFunds, Cancelled}
 use Rattle.ofx_types.specs.declared.transfer.TransferRow.{TransferRow}
 use Rattle.ofx_types.specs.declared.transfer.Change.{Change}
-use Rattle.ofx_types.specs.declared.transfer.Change.TheVariants.{NewTransfer, SetTransfer, DropTransfer}
+use Rattle.ofx_types.specs.declared.transfer.Change.TheVariants.{NewTransfer, SetTransfer, DropTransfer, NewModel, SetModel, DropModel}
 use Rattle.bank_model.specs.declared.entry.Entry.{Entry}
 use Rattle.bank_model.specs.declared.setup.AccountLine.{AccountLine}
 use Rattle.bank_model.specs.declared.setup.Setup.{Setup}
@@ -22,6 +22,9 @@ abbrev pub row_in : Change → Option TransferRow
 row_in (NewTransfer row) = Some row
 row_in (SetTransfer row) = Some row
 row_in (DropTransfer id) = None
+row_in (NewModel row) = None
+row_in (SetModel row pending) = None
+row_in (DropModel id pending) = None
 
 -- ---- the row of a transfer
 
@@ -41,6 +44,9 @@ abbrev pub drops : ℕ → Change → Bool
 drops id (NewTransfer row) = false
 drops id (SetTransfer row) = false
 drops id (DropTransfer dropped) = dropped == id
+drops id (NewModel row) = false
+drops id (SetModel row pending) = false
+drops id (DropModel dropped pending) = false
 
 -- A transfer is cancelled where an entry drops it.
 unfoldable pub is_dropped : ℕ → List Entry → Bool

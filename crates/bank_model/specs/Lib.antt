@@ -5,7 +5,11 @@ pub mod SetupOutcome
 pub mod SetupReading
 pub mod Sound
 pub mod Ledger
+pub mod Models
+pub mod Recurrence
 pub mod Judging
 pub mod Once
 pub mod Deeds
+pub mod Due
 pub mod Rules
+pub mod DueRun

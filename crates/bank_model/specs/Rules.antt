@@ -1,5 +1,6 @@
 -- What a bank answers to an event, and the state that it leaves.
-use Rattle.std.specs.Prelude.{ℕ, ◌<◌, pos, negsuc, List, [], ◌∷◌, ◌++◌, length, Option, None, Some, unwrap_or, if◌then◌else◌}
+use Rattle.std.specs.Prelude.{◌≡◌, ℕ, ◌<◌, true, negsuc, List, [], ◌∷◌, ◌++◌, length, Option, None, Some, unwrap_or, if◌then◌else◌}
+use Rattle.std.specs.Option.{option_map}
 use Rattle.std.specs.List.{flat_map}
 use Rattle.std.specs.Int.{int_max}
 use Rattle.ofx_types.specs.Calendar.{day_of}
@@ -9,7 +10,8 @@ use Rattle.ofx_types.specs.declared.number.UserId.{UserId}
 use Rattle.ofx_types.specs.declared.number.Moment.{Moment}
 use Rattle.ofx_types.specs.declared.account.AcctName.{AcctName}
 use Rattle.ofx_types.specs.declared.transfer.Deed.{Deed}
-use Rattle.ofx_types.specs.declared.transfer.Deed.TheVariants.{Transfer, ModifyTransfer, CancelTransfer}
+use Rattle.ofx_types.specs.declared.transfer.Deed.TheVariants.{Transfer, ModifyTransfer, CancelTransfer, Model, ModifyModel, CancelModel}
+use Rattle.ofx_types.specs.declared.transfer.TransferRow.{TransferRow}
 use Rattle.ofx_types.specs.declared.request.Period.{Period}
 use Rattle.ofx_types.specs.declared.request.Ask.{Ask}
 use Rattle.ofx_types.specs.declared.request.Ask.TheVariants as asks
@@ -20,14 +22,17 @@ use Rattle.ofx_types.specs.declared.reply.AskReply.{AskReply}
 use Rattle.ofx_types.specs.declared.reply.AskReply.TheVariants as replies
 use Rattle.ofx_types.specs.declared.reply.ReplyFile.{ReplyFile}
 use Rattle.bank_model.specs.declared.setup.Setup.{Setup}
+use Rattle.bank_model.specs.declared.entry.Entry.{Entry}
 use Rattle.bank_model.specs.declared.once.KeptReply.{KeptReply}
 use Rattle.bank_model.specs.declared.event.State.{State}
 use Rattle.bank_model.specs.declared.event.Event.{Event}
-use Rattle.bank_model.specs.declared.event.Event.TheVariants.{File}
+use Rattle.bank_model.specs.declared.event.Event.TheVariants.{File, Post, Spawn}
 use Rattle.bank_model.specs.SetupLookups.{account_of, is_owner}
-use Rattle.bank_model.specs.Ledger.{balance, moved, lines_of}
+use Rattle.bank_model.specs.Ledger.{balance, moved, lines_of, row_of}
+use Rattle.bank_model.specs.Models.{next_place}
 use Rattle.bank_model.specs.Once.{reply_kept, released}
 use Rattle.bank_model.specs.Deeds.{deed_answer}
+use Rattle.bank_model.specs.Due.{Task, has_number, last_day, may_post, posts, may_spawn, spawns, first_task, to_make, to_post}
 use Rattle.bank_model.specs.Sound.{IsSound}
 
 -- A bank opens with no history. The business day begins at 1 January 1900.
@@ -164,9 +169,18 @@ denial file at = record {
   replies = [];
 }
 
+-- What the bank does by itself has no reply.
+abbrev pub with_entries : State → List Entry → State
+with_entries S entries = record { entries = S.entries ++ entries; used = S.used; kept = S.kept; day = S.day }
+
+abbrev pub unasked : State → List Entry → Outcome
+unasked S entries = record { reply = []; after = with_entries S entries }
+
 -- An event first raises the business day.
 abbrev pub step : Setup → State → Moment → Event → Outcome
 step setup S at (File user file) = file_outcome setup (raised S at) user at file
+step setup S at (Post id) = unasked (raised S at) (posts setup (raised S at) at (row_of id S.entries))
+step setup S at (Spawn id place) = unasked (raised S at) (spawns setup (raised S at) id place)
 
 abbrev pub state_after : Setup → State → Moment → Event → State
 state_after setup S at event = (step setup S at event).after
@@ -174,9 +188,30 @@ state_after setup S at event = (step setup S at event).after
 abbrev pub answer_to : Setup → State → Moment → Event → List ℕ
 answer_to setup S at event = (step setup S at event).reply
 
--- A file is legal for a user of the setup where it is sound.
-abbrev pub IsLegal : Setup → Event → Type 0
-IsLegal setup (File user file) = (user.0 < length setup.users) × IsSound file
+-- A file is legal for a user of the setup where it is sound. A transfer may be posted where it waits and is due, and a
+-- recurring transfer may make the transfer at just the next place of its series, where its date is near; both where a
+-- number is left for their entry.
+abbrev pub IsLegal : Setup → State → Moment → Event → Type 0
+IsLegal setup S at (File user file) = (user.0 < length setup.users) × IsSound file
+IsLegal setup S at (Post id) = may_post setup (raised S at) (row_of id S.entries) ≡ true
+IsLegal setup S at (Spawn id place) = may_spawn setup (raised S at) id place ≡ true
+
+-- ---- which event the bank makes next by itself
+
+abbrev pub post_event : Task → Event
+post_event task = Post task.id
+
+-- Recurring transfers come first, the earliest date first; where none has a transfer to make, the transfers that are due,
+-- the earliest due day first.
+abbrev pub spawn_or_post : State → Option Task → Option Event
+spawn_or_post S None = option_map post_event (first_task (to_post S.day S.entries))
+spawn_or_post S (Some task) = Some (Spawn task.id (next_place task.id S.entries))
+
+abbrev pub due_in : Setup → State → Option Event
+due_in setup S = if has_number setup S then spawn_or_post S (first_task (to_make (last_day setup S.day) S.entries)) else None
+
+unfoldable pub due : Setup → State → Moment → Option Event
+due setup S at = due_in setup (raised S at)
 
 -- ---- the accounts that an event names
 
@@ -184,11 +219,20 @@ abbrev pub named_by_deed : Setup → Deed → List (Option AcctId)
 named_by_deed setup (Transfer info) = account_of setup info.from ∷ account_of setup info.to ∷ []
 named_by_deed setup (ModifyTransfer id info) = account_of setup info.from ∷ account_of setup info.to ∷ []
 named_by_deed setup (CancelTransfer id) = []
+named_by_deed setup (Model recur info) = account_of setup info.from ∷ account_of setup info.to ∷ []
+named_by_deed setup (ModifyModel id recur info pending) = account_of setup info.from ∷ account_of setup info.to ∷ []
+named_by_deed setup (CancelModel id pending) = []
 
 abbrev pub named_by : Setup → Ask → List (Option AcctId)
 named_by setup (asks.Statement trnuid name period) = account_of setup name ∷ []
 named_by setup (asks.One trnuid deed) = named_by_deed setup deed
 
--- The accounts of the setup that an event's asks name.
-abbrev pub named : Setup → Event → List (Option AcctId)
-named setup (File user file) = flat_map (named_by setup) file.asks
+abbrev pub named_by_row : Setup → Option TransferRow → List (Option AcctId)
+named_by_row setup None = []
+named_by_row setup (Some row) = account_of setup row.from ∷ account_of setup row.to ∷ []
+
+-- The accounts of the setup that a file's asks name, or the two of the transfer that is posted.
+abbrev pub named : Setup → State → Event → List (Option AcctId)
+named setup S (File user file) = flat_map (named_by setup) file.asks
+named setup S (Post id) = named_by_row setup (row_of id S.entries)
+named setup S (Spawn id place) = []

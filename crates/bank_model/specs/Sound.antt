@@ -7,7 +7,8 @@ use Rattle.ofx_types.specs.declared.number.Moment.{Moment}
 use Rattle.ofx_types.specs.declared.number.Day.{Day}
 use Rattle.ofx_types.specs.declared.transfer.XferInfo.{XferInfo}
 use Rattle.ofx_types.specs.declared.transfer.Deed.{Deed}
-use Rattle.ofx_types.specs.declared.transfer.Deed.TheVariants.{Transfer, ModifyTransfer, CancelTransfer}
+use Rattle.ofx_types.specs.declared.transfer.Deed.TheVariants.{Transfer, ModifyTransfer, CancelTransfer, Model, ModifyModel, CancelModel}
+use Rattle.ofx_types.specs.declared.recurring.Recur.{Recur}
 use Rattle.ofx_types.specs.declared.account.AcctName.{AcctName}
 use Rattle.ofx_types.specs.declared.request.Period.{Period}
 use Rattle.ofx_types.specs.declared.request.Ask.{Ask}
@@ -36,10 +37,17 @@ pub record IsSoundInfo (info : XferInfo) : Type 0 where
 abbrev pub IsId : ℕ → Type 0
 IsId id = id ≤ 9999999999
 
+-- A series has 1 to 999 transfers, or no end.
+abbrev pub IsSoundRecur : Recur → Type 0
+IsSoundRecur recur = IfSome recur.count (λ (count : ℕ). (0 < count) × (count ≤ 999))
+
 abbrev pub IsSoundDeed : Deed → Type 0
 IsSoundDeed (Transfer info) = IsSoundInfo info
 IsSoundDeed (ModifyTransfer id info) = IsId id × IsSoundInfo info
 IsSoundDeed (CancelTransfer id) = IsId id
+IsSoundDeed (Model recur info) = IsSoundRecur recur × IsSoundInfo info
+IsSoundDeed (ModifyModel id recur info pending) = IsId id × IsSoundRecur recur × IsSoundInfo info
+IsSoundDeed (CancelModel id pending) = IsId id
 
 -- No TRNUID is `0`, which marks what the bank does by itself.
 abbrev pub IsSoundAsk : Ask → Type 0

@@ -9,6 +9,10 @@ use ofx_types::{Day, Duplicate, OutOfMemory, RequestFile, Sequence, UserId};
 pub enum Event {
     /// A user's request file, whose signon succeeded.
     File(UserId, RequestFile),
+    /// The transfer with this id, which waits and is due, is posted, or closed where there is no cover.
+    Post(u64),
+    /// The recurring transfer with this id makes its next transfer, which has this place in its series, from 0.
+    Spawn(u64, u32),
 }
 
 /// The state of a bank between two events.
@@ -28,6 +32,8 @@ impl Duplicate for Event {
     fn copy(&self) -> Result<Event, OutOfMemory> {
         match self {
             Event::File(user, file) => Ok(Event::File(*user, file.copy()?)),
+            Event::Post(id) => Ok(Event::Post(*id)),
+            Event::Spawn(model, place) => Ok(Event::Spawn(*model, *place)),
         }
     }
 }

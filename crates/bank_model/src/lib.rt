@@ -4,6 +4,7 @@
 //! state that it is in afterwards, are definitions in `specs/`; the crates above are proved against them.
 #![tactic(auto)]
 
+mod asked;
 mod entry;
 mod event;
 mod once;
@@ -12,6 +13,7 @@ mod setup;
 #[cfg(test)]
 mod tests;
 
+pub use asked::{is_after, is_positive};
 pub use entry::Entry;
 pub use event::{Event, State};
 pub use once::{KeptReply, UsedPair};

@@ -1,7 +1,7 @@
 -- The words of a command line.
 use Rattle.std.proofs.Common.{◌≡◌, ℕ, ◌<◌, ◌≤◌, List, [], ◌∷◌, length, get_or, drop, codes, Option, None, Some, arith, sym, ap, ◌∙◌}
 use Rattle.ofx_types.specs.declared.number.Moment.{Moment}
-use Rattle.bank_session.specs.Words.{IsMomentOption, AreWords}
+use Rattle.bank_session.specs.Words.{IsMomentOption, AreWords, AreDueWords}
 use Rattle.bank_session.specs.WordsRead.{Reads, IsNamedBy}
 use Rattle.bank_session.specs.declared.words.AnswerWords.{AnswerWords}
 
@@ -47,3 +47,9 @@ option_read words a date (Some found) long short ea ed is_at read =
     let all = two words a date long short ea ed in
     let spelled : words ≡ codes "--at" ∷ date ∷ [] = cc in
     (named words date found.at spelled read.0, read.1, λ other form. read.2 other (date_of words a date other all form))
+
+-- the words of the two commands differ in the first
+pub commands_apart : (words : List (List ℕ)) (at : Option Moment) → AreWords words at → AreDueWords words → ⊥
+commands_apart words at form due =
+    let first : codes "answer" ≡ codes "due" = ap (λ (l : List (List ℕ)). get_or l 0 []) (sym form.spelled ∙ due.spelled) in
+    let size : 6 ≡ 3 = ap length first in absurd (omega (arith, size))

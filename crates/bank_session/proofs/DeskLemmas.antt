@@ -12,17 +12,18 @@ use Rattle.ofx_types.specs.declared.number.AcctId.{AcctId}
 use Rattle.ofx_types.specs.declared.request.Ask.{Ask}
 use Rattle.ofx_types.specs.declared.request.Ask.TheVariants.{Statement, One}
 use Rattle.ofx_types.specs.declared.transfer.Deed.{Deed}
-use Rattle.ofx_types.specs.declared.transfer.Deed.TheVariants.{Transfer, ModifyTransfer, CancelTransfer}
-use Rattle.ofx_types.specs.declared.transfer.XferInfo.{XferInfo}
+use Rattle.ofx_types.specs.declared.transfer.Deed.TheVariants.{Transfer, ModifyTransfer, CancelTransfer, Model, ModifyModel, CancelModel}
+use Rattle.ofx_types.specs.declared.transfer.TransferRow.{TransferRow}
 use Rattle.ofx_types.specs.declared.account.AcctName.{AcctName}
 use Rattle.ofx_types.specs.declared.request.RequestFile.{RequestFile}
 use Rattle.bank_model.specs.declared.setup.Setup.{Setup}
 use Rattle.bank_model.specs.declared.setup.AccountLine.{AccountLine}
 use Rattle.bank_model.specs.declared.event.State.{State}
 use Rattle.bank_model.specs.declared.event.Event.{Event}
-use Rattle.bank_model.specs.declared.event.Event.TheVariants.{File}
+use Rattle.bank_model.specs.declared.event.Event.TheVariants.{File, Post, Spawn}
 use Rattle.bank_model.specs.SetupLookups.{account_of}
-use Rattle.bank_model.specs.Rules.{named, named_by, named_by_deed, opening_state, denial}
+use Rattle.bank_model.specs.Ledger.{row_of}
+use Rattle.bank_model.specs.Rules.{named, named_by, named_by_deed, named_by_row, opening_state, denial}
 use Rattle.ofx_types.specs.Calendar.{IsMoment}
 use Rattle.ofx_types.specs.Printable.{IsPrintable}
 use Rattle.ofx_types.specs.declared.number.Moment.{Moment}
@@ -59,13 +60,16 @@ name_held setup accounts name all =
     entry_held (length setup.accounts) accounts (position is_named setup.accounts) (found_within is_named setup.accounts) all
 
 -- both accounts of a transfer are at hand
-both_held : (setup : Setup) (accounts : List AccountView) (info : XferInfo) → AreAll setup accounts → AllByRecursion (IsAtHand accounts) (account_of setup info.from ∷ account_of setup info.to ∷ [])
-both_held setup accounts info all = (name_held setup accounts info.from all, (name_held setup accounts info.to all, tt))
+both_held : (setup : Setup) (accounts : List AccountView) (from to : AcctName) → AreAll setup accounts → AllByRecursion (IsAtHand accounts) (account_of setup from ∷ account_of setup to ∷ [])
+both_held setup accounts from to all = (name_held setup accounts from all, (name_held setup accounts to all, tt))
 
 deed_held : (setup : Setup) (accounts : List AccountView) (deed : Deed) → AreAll setup accounts → AllByRecursion (IsAtHand accounts) (named_by_deed setup deed)
-deed_held setup accounts (Transfer info) all = both_held setup accounts info all
-deed_held setup accounts (ModifyTransfer id info) all = both_held setup accounts info all
+deed_held setup accounts (Transfer info) all = both_held setup accounts info.from info.to all
+deed_held setup accounts (ModifyTransfer id info) all = both_held setup accounts info.from info.to all
 deed_held setup accounts (CancelTransfer id) all = tt
+deed_held setup accounts (Model recur info) all = both_held setup accounts info.from info.to all
+deed_held setup accounts (ModifyModel id recur info pending) all = both_held setup accounts info.from info.to all
+deed_held setup accounts (CancelModel id pending) all = tt
 
 ask_held : (setup : Setup) (accounts : List AccountView) (ask : Ask) → AreAll setup accounts → AllByRecursion (IsAtHand accounts) (named_by setup ask)
 ask_held setup accounts (Statement trnuid name period) all = (name_held setup accounts name all, tt)
@@ -76,9 +80,16 @@ asks_held setup accounts [] all = All-from_recursion (IsAtHand accounts) [] tt
 asks_held setup accounts (ask ∷ asks) all =
     All-append (IsAtHand accounts) (named_by setup ask) (flat_map (named_by setup) asks) (All-from_recursion (IsAtHand accounts) (named_by setup ask) (ask_held setup accounts ask all)) (asks_held setup accounts asks all)
 
+row_held : (setup : Setup) (accounts : List AccountView) (row : Option TransferRow) → AreAll setup accounts → All (IsAtHand accounts) (named_by_row setup row)
+row_held setup accounts None all = All-from_recursion (IsAtHand accounts) [] tt
+row_held setup accounts (Some row) all =
+    All-from_recursion (IsAtHand accounts) (account_of setup row.from ∷ account_of setup row.to ∷ []) (both_held setup accounts row.from row.to all)
+
 -- every account that an event names is at hand where all are
-pub all_held : (setup : Setup) (accounts : List AccountView) (event : Event) → AreAll setup accounts → AreHeld accounts (named setup event)
-all_held setup accounts (File user file) all = asks_held setup accounts file.asks all
+pub all_held : (setup : Setup) (state : State) (accounts : List AccountView) (event : Event) → AreAll setup accounts → AreHeld accounts (named setup state event)
+all_held setup state accounts (File user file) all = asks_held setup accounts file.asks all
+all_held setup state accounts (Post id) all = row_held setup accounts (row_of id state.entries) all
+all_held setup state accounts (Spawn id place) all = All-from_recursion (IsAtHand accounts) [] tt
 
 -- where accounts keep their numbers and have their balances in another state, all are at hand there
 pub still_held : (setup : Setup) (state state' : State) (before after : List AccountView) → HaveSameNumbers after before → AreBalanced setup state' after → HasAccounts setup state before → HasAccounts setup state' after

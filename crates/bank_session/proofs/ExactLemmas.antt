@@ -1,5 +1,5 @@
 -- An input is split into frames in one way, so each end of a run comes exactly where it should.
-use Rattle.std.proofs.Common.{◌≡◌, ◌≢◌, ℕ, ◌≤◌, List, [], ◌∷◌, ◌++◌, length, Option, None, Some, IfSome, Result, Ok, Err, ◌⊎◌, inl, inr, arith, refl, sym, ap, ◌∙◌, subst, append_assoc, append-nil, length-append, take, suc}
+use Rattle.std.proofs.Common.{◌≡◌, ◌≢◌, ℕ, ◌≤◌, List, [], ◌∷◌, ◌++◌, length, Option, None, Some, IfSome, Result, Ok, Err, ◌⊎◌, inl, inr, codes, arith, refl, sym, ap, ◌∙◌, subst, append_assoc, append-nil, length-append, take, suc}
 use Rattle.std.specs.List.{flat_map}
 use Rattle.std.specs.Io.KnownBytes.{Consumes, IsAtEnd, prepend_known}
 use Rattle.std.proofs.lemmas.List.{append_cancel_left, take_at}
@@ -8,19 +8,19 @@ use Rattle.bank_model.specs.SetupForm.{SpellsSetup}
 use Rattle.bank_model.specs.SetupFault.{IsSetupFault}
 use Rattle.bank_model.specs.declared.setup.Setup.{Setup}
 use Rattle.bank_model.specs.declared.event.State.{State}
-use Rattle.bank_session.specs.Frames.{IsLength, frame, frame_head, BeginsNoFrame}
+use Rattle.bank_session.specs.Frames.{Content, request, due_work, IsLength, frame, frame_head, frame_of, Fits, BeginsNoFrame}
 use Rattle.bank_session.specs.Answers.{Turn, AreTurns, read_in}
-use Rattle.bank_session.specs.Determined.{Lengths, OneSplit, goes_on, falls_short, files_of}
+use Rattle.bank_session.specs.Determined.{AllFit, OneSplit, goes_on, falls_short, contents_of}
 use Rattle.bank_session.specs.RunEnd.{Taken, Finished, StoppedAtFrame}
 use Rattle.bank_session.specs.Outside.{Outside}
-use Rattle.bank_session.specs.Run.{EndsSo, told_of, told}
+use Rattle.bank_session.specs.Run.{EndsSo, DueEndsSo, told_of, told}
 use Rattle.ofx_types.specs.declared.told.Told.{Told}
 use Rattle.ofx_types.specs.declared.told.Note.TheVariants.{Place}
 use Rattle.bank_session.specs.SetupRead.{IsSetupOf, IsNoSetup}
-use Rattle.bank_session.specs.Exact.{RefusesSetup, Gives, AnswersAll, RefusesFrame, IsRun}
+use Rattle.bank_session.specs.Exact.{RefusesSetup, Gives, AnswersAll, RefusesFrame, IsRun, RefusesDueSetup, DoesAll, IsDueCommand}
 use Rattle.bank_session.specs.declared.stop.Stop.{Stop}
 use Rattle.bank_session.specs.declared.stop.Stop.TheVariants as stops
-use Rattle.bank_session.proofs.Agreement.{heads_agree}
+use Rattle.bank_session.proofs.Agreement.{heads_agree, kinds_apart}
 
 -- two files in frames in front of the same bytes are one
 one_frame : (a b x y : List ℕ) → IsLength (length a) → IsLength (length b) → frame a ++ x ≡ frame b ++ y → (a ≡ b) × (x ≡ y)
@@ -29,32 +29,39 @@ one_frame a b x y small_a small_b e =
     let same : a ≡ b = sym (take_at a x (length a) refl) ∙ (ap (take (length a)) heads.1 ∙ (ap (λ (n : ℕ). take n (b ++ y)) heads.0 ∙ take_at b y (length b) refl)) in
     (same, append_cancel_left b x y (ap (λ (l : List ℕ). l ++ x) (sym same) ∙ heads.1))
 
+one_content : (a b : Content) (x y : List ℕ) → Fits a → Fits b → frame_of a ++ x ≡ frame_of b ++ y → (a ≡ b) × (x ≡ y)
+one_content (request a) (request b) x y fits fits' e =
+    let same = one_frame a b x y fits fits' e in (ap (λ (file : List ℕ). request file) same.0, same.1)
+one_content (request a) due_work x y fits fits' e = absurd (kinds_apart (length a) (a ++ x) y (sym (append_assoc (frame_head (length a)) a x) ∙ e))
+one_content due_work (request b) x y fits fits' e = absurd (kinds_apart (length b) (b ++ y) x (sym (append_assoc (frame_head (length b)) b y) ∙ sym e))
+one_content due_work due_work x y fits fits' e = (refl, append_cancel_left (codes "DUE" ++ 10 ∷ []) x y e)
+
 -- an input is split in one way
-pub one_split : (files others : List (List ℕ)) (rest tail : List ℕ) → Lengths files → Lengths others → flat_map frame files ++ rest ≡ flat_map frame others ++ tail → OneSplit files others rest tail
-one_split files [] rest tail fits fits' e = goes_on files refl (sym e)
+pub one_split : (contents others : List Content) (rest tail : List ℕ) → AllFit contents → AllFit others → flat_map frame_of contents ++ rest ≡ flat_map frame_of others ++ tail → OneSplit contents others rest tail
+one_split contents [] rest tail fits fits' e = goes_on contents refl (sym e)
 one_split [] (other ∷ others) rest tail fits fits' e = falls_short (other ∷ others) refl e
-one_split (file ∷ files) (other ∷ others) rest tail fits fits' e =
-    let first = one_frame file other (flat_map frame files ++ rest) (flat_map frame others ++ tail) fits.0 fits'.0 (sym (append_assoc (frame file) (flat_map frame files) rest) ∙ (e ∙ append_assoc (frame other) (flat_map frame others) tail)) in
-    elim (one_split files others rest tail fits.1 fits'.1 first.1) [
-      | goes_on more same then ↦ goes_on more (ap (λ (f : List ℕ). f ∷ files) first.0 ∙ ap (λ (l : List (List ℕ)). other ∷ l) same) then
-      | falls_short more same then ↦ falls_short more (ap (λ (f : List ℕ). f ∷ others) (sym first.0) ∙ ap (λ (l : List (List ℕ)). file ∷ l) same) then
+one_split (content ∷ contents) (other ∷ others) rest tail fits fits' e =
+    let first = one_content content other (flat_map frame_of contents ++ rest) (flat_map frame_of others ++ tail) fits.0 fits'.0 (sym (append_assoc (frame_of content) (flat_map frame_of contents) rest) ∙ (e ∙ append_assoc (frame_of other) (flat_map frame_of others) tail)) in
+    elim (one_split contents others rest tail fits.1 fits'.1 first.1) [
+      | goes_on more same then ↦ goes_on more (ap (λ (c : Content). c ∷ contents) first.0 ∙ ap (λ (l : List Content). other ∷ l) same) then
+      | falls_short more same then ↦ falls_short more (ap (λ (c : Content). c ∷ others) (sym first.0) ∙ ap (λ (l : List Content). content ∷ l) same) then
     ]
 
-files_read : (turns : List Turn) → read_in turns ≡ flat_map frame (files_of turns)
-files_read [] = refl
-files_read (turn ∷ turns) = ap (λ (l : List ℕ). frame turn.file ++ l) (files_read turns)
+contents_read : (turns : List Turn) → read_in turns ≡ flat_map frame_of (contents_of turns)
+contents_read [] = refl
+contents_read (turn ∷ turns) = ap (λ (l : List ℕ). frame_of turn.content ++ l) (contents_read turns)
 
-files_counted : (turns : List Turn) → length (files_of turns) ≡ length turns
-files_counted [] = refl
-files_counted (turn ∷ turns) = ap suc (files_counted turns)
+contents_counted : (turns : List Turn) → length (contents_of turns) ≡ length turns
+contents_counted [] = refl
+contents_counted (turn ∷ turns) = ap suc (contents_counted turns)
 
-turns_fit : (setup : Setup) (before after : State) (turns : List Turn) → AreTurns setup before turns after → Lengths (files_of turns)
+turns_fit : (setup : Setup) (before after : State) (turns : List Turn) → AreTurns setup before turns after → AllFit (contents_of turns)
 turns_fit setup before after [] same = tt
 turns_fit setup before after (turn ∷ turns) (mid, fits, says, rest) = (fits, turns_fit setup mid after turns rest)
 
-behind_fits : (front more : List (List ℕ)) → Lengths (front ++ more) → Lengths more
+behind_fits : (front more : List Content) → AllFit (front ++ more) → AllFit more
 behind_fits [] more fits = fits
-behind_fits (file ∷ front) more fits = behind_fits front more fits.1
+behind_fits (content ∷ front) more fits = behind_fits front more fits.1
 
 nothing_behind : (front rest : List ℕ) → [] ≡ front ++ rest → rest ≡ []
 nothing_behind [] rest e = sym e
@@ -66,52 +73,52 @@ left_told all taken None h = absurd h
 left_told all taken (Some rest) h = (rest, refl, h)
 
 -- a frame in front of bytes begins them
-begun : (bytes : List ℕ) (file rest tail : List ℕ) → BeginsNoFrame bytes → IsLength (length file) → bytes ≡ (frame file ++ rest) ++ tail → ⊥
-begun bytes file rest tail none fits e = none file (rest ++ tail) fits (e ∙ append_assoc (frame file) rest tail)
+begun : (bytes : List ℕ) (content : Content) (rest tail : List ℕ) → BeginsNoFrame bytes → Fits content → bytes ≡ (frame_of content ++ rest) ++ tail → ⊥
+begun bytes content rest tail none fits e = none content (rest ++ tail) fits (e ∙ append_assoc (frame_of content) rest tail)
 
 -- how the turns of a run split an input that is told
-split_taken : (setup : Setup) (before after : Outside) (ahead : List ℕ) (turns : List Turn) (state : State) (files : List (List ℕ)) (rest : List ℕ) → Gives before files rest → Taken setup before after turns state ahead →
-    (tail : List ℕ) × (prepend_known ahead after.input_left ≡ Some tail) × OneSplit files (files_of turns) rest tail
-split_taken setup before after ahead turns state files rest gives taken =
+split_taken : (setup : Setup) (before after : Outside) (ahead : List ℕ) (turns : List Turn) (state : State) (contents : List Content) (rest : List ℕ) → Gives before contents rest → Taken setup before after turns state ahead →
+    (tail : List ℕ) × (prepend_known ahead after.input_left ≡ Some tail) × OneSplit contents (contents_of turns) rest tail
+split_taken setup before after ahead turns state contents rest gives taken =
     let P : Option (List ℕ) → Type 0 = λ left. Consumes left (prepend_known ahead after.input_left) (read_in turns) in
-    let behind = left_told (flat_map frame files ++ rest) (read_in turns) (prepend_known ahead after.input_left) (subst P gives.input_is taken.read) in
-    (behind.0, behind.1, one_split files (files_of turns) rest behind.0 gives.lengths (turns_fit setup _ state turns taken.are_turns) (behind.2 ∙ ap (λ (l : List ℕ). l ++ behind.0) (files_read turns)))
+    let behind = left_told (flat_map frame_of contents ++ rest) (read_in turns) (prepend_known ahead after.input_left) (subst P gives.input_is taken.read) in
+    (behind.0, behind.1, one_split contents (contents_of turns) rest behind.0 gives.fit (turns_fit setup _ state turns taken.are_turns) (behind.2 ∙ ap (λ (l : List ℕ). l ++ behind.0) (contents_read turns)))
 
 -- a run over frames and nothing else doesn't stop at a frame
-no_more_split : (files : List (List ℕ)) (turns : List Turn) (tail : List ℕ) → Lengths files → length files ≤ 1000000 → OneSplit files (files_of turns) [] tail → tail ≢ [] → (BeginsNoFrame tail ⊎ (length turns ≡ 1000000)) → ⊥
-no_more_split files turns tail fits few (goes_on [] same then) some more = some then
-no_more_split files turns tail fits few (goes_on (m ∷ ms) same then) some (inl none) =
-    let fits' : Lengths (files_of turns ++ (m ∷ ms)) = subst Lengths same fits in
-    begun tail m (flat_map frame ms) [] none (behind_fits (files_of turns) (m ∷ ms) fits').0 then
-no_more_split files turns tail fits few (goes_on (m ∷ ms) same then) some (inr full) =
-    omega (arith, few, full, ap length same, length-append (files_of turns) (m ∷ ms), files_counted turns)
-no_more_split files turns tail fits few (falls_short more same then) some more' = some (nothing_behind (flat_map frame more) tail then)
+no_more_split : (contents : List Content) (turns : List Turn) (tail : List ℕ) → AllFit contents → length contents ≤ 1000000 → OneSplit contents (contents_of turns) [] tail → tail ≢ [] → (BeginsNoFrame tail ⊎ (length turns ≡ 1000000)) → ⊥
+no_more_split contents turns tail fits few (goes_on [] same then) some more = some then
+no_more_split contents turns tail fits few (goes_on (m ∷ ms) same then) some (inl none) =
+    let fits' : AllFit (contents_of turns ++ (m ∷ ms)) = subst AllFit same fits in
+    begun tail m (flat_map frame_of ms) [] none (behind_fits (contents_of turns) (m ∷ ms) fits').0 then
+no_more_split contents turns tail fits few (goes_on (m ∷ ms) same then) some (inr full) =
+    omega (arith, few, full, ap length same, length-append (contents_of turns) (m ∷ ms), contents_counted turns)
+no_more_split contents turns tail fits few (falls_short more same then) some more' = some (nothing_behind (flat_map frame_of more) tail then)
 
 -- nor does a run end where more is to come
-no_end_split : (files : List (List ℕ)) (turns : List Turn) (rest tail : List ℕ) → Lengths (files_of turns) → length turns ≤ 1000000 → OneSplit files (files_of turns) rest tail → rest ≢ [] → (BeginsNoFrame rest ⊎ (length files ≡ 1000000)) → tail ≡ [] → ⊥
-no_end_split files turns rest tail fits few (goes_on more same then) some stuck end = some (nothing_behind (flat_map frame more) rest (sym end ∙ then))
-no_end_split files turns rest tail fits few (falls_short [] same then) some stuck end = some (then ∙ end)
-no_end_split files turns rest tail fits few (falls_short (m ∷ ms) same then) some (inl none) end =
-    let fits' : Lengths (files ++ (m ∷ ms)) = subst Lengths same fits in
-    begun rest m (flat_map frame ms) tail none (behind_fits files (m ∷ ms) fits').0 then
-no_end_split files turns rest tail fits few (falls_short (m ∷ ms) same then) some (inr full) end =
-    omega (arith, few, full, ap length same, length-append files (m ∷ ms), files_counted turns)
+no_end_split : (contents : List Content) (turns : List Turn) (rest tail : List ℕ) → AllFit (contents_of turns) → length turns ≤ 1000000 → OneSplit contents (contents_of turns) rest tail → rest ≢ [] → (BeginsNoFrame rest ⊎ (length contents ≡ 1000000)) → tail ≡ [] → ⊥
+no_end_split contents turns rest tail fits few (goes_on more same then) some stuck end = some (nothing_behind (flat_map frame_of more) rest (sym end ∙ then))
+no_end_split contents turns rest tail fits few (falls_short [] same then) some stuck end = some (then ∙ end)
+no_end_split contents turns rest tail fits few (falls_short (m ∷ ms) same then) some (inl none) end =
+    let fits' : AllFit (contents ++ (m ∷ ms)) = subst AllFit same fits in
+    begun rest m (flat_map frame_of ms) tail none (behind_fits contents (m ∷ ms) fits').0 then
+no_end_split contents turns rest tail fits few (falls_short (m ∷ ms) same then) some (inr full) end =
+    omega (arith, few, full, ap length same, length-append contents (m ∷ ms), contents_counted turns)
 
--- where a run stops at a frame it has read the files of the input
-stuck_split : (files : List (List ℕ)) (turns : List Turn) (rest tail : List ℕ) → Lengths files → Lengths (files_of turns) → length files ≤ 1000000 → length turns ≤ 1000000 → OneSplit files (files_of turns) rest tail →
-    (BeginsNoFrame rest ⊎ (length files ≡ 1000000)) → (BeginsNoFrame tail ⊎ (length turns ≡ 1000000)) → files ≡ files_of turns
-stuck_split files turns rest tail fits fits' few few' (goes_on [] same then) stuck stuck' = same ∙ append-nil (files_of turns)
-stuck_split files turns rest tail fits fits' few few' (goes_on (m ∷ ms) same then) stuck (inl none) =
-    let more : Lengths (files_of turns ++ (m ∷ ms)) = subst Lengths same fits in
-    absurd (begun tail m (flat_map frame ms) rest none (behind_fits (files_of turns) (m ∷ ms) more).0 then)
-stuck_split files turns rest tail fits fits' few few' (goes_on (m ∷ ms) same then) stuck (inr full) =
-    absurd (omega (arith, few, full, ap length same, length-append (files_of turns) (m ∷ ms), files_counted turns))
-stuck_split files turns rest tail fits fits' few few' (falls_short [] same then) stuck stuck' = sym (append-nil files) ∙ sym same
-stuck_split files turns rest tail fits fits' few few' (falls_short (m ∷ ms) same then) (inl none) stuck' =
-    let more : Lengths (files ++ (m ∷ ms)) = subst Lengths same fits' in
-    absurd (begun rest m (flat_map frame ms) tail none (behind_fits files (m ∷ ms) more).0 then)
-stuck_split files turns rest tail fits fits' few few' (falls_short (m ∷ ms) same then) (inr full) stuck' =
-    absurd (omega (arith, few', full, ap length same, length-append files (m ∷ ms), files_counted turns))
+-- where a run stops at a frame it has read the contents of the input
+stuck_split : (contents : List Content) (turns : List Turn) (rest tail : List ℕ) → AllFit contents → AllFit (contents_of turns) → length contents ≤ 1000000 → length turns ≤ 1000000 → OneSplit contents (contents_of turns) rest tail →
+    (BeginsNoFrame rest ⊎ (length contents ≡ 1000000)) → (BeginsNoFrame tail ⊎ (length turns ≡ 1000000)) → contents ≡ contents_of turns
+stuck_split contents turns rest tail fits fits' few few' (goes_on [] same then) stuck stuck' = same ∙ append-nil (contents_of turns)
+stuck_split contents turns rest tail fits fits' few few' (goes_on (m ∷ ms) same then) stuck (inl none) =
+    let more : AllFit (contents_of turns ++ (m ∷ ms)) = subst AllFit same fits in
+    absurd (begun tail m (flat_map frame_of ms) rest none (behind_fits (contents_of turns) (m ∷ ms) more).0 then)
+stuck_split contents turns rest tail fits fits' few few' (goes_on (m ∷ ms) same then) stuck (inr full) =
+    absurd (omega (arith, few, full, ap length same, length-append (contents_of turns) (m ∷ ms), contents_counted turns))
+stuck_split contents turns rest tail fits fits' few few' (falls_short [] same then) stuck stuck' = sym (append-nil contents) ∙ sym same
+stuck_split contents turns rest tail fits fits' few few' (falls_short (m ∷ ms) same then) (inl none) stuck' =
+    let more : AllFit (contents ++ (m ∷ ms)) = subst AllFit same fits' in
+    absurd (begun rest m (flat_map frame_of ms) tail none (behind_fits contents (m ∷ ms) more).0 then)
+stuck_split contents turns rest tail fits fits' few few' (falls_short (m ∷ ms) same then) (inr full) stuck' =
+    absurd (omega (arith, few', full, ap length same, length-append contents (m ∷ ms), contents_counted turns))
 
 -- what stands behind the frames of a run that stopped at a frame
 more_left : (setup : Setup) (at : Option Moment) (before after : Outside) (place : ℕ) (stopped : StoppedAtFrame setup at before after place) (tail : List ℕ) → prepend_known stopped.ahead after.input_left ≡ Some tail → (tail ≢ []) × (BeginsNoFrame tail ⊎ (length stopped.turns ≡ 1000000))
@@ -119,29 +126,29 @@ more_left setup at before after place stopped tail e =
     let P : Option (List ℕ) → Type 0 = λ coming. IfSome coming (λ rest. (rest ≢ []) × (BeginsNoFrame rest ⊎ (length stopped.turns ≡ 1000000))) in
     subst P e stopped.more
 
-no_more : (setup : Setup) (at : Option Moment) (before after : Outside) (place : ℕ) (files : List (List ℕ)) → Gives before files [] → StoppedAtFrame setup at before after place → ⊥
-no_more setup at before after place files gives stopped =
-    let split = split_taken setup before after stopped.ahead stopped.turns stopped.state files [] gives stopped.taken in
+no_more : (setup : Setup) (at : Option Moment) (before after : Outside) (place : ℕ) (contents : List Content) → Gives before contents [] → StoppedAtFrame setup at before after place → ⊥
+no_more setup at before after place contents gives stopped =
+    let split = split_taken setup before after stopped.ahead stopped.turns stopped.state contents [] gives stopped.taken in
     let more = more_left setup at before after place stopped split.0 split.1 in
-    no_more_split files stopped.turns split.0 gives.lengths gives.few split.2 more.0 more.1
+    no_more_split contents stopped.turns split.0 gives.fit gives.few split.2 more.0 more.1
 
--- a run that stops at a frame does so behind the files of the input
-at_place : (setup : Setup) (at : Option Moment) (before after : Outside) (place : ℕ) (files : List (List ℕ)) (rest : List ℕ) → Gives before files rest → (BeginsNoFrame rest ⊎ (length files ≡ 1000000)) → StoppedAtFrame setup at before after place → place ≡ length (flat_map frame files)
-at_place setup at before after place files rest gives stuck stopped =
-    let split = split_taken setup before after stopped.ahead stopped.turns stopped.state files rest gives stopped.taken in
+-- a run that stops at a frame does so behind the contents of the input
+at_place : (setup : Setup) (at : Option Moment) (before after : Outside) (place : ℕ) (contents : List Content) (rest : List ℕ) → Gives before contents rest → (BeginsNoFrame rest ⊎ (length contents ≡ 1000000)) → StoppedAtFrame setup at before after place → place ≡ length (flat_map frame_of contents)
+at_place setup at before after place contents rest gives stuck stopped =
+    let split = split_taken setup before after stopped.ahead stopped.turns stopped.state contents rest gives stopped.taken in
     let more = more_left setup at before after place stopped split.0 split.1 in
-    let same : files ≡ files_of stopped.turns =
-    stuck_split files stopped.turns rest split.0 gives.lengths (turns_fit setup _ stopped.state stopped.turns stopped.taken.are_turns) gives.few stopped.taken.few split.2 stuck more.1 in
-    stopped.place_is ∙ ap length (files_read stopped.turns ∙ ap (λ (l : List (List ℕ)). flat_map frame l) (sym same))
+    let same : contents ≡ contents_of stopped.turns =
+    stuck_split contents stopped.turns rest split.0 gives.fit (turns_fit setup _ stopped.state stopped.turns stopped.taken.are_turns) gives.few stopped.taken.few split.2 stuck more.1 in
+    stopped.place_is ∙ ap length (contents_read stopped.turns ∙ ap (λ (l : List Content). flat_map frame_of l) (sym same))
 
-no_end : (setup : Setup) (at : Option Moment) (before after : Outside) (files : List (List ℕ)) (rest : List ℕ) → Gives before files rest → rest ≢ [] → (BeginsNoFrame rest ⊎ (length files ≡ 1000000)) → Finished setup at before after → ⊥
-no_end setup at before after files rest gives some stuck finished =
-    let split = split_taken setup before after finished.ahead finished.turns finished.state files rest gives finished.taken in
-    no_end_split files finished.turns rest split.0 (turns_fit setup _ finished.state finished.turns finished.taken.are_turns) finished.taken.few split.2 some stuck (subst IsAtEnd split.1 finished.at_end)
+no_end : (setup : Setup) (at : Option Moment) (before after : Outside) (contents : List Content) (rest : List ℕ) → Gives before contents rest → rest ≢ [] → (BeginsNoFrame rest ⊎ (length contents ≡ 1000000)) → Finished setup at before after → ⊥
+no_end setup at before after contents rest gives some stuck finished =
+    let split = split_taken setup before after finished.ahead finished.turns finished.state contents rest gives finished.taken in
+    no_end_split contents finished.turns rest split.0 (turns_fit setup _ finished.state finished.turns finished.taken.are_turns) finished.taken.few split.2 some stuck (subst IsAtEnd split.1 finished.at_end)
 
 -- a told setup that is spelled isn't refused
-spelled_setup : (before : Outside) (files : List (List ℕ)) (rest : List ℕ) (line : ℕ) → Gives before files rest → IsNoSetup before.setup_left line → ⊥
-spelled_setup before files rest line gives refused =
+spelled_setup : (before : Outside) (contents : List Content) (rest : List ℕ) (line : ℕ) → Gives before contents rest → IsNoSetup before.setup_left line → ⊥
+spelled_setup before contents rest line gives refused =
     let P : Option (List ℕ) → Type 0 = λ left. IsNoSetup left line in (subst P gives.setup_is refused).0 gives.setup gives.spelled
 
 -- and one that isn't is no run's
@@ -156,33 +163,33 @@ fault_told before text line told refused =
 
 -- frames and nothing behind them end a run with 0
 pub answers_all : (at : Option Moment) (before after : Outside) (end : Result (Unit {0}) Stop) → EndsSo at before after end → AnswersAll before after (told_of end)
-answers_all at before after (Ok done) ends = λ files gives. inl refl
+answers_all at before after (Ok done) ends = λ contents gives. inl refl
 answers_all at before after (Err stops.Usage) (inl h) = absurd h.cause
 answers_all at before after (Err stops.Usage) (inr h) = absurd h.ends
-answers_all at before after (Err (stops.Setup line)) (inl h) = λ files gives. absurd (spelled_setup before files [] line gives h.cause)
+answers_all at before after (Err (stops.Setup line)) (inl h) = λ contents gives. absurd (spelled_setup before contents [] line gives h.cause)
 answers_all at before after (Err (stops.Setup line)) (inr h) = absurd h.ends
 answers_all at before after (Err (stops.Frame place)) (inl h) = absurd h.cause
-answers_all at before after (Err (stops.Frame place)) (inr h) = λ files gives. absurd (no_more h.setup at before after place files gives h.ends)
-answers_all at before after (Err stops.ReadFailed) (inl h) = λ files gives. inr (inl (refl, inl h.cause))
-answers_all at before after (Err stops.ReadFailed) (inr h) = λ files gives. inr (inl (refl, inr h.ends.1))
+answers_all at before after (Err (stops.Frame place)) (inr h) = λ contents gives. absurd (no_more h.setup at before after place contents gives h.ends)
+answers_all at before after (Err stops.ReadFailed) (inl h) = λ contents gives. inr (inl (refl, inl h.cause))
+answers_all at before after (Err stops.ReadFailed) (inr h) = λ contents gives. inr (inl (refl, inr h.ends.1))
 answers_all at before after (Err stops.WriteFailed) (inl h) = absurd h.cause
-answers_all at before after (Err stops.WriteFailed) (inr h) = λ files gives. inr (inr (inl (refl, h.ends.1)))
-answers_all at before after (Err stops.NoMemory) ends = λ files gives. inr (inr (inr refl))
+answers_all at before after (Err stops.WriteFailed) (inr h) = λ contents gives. inr (inr (inl (refl, h.ends.1)))
+answers_all at before after (Err stops.NoMemory) ends = λ contents gives. inr (inr (inr refl))
 
 -- bytes behind the frames end it with 4, and their place is told
 pub refuses_frame : (at : Option Moment) (before after : Outside) (end : Result (Unit {0}) Stop) → EndsSo at before after end → RefusesFrame before after (told_of end)
-refuses_frame at before after (Ok done) h = λ files rest gives some stuck. absurd (no_end h.setup at before after files rest gives some stuck h.ends)
+refuses_frame at before after (Ok done) h = λ contents rest gives some stuck. absurd (no_end h.setup at before after contents rest gives some stuck h.ends)
 refuses_frame at before after (Err stops.Usage) (inl h) = absurd h.cause
 refuses_frame at before after (Err stops.Usage) (inr h) = absurd h.ends
-refuses_frame at before after (Err (stops.Setup line)) (inl h) = λ files rest gives some stuck. absurd (spelled_setup before files rest line gives h.cause)
+refuses_frame at before after (Err (stops.Setup line)) (inl h) = λ contents rest gives some stuck. absurd (spelled_setup before contents rest line gives h.cause)
 refuses_frame at before after (Err (stops.Setup line)) (inr h) = absurd h.ends
 refuses_frame at before after (Err (stops.Frame place)) (inl h) = absurd h.cause
-refuses_frame at before after (Err (stops.Frame place)) (inr h) = λ files rest gives some stuck. inl (ap (λ (k : ℕ). told 4 (Place k)) (at_place h.setup at before after place files rest gives stuck h.ends))
-refuses_frame at before after (Err stops.ReadFailed) (inl h) = λ files rest gives some stuck. inr (inl (refl, inl h.cause))
-refuses_frame at before after (Err stops.ReadFailed) (inr h) = λ files rest gives some stuck. inr (inl (refl, inr h.ends.1))
+refuses_frame at before after (Err (stops.Frame place)) (inr h) = λ contents rest gives some stuck. inl (ap (λ (k : ℕ). told 4 (Place k)) (at_place h.setup at before after place contents rest gives stuck h.ends))
+refuses_frame at before after (Err stops.ReadFailed) (inl h) = λ contents rest gives some stuck. inr (inl (refl, inl h.cause))
+refuses_frame at before after (Err stops.ReadFailed) (inr h) = λ contents rest gives some stuck. inr (inl (refl, inr h.ends.1))
 refuses_frame at before after (Err stops.WriteFailed) (inl h) = absurd h.cause
-refuses_frame at before after (Err stops.WriteFailed) (inr h) = λ files rest gives some stuck. inr (inr (inl (refl, h.ends.1)))
-refuses_frame at before after (Err stops.NoMemory) ends = λ files rest gives some stuck. inr (inr (inr refl))
+refuses_frame at before after (Err stops.WriteFailed) (inr h) = λ contents rest gives some stuck. inr (inr (inl (refl, h.ends.1)))
+refuses_frame at before after (Err stops.NoMemory) ends = λ contents rest gives some stuck. inr (inr (inr refl))
 
 -- a setup that isn't spelled ends it with 3, and its line is told
 pub refuses_setup : (at : Option Moment) (before after : Outside) (end : Result (Unit {0}) Stop) → EndsSo at before after end → RefusesSetup before after (told_of end)
@@ -203,3 +210,74 @@ is_run at before after end what e ends = record {
   refuses_frame = subst (RefusesFrame before after) (sym e) (refuses_frame at before after end ends);
   answers_all = subst (AnswersAll before after) (sym e) (answers_all at before after end ends);
 }
+
+-- ---- the command `due`
+
+no_setup_spelled : (before : Outside) (text : List ℕ) (setup : Setup) (line : ℕ) → before.setup_left ≡ Some text → SpellsSetup text setup → IsNoSetup before.setup_left line → ⊥
+no_setup_spelled before text setup line told spelled refused =
+    let P : Option (List ℕ) → Type 0 = λ left. IsNoSetup left line in (subst P told refused).0 setup spelled
+
+-- a setup that is spelled ends the command with 0
+does_all : (before after : Outside) (end : Result (Unit {0}) Stop) → DueEndsSo before after end → DoesAll before after (told_of end)
+does_all before after (Ok done) ends = λ text setup told spelled. inl refl
+does_all before after (Err stops.Usage) (inl h) = absurd h.cause
+does_all before after (Err stops.Usage) (inr h) = absurd h.ends
+does_all before after (Err (stops.Setup line)) (inl h) = λ text setup told spelled. absurd (no_setup_spelled before text setup line told spelled h.cause)
+does_all before after (Err (stops.Setup line)) (inr h) = absurd h.ends
+does_all before after (Err (stops.Frame place)) (inl h) = absurd h.cause
+does_all before after (Err (stops.Frame place)) (inr h) = absurd h.ends
+does_all before after (Err stops.ReadFailed) (inl h) = λ text setup told spelled. inr (inl (refl, h.cause))
+does_all before after (Err stops.ReadFailed) (inr h) = absurd h.ends
+does_all before after (Err stops.WriteFailed) (inl h) = absurd h.cause
+does_all before after (Err stops.WriteFailed) (inr h) = λ text setup told spelled. inr (inr (inl (refl, h.ends.1)))
+does_all before after (Err stops.NoMemory) ends = λ text setup told spelled. inr (inr (inr refl))
+
+-- and one that isn't with 3 and its line
+refuses_due_setup : (before after : Outside) (end : Result (Unit {0}) Stop) → DueEndsSo before after end → RefusesDueSetup before after (told_of end)
+refuses_due_setup before after (Ok done) h = λ text told none. absurd (unspelled_setup before text h.setup told none h.found)
+refuses_due_setup before after (Err stops.Usage) (inl h) = absurd h.cause
+refuses_due_setup before after (Err (stops.Setup line)) (inl h) = λ text told none. inl (line, fault_told before text line told h.cause, refl)
+refuses_due_setup before after (Err (stops.Frame place)) (inl h) = absurd h.cause
+refuses_due_setup before after (Err stops.ReadFailed) (inl h) = λ text told none. inr (inl (refl, h.cause))
+refuses_due_setup before after (Err stops.WriteFailed) (inl h) = absurd h.cause
+refuses_due_setup before after (Err stops.NoMemory) (inl h) = λ text told none. inr (inr (inr refl))
+refuses_due_setup before after (Err stop) (inr h) = λ text told none. absurd (unspelled_setup before text h.setup told none h.found)
+
+-- what the command comes to, by its end
+pub is_due_command : (before after : Outside) (end : Result (Unit {0}) Stop) (what : Told) → what ≡ told_of end → DueEndsSo before after end → IsDueCommand before after what
+is_due_command before after end what e ends = record {
+  ends = record { end = end; told_is = e; ends = ends };
+  refuses_setup = subst (RefusesDueSetup before after) (sym e) (refuses_due_setup before after end ends);
+  does_all = subst (DoesAll before after) (sym e) (does_all before after end ends);
+}
+
+-- ---- no run ends as words without a form do
+
+of_end : (end : Result (Unit {0}) Stop) (what : Told) → what ≡ told_of end → what.status.0 ≡ 2 → (told_of end).status.0 ≡ 2
+of_end end what e two = ap (λ (t : Told). t.status.0) (sym e) ∙ two
+
+ends_otherwise : (at : Option Moment) (before after : Outside) (end : Result (Unit {0}) Stop) → EndsSo at before after end → (told_of end).status.0 ≡ 2 → ⊥
+ends_otherwise at before after (Ok done) ends two = absurd (omega (arith, two))
+ends_otherwise at before after (Err stops.Usage) (inl h) two = h.cause
+ends_otherwise at before after (Err stops.Usage) (inr h) two = h.ends
+ends_otherwise at before after (Err (stops.Setup line)) ends two = absurd (omega (arith, two))
+ends_otherwise at before after (Err (stops.Frame place)) ends two = absurd (omega (arith, two))
+ends_otherwise at before after (Err stops.ReadFailed) ends two = absurd (omega (arith, two))
+ends_otherwise at before after (Err stops.WriteFailed) ends two = absurd (omega (arith, two))
+ends_otherwise at before after (Err stops.NoMemory) ends two = absurd (omega (arith, two))
+
+pub never_usage : (at : Option Moment) (before after : Outside) (end : Result (Unit {0}) Stop) (what : Told) → what ≡ told_of end → EndsSo at before after end → what.status.0 ≡ 2 → ⊥
+never_usage at before after end what e ends two = ends_otherwise at before after end ends (of_end end what e two)
+
+due_ends_otherwise : (before after : Outside) (end : Result (Unit {0}) Stop) → DueEndsSo before after end → (told_of end).status.0 ≡ 2 → ⊥
+due_ends_otherwise before after (Ok done) ends two = absurd (omega (arith, two))
+due_ends_otherwise before after (Err stops.Usage) (inl h) two = h.cause
+due_ends_otherwise before after (Err stops.Usage) (inr h) two = h.ends
+due_ends_otherwise before after (Err (stops.Setup line)) ends two = absurd (omega (arith, two))
+due_ends_otherwise before after (Err (stops.Frame place)) ends two = absurd (omega (arith, two))
+due_ends_otherwise before after (Err stops.ReadFailed) ends two = absurd (omega (arith, two))
+due_ends_otherwise before after (Err stops.WriteFailed) ends two = absurd (omega (arith, two))
+due_ends_otherwise before after (Err stops.NoMemory) ends two = absurd (omega (arith, two))
+
+pub due_never_usage : (before after : Outside) (end : Result (Unit {0}) Stop) (what : Told) → what ≡ told_of end → DueEndsSo before after end → what.status.0 ≡ 2 → ⊥
+due_never_usage before after end what e ends two = due_ends_otherwise before after end ends (of_end end what e two)

@@ -9,6 +9,7 @@ pub mod SetupSource
 pub mod Writing
 pub mod CommandWords
 pub mod DeskLemmas
+pub mod DueLemmas
 pub mod TurnLemmas
 pub mod RunLemmas
 pub mod ExactLemmas

@@ -1,5 +1,5 @@
--- What is written for a file is determined.
-use Rattle.std.proofs.Common.{◌≡◌, ℕ, List, [], ◌∷◌, ◌++◌, Option, None, Some, inl, inr, refl, sym, ap, ◌∙◌, subst, codes, get_or, arith}
+-- What is written for a frame is determined.
+use Rattle.std.proofs.Common.{◌≡◌, ℕ, List, [], ◌∷◌, ◌++◌, Option, None, Some, inl, inr, refl, sym, ap, ◌∙◌, subst, codes, get_or, length, arith}
 use Rattle.ofx_types.specs.FileForm.{SpellsFile, OneFile, OneFault, FaultsSpellNothing}
 use Rattle.ofx_types.specs.declared.fault.FileFault.{FileFault}
 use Rattle.ofx_types.specs.declared.number.Moment.{Moment}
@@ -14,9 +14,10 @@ use Rattle.bank_model.specs.Rules.{answer_to, state_after, denial}
 use Rattle.ofx_types.specs.ReplyForm.{reply_text}
 use Rattle.std.specs.Fmt.{decimal}
 use Rattle.std.proofs.lemmas.List.{append_cancel_left, append_cancel_right}
-use Rattle.bank_session.specs.Frames.{frame, frame_head}
-use Rattle.bank_session.specs.Answers.{Says, IsSignedOn, IsRefused, fault_place, bad_line, AreTurns, written_in}
-use Rattle.bank_session.specs.Determined.{OneLine, OneOutput, OneRefusal, RefusedIsUnanswered, RefusedIsUndenied, DeniedIsUnanswered, WhereAnswered, WhereDenied, WhereRefused, OnlyWhereRefused}
+use Rattle.bank_session.specs.Frames.{Content, request, due_work, frame, frame_head}
+use Rattle.bank_session.specs.Answers.{Says, SaysOfFile, due_line, IsSignedOn, IsRefused, fault_place, bad_line, AreTurns, written_in}
+use Rattle.bank_model.specs.DueRun.{after_events}
+use Rattle.bank_session.specs.Determined.{OneDueRun, OneLine, OneOutput, OneRefusal, RefusedIsUnanswered, RefusedIsUndenied, DeniedIsUnanswered, WhereAnswered, WhereDenied, WhereRefused, OnlyWhereRefused}
 
 same_inside : {X : Type 0} {x y : X} → Some x ≡ Some y → x ≡ y
 same_inside e = cc
@@ -92,16 +93,26 @@ only_where_refused setup at before bytes after printed (inr (inl d)) = absurd (f
 only_where_refused setup at before bytes after printed (inr (inr b)) = (b.place, b.refused, same_digits (decimal b.place) (decimal printed) (sym b.bad))
 
 -- for the bytes of a file there is one line, and one state behind it
-pub same_line : WhereAnswered → WhereDenied → WhereRefused → OneLine
-same_line answered denied refused setup at before bytes line line' after after' says (inl b) =
+same_file_line : WhereAnswered → WhereDenied → WhereRefused → (setup : Setup) (at : Moment) (before : State) (bytes line line' : List ℕ) (after after' : State) →
+    SaysOfFile setup at before bytes line after → SaysOfFile setup at before bytes line' after' → (line ≡ line') × (after ≡ after')
+same_file_line answered denied refused setup at before bytes line line' after after' says (inl b) =
     let there = answered setup at before bytes line after b.file b.user says b.is_signed_on in
     (there.0 ∙ sym b.reply, there.1 ∙ sym b.state)
-same_line answered denied refused setup at before bytes line line' after after' says (inr (inl b)) =
+same_file_line answered denied refused setup at before bytes line line' after after' says (inr (inl b)) =
     let there = denied setup at before bytes line after b.file says b.is_denied in
     (there.0 ∙ sym b.reply, there.1 ∙ sym b.state)
-same_line answered denied refused setup at before bytes line line' after after' says (inr (inr b)) =
+same_file_line answered denied refused setup at before bytes line line' after after' says (inr (inr b)) =
     let there = refused setup at before bytes line after b.place says b.refused in
     (there.0 ∙ sym b.bad, there.1 ∙ sym b.state)
+
+-- and so there is for a frame, since what is due is done in one order
+pub same_line : WhereAnswered → WhereDenied → WhereRefused → OneDueRun → OneLine
+same_line answered denied refused one setup at before (request bytes) line line' after after' a b = same_file_line answered denied refused setup at before bytes line line' after after' a b
+same_line answered denied refused one setup at before due_work line line' after after' a b =
+    let same : a.events ≡ b.events = one setup before at a.events b.events a.is_run b.is_run in (
+      a.count ∙ (ap (λ (events : List Event). due_line (length events)) same ∙ sym b.count),
+      a.state ∙ (ap (λ (events : List Event). after_events setup before at events) same ∙ sym b.state),
+    )
 
 same_head : {X : Type 0} {x y : X} {xs ys : List X} → x ∷ xs ≡ y ∷ ys → x ≡ y
 same_head e = cc
@@ -109,17 +120,17 @@ same_head e = cc
 same_tail : {X : Type 0} {x y : X} {xs ys : List X} → x ∷ xs ≡ y ∷ ys → xs ≡ ys
 same_tail e = cc
 
--- turns over the same files at the same moments write the same bytes
+-- turns over the same frames at the same moments write the same bytes
 pub same_output : OneLine → OneOutput
 same_output one setup before [] [] after after' a b e m = (refl, a ∙ sym b)
 same_output one setup before [] (t ∷ ts) after after' a b e m = cc
 same_output one setup before (t ∷ ts) [] after after' a b e m = cc
 same_output one setup before (t ∷ ts) (u ∷ us) after after' (mid, fits, says, rest) (mid', fits', says', rest') e m =
-    let file : t.file ≡ u.file = same_head e in
+    let content : t.content ≡ u.content = same_head e in
     let moment : t.at ≡ u.at = same_head m in
-    let there : Says setup u.at before u.file t.line mid =
-    subst (λ (at : Moment). Says setup at before u.file t.line mid) moment (subst (λ (f : List ℕ). Says setup t.at before f t.line mid) file says) in
-    let first = one setup u.at before u.file t.line u.line mid mid' there says' in
+    let there : Says setup u.at before u.content t.line mid =
+    subst (λ (at : Moment). Says setup at before u.content t.line mid) moment (subst (λ (c : Content). Says setup t.at before c t.line mid) content says) in
+    let first = one setup u.at before u.content t.line u.line mid mid' there says' in
     let on : AreTurns setup mid us after' = subst (λ (s : State). AreTurns setup s us after') (sym first.1) rest' in
     let behind = same_output one setup mid ts us after after' rest on (same_tail e) (same_tail m) in
     (ap (λ (l : List ℕ). l ++ written_in ts) first.0 ∙ ap (λ (l : List ℕ). u.line ++ l) behind.0, behind.1)

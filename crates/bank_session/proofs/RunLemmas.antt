@@ -9,14 +9,15 @@ use Rattle.bank_model.specs.Rules.{opening_state}
 use Rattle.bank_model.specs.declared.setup.Setup.{Setup}
 use Rattle.bank_model.specs.declared.event.State.{State}
 use Rattle.bank_core.specs.BookView.{BookView}
-use Rattle.bank_session.specs.Frames.{IsLength, frame, frame_head, BeginsNoFrame}
+use Rattle.bank_session.specs.Frames.{Content, request, due_work, frame_head, frame_of, Fits, BeginsNoFrame}
 use Rattle.bank_session.specs.Answers.{Says, Turn, AreTurns, read_in, written_in}
 use Rattle.bank_session.specs.Coming.{IsNoFrame}
 use Rattle.bank_session.specs.Outside.{Outside, outside}
 use Rattle.bank_session.specs.Turns.{TurnMade, NoTurn, TurnStops}
 use Rattle.bank_session.specs.RunEnd.{Taken, Finished, StoppedBetween, StoppedAtFrame, RunEnds}
 use Rattle.bank_session.specs.SetupRead.{IsSetupOf}
-use Rattle.bank_session.specs.Run.{EndsSo}
+use Rattle.bank_session.specs.DueEnd.{DueEnds}
+use Rattle.bank_session.specs.Run.{EndsSo, DueEndsSo}
 use Rattle.bank_session.specs.EndOrStop.{EndOrStop}
 use Rattle.bank_session.specs.declared.stop.Stop.{Stop}
 use Rattle.bank_session.specs.declared.stop.Stop.TheVariants as stops
@@ -25,13 +26,13 @@ use Rattle.bank_session.proofs.Agreement.{head_is_short}
 use Rattle.bank_session.proofs.MomentLemmas.{no_moments, more_moments, kept_moments, stays_self, one_more_moment}
 
 -- a turn behind the turns so far
-one_more : (setup : Setup) (before mid after : State) (turns : List Turn) (turn : Turn) → AreTurns setup before turns mid → IsLength (length turn.file) → Says setup turn.at mid turn.file turn.line after → AreTurns setup before (turns ++ turn ∷ []) after
-one_more setup before mid after [] turn same fits says = (after, fits, subst (λ (s : State). Says setup turn.at s turn.file turn.line after) same says, refl)
+one_more : (setup : Setup) (before mid after : State) (turns : List Turn) (turn : Turn) → AreTurns setup before turns mid → Fits turn.content → Says setup turn.at mid turn.content turn.line after → AreTurns setup before (turns ++ turn ∷ []) after
+one_more setup before mid after [] turn same fits says = (after, fits, subst (λ (s : State). Says setup turn.at s turn.content turn.line after) same says, refl)
 one_more setup before mid after (first ∷ turns) turn (next, there, said, rest) fits says = (next, there, said, one_more setup next mid after turns turn rest fits says)
 
 -- what was read and written with one more turn
-read_more : (turns : List Turn) (turn : Turn) → read_in turns ++ frame turn.file ≡ read_in (turns ++ turn ∷ [])
-read_more turns turn = flat_map_more (λ (t : Turn). frame t.file) [] turns turn
+read_more : (turns : List Turn) (turn : Turn) → read_in turns ++ frame_of turn.content ≡ read_in (turns ++ turn ∷ [])
+read_more turns turn = flat_map_more (λ (t : Turn). frame_of t.content) [] turns turn
 
 written_more : (turns : List Turn) (turn : Turn) → written_in turns ++ turn.line ≡ written_in (turns ++ turn ∷ [])
 written_more turns turn = flat_map_more (λ (t : Turn). t.line) [] turns turn
@@ -40,12 +41,12 @@ written_more turns turn = flat_map_more (λ (t : Turn). t.line) [] turns turn
 pub next_turn : (setup : Setup) (at : Option Moment) (left held : Option (List ℕ)) (shown : Option (List Moment)) (count place : ℕ) (book after : BookView) (coming later now then : Option (List ℕ)) (seen seen' : Option (List Moment)) (size : ℕ) →
     Standing setup at left held shown count place book coming now seen → TurnMade at book after coming later now then seen seen' size → Standing setup at left held shown (count + 1) (place + size) after later then seen'
 next_turn setup at left held shown count place book after coming later now then seen seen' size standing made =
-    let turn : Turn = record { file = made.file; at = made.moment; line = made.line } in
-    let says : Says setup made.moment book.state made.file made.line after.state = subst (λ (s : Setup). Says s made.moment book.state made.file made.line after.state) standing.own made.says in
+    let turn : Turn = record { content = made.content; at = made.moment; line = made.line } in
+    let says : Says setup made.moment book.state made.content made.line after.state = subst (λ (s : Setup). Says s made.moment book.state made.content made.line after.state) standing.own made.says in
     record {
       turns = standing.turns ++ turn ∷ [];
       counted = omega (arith, standing.counted, length-append standing.turns (turn ∷ []));
-      place_is = omega (arith, standing.place_is, made.size_is, ap length (read_more standing.turns turn), length-append (read_in standing.turns) (frame made.file));
+      place_is = omega (arith, standing.place_is, made.size_is, ap length (read_more standing.turns turn), length-append (read_in standing.turns) (frame_of made.content));
       own = made.setup ∙ standing.own;
       are_turns = one_more setup opening_state book.state after.state standing.turns turn standing.are_turns made.fits says;
       read = rw (sym (read_more standing.turns turn)) (Consumes-trans left coming later _ _ standing.read made.read);
@@ -53,10 +54,14 @@ next_turn setup at left held shown count place book after coming later now then 
       moments = rw (sym (one_more_moment standing.turns turn)) (more_moments at shown seen seen' _ _ standing.moments made.moments);
     }
 
+content_is_small : (content : Content) → Fits content → length (frame_of content) ≤ 262156
+content_is_small (request file) fits = omega (arith, fits, head_is_short (length file) fits, length-append (frame_head (length file)) file)
+content_is_small due_work fits = omega arith
+
 -- a frame has at most 262,156 bytes
 pub frame_is_small : (at : Option Moment) (book after : BookView) (coming later now then : Option (List ℕ)) (seen seen' : Option (List Moment)) (size : ℕ) → TurnMade at book after coming later now then seen seen' size → size ≤ 262156
 frame_is_small at book after coming later now then seen seen' size made =
-    omega (arith, made.size_is, made.fits, head_is_short (length made.file) made.fits, length-append (frame_head (length made.file)) made.file)
+    omega (arith, made.size_is, content_is_small made.content made.fits)
 
 -- the turns of a run that stands, with what is still to come
 taken_of : (setup : Setup) (at : Option Moment) (before after : Outside) (count place : ℕ) (book : BookView) (coming now : Option (List ℕ)) (seen : Option (List Moment)) (ahead : List ℕ) →
@@ -136,7 +141,7 @@ stopped_in_turn setup at before after count place book coming now seen ahead rea
     state = book.state;
     ahead = ahead;
     taken = taken_of setup at before after count place book coming now seen ahead standing (omega (arith, few)) h.0.kept;
-    file = h.0.file;
+    content = h.0.content;
     moment = h.0.moment;
     line = h.0.line;
     next = h.0.next.state;
@@ -144,7 +149,7 @@ stopped_in_turn setup at before after count place book coming now seen ahead rea
     room = omega (arith, few, standing.counted);
     fits = h.0.fits;
     begins = h.0.begins;
-    says = subst (λ (s : Setup). Says s h.0.moment book.state h.0.file h.0.line h.0.next.state) standing.own h.0.says;
+    says = subst (λ (s : Setup). Says s h.0.moment book.state h.0.content h.0.line h.0.next.state) standing.own h.0.says;
     written = Appends-trans before.held now after.held _ _ standing.written h.0.written;
     moments = more_moments at before.shown seen after.shown _ _ standing.moments h.0.moments;
   },
@@ -227,3 +232,8 @@ frame_is_more (x ∷ ahead) (Some xs) some = λ e. cc
 pub ends_with_setup : (at : Option Moment) (before after : Outside) (setup : Setup) (end : Result (Unit {0}) Stop) → IsSetupOf before.setup_left setup → RunEnds setup at before after end → EndsSo at before after end
 ends_with_setup at before after setup (Ok done) found ends = record { setup = setup; found = found; ends = ends }
 ends_with_setup at before after setup (Err stop) found ends = inr (record { setup = setup; found = found; ends = ends })
+
+-- and so does the command `due`
+pub due_with_setup : (before after : Outside) (setup : Setup) (end : Result (Unit {0}) Stop) → IsSetupOf before.setup_left setup → DueEnds setup before after end → DueEndsSo before after end
+due_with_setup before after setup (Ok done) found ends = record { setup = setup; found = found; ends = ends }
+due_with_setup before after setup (Err stop) found ends = inr (record { setup = setup; found = found; ends = ends })

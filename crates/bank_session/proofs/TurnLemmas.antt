@@ -1,33 +1,32 @@
 -- How the steps of a turn join.
-use Rattle.std.proofs.Common.{◌≡◌, ℕ, ◌<◌, ◌+◌, ◌-◌, ◌^◌, List, [], ◌∷◌, ◌++◌, length, length-append, take, drop, Option, None, Some, IfSome, Err, arith, sym, ap, ◌∙◌, append_assoc, length-drop}
+use Rattle.std.proofs.Common.{◌≡◌, ℕ, ◌<◌, ◌+◌, ◌-◌, ◌^◌, List, [], ◌∷◌, ◌++◌, length, ◌≤◌, length-append, drop, Option, None, Some, IfSome, Err, arith, refl, sym, ap, ◌∙◌, append_assoc, length-drop}
 use Rattle.std.specs.Io.KnownBytes.{Keeps, Consumes, prepend_known}
 use Rattle.std.proofs.KnownBytes.{prepend_known-read}
 use Rattle.std.proofs.lemmas.List.{drop-drop, take-append-drop, length-take-le}
 use Rattle.ofx_types.specs.declared.number.Moment.{Moment}
 use Rattle.bank_core.specs.BookView.{BookView}
-use Rattle.bank_session.specs.Frames.{IsLength, length_line, frame, frame_head}
+use Rattle.bank_session.specs.Frames.{IsLength, length_line, frame, frame_head, frame_of, Fits}
 use Rattle.bank_session.specs.Answers.{AreMoments}
-use Rattle.bank_session.specs.Coming.{HoldsFrame}
+use Rattle.bank_session.specs.Coming.{HoldsFile, HoldsFrame, file_in, content_in, size_of}
 use Rattle.bank_session.specs.Turns.{TurnMade, TurnStops}
 use Rattle.bank_session.specs.TurnResult.{FrameWritten, FrameResult}
 use Rattle.bank_session.specs.declared.frame_head.FrameSize.{FrameSize}
+use Rattle.bank_session.specs.declared.frames.Frame.{Frame}
+use Rattle.bank_session.specs.declared.frames.Frame.TheVariants.{File, Due}
 use Rattle.bank_session.specs.declared.stop.Stop.{Stop}
 use Rattle.bank_session.specs.declared.stop.Stop.TheVariants as stops
-use Rattle.bank_session.proofs.Agreement.{head_is_short, parted}
+use Rattle.bank_session.proofs.Agreement.{head_is_short, parted, parted_due}
 
--- the file in a frame that is ahead, as a slice gives it
-abbrev pub file_in : List ℕ → FrameSize → List ℕ
-file_in ahead size = take (size.head + size.file - size.head) (drop size.head ahead)
-
-file_length : (ahead : List ℕ) (size : FrameSize) → HoldsFrame ahead size → length (file_in ahead size) ≡ size.file
+-- the file in a frame that is ahead
+file_length : (ahead : List ℕ) (size : FrameSize) → HoldsFile ahead size → length (file_in ahead size) ≡ size.file
 file_length ahead size holds =
     length-take-le (size.head + size.file - size.head) (drop size.head ahead) (omega (arith, holds.whole, length-drop size.head ahead)) ∙ omega arith
 
-pub file_fits : (ahead : List ℕ) (size : FrameSize) → HoldsFrame ahead size → IsLength (length (file_in ahead size))
+file_fits : (ahead : List ℕ) (size : FrameSize) → HoldsFile ahead size → IsLength (length (file_in ahead size))
 file_fits ahead size holds = omega (arith, file_length ahead size holds, holds.begins.length_fits)
 
 -- what is ahead is the frame, and what follows it
-pub frame_ahead : (ahead : List ℕ) (size : FrameSize) → HoldsFrame ahead size → ahead ≡ frame (file_in ahead size) ++ drop (size.head + size.file) ahead
+frame_ahead : (ahead : List ℕ) (size : FrameSize) → HoldsFile ahead size → ahead ≡ frame (file_in ahead size) ++ drop (size.head + size.file) ahead
 frame_ahead ahead size holds =
     let same : size.head + (size.head + size.file - size.head) ≡ size.head + size.file = omega arith in
     let behind : drop size.head ahead ≡ file_in ahead size ++ drop (size.head + size.file) ahead =
@@ -39,26 +38,45 @@ frame_ahead ahead size holds =
     ∙ sym (append_assoc (frame_head (length (file_in ahead size))) (file_in ahead size) (drop (size.head + size.file) ahead))))
 
 -- its size is that of its two parts
-pub frame_size : (ahead : List ℕ) (size : FrameSize) → HoldsFrame ahead size → size.head + size.file ≡ length (frame (file_in ahead size))
+frame_size : (ahead : List ℕ) (size : FrameSize) → HoldsFile ahead size → size.head + size.file ≡ length (frame (file_in ahead size))
 frame_size ahead size holds =
     let file : length (file_in ahead size) ≡ size.file = file_length ahead size holds in
     let head : length (frame_head size.file) ≡ size.head = sym (ap length holds.begins.head) ∙ length-take-le size.head ahead holds.begins.head_there in
     let same : length (frame_head (length (file_in ahead size))) ≡ size.head = ap (λ (n : ℕ). length (frame_head n)) file ∙ head in
     omega (arith, file, same, length-append (frame_head (length (file_in ahead size))) (file_in ahead size))
 
--- and a number of 64 bits
-pub whole_fits : (ahead : List ℕ) (size : FrameSize) → HoldsFrame ahead size → size.head + size.file < 2 ^ 64
-whole_fits ahead size holds =
+-- what a frame that is ahead holds, and what follows it
+pub content_fits : (ahead : List ℕ) (frame : Frame) → HoldsFrame ahead frame → Fits (content_in ahead frame)
+content_fits ahead (File size) holds = file_fits ahead size holds
+content_fits ahead Due holds = tt
+
+pub content_ahead : (ahead : List ℕ) (frame : Frame) → HoldsFrame ahead frame → ahead ≡ frame_of (content_in ahead frame) ++ drop (size_of frame) ahead
+content_ahead ahead (File size) holds = frame_ahead ahead size holds
+content_ahead ahead Due holds = parted_due ahead holds
+
+pub content_size : (ahead : List ℕ) (frame : Frame) → HoldsFrame ahead frame → size_of frame ≡ length (frame_of (content_in ahead frame))
+content_size ahead (File size) holds = frame_size ahead size holds
+content_size ahead Due holds = refl
+
+pub size_within : (ahead : List ℕ) (frame : Frame) → HoldsFrame ahead frame → size_of frame ≤ length ahead
+size_within ahead (File size) holds = holds.whole
+size_within ahead Due holds = omega (arith, ap length (parted_due ahead holds))
+
+-- its size is a number of 64 bits
+pub whole_fits : (ahead : List ℕ) (frame : Frame) → HoldsFrame ahead frame → size_of frame < 2 ^ 64
+whole_fits ahead (File size) holds =
     let head : length (frame_head size.file) ≡ size.head = sym (ap length holds.begins.head) ∙ length-take-le size.head ahead holds.begins.head_there in
     omega (arith, head, holds.begins.length_fits, head_is_short size.file holds.begins.length_fits)
+whole_fits ahead Due holds = omega arith
 
 head_there : (n : ℕ) → 0 < length (frame_head n)
 unfolding frame_head
 head_there n = omega (arith, length-append (length_line n) (10 ∷ []))
 
 -- a frame has bytes
-pub frame_there : (ahead : List ℕ) (size : FrameSize) → HoldsFrame ahead size → 0 < length ahead
-frame_there ahead size holds =
+pub frame_there : (ahead : List ℕ) (frame : Frame) → HoldsFrame ahead frame → 0 < length ahead
+frame_there ahead Due holds = omega (arith, ap length (parted_due ahead holds))
+frame_there ahead (File size) holds =
     omega (arith, ap length (parted ahead size holds.begins), length-append (frame_head size.file) (drop size.head ahead), head_there size.file)
 
 -- a frame that is used up is consumed of what was to come
@@ -77,13 +95,13 @@ still_coming coming left ahead later kept same = rw same kept
 pub turn_made : (at : Option Moment) (moment : Moment) (size : ℕ) (before after : BookView) (coming left held now : Option (List ℕ)) (shown shown' : Option (List Moment)) (ahead later : List ℕ) → Keeps coming (prepend_known ahead left) → AreMoments at shown shown' (moment ∷ []) →
     FrameWritten moment size before after ahead later held now → TurnMade at before after coming (prepend_known later left) held now shown shown' size
 turn_made at moment size before after coming left held now shown shown' ahead later kept moments written = record {
-  file = written.file;
+  content = written.content;
   moment = moment;
   line = written.line;
   fits = written.fits;
   says = written.says;
   setup = written.setup;
-  read = frame_consumed coming left ahead later (frame written.file) kept written.read;
+  read = frame_consumed coming left ahead later (frame_of written.content) kept written.read;
   size_is = written.size_is;
   written = written.written;
   moments = moments;
@@ -94,7 +112,7 @@ pub turn_stopped : (at : Option Moment) (moment : Moment) (size : ℕ) (before a
     FrameResult moment size before after ahead later held now writes writes' (Err stop) → TurnStops at before coming later left held now shown shown' reads reads' writes writes' stop
 turn_stopped at moment size before after coming left held now shown shown' ahead later reads reads' writes writes' stops.WriteFailed kept moments h = (
   record {
-    file = h.0.file;
+    content = h.0.content;
     moment = moment;
     line = h.0.line;
     next = after;
@@ -102,7 +120,7 @@ turn_stopped at moment size before after coming left held now shown shown' ahead
     fits = h.0.fits;
     says = h.0.says;
     kept = still_coming coming left ahead later kept h.0.kept;
-    begins = begins_coming left ahead later (frame h.0.file) h.0.tail h.0.kept h.0.begins;
+    begins = begins_coming left ahead later (frame_of h.0.content) h.0.tail h.0.kept h.0.begins;
     written = h.0.written;
     moments = moments;
   },

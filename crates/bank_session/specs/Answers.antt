@@ -1,4 +1,4 @@
--- What a run writes for a file.
+-- What a run writes for a frame.
 use Rattle.std.specs.Prelude.{◌≡◌, ℕ, List, [], ◌∷◌, ◌++◌, length, map, codes, Option, None, Some, All, ◌⊎◌}
 use Rattle.std.specs.List.{flat_map}
 use Rattle.std.specs.Fmt.{decimal}
@@ -10,12 +10,14 @@ use Rattle.ofx_types.specs.declared.number.Moment.{Moment}
 use Rattle.ofx_types.specs.declared.request.RequestFile.{RequestFile}
 use Rattle.bank_model.specs.declared.setup.Setup.{Setup}
 use Rattle.bank_model.specs.declared.event.State.{State}
+use Rattle.bank_model.specs.declared.event.Event.{Event}
 use Rattle.bank_model.specs.declared.event.Event.TheVariants.{File}
 use Rattle.bank_model.specs.SetupLookups.{signed_on}
 use Rattle.bank_model.specs.Rules.{answer_to, state_after, denial}
+use Rattle.bank_model.specs.DueRun.{after_events, IsDueRun}
 use Rattle.ofx_types.specs.ReplyForm.{reply_text}
 use Rattle.ofx_ports.specs.Told.{Stays, Grows}
-use Rattle.bank_session.specs.Frames.{IsLength, frame}
+use Rattle.bank_session.specs.Frames.{Content, request, due_work, frame, frame_of, Fits}
 
 -- A file is an event of a user where its bytes spell a request file, and the setup has this user with this password.
 pub record IsSignedOn (setup : Setup) (bytes : List ℕ) (file : RequestFile) (user : UserId) : Type 0 where
@@ -67,13 +69,29 @@ pub record IsBad (before : State) (bytes line : List ℕ) (after : State) : Type
   pub state : after ≡ before
 
 -- what is written for the bytes of a file at a moment, and the state that it leaves
-abbrev pub Says : Setup → Moment → State → List ℕ → List ℕ → State → Type 0
-Says setup at before bytes line after =
+abbrev pub SaysOfFile : Setup → Moment → State → List ℕ → List ℕ → State → Type 0
+SaysOfFile setup at before bytes line after =
     Replies setup at before bytes line after ⊎ (Denies setup at before bytes line after ⊎ IsBad before bytes line after)
 
--- A turn of a run: the bytes of a file, its moment, and what is written for them.
+-- `DUE`, a space and a number
+abbrev pub due_line : ℕ → List ℕ
+due_line n = codes "DUE " ++ decimal n ++ 10 ∷ []
+
+-- For a call for due work the bank makes a run of what is due at its moment, and the line tells how many events it had.
+pub record DoesDue (setup : Setup) (at : Moment) (before : State) (line : List ℕ) (after : State) : Type 0 where
+  pub events : List Event
+  pub is_run : IsDueRun setup before at events
+  pub count : line ≡ due_line (length events)
+  pub state : after ≡ after_events setup before at events
+
+-- what is written for a frame at a moment, and the state that it leaves
+abbrev pub Says : Setup → Moment → State → Content → List ℕ → State → Type 0
+Says setup at before (request bytes) line after = SaysOfFile setup at before bytes line after
+Says setup at before due_work line after = DoesDue setup at before line after
+
+-- A turn of a run: what its frame holds, its moment, and what is written for it.
 pub record Turn : Type 0 where
-  pub file : List ℕ
+  pub content : Content
   pub at : Moment
   pub line : List ℕ
 
@@ -81,11 +99,11 @@ pub record Turn : Type 0 where
 abbrev pub AreTurns : Setup → State → List Turn → State → Type 0
 AreTurns setup before [] after = after ≡ before
 AreTurns setup before (turn ∷ turns) after =
-    (mid : State) × IsLength (length turn.file) × Says setup turn.at before turn.file turn.line mid × AreTurns setup mid turns after
+    (mid : State) × Fits turn.content × Says setup turn.at before turn.content turn.line mid × AreTurns setup mid turns after
 
 -- what was read and what was written in these turns
 abbrev pub read_in : List Turn → List ℕ
-read_in turns = flat_map (λ (turn : Turn). frame turn.file) turns
+read_in turns = flat_map (λ (turn : Turn). frame_of turn.content) turns
 
 abbrev pub written_in : List Turn → List ℕ
 written_in turns = flat_map (λ (turn : Turn). turn.line) turns

@@ -1,19 +1,21 @@
 -- What a file is to the bank.
-use Rattle.std.specs.Prelude.{ℕ, List}
+use Rattle.std.specs.Prelude.{ℕ, ◌<◌, List, length}
+use Rattle.ofx_types.specs.declared.number.UserId.{UserId}
+use Rattle.ofx_types.specs.declared.request.RequestFile.{RequestFile}
 use Rattle.bank_model.specs.declared.setup.Setup.{Setup}
-use Rattle.bank_model.specs.declared.event.Event.{Event}
-use Rattle.bank_model.specs.declared.event.Event.TheVariants.{File}
-use Rattle.bank_model.specs.Rules.{IsLegal}
+use Rattle.bank_model.specs.Sound.{IsSound}
 use Rattle.bank_session.specs.Answers.{IsSignedOn, IsDenied, IsRefused}
 use Rattle.bank_session.specs.declared.judge.Judgement.{Judgement}
 use Rattle.bank_session.specs.declared.judge.Judgement.TheVariants.{Answered, Denied, Refused}
 
--- A user's file is a legal event of this user.
-abbrev pub IsFileEvent : Setup → List ℕ → Event → Type 0
-IsFileEvent setup bytes (File user file) = IsSignedOn setup bytes file user × IsLegal setup (File user file)
+-- The file of a user who signs on is an event that is legal in any state.
+pub record IsOfUser (setup : Setup) (bytes : List ℕ) (user : UserId) (file : RequestFile) : Type 0 where
+  pub signed_on : IsSignedOn setup bytes file user
+  pub known : user.0 < length setup.users
+  pub sound : IsSound file
 
 -- It is an event where its user signs on, is denied where the signon fails, and has a place to tell where it is refused.
 abbrev pub IsJudged : Setup → List ℕ → Judgement → Type 0
-IsJudged setup bytes (Answered event) = IsFileEvent setup bytes event
+IsJudged setup bytes (Answered user file) = IsOfUser setup bytes user file
 IsJudged setup bytes (Denied file) = IsDenied setup bytes file
 IsJudged setup bytes (Refused place) = IsRefused bytes place

@@ -1,5 +1,5 @@
 -- What a run writes is determined by its setup and by the frames that it reads with their moments.
-use Rattle.std.specs.Prelude.{◌≡◌, ℕ, List, [], ◌∷◌, ◌++◌, length}
+use Rattle.std.specs.Prelude.{◌≡◌, ℕ, List, [], ◌∷◌, ◌++◌}
 use Rattle.std.specs.List.{flat_map, AllByRecursion}
 use Rattle.std.specs.Fmt.{decimal}
 use Rattle.ofx_types.specs.declared.number.Moment.{Moment}
@@ -9,27 +9,34 @@ use Rattle.bank_model.specs.declared.setup.Setup.{Setup}
 use Rattle.bank_model.specs.declared.event.State.{State}
 use Rattle.bank_model.specs.declared.event.Event.TheVariants.{File}
 use Rattle.bank_model.specs.Rules.{answer_to, state_after, denial}
-use Rattle.bank_session.specs.Frames.{IsLength, frame}
+use Rattle.bank_model.specs.DueRun.{IsDueRun}
+use Rattle.bank_model.specs.declared.event.Event.{Event}
+use Rattle.bank_session.specs.Frames.{Content, frame, frame_of, Fits}
 use Rattle.ofx_types.specs.ReplyForm.{reply_text}
-use Rattle.bank_session.specs.Answers.{Says, IsSignedOn, IsDenied, IsRefused, bad_line, Turn, AreTurns, written_in, moments_in}
+use Rattle.bank_session.specs.Answers.{Says, SaysOfFile, IsSignedOn, IsDenied, IsRefused, bad_line, Turn, AreTurns, written_in, moments_in}
 
 -- each file within its limit
-abbrev pub Lengths : List (List ℕ) → Type 0
-Lengths files = AllByRecursion (λ (file : List ℕ). IsLength (length file)) files
+abbrev pub AllFit : List Content → Type 0
+AllFit contents = AllByRecursion Fits contents
 
 -- Of two splittings of one input one goes on where the other stops.
-pub data OneSplit (files others : List (List ℕ)) (rest tail : List ℕ) : Type 0 where
-  goes_on : (more : List (List ℕ)) → files ≡ others ++ more → tail ≡ flat_map frame more ++ rest → OneSplit files others rest tail
-  falls_short : (more : List (List ℕ)) → others ≡ files ++ more → rest ≡ flat_map frame more ++ tail → OneSplit files others rest tail
+pub data OneSplit (contents others : List Content) (rest tail : List ℕ) : Type 0 where
+  goes_on : (more : List Content) → contents ≡ others ++ more → tail ≡ flat_map frame_of more ++ rest → OneSplit contents others rest tail
+  falls_short : (more : List Content) → others ≡ contents ++ more → rest ≡ flat_map frame_of more ++ tail → OneSplit contents others rest tail
 
 abbrev pub OneSplitting : Type 0
-OneSplitting = (files others : List (List ℕ)) (rest tail : List ℕ) → Lengths files → Lengths others →
-    flat_map frame files ++ rest ≡ flat_map frame others ++ tail → OneSplit files others rest tail
+OneSplitting = (contents others : List Content) (rest tail : List ℕ) → AllFit contents → AllFit others →
+    flat_map frame_of contents ++ rest ≡ flat_map frame_of others ++ tail → OneSplit contents others rest tail
 
--- For the bytes of a file at a moment there is one line, and one state behind it.
+-- What is due at a moment is done in one order, to one end.
+abbrev pub OneDueRun : Type 0
+OneDueRun = (setup : Setup) (before : State) (at : Moment) (events events' : List Event) →
+    IsDueRun setup before at events → IsDueRun setup before at events' → events ≡ events'
+
+-- For a frame at a moment there is one line, and one state behind it.
 abbrev pub OneLine : Type 0
-OneLine = (setup : Setup) (at : Moment) (before : State) (bytes line line' : List ℕ) (after after' : State) →
-    Says setup at before bytes line after → Says setup at before bytes line' after' → (line ≡ line') × (after ≡ after')
+OneLine = (setup : Setup) (at : Moment) (before : State) (content : Content) (line line' : List ℕ) (after after' : State) →
+    Says setup at before content line after → Says setup at before content line' after' → (line ≡ line') × (after ≡ after')
 
 -- A file that isn't answered has one place to tell,
 abbrev pub OneRefusal : Type 0
@@ -51,32 +58,32 @@ DeniedIsUnanswered = (setup : Setup) (bytes : List ℕ) (file file' : RequestFil
 -- Where a file is a user's its framed reply is written,
 abbrev pub WhereAnswered : Type 0
 WhereAnswered = (setup : Setup) (at : Moment) (before : State) (bytes line : List ℕ) (after : State) (file : RequestFile) (user : UserId) →
-    Says setup at before bytes line after → IsSignedOn setup bytes file user →
+    SaysOfFile setup at before bytes line after → IsSignedOn setup bytes file user →
     (line ≡ frame (answer_to setup before at (File user file))) × (after ≡ state_after setup before at (File user file))
 
 -- where its signon fails the framed denial,
 abbrev pub WhereDenied : Type 0
 WhereDenied = (setup : Setup) (at : Moment) (before : State) (bytes line : List ℕ) (after : State) (file : RequestFile) →
-    Says setup at before bytes line after → IsDenied setup bytes file →
+    SaysOfFile setup at before bytes line after → IsDenied setup bytes file →
     (line ≡ frame (reply_text (denial file at))) × (after ≡ before)
 
 -- where it is refused the line with just this place,
 abbrev pub WhereRefused : Type 0
 WhereRefused = (setup : Setup) (at : Moment) (before : State) (bytes line : List ℕ) (after : State) (place : ℕ) →
-    Says setup at before bytes line after → IsRefused bytes place → (line ≡ bad_line place) × (after ≡ before)
+    SaysOfFile setup at before bytes line after → IsRefused bytes place → (line ≡ bad_line place) × (after ≡ before)
 
 -- and such a line is written only where it is refused, at a place that is printed so.
 abbrev pub OnlyWhereRefused : Type 0
 OnlyWhereRefused = (setup : Setup) (at : Moment) (before : State) (bytes : List ℕ) (after : State) (printed : ℕ) →
-    Says setup at before bytes (bad_line printed) after → (place : ℕ) × IsRefused bytes place × (decimal place ≡ decimal printed)
+    SaysOfFile setup at before bytes (bad_line printed) after → (place : ℕ) × IsRefused bytes place × (decimal place ≡ decimal printed)
 
--- the files of turns
-abbrev pub files_of : List Turn → List (List ℕ)
-files_of [] = []
-files_of (turn ∷ turns) = turn.file ∷ files_of turns
+-- what the frames of turns hold
+abbrev pub contents_of : List Turn → List Content
+contents_of [] = []
+contents_of (turn ∷ turns) = turn.content ∷ contents_of turns
 
--- Turns over the same files at the same moments write the same bytes.
+-- Turns over the same frames at the same moments write the same bytes.
 abbrev pub OneOutput : Type 0
 OneOutput = (setup : Setup) (before : State) (turns turns' : List Turn) (after after' : State) →
-    AreTurns setup before turns after → AreTurns setup before turns' after' → files_of turns ≡ files_of turns' → moments_in turns ≡ moments_in turns'
+    AreTurns setup before turns after → AreTurns setup before turns' after' → contents_of turns ≡ contents_of turns' → moments_in turns ≡ moments_in turns'
     → (written_in turns ≡ written_in turns') × (after ≡ after')

@@ -6,9 +6,9 @@ use Rattle.ofx_ports.specs.Faults.{Rose}
 use Rattle.bank_model.specs.SetupForm.{SpellsSetup}
 use Rattle.bank_model.specs.SetupFault.{IsSetupFault}
 use Rattle.bank_model.specs.declared.setup.Setup.{Setup}
-use Rattle.bank_session.specs.Frames.{IsLength, frame, BeginsNoFrame}
+use Rattle.bank_session.specs.Frames.{Content, frame_of, Fits, BeginsNoFrame}
 use Rattle.bank_session.specs.Outside.{Outside}
-use Rattle.bank_session.specs.Run.{EndsWith, told}
+use Rattle.bank_session.specs.Run.{EndsWith, DueEndsWith, told}
 use Rattle.ofx_types.specs.declared.number.Moment.{Moment}
 use Rattle.ofx_types.specs.declared.told.Note.TheVariants.{Plain, Place}
 use Rattle.ofx_types.specs.declared.told.Told.{Told}
@@ -25,26 +25,26 @@ RefusesSetup before after what =
     (text : List ℕ) → before.setup_left ≡ Some text → ((setup : Setup) → SpellsSetup text setup → ⊥)
     → ((line : ℕ) × IsSetupFault text line × (what ≡ told 3 (Place line))) ⊎ GaveUp before after what
 
--- The setup is spelled, and the input begins with the frames of these files, each within its limit.
-pub record Gives (before : Outside) (files : List (List ℕ)) (rest : List ℕ) : Type 0 where
+-- The setup is spelled, and the input begins with the frames of these contents, each within its limit.
+pub record Gives (before : Outside) (contents : List Content) (rest : List ℕ) : Type 0 where
   pub text : List ℕ
   pub setup : Setup
   pub setup_is : before.setup_left ≡ Some text
   pub spelled : SpellsSetup text setup
-  pub input_is : before.input_left ≡ Some (flat_map frame files ++ rest)
-  pub lengths : AllByRecursion (λ (file : List ℕ). IsLength (length file)) files
-  pub few : length files ≤ 1000000
+  pub input_is : before.input_left ≡ Some (flat_map frame_of contents ++ rest)
+  pub fit : AllByRecursion Fits contents
+  pub few : length contents ≤ 1000000
 
 -- Frames and nothing behind them end it with 0.
 abbrev pub AnswersAll : Outside → Outside → Told → Type 0
-AnswersAll before after what = (files : List (List ℕ)) → Gives before files [] → (what ≡ told 0 Plain) ⊎ GaveUp before after what
+AnswersAll before after what = (contents : List Content) → Gives before contents [] → (what ≡ told 0 Plain) ⊎ GaveUp before after what
 
 -- Bytes behind the frames that begin no frame, or anything behind the most frames, end it with 4, and their place in the
 -- input is told.
 abbrev pub RefusesFrame : Outside → Outside → Told → Type 0
 RefusesFrame before after what =
-    (files : List (List ℕ)) (rest : List ℕ) → Gives before files rest → rest ≢ [] → (BeginsNoFrame rest ⊎ (length files ≡ 1000000))
-    → (what ≡ told 4 (Place (length (flat_map frame files)))) ⊎ GaveUp before after what
+    (contents : List Content) (rest : List ℕ) → Gives before contents rest → rest ≢ [] → (BeginsNoFrame rest ⊎ (length contents ≡ 1000000))
+    → (what ≡ told 4 (Place (length (flat_map frame_of contents)))) ⊎ GaveUp before after what
 
 -- A run over these words' moment ends so: what it read and wrote, and what is told exactly where.
 pub record IsRun (at : Option Moment) (before after : Outside) (what : Told) : Type 0 where
@@ -52,3 +52,28 @@ pub record IsRun (at : Option Moment) (before after : Outside) (what : Told) : T
   pub refuses_setup : RefusesSetup before after what
   pub refuses_frame : RefusesFrame before after what
   pub answers_all : AnswersAll before after what
+
+-- ---- the command `due`
+
+-- A read of the setup or a write failed, or memory was refused.
+abbrev pub GaveUpDue : Outside → Outside → Told → Type 0
+GaveUpDue before after what =
+    ((what ≡ told 5 Plain) × Rose before.setup_faults after.setup_faults)
+    ⊎ (((what ≡ told 6 Plain) × Rose before.out_faults after.out_faults) ⊎ (what ≡ told 7 Plain))
+
+-- Bytes that spell no setup end it with 3, and the line of their fault is told.
+abbrev pub RefusesDueSetup : Outside → Outside → Told → Type 0
+RefusesDueSetup before after what =
+    (text : List ℕ) → before.setup_left ≡ Some text → ((setup : Setup) → SpellsSetup text setup → ⊥)
+    → ((line : ℕ) × IsSetupFault text line × (what ≡ told 3 (Place line))) ⊎ GaveUpDue before after what
+
+-- A setup that is spelled ends it with 0.
+abbrev pub DoesAll : Outside → Outside → Told → Type 0
+DoesAll before after what =
+    (text : List ℕ) (setup : Setup) → before.setup_left ≡ Some text → SpellsSetup text setup → (what ≡ told 0 Plain) ⊎ GaveUpDue before after what
+
+-- The command `due` ends so: what it read and wrote, and what is told exactly where.
+pub record IsDueCommand (before after : Outside) (what : Told) : Type 0 where
+  pub ends : DueEndsWith before after what
+  pub refuses_setup : RefusesDueSetup before after what
+  pub does_all : DoesAll before after what

@@ -1,4 +1,4 @@
--- Frames: request files one after another, each behind a line with its length.
+-- Frames, one after another: a request file behind a line with its length, or the line that calls for the work that is due.
 use Rattle.std.specs.Prelude.{◌≡◌, ℕ, ◌≤◌, List, [], ◌∷◌, ◌++◌, length, codes}
 use Rattle.std.specs.Fmt.{decimal}
 
@@ -18,6 +18,21 @@ frame_head n = length_line n ++ 10 ∷ []
 abbrev pub frame : List ℕ → List ℕ
 frame file = frame_head (length file) ++ file
 
+-- What a frame holds: a request file, or the call for due work.
+pub data Content : Type 0 where
+  request : List ℕ → Content
+  due_work : Content
+
+-- The frame of a call for due work is the line `DUE`, ended by LF alone.
+abbrev pub frame_of : Content → List ℕ
+frame_of (request file) = frame file
+frame_of due_work = codes "DUE" ++ 10 ∷ []
+
+-- Only files have a limit.
+abbrev pub Fits : Content → Type 0
+Fits (request file) = IsLength (length file)
+Fits due_work = Unit {0}
+
 -- No frame begins these bytes, which are the last ones of the input.
 abbrev pub BeginsNoFrame : List ℕ → Type 0
-BeginsNoFrame bytes = (file rest : List ℕ) → IsLength (length file) → bytes ≡ frame file ++ rest → ⊥
+BeginsNoFrame bytes = (content : Content) (rest : List ℕ) → Fits content → bytes ≡ frame_of content ++ rest → ⊥

@@ -10,11 +10,13 @@ pub mod Words
 pub mod WordsRead
 pub mod SetupRead
 pub mod Desk
+pub mod DueSteps
 pub mod Asked
 pub mod Turns
 pub mod TurnResult
 pub mod Outside
 pub mod RunEnd
+pub mod DueEnd
 pub mod EndOrStop
 pub mod Run
 pub mod Exact

@@ -1,5 +1,5 @@
 -- A whole run: the words, the setup, the frames, and what people are told of its end.
-use Rattle.std.specs.Prelude.{◌≡◌, ℕ, List, Option, Result, Ok, Err, ◌⊎◌}
+use Rattle.std.specs.Prelude.{◌≡◌, ℕ, Option, Result, Ok, Err, ◌⊎◌}
 use Rattle.std.specs.Io.KnownBytes.{Keeps}
 use Rattle.ofx_ports.specs.Told.{Stays}
 use Rattle.ofx_types.specs.declared.number.Moment.{Moment}
@@ -7,10 +7,10 @@ use Rattle.ofx_types.specs.declared.told.Note.{Note}
 use Rattle.ofx_types.specs.declared.told.Note.TheVariants.{Plain, Place}
 use Rattle.ofx_types.specs.declared.told.Told.{Told}
 use Rattle.bank_model.specs.declared.setup.Setup.{Setup}
-use Rattle.bank_session.specs.Words.{AreWords}
 use Rattle.bank_session.specs.Outside.{Outside}
 use Rattle.bank_session.specs.SetupRead.{IsSetupOf, StopsSetup}
 use Rattle.bank_session.specs.RunEnd.{RunEnds}
+use Rattle.bank_session.specs.DueEnd.{DueEnds}
 use Rattle.bank_session.specs.declared.stop.Stop.{Stop}
 use Rattle.bank_session.specs.declared.stop.Stop.TheVariants as stops
 
@@ -26,10 +26,6 @@ told_of (Err (stops.Frame place)) = told 4 (Place place)
 told_of (Err stops.ReadFailed) = told 5 Plain
 told_of (Err stops.WriteFailed) = told 6 Plain
 told_of (Err stops.NoMemory) = told 7 Plain
-
--- The words have no form.
-abbrev pub IsUsage : List (List ℕ) → Type 0
-IsUsage words = (at : Option Moment) → AreWords words at → ⊥
 
 -- A run that has no setup reads none of its input and writes nothing, and doesn't look at the clock.
 pub record EndsWithoutSetup (before after : Outside) (stop : Stop) : Type 0 where
@@ -53,3 +49,19 @@ pub record EndsWith (at : Option Moment) (before after : Outside) (what : Told) 
   pub end : Result (Unit {0}) Stop
   pub told_is : what ≡ told_of end
   pub ends : EndsSo at before after end
+
+-- The command `due` has the setup that all bytes of its source spell, and does what is due in a bank that opens.
+pub record DueEndsWithSetup (before after : Outside) (end : Result (Unit {0}) Stop) : Type 0 where
+  pub setup : Setup
+  pub found : IsSetupOf before.setup_left setup
+  pub ends : DueEnds setup before after end
+
+abbrev pub DueEndsSo : Outside → Outside → Result (Unit {0}) Stop → Type 0
+DueEndsSo before after (Ok done) = DueEndsWithSetup before after (Ok done)
+DueEndsSo before after (Err stop) = EndsWithoutSetup before after stop ⊎ DueEndsWithSetup before after (Err stop)
+
+-- The command ends so, and this is told of it.
+pub record DueEndsWith (before after : Outside) (what : Told) : Type 0 where
+  pub end : Result (Unit {0}) Stop
+  pub told_is : what ≡ told_of end
+  pub ends : DueEndsSo before after end

@@ -7,7 +7,7 @@ use Rattle.ofx_types.specs.declared.number.Moment.{Moment}
 use Rattle.bank_model.specs.Rules.{opening_state}
 use Rattle.bank_model.specs.declared.setup.Setup.{Setup}
 use Rattle.bank_model.specs.declared.event.State.{State}
-use Rattle.bank_session.specs.Frames.{IsLength, frame, BeginsNoFrame}
+use Rattle.bank_session.specs.Frames.{Content, frame_of, Fits, BeginsNoFrame}
 use Rattle.bank_session.specs.Answers.{Says, Turn, AreTurns, read_in, written_in, moments_in, AreMoments}
 use Rattle.bank_session.specs.Outside.{Outside}
 use Rattle.bank_session.specs.declared.stop.Stop.{Stop}
@@ -70,15 +70,15 @@ pub record StoppedInLine (setup : Setup) (at : Option Moment) (before after : Ou
   pub state : State
   pub ahead : List ℕ
   pub taken : Taken setup before after turns state ahead
-  pub file : List ℕ
+  pub content : Content
   pub moment : Moment
   pub line : List ℕ
   pub next : State
   pub count : ℕ
   pub room : length turns < 1000000
-  pub fits : IsLength (length file)
-  pub begins : IfSome (prepend_known ahead after.input_left) (λ rest. (tail : List ℕ) × (rest ≡ frame file ++ tail))
-  pub says : Says setup moment state file line next
+  pub fits : Fits content
+  pub begins : IfSome (prepend_known ahead after.input_left) (λ rest. (tail : List ℕ) × (rest ≡ frame_of content ++ tail))
+  pub says : Says setup moment state content line next
   pub written : Appends before.held after.held (written_in turns ++ take count line)
   pub moments : AreMoments at before.shown after.shown (moments_in turns ++ moment ∷ [])
 

@@ -5,7 +5,7 @@ use Rattle.std.specs.Io.KnownBytes.{Keeps, IsAtEnd, Appends, prepend_known}
 use Rattle.ofx_ports.specs.Faults.{Rose}
 use Rattle.ofx_types.specs.declared.number.Moment.{Moment}
 use Rattle.bank_core.specs.BookView.{BookView}
-use Rattle.bank_session.specs.Frames.{IsLength, frame}
+use Rattle.bank_session.specs.Frames.{Content, frame_of, Fits}
 use Rattle.bank_session.specs.Answers.{Says}
 use Rattle.bank_session.specs.Coming.{IsNoFrame}
 use Rattle.bank_session.specs.Turns.{TurnMade, NoTurn, TurnStops}
@@ -16,24 +16,24 @@ use Rattle.bank_session.specs.declared.turn.Step.TheVariants as steps
 
 -- The frame in front, of so many bytes, was answered, and all of its line was written; or a front of it.
 pub record FrameWritten (at : Moment) (size : ℕ) (before after : BookView) (ahead later : List ℕ) (held now : Option (List ℕ)) : Type 0 where
-  pub file : List ℕ
+  pub content : Content
   pub line : List ℕ
-  pub fits : IsLength (length file)
-  pub says : Says before.setup at before.state file line after.state
+  pub fits : Fits content
+  pub says : Says before.setup at before.state content line after.state
   pub setup : after.setup ≡ before.setup
-  pub read : ahead ≡ frame file ++ later
-  pub size_is : size ≡ length (frame file)
+  pub read : ahead ≡ frame_of content ++ later
+  pub size_is : size ≡ length (frame_of content)
   pub written : Appends held now line
 
 pub record FrameBroke (at : Moment) (before after : BookView) (ahead later : List ℕ) (held now : Option (List ℕ)) : Type 0 where
-  pub file : List ℕ
+  pub content : Content
   pub line : List ℕ
   pub tail : List ℕ
   pub count : ℕ
-  pub fits : IsLength (length file)
-  pub says : Says before.setup at before.state file line after.state
+  pub fits : Fits content
+  pub says : Says before.setup at before.state content line after.state
   pub kept : later ≡ ahead
-  pub begins : ahead ≡ frame file ++ tail
+  pub begins : ahead ≡ frame_of content ++ tail
   pub written : Appends held now (take count line)
 
 abbrev pub FrameResult : Moment → ℕ → BookView → BookView → List ℕ → List ℕ → Option (List ℕ) → Option (List ℕ) → ℕ → ℕ → Result (Unit {0}) Stop → Type 0

@@ -6,21 +6,21 @@ use Rattle.ofx_ports.specs.Faults.{Rose}
 use Rattle.ofx_ports.specs.Told.{Stays}
 use Rattle.ofx_types.specs.declared.number.Moment.{Moment}
 use Rattle.bank_core.specs.BookView.{BookView}
-use Rattle.bank_session.specs.Frames.{IsLength, frame, BeginsNoFrame}
+use Rattle.bank_session.specs.Frames.{Content, frame_of, Fits, BeginsNoFrame}
 use Rattle.bank_session.specs.Answers.{Says, AreMoments}
 use Rattle.bank_session.specs.declared.stop.Stop.{Stop}
 use Rattle.bank_session.specs.declared.stop.Stop.TheVariants as stops
 
 -- A frame of so many bytes was read, and its line written whole. The moment is the words' one or the clock's next one.
 pub record TurnMade (at : Option Moment) (before after : BookView) (coming later held now : Option (List ℕ)) (shown shown' : Option (List Moment)) (size : ℕ) : Type 0 where
-  pub file : List ℕ
+  pub content : Content
   pub moment : Moment
   pub line : List ℕ
-  pub fits : IsLength (length file)
-  pub says : Says before.setup moment before.state file line after.state
+  pub fits : Fits content
+  pub says : Says before.setup moment before.state content line after.state
   pub setup : after.setup ≡ before.setup
-  pub read : Consumes coming later (frame file)
-  pub size_is : size ≡ length (frame file)
+  pub read : Consumes coming later (frame_of content)
+  pub size_is : size ≡ length (frame_of content)
   pub written : Appends held now line
   pub moments : AreMoments at shown shown' (moment ∷ [])
 
@@ -39,15 +39,15 @@ pub record MemoryRefused (at : Option Moment) (coming later held now : Option (L
 
 -- The write of the line for the next frame failed, and a front of it is written.
 pub record WriteBroke (at : Option Moment) (before : BookView) (coming later held now : Option (List ℕ)) (shown shown' : Option (List Moment)) : Type 0 where
-  pub file : List ℕ
+  pub content : Content
   pub moment : Moment
   pub line : List ℕ
   pub next : BookView
   pub count : ℕ
-  pub fits : IsLength (length file)
-  pub says : Says before.setup moment before.state file line next.state
+  pub fits : Fits content
+  pub says : Says before.setup moment before.state content line next.state
   pub kept : Keeps coming later
-  pub begins : IfSome later (λ rest. (tail : List ℕ) × (rest ≡ frame file ++ tail))
+  pub begins : IfSome later (λ rest. (tail : List ℕ) × (rest ≡ frame_of content ++ tail))
   pub written : Appends held now (take count line)
   pub moments : AreMoments at shown shown' (moment ∷ [])
 

@@ -1,4 +1,4 @@
--- The words of a command line.
+-- The words of the command lines that have a form.
 use Rattle.std.specs.Prelude.{◌≡◌, ℕ, List, [], ◌∷◌, codes, Option, None, Some}
 use Rattle.ofx_types.specs.DateForm.{IsDate}
 use Rattle.ofx_types.specs.declared.number.Moment.{Moment}
@@ -14,3 +14,13 @@ pub record AreWords (words : List (List ℕ)) (at : Option Moment) : Type 0 wher
   pub rest : List (List ℕ)
   pub spelled : words ≡ codes "answer" ∷ setup ∷ codes "-" ∷ rest
   pub moment : IsMomentOption rest at
+
+-- The words `due`, the path of the setup and `-`, with no moment.
+pub record AreDueWords (words : List (List ℕ)) : Type 0 where
+  pub setup : List ℕ
+  pub spelled : words ≡ codes "due" ∷ setup ∷ codes "-" ∷ []
+
+-- Words of neither command have no form.
+pub record IsUsage (words : List (List ℕ)) : Type 0 where
+  pub unanswered : (at : Option Moment) → AreWords words at → ⊥
+  pub undue : AreDueWords words → ⊥

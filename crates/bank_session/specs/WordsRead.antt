@@ -4,7 +4,10 @@ use Rattle.std.specs.Option.{IfSome}
 use Rattle.ofx_types.specs.Calendar.{IsMoment}
 use Rattle.ofx_types.specs.DateForm.{IsDate}
 use Rattle.ofx_types.specs.declared.number.Moment.{Moment}
+use Rattle.bank_session.specs.Words.{AreWords, AreDueWords, IsUsage}
 use Rattle.bank_session.specs.declared.words.AnswerWords.{AnswerWords}
+use Rattle.bank_session.specs.declared.words.Command.{Command}
+use Rattle.bank_session.specs.declared.words.Command.TheVariants.{Answer, Due}
 
 -- The moment of a run's frames lies in the years 1900 to 9999, where the words name one.
 abbrev pub IsLawful : Option Moment → Type 0
@@ -19,3 +22,9 @@ Reads HaveForm (Some words) = HaveForm words.at × IsLawful words.at × ((other 
 abbrev pub IsNamedBy : List ℕ → Option Moment → Type 0
 IsNamedBy date None = ⊥
 IsNamedBy date (Some at) = IsDate date at.0
+
+-- Words are those of one command, or of none.
+abbrev pub ReadsCommand : List (List ℕ) → Option Command → Type 0
+ReadsCommand words None = IsUsage words
+ReadsCommand words (Some (Answer found)) = Reads (AreWords words) (Some found)
+ReadsCommand words (Some Due) = AreDueWords words

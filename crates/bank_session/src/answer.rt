@@ -1,19 +1,20 @@
-//! The command `answer`: a stream of request files, answered in order.
+//! The commands: `answer`, a stream of frames that are answered in order, and `due`, which does once what is due.
 
 ghost use Rattle.std.specs.Prelude.{◌≡◌, ◌↔◌, Option, Some, IsSome};
 ghost use Rattle.ofx_types.specs.declared.number.Moment.{Moment as TheMoment};
 ghost use Rattle.ofx_types.specs.declared.told.Told.{Told as WhatIsTold};
-ghost use Rattle.bank_session.specs.Words.{AreWords};
+ghost use Rattle.bank_session.specs.Words.{AreWords, AreDueWords, IsUsage};
 ghost use Rattle.bank_session.specs.WordsRead.{IsLawful};
 ghost use Rattle.bank_session.specs.Outside.{outside};
 ghost use Rattle.bank_session.specs.Run as runs;
-ghost use Rattle.bank_session.specs.Run.{IsUsage, EndsSo, told_of};
-ghost use Rattle.bank_session.specs.Exact.{IsRun};
+ghost use Rattle.bank_session.specs.Run.{EndsSo, told_of};
+ghost use Rattle.bank_session.specs.Exact.{IsRun, IsDueCommand};
 
+use crate::due::do_due_once;
 use crate::run::answer_frames as answer_input;
 use crate::setup_source::read_setup;
 use crate::stop::Stop;
-use crate::words::answer_words;
+use crate::words::{Command, command_of};
 use ofx_ports::{Clock, Keeper, Sink, Source};
 use ofx_types::{Moment, Note, Status, Text, Told};
 use std::alloc::Global;
@@ -72,11 +73,11 @@ fn at_place(status: u8, place: u64) -> Told
     }
 }
 
-/// Answers a stream of request files, each in its frame, and tells how the run ended.
+/// Answers a stream of frames, or does once what is due, and tells how the run ended.
 ///
-/// The words are `answer`, the path of the setup, `-` for records that aren't kept, and perhaps `--at` with a date
-/// (OFX 1.6, "Dates, Times, and Time Zones"). The setup is read whole; then each frame of the input is answered in
-/// turn. With `--at` each frame has that moment. Without it the clock is read once for each frame, when the whole frame
+/// The words of the first are `answer`, the path of the setup, `-` for records that aren't kept, and perhaps `--at` with
+/// a date (OFX 1.6, "Dates, Times, and Time Zones"). The setup is read whole; then each frame of the input is answered
+/// in turn. With `--at` each frame has that moment. Without it the clock is read once for each frame, when the whole frame
 /// is there and before it is judged.
 ///
 /// A request file of a user of the setup (OFX 1.6, "Signon") is answered by the reply in its frame. The reply to a file
@@ -86,9 +87,16 @@ fn at_place(status: u8, place: u64) -> Told
 /// spell no request file get the line `BAD` with the place of their fault, in bytes from the file's first, and change
 /// nothing.
 ///
+/// For the frame `DUE` the bank does what is due at its moment: recurring transfers make their next transfers
+/// ("Recurring Transactions"), and transfers that wait are posted, or closed where there is no cover, on their day
+/// ("Intrabank Funds Transfer"). The line is `DUE` with the number of these events, which are at most 100,000.
+///
+/// The words `due`, the path of the setup and `-` ask for the same once, in a bank that opens, at the moment that the
+/// clock shows then. The input isn't read.
+///
 /// | Status | Note | Where |
 /// |---|---|---|
-/// | 0 | | the input was read to its end and every frame answered |
+/// | 0 | | the input was read to its end and every frame answered, or what was due is done |
 /// | 2 | | the words have another form; nothing was read |
 /// | 3 | the line of the fault, from 1 | the setup has no form or is past a limit; nothing was written |
 /// | 4 | the number of bytes of the frames answered | the input goes on with bytes that begin no frame, or behind 1,000,000 frames |
@@ -114,16 +122,22 @@ pub fn answer_told<A: Source, B: Source, W: Sink, K: Keeper, C: Clock>(
         (outside (A.left setup.old) (A.faults setup.old) (B.left input.old) (B.faults input.old) (W.held out.old) (W.faults out.old) (C.told clock.old))
         (outside (A.left setup.new) (A.faults setup.new) (B.left input.new) (B.faults input.new) (W.held out.new) (W.faults out.new) (C.told clock.new)) result }
 
+    // The same of `due`, which leaves the input as it is.
+    ensures due { AreDueWords words.now → (input.new ≡ input.old) × IsDueCommand
+        (outside (A.left setup.old) (A.faults setup.old) (B.left input.old) (B.faults input.old) (W.held out.old) (W.faults out.old) (C.told clock.old))
+        (outside (A.left setup.new) (A.faults setup.new) (B.left input.new) (B.faults input.new) (W.held out.new) (W.faults out.new) (C.told clock.new)) result }
+
     ensures keeper { keeper.new ≡ keeper.old }
     ensures clock { (at : TheMoment) → AreWords words.now (Some at) → clock.new ≡ clock.old }
 {
-    match answer_words(words) {
+    match command_of(words) {
         None => plain(2),
-        Some(found) => end_told(run(alloc, found.at, setup, input, out, clock)),
+        Some(Command::Answer(found)) => end_told(run(alloc, found.at, setup, input, out, clock)),
+        Some(Command::Due) => end_told(do_due_once(alloc, setup, out, clock)),
     }
 }
 
-/// Answers a stream of request files, as `answer_told` does, and answers the status alone.
+/// Does what `answer_told` does, and answers the status alone.
 pub fn answer_files<A: Source, B: Source, W: Sink, K: Keeper, C: Clock>(
     alloc: Global,
     words: &[Text],
@@ -140,6 +154,9 @@ pub fn answer_files<A: Source, B: Source, W: Sink, K: Keeper, C: Clock>(
     ensures run { (at : Option TheMoment) → AreWords words.now at → (what : WhatIsTold) × (what.status ≡ result) × IsRun at
         (outside (A.left setup.old) (A.faults setup.old) (B.left input.old) (B.faults input.old) (W.held out.old) (W.faults out.old) (C.told clock.old))
         (outside (A.left setup.new) (A.faults setup.new) (B.left input.new) (B.faults input.new) (W.held out.new) (W.faults out.new) (C.told clock.new)) what }
+    ensures due { AreDueWords words.now → (input.new ≡ input.old) × ((what : WhatIsTold) × (what.status ≡ result) × IsDueCommand
+        (outside (A.left setup.old) (A.faults setup.old) (B.left input.old) (B.faults input.old) (W.held out.old) (W.faults out.old) (C.told clock.old))
+        (outside (A.left setup.new) (A.faults setup.new) (B.left input.new) (B.faults input.new) (W.held out.new) (W.faults out.new) (C.told clock.new)) what) }
 
     ensures keeper { keeper.new ≡ keeper.old }
     ensures clock { (at : TheMoment) → AreWords words.now (Some at) → clock.new ≡ clock.old }

@@ -7,7 +7,8 @@ ghost use Rattle.bank_model.specs.Rules as rules;
 ghost use Rattle.bank_model.specs.Rules.{IsLegal, opening_state, state_after, answer_to};
 ghost use Rattle.ofx_types.specs.ReplyForm.{reply_text};
 ghost use Rattle.bank_session.specs.Frames.{IsLength, frame};
-ghost use Rattle.bank_session.specs.Answers.{Says, bad_line};
+ghost use Rattle.bank_session.specs.Answers.{SaysOfFile, DoesDue, bad_line, due_line};
+ghost use Rattle.bank_session.specs.DueSteps.{TakesNext, MadeRun, MadeFront};
 
 use crate::judge::{Judgement, judge};
 use bank_accounts::Held;
@@ -19,7 +20,10 @@ use ofx_values::print_number;
 use std::alloc::Global;
 use std::marker::Model;
 
-/// A bank that answers one file after another.
+/// The most events of a run of due work.
+const MOST_DUE: u64 = 100_000;
+
+/// A bank that answers one frame after another.
 #[derive(Drop)]
 pub struct Desk {
     book: Book<OfxPrinter>,
@@ -62,13 +66,15 @@ impl Desk {
         requires moment { IsMoment at.0 }
         requires fits { IsLength (length bytes.now) }
         ensures setup { self.new.setup ≡ self.old.setup }
-        ensures line { IfOk result (λ line. Says self.old.setup at self.old.state bytes.now line.items self.new.state) }
+        ensures line { IfOk result (λ line. SaysOfFile self.old.setup at self.old.state bytes.now line.items self.new.state) }
         ensures refused { OnErr result (self.new ≡ self.old) }
     {
         match judge(alloc, self.book.setup(), bytes)? {
             Judgement::Refused(place) => bad_file_line(alloc, place),
             Judgement::Denied(file) => denial_line(alloc, at, file),
-            Judgement::Answered(event) => self.reply_line(alloc, at, &event),
+            Judgement::Answered(user, file) => {
+                self.reply_line(alloc, at, &Event::File(user, file))
+            }
         }
     }
 
@@ -80,7 +86,7 @@ impl Desk {
         event: &Event,
     ) -> Result<Vec<u8>, OutOfMemory>
         requires moment { IsMoment at.0 }
-        requires legal { IsLegal self.old.setup event.now }
+        requires legal { IsLegal self.old.setup self.old.state at event.now }
         ensures setup { self.new.setup ≡ self.old.setup }
         ensures state { OnOk result (self.new.state ≡ state_after self.old.setup self.old.state at event.now) }
         ensures line { IfOk result (λ line. line.items ≡ frame (answer_to self.old.setup self.old.state at event.now)) }
@@ -90,6 +96,64 @@ impl Desk {
         let line = framed(alloc, prepared.reply())?;
         let _reply = self.book.adopt(&mut self.held, prepared);
         Ok(line)
+    }
+
+    /// Does what is due at that moment, and writes how many events that were. Where memory is refused a front of them
+    /// has happened.
+    pub fn due(&mut self, alloc: Global, at: Moment) -> Result<Vec<u8>, OutOfMemory>
+        requires { IsMoment at.0 }
+        ensures setup { self.new.setup ≡ self.old.setup }
+        ensures line { IfOk result (λ line. DoesDue self.old.setup at self.old.state line.items self.new.state) }
+        ensures front { OnErr result (MadeFront at self.old self.new) }
+    {
+        let count = self.do_due(alloc, at)?;
+        due_work_line(alloc, count)
+    }
+
+    /// Makes one event after another happen that is due at that moment, until none is or they are as many as a run has,
+    /// and counts them.
+    fn do_due(&mut self, alloc: Global, at: Moment) -> Result<u64, OutOfMemory>
+        requires { IsMoment at.0 }
+        ensures setup { self.new.setup ≡ self.old.setup }
+        ensures run { IfOk result (MadeRun at self.old self.new) }
+        ensures front { OnErr result (MadeFront at self.old self.new) }
+    {
+        let mut count = 0;
+        while count < MOST_DUE {
+            if !self.take_next(alloc, at)? {
+                return Ok(count);
+            }
+            count += 1;
+        }
+        Ok(count)
+    }
+
+    /// Makes the event happen that is due first at that moment. False where none is.
+    fn take_next(&mut self, alloc: Global, at: Moment) -> Result<bool, OutOfMemory>
+        requires { IsMoment at.0 }
+        ensures setup { self.new.setup ≡ self.old.setup }
+        ensures taken { IfOk result (TakesNext at self.old self.new) }
+        ensures refused { OnErr result (self.new.state ≡ self.old.state) }
+    {
+        match self.book.due(at) {
+            None => Ok(false),
+            Some(event) => {
+                self.happen(alloc, at, &event)?;
+                Ok(true)
+            }
+        }
+    }
+
+    /// Makes the event happen, which has no reply to hand out.
+    fn happen(&mut self, alloc: Global, at: Moment, event: &Event) -> Result<(), OutOfMemory>
+        requires moment { IsMoment at.0 }
+        requires legal { IsLegal self.old.setup self.old.state at event.now }
+        ensures setup { self.new.setup ≡ self.old.setup }
+        ensures state { OnOk result (self.new.state ≡ state_after self.old.setup self.old.state at event.now) }
+        ensures refused { OnErr result (self.new.state ≡ self.old.state) }
+    {
+        let _reply = self.book.step(alloc, &mut self.held, event, at)?;
+        Ok(())
     }
 }
 
@@ -108,6 +172,16 @@ fn bad_file_line(alloc: Global, place: u64) -> Result<Vec<u8>, OutOfMemory>
 {
     let mut line = Vec::from_slice(alloc, b"BAD ")?;
     print_number(place, &mut line)?;
+    line.push(b'\n')?;
+    Ok(line)
+}
+
+/// The line that tells how many events a run of due work had.
+fn due_work_line(alloc: Global, count: u64) -> Result<Vec<u8>, OutOfMemory>
+    ensures { IfOk result (λ line. line.items ≡ due_line count) }
+{
+    let mut line = Vec::from_slice(alloc, b"DUE ")?;
+    print_number(count, &mut line)?;
     line.push(b'\n')?;
     Ok(line)
 }

@@ -1,11 +1,11 @@
-//! The line in front of a request file: `FILE`, a space, the number of its bytes, LF.
+//! The first line of a frame: `FILE`, a space and the number of the file's bytes, or `DUE`; and LF.
 
 ghost use Rattle.std.specs.Prelude.{◌≡◌, ℕ, ◌≤◌, ◌+◌, ◌*◌, ◌-◌, List, length, Some, None, IfSome, IfNone, IsTrue, ◌↔◌, if◌then◌else◌};
 ghost use Rattle.std.specs.Str.{all_ascii_digits};
 ghost use Rattle.std.specs.Fmt.{decimal};
 ghost use Rattle.bank_session.specs.Frames.{IsLength, length_line};
 ghost use Rattle.bank_session.specs.Heads.{number_from, MayBeLength, EndsLine, HasNoLineEnd};
-ghost use Rattle.bank_session.specs.HeadOf.{IsHeadOf};
+ghost use Rattle.bank_session.specs.HeadOf.{IsHeadOf, IsFirstLine, IsNoFirstLine};
 
 /// The most bytes of a request file.
 pub const MOST_FILE: usize = 262_144;
@@ -76,11 +76,36 @@ pub struct FrameSize {
     pub file: usize,
 }
 
+/// What a first line calls for.
+#[derive(Clone, Copy, Debug, PartialEq, Eq)]
+enum FirstLine {
+    /// A request file of this many bytes, which stands behind the line.
+    File(usize),
+    /// Due work.
+    Due,
+}
+
+/// What a line calls for, the line without its LF.
+fn first_line(line: &[u8]) -> Option<FirstLine>
+    ensures some { IfSome result (IsFirstLine line.now) }
+    ensures none { IfNone result (IsNoFirstLine line.now) }
+{
+    if line == b"DUE".as_slice() {
+        return Some(FirstLine::Due);
+    }
+    match length_in(line) {
+        Some(file) => Some(FirstLine::File(file)),
+        None => None,
+    }
+}
+
 /// What stands at the front of the bytes that are ahead.
 #[derive(Clone, Copy, Debug, PartialEq, Eq)]
 pub enum FrameHead {
-    /// The first line of a frame.
-    Whole(FrameSize),
+    /// The first line of a file's frame.
+    File(FrameSize),
+    /// The line that calls for due work, which is a whole frame.
+    Due,
     /// No whole line, and too few bytes to say that none will come.
     Partial,
     /// No first line of a frame, whatever bytes follow.
@@ -107,9 +132,10 @@ pub fn frame_head_of(ahead: &[u8]) -> FrameHead
                 FrameHead::NoHead
             }
         }
-        Some(end) => match length_in(&ahead[..end]) {
+        Some(end) => match first_line(&ahead[..end]) {
             None => FrameHead::NoHead,
-            Some(file) => FrameHead::Whole(FrameSize {
+            Some(FirstLine::Due) => FrameHead::Due,
+            Some(FirstLine::File(file)) => FrameHead::File(FrameSize {
                 head: end + 1,
                 file,
             }),

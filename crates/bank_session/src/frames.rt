@@ -1,20 +1,45 @@
 //! The frames of an input, one after another.
 
-ghost use Rattle.std.specs.Prelude.{IfOk, OnErr, IsErr};
+ghost use Rattle.std.specs.Prelude.{◌≡◌, ◌<◌, ◌^◌, IfOk, OnErr, IsErr};
 ghost use Rattle.std.specs.Io.KnownBytes.{Keeps, prepend_known};
 ghost use Rattle.ofx_ports.specs.Faults.{CountsFaults};
-ghost use Rattle.bank_session.specs.Coming.{ShowsFront, IsLast, IsNext};
+ghost use Rattle.bank_session.specs.Coming.{ShowsFront, IsLast, IsNext, size_of};
 ghost use Rattle.bank_session.specs.Frames.{BeginsNoFrame};
 
 use crate::ahead::Ahead;
 use crate::frame_head::{FrameHead, FrameSize, frame_head_of};
 use ofx_ports::{Failed, Source};
 
+/// A frame that is ahead as a whole.
+#[derive(Clone, Copy, Debug, PartialEq, Eq)]
+pub enum Frame {
+    /// A request file behind its first line.
+    File(FrameSize),
+    /// A call for due work.
+    Due,
+}
+
+/// The bytes of the line that calls for due work.
+const DUE_LINE: usize = 4;
+
+impl Frame {
+    /// How many bytes it has.
+    pub fn size(self) -> usize
+        requires { size_of self < 2 ^ 64 }
+        ensures { result ≡ size_of self }
+    {
+        match self {
+            Frame::File(size) => size.head + size.file,
+            Frame::Due => DUE_LINE,
+        }
+    }
+}
+
 /// What the bytes that are ahead show of the next frame.
 #[derive(Clone, Copy, Debug, PartialEq, Eq)]
 enum Front {
     /// The whole frame is there.
-    Whole(FrameSize),
+    Whole(Frame),
     /// More bytes are needed.
     Unfinished,
     /// No frame, whatever bytes follow.
@@ -25,7 +50,7 @@ enum Front {
 #[derive(Clone, Copy, Debug, PartialEq, Eq)]
 pub enum Next {
     /// A frame, all of whose bytes are ahead.
-    Frame(FrameSize),
+    Frame(Frame),
     /// The input's end.
     End,
     /// Bytes that begin no frame.
@@ -38,11 +63,12 @@ fn front_of(ahead: &[u8]) -> Front
     match frame_head_of(ahead) {
         FrameHead::NoHead => Front::NoFrame,
         FrameHead::Partial => Front::Unfinished,
-        FrameHead::Whole(size) => {
+        FrameHead::Due => Front::Whole(Frame::Due),
+        FrameHead::File(size) => {
             if ahead.len() - size.head < size.file {
                 Front::Unfinished
             } else {
-                Front::Whole(size)
+                Front::Whole(Frame::File(size))
             }
         }
     }
@@ -59,7 +85,7 @@ pub fn next_frame<S: Source>(source: &mut S, ahead: &mut Ahead) -> Result<Next, 
 {
     loop {
         match front_of(ahead.bytes()) {
-            Front::Whole(size) => return Ok(Next::Frame(size)),
+            Front::Whole(frame) => return Ok(Next::Frame(frame)),
             Front::NoFrame => return Ok(Next::NoFrame),
             Front::Unfinished => {}
         }

@@ -8,16 +8,16 @@ ghost use Rattle.bank_session.specs.Frames.{IsLength};
 ghost use Rattle.bank_session.specs.Answers.{fault_place};
 ghost use Rattle.bank_session.specs.Asked.{IsJudged};
 
-use bank_model::{Event, Setup};
+use bank_model::Setup;
 use ofx_file::read_request;
-use ofx_types::{FileFault, OutOfMemory, RequestFile};
+use ofx_types::{FileFault, OutOfMemory, RequestFile, UserId};
 use std::alloc::Global;
 
 /// What a file is to the bank.
 #[derive(Drop)]
 pub enum Judgement {
-    /// An event, which is legal.
-    Answered(Event),
+    /// A file of this user.
+    Answered(UserId, RequestFile),
     /// A file whose signon failed.
     Denied(RequestFile),
     /// A file that isn't answered, and the place to tell.
@@ -58,7 +58,7 @@ fn judge_file(setup: &Setup, bytes: &[u8], file: RequestFile) -> Judgement
     ensures { IsJudged setup.now bytes.now result }
 {
     match setup.signon(&file.user, &file.pass) {
-        Some(user) => Judgement::Answered(Event::File(user, file)),
+        Some(user) => Judgement::Answered(user, file),
         None => Judgement::Denied(file),
     }
 }

@@ -1,12 +1,14 @@
-//! Whole runs of the bank's server: frames of request files in, replies out.
+//! Whole runs of the bank's server: frames of request files in, replies out; and the work that is due.
 //!
-//! A run reads its words and its setup, then answers each frame of its input in turn. The clauses of `answer_told` say
-//! what it wrote, for which frames and at which moments, why it ended, and what people are told of that.
+//! A run reads its words and its setup, then answers each frame of its input in turn, or does once what is due. The
+//! clauses of `answer_told` say what it wrote, for which frames and at which moments, why it ended, and what people are
+//! told of that.
 #![tactic(auto)]
 
 mod ahead;
 mod answer;
 mod desk;
+mod due;
 mod frame_head;
 mod frames;
 mod judge;
@@ -21,9 +23,10 @@ mod words;
 
 pub use answer::{answer_files, answer_told};
 pub use laws::{
-    exact_lines, one_line, one_output, one_refusal, one_signon, one_splitting, runs_keep_the_books,
+    exact_lines, one_due_run, one_line, one_output, one_refusal, one_signon, one_splitting,
+    runs_keep_the_books,
 };
-pub use words::{AnswerWords, answer_words};
+pub use words::{AnswerWords, Command, command_of};
 
 #[cfg(test)]
 mod tests;

@@ -1,6 +1,7 @@
 //! Whole runs over the memory forms: the sample, calls that fail one at a time, calls of one byte, and the edges.
 
 mod again;
+mod due;
 mod moments;
 mod notes;
 mod sample;
@@ -201,7 +202,7 @@ fn single_bytes_are_answered_the_same(rt: HostRuntime) -> Result<(), Fail> {
 }
 
 /// Inputs without a request that is answered: the status and the output. A file without an LF is a cut header.
-const INPUTS: [(&[u8], u8, &[u8]); 10] = [
+const INPUTS: [(&[u8], u8, &[u8]); 13] = [
     (b"", 0, b""),
     (b"FILE 0\n", 0, b"BAD 0\n"),
     (b"FILE 5\nhello", 0, b"BAD 5\n"),
@@ -212,6 +213,9 @@ const INPUTS: [(&[u8], u8, &[u8]); 10] = [
     (b"FILE 00\n", 4, b""),
     (b"FILE 0\r\n", 4, b""),
     (b"FILE 262145\n", 4, b""),
+    (b"FILE 0\nDUE\nFILE 0\n", 0, b"BAD 0\nDUE 0\nBAD 0\n"),
+    (b"DUE\nDUE", 4, b"DUE 0\n"),
+    (b"DUE\r\n", 4, b""),
 ];
 
 #[test]
@@ -305,7 +309,7 @@ fn a_setup_without_its_last_line_end_is_refused(rt: HostRuntime) -> Result<(), F
 }
 
 /// Words in another form: one is missing, is another word, or is no date.
-const OTHER_WORDS: [&[&str]; 9] = [
+const OTHER_WORDS: [&[&str]; 12] = [
     &[],
     &["answer", "setup"],
     &["replay", "setup", "-"],
@@ -315,6 +319,9 @@ const OTHER_WORDS: [&[&str]; 9] = [
     &["answer", "setup", "-", "--at", "2024013"],
     &["answer", "setup", "-", "--at", "20240230120000"],
     &["answer", "setup", "-", "--at", "20240131120000", "-"],
+    &["due", "setup"],
+    &["due", "setup", "records"],
+    &["due", "setup", "-", "--at", "20240131120000"],
 ];
 
 #[test]

@@ -1,8 +1,8 @@
-//! The words of a command line.
+//! The words of the command lines that have a form.
 
 ghost use Rattle.std.specs.Prelude.{◌≡◌, ◌↔◌, IsTrue};
-ghost use Rattle.bank_session.specs.Words.{AreWords, IsMomentOption};
-ghost use Rattle.bank_session.specs.WordsRead.{Reads, IsNamedBy};
+ghost use Rattle.bank_session.specs.Words.{AreWords, AreDueWords, IsMomentOption};
+ghost use Rattle.bank_session.specs.WordsRead.{Reads, ReadsCommand, IsNamedBy};
 
 use ofx_types::{Moment, Text};
 use ofx_values::{one_moment, read_moment};
@@ -12,6 +12,15 @@ use ofx_values::{one_moment, read_moment};
 pub struct AnswerWords {
     /// The moment of every frame. None where each frame has the moment that the clock shows.
     pub at: Option<Moment>,
+}
+
+/// What the words of a command line ask for.
+#[derive(Clone, Copy, Debug, PartialEq, Eq)]
+pub enum Command {
+    /// `answer`: the frames of the input, answered in order.
+    Answer(AnswerWords),
+    /// `due`: what is due, done once.
+    Due,
 }
 
 fn is_word(word: &Text, expected: &[u8]) -> bool
@@ -49,7 +58,7 @@ fn moment_option(words: &[Text]) -> Option<AnswerWords>
 }
 
 /// What the words of `answer` say. None where the words have another form.
-pub fn answer_words(words: &[Text]) -> Option<AnswerWords>
+fn answer_words(words: &[Text]) -> Option<AnswerWords>
     ensures { Reads (AreWords words.now) result }
 {
     match words {
@@ -61,5 +70,31 @@ pub fn answer_words(words: &[Text]) -> Option<AnswerWords>
             }
         }
         _ => None,
+    }
+}
+
+/// Whether the words are those of `due`.
+fn are_due_words(words: &[Text]) -> bool
+    ensures { IsTrue result ↔ AreDueWords words.now }
+{
+    match words {
+        [command, _, records] => is_word(command, b"due") && is_word(records, b"-"),
+        _ => false,
+    }
+}
+
+/// What the words ask for. None where they have no form.
+pub fn command_of(words: &[Text]) -> Option<Command>
+    ensures { ReadsCommand words.now result }
+{
+    match answer_words(words) {
+        Some(found) => Some(Command::Answer(found)),
+        None => {
+            if are_due_words(words) {
+                Some(Command::Due)
+            } else {
+                None
+            }
+        }
     }
 }

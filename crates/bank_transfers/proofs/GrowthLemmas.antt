@@ -6,11 +6,11 @@ use Rattle.std.proofs.lemmas.Grind.{flat_map-append}
 use Rattle.std.proofs.lemmas.Bool.{eqb-true}
 use Rattle.std.proofs.lemmas.List.{append-nil}
 use Rattle.std.specs.Option.{option_map}
-use Rattle.std.specs.List.{flat_map, list_any}
+use Rattle.std.specs.List.{AllByRecursion, flat_map, list_any}
 use Rattle.ofx_types.specs.declared.transfer.XferCode.TheVariants.{Cancelled}
 use Rattle.ofx_types.specs.declared.transfer.TransferRow.{TransferRow}
 use Rattle.ofx_types.specs.declared.transfer.Change.{Change}
-use Rattle.ofx_types.specs.declared.transfer.Change.TheVariants.{NewTransfer, SetTransfer, DropTransfer}
+use Rattle.ofx_types.specs.declared.transfer.Change.TheVariants.{NewTransfer, SetTransfer, DropTransfer, NewModel, SetModel, DropModel}
 use Rattle.bank_model.specs.declared.entry.Entry.{Entry}
 use Rattle.bank_model.specs.Ledger.{row_in, if_named, or_before, last_row, drops, is_dropped, with_code, row_of, posting_of, moved}
 use Rattle.bank_transfers.specs.Growth.{row_given, row_after}
@@ -63,10 +63,16 @@ dropped_row id gone dropped last =
     or_true true = refl
     or_true false = refl
 
+kept_row : (dropped : Bool) (last : Option TransferRow) → option_map (cancelled_if (dropped || false)) last ≡ option_map (cancelled_if dropped) last
+kept_row dropped last = ap (λ b. option_map (cancelled_if b) last) (or_false dropped)
+
 changed_row : (id : ℕ) (dropped : Bool) (last : Option TransferRow) (change : Change) → option_map (cancelled_if (dropped || drops id change)) (or_before last (if_named id (row_in change))) ≡ row_after id dropped (option_map (cancelled_if dropped) last) change
 changed_row id dropped last (NewTransfer row) = given_row id dropped last row
 changed_row id dropped last (SetTransfer row) = given_row id dropped last row
 changed_row id dropped last (DropTransfer gone) = dropped_row id gone dropped last
+changed_row id dropped last (NewModel row) = kept_row dropped last
+changed_row id dropped last (SetModel row pending) = kept_row dropped last
+changed_row id dropped last (DropModel gone pending) = kept_row dropped last
 
 pub row_of-push : (id : ℕ) (entries : List Entry) (entry : Entry) → row_of id (entries ++ entry ∷ []) ≡ row_after id (is_dropped id entries) (row_of id entries) entry.change
 unfolding row_of
@@ -103,3 +109,25 @@ cancelled_id id false (Some row) has = has
 pub row_of-id : (id : ℕ) (entries : List Entry) → HasId id (row_of id entries)
 unfolding row_of last_row
 row_of-id id entries = cancelled_id id (is_dropped id entries) (last_row id entries) (kept_id id None entries tt)
+
+-- ---- no row
+
+none_before : (id : ℕ) (before : Option TransferRow) (entries : List Entry) → fold (λ (row : Option TransferRow) (entry : Entry). or_before row (if_named id (row_in entry.change))) before entries ≡ None → (before ≡ None) × AllByRecursion (λ (entry : Entry). if_named id (row_in entry.change) ≡ None) entries
+none_before id before [] none = (none, tt)
+none_before id before (entry ∷ entries) none =
+    let more = none_before id (or_before before (if_named id (row_in entry.change))) entries none in
+    let both = none_of before (if_named id (row_in entry.change)) more.0 in
+    (both.0, (both.1, more.1))
+  where
+    none_of : (before row : Option TransferRow) → or_before before row ≡ None → (before ≡ None) × (row ≡ None)
+    none_of before None is = (is, refl)
+    none_of before (Some row) is = cc
+
+-- Where a transfer has no row, no entry gives it one.
+pub row_of-none : (id : ℕ) (entries : List Entry) → row_of id entries ≡ None → AllByRecursion (λ (entry : Entry). if_named id (row_in entry.change) ≡ None) entries
+unfolding row_of last_row
+row_of-none id entries none = (none_before id None entries (unmapped (cancelled_if (is_dropped id entries)) (last_row id entries) none)).1
+  where
+    unmapped : (f : TransferRow → TransferRow) (last : Option TransferRow) → option_map f last ≡ None → last ≡ None
+    unmapped f None is = refl
+    unmapped f (Some row) is = cc

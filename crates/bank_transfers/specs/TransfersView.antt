@@ -1,19 +1,21 @@
 -- What contracts see of the transfers of a bank, and the list of entries that they stand for.
-use Rattle.std.specs.Prelude.{◌≡◌, ℕ, ◌≤◌, false, ◌==◌, unsigned_abs, List, Option, Some}
+use Rattle.std.specs.Prelude.{◌≡◌, ℕ, ◌≤◌, Bool, false, true, ◌==◌, unsigned_abs, List, Option, None, Some}
 use Rattle.std.specs.Option.{option_map}
 use Rattle.std.specs.List.{find}
 use Rattle.ofx_types.specs.declared.transfer.TransferRow.{TransferRow}
 use Rattle.ofx_types.specs.declared.transfer.XferCode.TheVariants.{Cancelled}
 use Rattle.ofx_types.specs.declared.transfer.Change.{Change}
-use Rattle.ofx_types.specs.declared.transfer.Change.TheVariants.{NewTransfer, SetTransfer, DropTransfer}
+use Rattle.ofx_types.specs.declared.transfer.Change.TheVariants.{NewTransfer, SetTransfer, DropTransfer, NewModel, SetModel, DropModel}
 use Rattle.bank_model.specs.declared.entry.Entry.{Entry}
 use Rattle.bank_model.specs.Judging.{is_cancelled}
 use Rattle.bank_model.specs.Ledger.{Posting, row_of, is_dropped, with_code, moved}
+use Rattle.bank_model.specs.Models.{is_waiting, all_waiting}
 
--- The rows by which transfers are found, the posted transfers in the order of posting, and for how many entries more
--- there is room.
+-- The rows by which transfers are found, those of the transfers that wait in the order in which they were made, the posted
+-- transfers in the order of posting, and for how many entries more there is room.
 pub record TransfersView : Type 0 where
   pub rows : List TransferRow
+  pub waiting : List TransferRow
   pub postings : List Posting
   pub room : ℕ
 
@@ -22,21 +24,33 @@ abbrev pub row_found : ℕ → List TransferRow → Option TransferRow
 row_found id rows = find (λ (row : TransferRow). row.id == id) rows
 
 -- The transfers stand for a list of entries: the row that they have for an id is the row that the entries have for it,
--- and their postings are what the entries moved.
+-- those that wait are the ones that wait by the entries, and their postings are what the entries moved.
 pub record StandsFor (transfers : TransfersView) (entries : List Entry) : Type 0 where
   pub rows : (id : ℕ) → row_found id transfers.rows ≡ row_of id entries
+  pub waiting : transfers.waiting ≡ all_waiting entries
   pub postings : transfers.postings ≡ moved entries
 
 -- A row that is set isn't cancelled, and no entry before drops its transfer.
 abbrev pub IsSet : List Entry → TransferRow → TransferRow → Type 0
 IsSet entries given row = (given ≡ row) × (is_cancelled row.code ≡ false) × (is_dropped row.id entries ≡ false)
 
+-- a transfer that has a row, and waits
+abbrev pub waits : Option TransferRow → Bool
+waits None = false
+waits (Some row) = is_waiting row.code
+
 -- The row that a change behind a list of entries gives: that of a new transfer, or the one that a transfer has from now
--- on; and where a transfer is dropped, its row with the code Cancelled.
+-- on; and where a transfer is dropped, its row with the code Cancelled. A new transfer that waits has no row before, and
+-- one that goes on waiting waits already. A change of a recurring transfer gives no transfer a row.
 abbrev pub GivesRow : List Entry → Change → TransferRow → Type 0
-GivesRow entries (NewTransfer given) row = IsSet entries given row
-GivesRow entries (SetTransfer given) row = IsSet entries given row
+GivesRow entries (NewTransfer given) row =
+    IsSet entries given row × (is_waiting row.code ≡ true → row_of row.id entries ≡ None)
+GivesRow entries (SetTransfer given) row =
+    IsSet entries given row × (is_waiting row.code ≡ true → waits (row_of row.id entries) ≡ true)
 GivesRow entries (DropTransfer id) row = option_map (with_code Cancelled) (row_of id entries) ≡ Some row
+GivesRow entries (NewModel given) row = ⊥
+GivesRow entries (SetModel given pending) row = ⊥
+GivesRow entries (DropModel id pending) row = ⊥
 
 -- An amount is at most 99,999,999,999.99 either way.
 abbrev pub IsWithinAmounts : TransferRow → Type 0

@@ -7,7 +7,7 @@ ghost use Rattle.bank_model.specs.SetupForm.{IsWithinLimits};
 ghost use Rattle.bank_model.specs.Judging as rules;
 ghost use Rattle.bank_model.specs.Judging.{refused, first_of, transfer_code, modify_code, cancel_code};
 
-use bank_model::Setup;
+use bank_model::{Setup, is_after, is_positive};
 use ofx_types::{AcctId, AcctName, Cents, Day, TransferRow, UserId, XferCode, XferInfo};
 
 /// Nothing is refused.
@@ -52,10 +52,10 @@ pub fn judge_transfer(
     requires { IsWithinLimits setup.now }
     ensures { result ≡ transfer_code setup.now user only info.now day balance.0 }
 {
-    if !is_own(setup, user, only, &info.from) {
+    if !setup.is_own(user, only, &info.from) {
         return SOURCE_NOT_FOUND;
     }
-    if !is_destination(setup, info) {
+    if !setup.is_destination(info) {
         return DESTINATION_NOT_FOUND;
     }
     if !is_positive(info) {
@@ -135,7 +135,7 @@ fn asked_code(setup: &Setup, found: &TransferRow, info: &XferInfo, day: Day) -> 
     if info.from != found.from {
         return SOURCE_NOT_FOUND;
     }
-    if !is_destination(setup, info) {
+    if !setup.is_destination(info) {
         return DESTINATION_NOT_FOUND;
     }
     if !is_positive(info) {
@@ -153,7 +153,7 @@ fn standing_code(setup: &Setup, user: UserId, only: Option<AcctId>, found: &Tran
     requires { IsWithinLimits setup.now }
     ensures { result ≡ cancel_code setup.now user only (Some found.now) }
 {
-    if !is_own(setup, user, only, &found.from) {
+    if !setup.is_own(user, only, &found.from) {
         return UNKNOWN_SERVER_ID;
     }
     match found.code {
@@ -163,41 +163,6 @@ fn standing_code(setup: &Setup, user: UserId, only: Option<AcctId>, found: &Tran
     }
 }
 
-/// Whether the account of this name is the user's, and the only one that counts.
-fn is_own(setup: &Setup, user: UserId, only: Option<AcctId>, name: &AcctName) -> bool
-    requires { IsWithinLimits setup.now }
-    ensures { result ≡ rules.is_own setup.now user only name.now }
-{
-    match setup.account(name) {
-        Some(account) => setup.owns(user, account) && is_only(only, account),
-        None => false,
-    }
-}
-
-/// Whether it is the account that alone counts, where there is such a one.
-fn is_only(only: Option<AcctId>, account: AcctId) -> bool
-    ensures { result ≡ rules.is_only only account }
-{
-    match only {
-        Some(only) => only.0 == account.0,
-        None => true,
-    }
-}
-
-/// Whether the destination is an account of the bank, and not the source.
-fn is_destination(setup: &Setup, info: &XferInfo) -> bool
-    requires { IsWithinLimits setup.now }
-    ensures { result ≡ rules.is_destination setup.now info.now }
-{
-    setup.account(&info.to).is_some() && info.to != info.from
-}
-
-fn is_positive(info: &XferInfo) -> bool
-    ensures { result ≡ rules.is_positive info.now }
-{
-    info.amount.0 > 0
-}
-
 /// Whether it is due on or before the business day, as it is without a day.
 fn is_due(info: &XferInfo, day: Day) -> bool
     ensures { result ≡ rules.is_due info.now day }
@@ -205,15 +170,5 @@ fn is_due(info: &XferInfo, day: Day) -> bool
     match info.due {
         Some(due) => due.0 <= day.0,
         None => true,
-    }
-}
-
-/// Whether a day stands, and is after the business day.
-fn is_after(due: Option<Day>, day: Day) -> bool
-    ensures { result ≡ rules.is_after due day }
-{
-    match due {
-        Some(due) => day.0 < due.0,
-        None => false,
     }
 }

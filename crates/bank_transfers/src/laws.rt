@@ -1,13 +1,15 @@
 //! What holds of the entries of a bank's history. Nothing here runs: each contract is a law.
 
-ghost use Rattle.std.specs.Prelude.{◌≡◌, ℕ, ◌||◌, ◌∷◌, ◌++◌, [], List};
+ghost use Rattle.std.specs.Prelude.{◌≡◌, ℕ, ◌||◌, ◌∷◌, ◌++◌, [], List, None, false};
 ghost use Rattle.std.specs.List.{All};
 ghost use Rattle.bank_model.specs.declared.entry.Entry.{Entry};
 ghost use Rattle.bank_model.specs.declared.setup.Setup.{Setup};
 ghost use Rattle.bank_model.specs.SetupForm.{IsWithinLimits, openings};
 ghost use Rattle.bank_model.specs.Ledger.{row_in, drops, is_dropped, row_of, posting_of, moved};
 ghost use Rattle.bank_transfers.specs.Growth.{row_after};
+ghost use Rattle.bank_transfers.specs.Lawful.{IsLawful, AreLawful, PostsOnce};
 ghost use Rattle.bank_transfers.specs.Together.{IsInside, balances};
+ghost use Rattle.bank_transfers.specs.TransfersView.{TransfersView, StandsFor};
 
 /// One entry more moves what it posts, behind all that was moved.
 pub fn moved_by_one_more()
@@ -32,4 +34,23 @@ pub fn row_by_one_more()
 pub fn money_stays()
     ensures { (setup : Setup) (entries : List Entry) → IsWithinLimits setup → All (IsInside setup) (moved entries)
         → balances setup entries ≡ openings setup.accounts }
+{}
+
+/// What transfers stand for stays where an entry gives no transfer a row and drops none, as an entry of a recurring
+/// transfer does.
+pub fn models_leave_transfers()
+    ensures { (transfers : TransfersView) (entries : List Entry) (entry : Entry) → StandsFor transfers entries
+        → row_in entry.change ≡ None → ((id : ℕ) → drops id entry.change ≡ false)
+        → StandsFor transfers (entries ++ entry ∷ []) }
+{}
+
+/// Lawful entries stay so with one more that is lawful behind them.
+pub fn lawful_by_one_more()
+    ensures { (entries : List Entry) (entry : Entry) → AreLawful entries → IsLawful entries entry.change
+        → AreLawful (entries ++ entry ∷ []) }
+{}
+
+/// No transfer posts twice, where each entry sets or cancels only a transfer that waits, and a new transfer is new.
+pub fn transfers_post_once()
+    ensures { (entries : List Entry) → AreLawful entries → PostsOnce entries }
 {}

@@ -1,4 +1,4 @@
-//! A bank of two users and two accounts: what is refused there, and what three entries come to.
+//! A bank of two users and two accounts: what is refused there, and what a few entries come to.
 
 ghost use Rattle.std.specs.Prelude.{IfOk};
 ghost use Rattle.bank_model.specs.SetupForm.{IsWithinLimits};
@@ -17,6 +17,8 @@ const ALICE: UserId = UserId(0);
 const BOB: UserId = UserId(1);
 
 const TODAY: Day = Day(19_753);
+
+const YESTERDAY: Day = Day(19_752);
 
 const TOMORROW: Day = Day(19_754);
 
@@ -173,5 +175,39 @@ fn posted_transfers_are_listed(rt: HostRuntime) -> Result<(), Fail> {
     assert_eq!(rt; some.items()[0].amount.0, 7);
     let none = transfers.posted(alloc, &account(alloc, b"1003")?, (Moment(0), None))?;
     assert!(rt; none.items().is_empty());
+    Ok(())
+}
+
+/// A row of a transfer that waits, which the recurring transfer with that id made.
+fn waiting_row(alloc: Global, id: u64, model: u64, due: Day) -> Result<TransferRow, Fail>
+    ensures { IfOk result IsWithinAmounts }
+{
+    let mut waiting = row(alloc, id, 5, XferCode::Waiting, Moment(0))?;
+    waiting.model = model;
+    waiting.due = due;
+    Ok(waiting)
+}
+
+#[test]
+fn the_earliest_of_the_waiting_is_posted_next(rt: HostRuntime) -> Result<(), Fail> {
+    let alloc = rt.alloc();
+    let mut transfers = Transfers::new(alloc);
+    transfers.reserve(5)?;
+    transfers.put(1, waiting_row(alloc, 1, 9, TOMORROW)?);
+    transfers.put(2, waiting_row(alloc, 2, 9, TODAY)?);
+    transfers.put(3, waiting_row(alloc, 3, 0, TODAY)?);
+    assert!(rt; transfers.due_on(YESTERDAY) == None);
+    assert!(rt; transfers.due_on(TOMORROW) == Some(2));
+    let both = transfers.waiting(alloc, 9)?;
+    assert_eq!(rt; both.len(), 2);
+    assert_eq!(rt; both[0], 1);
+    assert_eq!(rt; both[1], 2);
+    transfers.put(4, row(alloc, 2, 5, XferCode::Posted, Moment(20))?);
+    assert!(rt; transfers.due_on(TODAY) == Some(3));
+    transfers.put(5, waiting_row(alloc, 1, 9, TODAY)?);
+    assert!(rt; transfers.due_on(TODAY) == Some(1));
+    let rest = transfers.waiting(alloc, 9)?;
+    assert_eq!(rt; rest.len(), 1);
+    assert_eq!(rt; rest[0], 1);
     Ok(())
 }

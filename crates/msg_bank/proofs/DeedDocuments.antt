@@ -1,30 +1,40 @@
--- The documents of transfer requests and their replies: they print the forms, and those of sound ones are lawful.
-use Rattle.std.proofs.Common.{◌≡◌, ℕ, ◌-◌, ◌<◌, Bool, true, false, cond, nat_eq, List, [], ◌++◌, codes, Option, None, Some, ℤ, refl, ◌∙◌, arith, append-nil}
+-- The documents of deeds and of the answers to them: they print the forms, and those of sound ones are lawful.
+use Rattle.std.proofs.Common.{◌≡◌, ℕ, ◌-◌, ◌<◌, ◌≤◌, Bool, true, false, cond, nat_eq, List, [], ◌++◌, codes, Option, None, Some, ℤ, refl, ◌∙◌, arith, append-nil, append_assoc}
 use Rattle.std.proofs.lemmas.Int.{ints}
 use Rattle.std.specs.Option.{IfSome}
 use Rattle.std.specs.Fmt.{decimal}
 use Rattle.ofx_types.specs.Calendar.{IsMoment, IsDay, midnight}
 use Rattle.ofx_types.specs.Sheet as sheet
+use Rattle.ofx_types.specs.FormWords.{flag_word}
 use Rattle.ofx_types.specs.TransferForm.{code_word, info_of}
+use Rattle.ofx_types.specs.RecurringForm.{freq_word, first_info}
+use Rattle.ofx_types.specs.DeedForm.{family_of, request_name, reply_name}
 use Rattle.ofx_types.specs.TransferText as text
+use Rattle.ofx_types.specs.DeedText as deeds
 use Rattle.ofx_types.specs.declared.account.AcctName.{AcctName}
 use Rattle.ofx_types.specs.declared.number.Day.{Day}
 use Rattle.ofx_types.specs.declared.number.Moment.{Moment}
+use Rattle.ofx_types.specs.declared.recurring.Freq.{Freq}
+use Rattle.ofx_types.specs.declared.recurring.Freq.TheVariants.{Weekly, Biweekly, TwiceMonthly, Monthly, FourWeeks, Bimonthly, Quarterly, Semiannually, Annually}
+use Rattle.ofx_types.specs.declared.recurring.Recur.{Recur}
+use Rattle.ofx_types.specs.declared.recurring.ModelRow.{ModelRow}
 use Rattle.ofx_types.specs.declared.transfer.XferInfo.{XferInfo}
 use Rattle.ofx_types.specs.declared.transfer.Deed.{Deed}
-use Rattle.ofx_types.specs.declared.transfer.Deed.TheVariants.{Transfer, ModifyTransfer, CancelTransfer}
+use Rattle.ofx_types.specs.declared.transfer.Deed.TheVariants.{Transfer, ModifyTransfer, CancelTransfer, Model, ModifyModel, CancelModel}
 use Rattle.ofx_types.specs.declared.transfer.XferCode.{XferCode}
 use Rattle.ofx_types.specs.declared.transfer.XferCode.TheVariants.{Waiting, Posted, NoFunds, Cancelled}
 use Rattle.ofx_types.specs.declared.transfer.TransferRow.{TransferRow}
 use Rattle.ofx_types.specs.declared.transfer.Change.{Change}
-use Rattle.ofx_types.specs.declared.transfer.Change.TheVariants.{NewTransfer, SetTransfer, DropTransfer}
+use Rattle.ofx_types.specs.declared.transfer.Change.TheVariants.{NewTransfer, SetTransfer, DropTransfer, NewModel, SetModel, DropModel}
+use Rattle.ofx_types.specs.declared.transfer.Family.{Family}
+use Rattle.ofx_types.specs.declared.transfer.Family.TheVariants.{Intra, RecIntra, BankMail, Mail}
 use Rattle.ofx_types.specs.declared.transfer.DeedReply.{DeedReply}
 use Rattle.ofx_tree.specs.PrintedForm.{IsElementName}
 use Rattle.ofx_tree.specs.Documents.{Documents, empty, leaf, branch, printed, AreLawful, IsLeaf, IsBranch}
-use Rattle.ofx_tree.proofs.Leaves.{amount_leaf, moment_leaf, number_leaf}
+use Rattle.ofx_tree.proofs.Leaves.{amount_leaf, moment_leaf, number_leaf, flag_leaf}
 use Rattle.msg_bank.specs.AsDocuments.{account_documents}
-use Rattle.msg_bank.specs.DeedsAsDocuments.{due_document, info_documents, request_name, request_documents, deed_documents, processing_documents, model_document, set_documents, change_name, change_documents, change_document, deed_reply_documents, DeedsAreDocuments, DeedsAreLawful, DeedRepliesAreDocuments, DeedRepliesAreLawful}
-use Rattle.msg_bank.specs.Sound.{IsSoundId, IsSoundDay, IsSoundMoment, IsSoundInfo, IsSoundDeed, IsSoundDeedRequest, IsSoundRow, IsSoundChange, IsSoundChangeByCode, IsSoundDeedReply}
+use Rattle.msg_bank.specs.DeedsAsDocuments.{due_document, info_documents, count_document, recur_documents, each_documents, asked_name, request_documents, deed_documents, processing_documents, model_document, set_documents, first_documents, model_documents, change_name, change_documents, change_document, deed_reply_documents, DeedsAreDocuments, DeedsAreLawful, DeedRepliesAreDocuments, DeedRepliesAreLawful}
+use Rattle.msg_bank.specs.Sound.{IsSoundId, IsSoundDay, IsSoundMoment, IsSoundInfo, IsSoundRecur, IsSoundDeed, IsSoundDeedRequest, IsSoundRow, IsSoundModelRow, IsSoundChange, IsSoundChangeByCode, IsSoundDeedReply}
 use Rattle.msg_bank.proofs.Lawful.{named, is_branch, text_leaf, currency_leaf, account_lawful, status_lawful}
 use Rattle.msg_bank.proofs.PrintedDocuments.{account_printed, status_printed}
 
@@ -56,15 +66,35 @@ info_printed : (info : XferInfo) → sheet.aggregate (codes "XFERINFO") (printed
 unfolding text.info_text
 info_printed info = rw (account_printed info.from, account_to_printed info.to, due_printed info.due) refl
 
-request_printed : (deed : Deed) → sheet.aggregate (request_name deed) (printed (request_documents deed)) ≡ text.request_text deed
-unfolding text.request_text
-request_printed (Transfer info) = rw (append-nil, info_printed info) refl
-request_printed (ModifyTransfer id info) = rw (append-nil, info_printed info) refl
+-- a count in front of more
+count_printed : (count : Option ℕ) (behind : Documents) → printed (count_document count behind) ≡ deeds.count_text count ++ printed behind
+unfolding deeds.count_text
+count_printed None behind = refl
+count_printed (Some count) behind = refl
+
+recur_printed : (recur : Recur) → sheet.aggregate (codes "RECURRINST") (printed (recur_documents recur)) ≡ deeds.recur_text recur
+unfolding deeds.recur_text
+recur_printed recur = rw (count_printed recur.count _, append-nil) refl
+
+each_printed : (info : XferInfo) → printed (each_documents info) ≡ text.info_text info
+each_printed info = append-nil _ ∙ info_printed info
+
+inner_printed : (info : XferInfo) → sheet.aggregate (codes "INTRARQ") (printed (each_documents info)) ≡ deeds.each_text info
+unfolding deeds.each_text
+inner_printed info = rw (each_printed info) refl
+
+request_printed : (deed : Deed) → sheet.aggregate (asked_name deed) (printed (request_documents deed)) ≡ deeds.request_text deed
+unfolding deeds.request_text
+request_printed (Transfer info) = rw (each_printed info) refl
+request_printed (ModifyTransfer id info) = rw (each_printed info) refl
 request_printed (CancelTransfer id) = rw append-nil refl
+request_printed (Model recur info) = rw (recur_printed recur, inner_printed info, append-nil) refl
+request_printed (ModifyModel id recur info pending) = rw (recur_printed recur, inner_printed info, append-nil) refl
+request_printed (CancelModel id pending) = rw append-nil refl
 
 pub deeds_printed : DeedsAreDocuments
-unfolding text.deed_text
-deeds_printed trnuid deed behind = rw (append-nil (sheet.aggregate (request_name deed) (printed (request_documents deed))), request_printed deed) refl
+unfolding deeds.deed_text
+deeds_printed trnuid deed behind = rw (append-nil (sheet.aggregate (asked_name deed) (printed (request_documents deed))), request_printed deed) refl
 
 processing_printed : (code : XferCode) (stamp : Moment) → sheet.aggregate (codes "XFERPRCSTS") (printed (processing_documents code stamp)) ≡ text.processing_text code stamp
 unfolding text.processing_text
@@ -79,20 +109,32 @@ model_printed : (model : ℕ) (behind : Documents) → printed (model_document m
 unfolding text.model_text
 model_printed model behind = model_with-printed (nat_eq model 0) model behind
 
-change_printed : (change : Change) → sheet.aggregate (change_name change) (printed (change_documents change)) ≡ text.change_text change
-unfolding text.change_text
+first_printed : (row : ModelRow) → sheet.aggregate (codes "INTRARS") (printed (first_documents row)) ≡ deeds.first_text row
+unfolding deeds.first_text
+first_printed row = rw (info_printed (first_info row), append-nil) refl
+
+model_row_printed : (row : ModelRow) (behind : Documents) → printed (model_documents row behind) ≡ deeds.model_row_text row ++ printed behind
+unfolding deeds.model_row_text
+model_row_printed row behind =
+    rw (recur_printed row.recur, first_printed row, append_assoc, append_assoc (deeds.recur_text row.recur) (deeds.first_text row) (printed behind)) refl
+
+change_printed : (change : Change) → sheet.aggregate (change_name change) (printed (change_documents change)) ≡ deeds.change_text change
+unfolding deeds.change_text
 change_printed (NewTransfer row) =
     rw (info_printed (info_of row), model_printed row.model (branch (codes "XFERPRCSTS") (processing_documents row.code row.stamp) empty), processing_printed row.code row.stamp, append-nil) refl
 change_printed (SetTransfer row) = rw (info_printed (info_of row), processing_printed row.code row.stamp, append-nil) refl
 change_printed (DropTransfer id) = rw append-nil refl
+change_printed (NewModel row) = rw (model_row_printed row empty, append-nil) refl
+change_printed (SetModel row pending) = rw (model_row_printed row _, append-nil) refl
+change_printed (DropModel id pending) = rw append-nil refl
 
-maybe_change_printed : (change : Option Change) → printed (change_document change) ≡ text.maybe_change_text change
-unfolding text.maybe_change_text
+maybe_change_printed : (change : Option Change) → printed (change_document change) ≡ deeds.maybe_change_text change
+unfolding deeds.maybe_change_text
 maybe_change_printed None = refl
 maybe_change_printed (Some change) = append-nil _ ∙ change_printed change
 
 pub deed_replies_printed : DeedRepliesAreDocuments
-unfolding text.deed_reply_text
+unfolding deeds.deed_reply_text
 deed_replies_printed reply behind = rw (status_printed reply.code, maybe_change_printed reply.change) refl
 
 -- ---- they are lawful
@@ -132,26 +174,82 @@ pub info_in_lawful : (room : ℕ) (info : XferInfo) (behind : Documents) → 1 <
 info_in_lawful room info behind some i more =
     (is_branch (codes "XFERINFO") refl refl refl, omega arith, info_lawful (room - 1) info (omega arith) i, more)
 
-request_branch : (deed : Deed) → IsBranch (request_name deed)
+pub freq_leaf : (freq : Freq) → IsLeaf (codes "FREQ") (freq_word freq)
+freq_leaf Weekly = record { has_name = named (codes "FREQ") refl refl; is_text = record { is_trimmed = refl; is_clean = refl; is_short = omega arith }; is_there = omega arith }
+freq_leaf Biweekly = record { has_name = named (codes "FREQ") refl refl; is_text = record { is_trimmed = refl; is_clean = refl; is_short = omega arith }; is_there = omega arith }
+freq_leaf TwiceMonthly = record { has_name = named (codes "FREQ") refl refl; is_text = record { is_trimmed = refl; is_clean = refl; is_short = omega arith }; is_there = omega arith }
+freq_leaf Monthly = record { has_name = named (codes "FREQ") refl refl; is_text = record { is_trimmed = refl; is_clean = refl; is_short = omega arith }; is_there = omega arith }
+freq_leaf FourWeeks = record { has_name = named (codes "FREQ") refl refl; is_text = record { is_trimmed = refl; is_clean = refl; is_short = omega arith }; is_there = omega arith }
+freq_leaf Bimonthly = record { has_name = named (codes "FREQ") refl refl; is_text = record { is_trimmed = refl; is_clean = refl; is_short = omega arith }; is_there = omega arith }
+freq_leaf Quarterly = record { has_name = named (codes "FREQ") refl refl; is_text = record { is_trimmed = refl; is_clean = refl; is_short = omega arith }; is_there = omega arith }
+freq_leaf Semiannually = record { has_name = named (codes "FREQ") refl refl; is_text = record { is_trimmed = refl; is_clean = refl; is_short = omega arith }; is_there = omega arith }
+freq_leaf Annually = record { has_name = named (codes "FREQ") refl refl; is_text = record { is_trimmed = refl; is_clean = refl; is_short = omega arith }; is_there = omega arith }
+
+count_lawful : (room : ℕ) (count : Option ℕ) (behind : Documents) → IfSome count (λ (n : ℕ). (0 < n) × (n ≤ 999)) → AreLawful room behind →
+    AreLawful room (count_document count behind)
+count_lawful room None behind h more = more
+count_lawful room (Some count) behind h more =
+    let small : count ≤ 999 = h.1 in (number_leaf (codes "NINSTS") count (named (codes "NINSTS") refl refl) (omega arith), more)
+
+pub recur_lawful : (room : ℕ) (recur : Recur) → IsSoundRecur recur → AreLawful room (recur_documents recur)
+recur_lawful room recur r = count_lawful room recur.count _ r (freq_leaf recur.freq, tt)
+
+-- RECURRINST in front of more
+recur_in_lawful : (room : ℕ) (recur : Recur) (behind : Documents) → 0 < room → IsSoundRecur recur → AreLawful room behind →
+    AreLawful room (branch (codes "RECURRINST") (recur_documents recur) behind)
+recur_in_lawful room recur behind some r more = (is_branch (codes "RECURRINST") refl refl refl, some, recur_lawful (room - 1) recur r, more)
+
+pub each_lawful : (room : ℕ) (info : XferInfo) → 1 < room → IsSoundInfo info → AreLawful room (each_documents info)
+each_lawful room info some i = info_in_lawful room info empty some i tt
+
+-- the inner INTRARQ in front of more
+each_in_lawful : (room : ℕ) (info : XferInfo) (behind : Documents) → 2 < room → IsSoundInfo info → AreLawful room behind →
+    AreLawful room (branch (codes "INTRARQ") (each_documents info) behind)
+each_in_lawful room info behind some i more =
+    (is_branch (codes "INTRARQ") refl refl refl, omega arith, each_lawful (room - 1) info (omega arith) i, more)
+
+flag_lawful : (room : ℕ) (name : List ℕ) (flag : Bool) → IsElementName name → AreLawful room (leaf name (flag_word flag) empty)
+flag_lawful room name flag n = (flag_leaf name flag n, tt)
+
+request_branch : (deed : Deed) → IsBranch (asked_name deed)
 request_branch (Transfer info) = is_branch (codes "INTRARQ") refl refl refl
 request_branch (ModifyTransfer id info) = is_branch (codes "INTRAMODRQ") refl refl refl
 request_branch (CancelTransfer id) = is_branch (codes "INTRACANRQ") refl refl refl
+request_branch (Model recur info) = is_branch (codes "RECINTRARQ") refl refl refl
+request_branch (ModifyModel id recur info pending) = is_branch (codes "RECINTRAMODRQ") refl refl refl
+request_branch (CancelModel id pending) = is_branch (codes "RECINTRACANRQ") refl refl refl
 
-pub request_lawful : (room : ℕ) (deed : Deed) → 1 < room → IsSoundDeed deed → AreLawful room (request_documents deed)
-request_lawful room (Transfer info) some d = info_in_lawful room info empty some d tt
+pub request_lawful : (room : ℕ) (deed : Deed) → 2 < room → IsSoundDeed deed → AreLawful room (request_documents deed)
+request_lawful room (Transfer info) some d = each_lawful room info (omega arith) d
 request_lawful room (ModifyTransfer id info) some d =
-    (id_leaf (codes "SRVRTID") id (named (codes "SRVRTID") refl refl) d.0, info_in_lawful room info empty some d.1 tt)
+    (id_leaf (codes "SRVRTID") id (named (codes "SRVRTID") refl refl) d.0, each_lawful room info (omega arith) d.1)
 request_lawful room (CancelTransfer id) some d = (id_leaf (codes "SRVRTID") id (named (codes "SRVRTID") refl refl) d, tt)
+request_lawful room (Model recur info) some d =
+    recur_in_lawful room recur (branch (codes "INTRARQ") (each_documents info) empty) (omega arith) d.0 (each_in_lawful room info empty some d.1 tt)
+request_lawful room (ModifyModel id recur info pending) some d =
+    let flag = leaf (codes "MODPENDING") (flag_word pending) empty in
+    let flagged = flag_lawful room (codes "MODPENDING") pending (named (codes "MODPENDING") refl refl) in (
+      id_leaf (codes "RECSRVRTID") id (named (codes "RECSRVRTID") refl refl) d.0,
+      recur_in_lawful room recur (branch (codes "INTRARQ") (each_documents info) flag) (omega arith) d.1 (each_in_lawful room info flag some d.2 flagged),
+    )
+request_lawful room (CancelModel id pending) some d =
+    (id_leaf (codes "RECSRVRTID") id (named (codes "RECSRVRTID") refl refl) d, flag_lawful room (codes "CANPENDING") pending (named (codes "CANPENDING") refl refl))
 
-pub deed_lawful : (room : ℕ) (trnuid : List ℕ) (deed : Deed) → 2 < room → IsSoundDeedRequest trnuid deed → AreLawful room (deed_documents trnuid deed)
+pub deed_lawful : (room : ℕ) (trnuid : List ℕ) (deed : Deed) → 3 < room → IsSoundDeedRequest trnuid deed → AreLawful room (deed_documents trnuid deed)
 deed_lawful room trnuid deed some d = (
   text_leaf (codes "TRNUID") 36 trnuid (named (codes "TRNUID") refl refl) d.is_uid,
   (request_branch deed, omega arith, request_lawful (room - 1) deed (omega arith) d.is_deed, tt),
 )
 
+transaction_branch : (family : Family) → IsBranch (request_name family)
+transaction_branch Intra = is_branch (codes "INTRATRNRQ") refl refl refl
+transaction_branch RecIntra = is_branch (codes "RECINTRATRNRQ") refl refl refl
+transaction_branch BankMail = is_branch (codes "BANKMAILTRNRQ") refl refl refl
+transaction_branch Mail = is_branch (codes "MAILTRNRQ") refl refl refl
+
 pub deeds_lawful : DeedsAreLawful
 deeds_lawful room trnuid deed behind some d more =
-    (is_branch (codes "INTRATRNRQ") refl refl refl, omega arith, deed_lawful (room - 1) trnuid deed (omega arith) d, more)
+    (transaction_branch (family_of deed), omega arith, deed_lawful (room - 1) trnuid deed (omega arith) d, more)
 
 pub processing_lawful : (room : ℕ) (code : XferCode) (stamp : Moment) → IsSoundMoment stamp → AreLawful room (processing_documents code stamp)
 processing_lawful room code stamp m = (code_leaf code, (moment_leaf (codes "DTXFERPRC") stamp.0 (named (codes "DTXFERPRC") refl refl) m, tt))
@@ -177,27 +275,62 @@ pub set_lawful : (room : ℕ) (row : TransferRow) → 1 < room → IsSoundRow ro
 set_lawful room row some r =
     (id_leaf (codes "SRVRTID") row.id (named (codes "SRVRTID") refl refl) r.id, info_in_lawful room (info_of row) (branch (codes "XFERPRCSTS") (processing_documents row.code row.stamp) empty) some r.info (processing_in_lawful room row (omega arith) r))
 
+pub first_lawful : (room : ℕ) (row : ModelRow) → 1 < room → IsSoundModelRow row → AreLawful room (first_documents row)
+first_lawful room row some r = (
+  currency_leaf,
+  (
+    id_leaf (codes "SRVRTID") row.id (named (codes "SRVRTID") refl refl) r.id,
+    info_in_lawful room (first_info row) (leaf (codes "RECSRVRTID") (decimal row.id) empty) some r.info
+        (id_leaf (codes "RECSRVRTID") row.id (named (codes "RECSRVRTID") refl refl) r.id, tt),
+  ),
+)
+
+-- what is said of a recurring transfer, in front of more
+model_in_lawful : (room : ℕ) (row : ModelRow) (behind : Documents) → 2 < room → IsSoundModelRow row → AreLawful room behind →
+    AreLawful room (model_documents row behind)
+model_in_lawful room row behind some r more = (
+  id_leaf (codes "RECSRVRTID") row.id (named (codes "RECSRVRTID") refl refl) r.id,
+  recur_in_lawful room row.recur (branch (codes "INTRARS") (first_documents row) behind) (omega arith) r.recur
+      (is_branch (codes "INTRARS") refl refl refl, omega arith, first_lawful (room - 1) row (omega arith) r, more),
+)
+
 change_branch : (change : Change) → IsBranch (change_name change)
 change_branch (NewTransfer row) = is_branch (codes "INTRARS") refl refl refl
 change_branch (SetTransfer row) = is_branch (codes "INTRAMODRS") refl refl refl
 change_branch (DropTransfer id) = is_branch (codes "INTRACANRS") refl refl refl
+change_branch (NewModel row) = is_branch (codes "RECINTRARS") refl refl refl
+change_branch (SetModel row pending) = is_branch (codes "RECINTRAMODRS") refl refl refl
+change_branch (DropModel id pending) = is_branch (codes "RECINTRACANRS") refl refl refl
 
-pub change_lawful : (room : ℕ) (change : Change) → 1 < room → IsSoundChange change → AreLawful room (change_documents change)
-change_lawful room (NewTransfer row) some c = new_lawful room (nat_eq row.model 0) row some c.0 c.1
-change_lawful room (SetTransfer row) some c = set_lawful room row some c
+pub change_lawful : (room : ℕ) (change : Change) → 2 < room → IsSoundChange change → AreLawful room (change_documents change)
+change_lawful room (NewTransfer row) some c = new_lawful room (nat_eq row.model 0) row (omega arith) c.0 c.1
+change_lawful room (SetTransfer row) some c = set_lawful room row (omega arith) c
 change_lawful room (DropTransfer id) some c = (id_leaf (codes "SRVRTID") id (named (codes "SRVRTID") refl refl) c, tt)
+change_lawful room (NewModel row) some c = model_in_lawful room row empty some c tt
+change_lawful room (SetModel row pending) some c =
+    model_in_lawful room row (leaf (codes "MODPENDING") (flag_word pending) empty) some c
+    (flag_lawful room (codes "MODPENDING") pending (named (codes "MODPENDING") refl refl))
+change_lawful room (DropModel id pending) some c =
+    (id_leaf (codes "RECSRVRTID") id (named (codes "RECSRVRTID") refl refl) c, flag_lawful room (codes "CANPENDING") pending (named (codes "CANPENDING") refl refl))
 
-maybe_change_lawful : (room code : ℕ) (change : Option Change) → 2 < room → IsSoundChangeByCode code change → AreLawful room (change_document change)
-maybe_change_lawful room code None some c = tt
-maybe_change_lawful room code (Some change) some c = (change_branch change, omega arith, change_lawful (room - 1) change (omega arith) c.1, tt)
+maybe_change_lawful : (room code : ℕ) (family : Family) (change : Option Change) → 3 < room → IsSoundChangeByCode code family change →
+    AreLawful room (change_document change)
+maybe_change_lawful room code family None some c = tt
+maybe_change_lawful room code family (Some change) some c = (change_branch change, omega arith, change_lawful (room - 1) change (omega arith) c.2, tt)
 
-pub deed_reply_lawful : (room : ℕ) (reply : DeedReply) → 2 < room → IsSoundDeedReply reply →
+pub deed_reply_lawful : (room : ℕ) (reply : DeedReply) → 3 < room → IsSoundDeedReply reply →
     AreLawful room (deed_reply_documents reply.trnuid reply.code reply.change)
 deed_reply_lawful room reply some r = (
   text_leaf (codes "TRNUID") 36 reply.trnuid (named (codes "TRNUID") refl refl) r.is_uid,
-  (is_branch (codes "STATUS") refl refl refl, omega arith, status_lawful (room - 1) reply.code r.is_code, maybe_change_lawful room reply.code reply.change some r.is_change),
+  (is_branch (codes "STATUS") refl refl refl, omega arith, status_lawful (room - 1) reply.code r.is_code, maybe_change_lawful room reply.code reply.family reply.change some r.is_change),
 )
+
+answer_branch : (family : Family) → IsBranch (reply_name family)
+answer_branch Intra = is_branch (codes "INTRATRNRS") refl refl refl
+answer_branch RecIntra = is_branch (codes "RECINTRATRNRS") refl refl refl
+answer_branch BankMail = is_branch (codes "BANKMAILTRNRS") refl refl refl
+answer_branch Mail = is_branch (codes "MAILTRNRS") refl refl refl
 
 pub deed_replies_lawful : DeedRepliesAreLawful
 deed_replies_lawful room reply behind some r more =
-    (is_branch (codes "INTRATRNRS") refl refl refl, omega arith, deed_reply_lawful (room - 1) reply (omega arith) r, more)
+    (answer_branch reply.family, omega arith, deed_reply_lawful (room - 1) reply (omega arith) r, more)

@@ -1,32 +1,38 @@
--- Sound transfer replies read back as they were written, a changed row with model 0.
-use Rattle.std.proofs.Common.{◌≡◌, ◌≢◌, ℕ, inl, inr, Bool, true, false, not, ◌&&◌, nat_eq, filter, List, [], codes, Option, None, Some, refl, ap, ◌∙◌, arith}
+-- Sound answers to deeds read back as they were written, a changed transfer with model 0.
+use Rattle.std.proofs.Common.{◌≡◌, ◌≢◌, ℕ, inl, inr, Bool, true, false, not, ◌&&◌, nat_eq, filter, List, [], codes, Option, None, Some, ◌⊎◌, refl, ap, subst, ◌∙◌, arith}
 use Rattle.std.proofs.lemmas.Grind.{common_steps}
 use Rattle.std.specs.Fmt.{decimal}
 use Rattle.std.specs.Option.{option_map}
-use Rattle.ofx_types.specs.FormWords.{has_name, is_absent, IsOnly}
+use Rattle.ofx_types.specs.FormWords.{has_name, is_absent, IsOnly, IsOnlyOf}
 use Rattle.ofx_types.specs.Nodes.{Item}
 use Rattle.ofx_types.specs.TagNames.{is_one_of}
 use Rattle.ofx_types.specs.ReplyReading.{code_of, status_of}
-use Rattle.ofx_types.specs.TransferForm.{info_of, code_word, IsProcessing, IsRow, transfer_replies, IsTransferReply, IsChangeByCode}
+use Rattle.ofx_types.specs.TransferForm.{info_of, code_word, IsProcessing, IsRow}
+use Rattle.ofx_types.specs.RecurringForm.{first_info, IsModelRow}
+use Rattle.ofx_types.specs.DeedForm.{reply_name, replies_in, IsChange, IsChangeByCode}
 use Rattle.ofx_types.specs.declared.number.Moment.{Moment}
+use Rattle.ofx_types.specs.declared.recurring.ModelRow.{ModelRow}
 use Rattle.ofx_types.specs.declared.transfer.XferCode.{XferCode}
 use Rattle.ofx_types.specs.declared.transfer.XferCode.TheVariants.{Cancelled}
 use Rattle.ofx_types.specs.declared.transfer.TransferRow.{TransferRow}
 use Rattle.ofx_types.specs.declared.transfer.Change.{Change}
-use Rattle.ofx_types.specs.declared.transfer.Change.TheVariants.{NewTransfer, SetTransfer, DropTransfer}
+use Rattle.ofx_types.specs.declared.transfer.Change.TheVariants.{NewTransfer, SetTransfer, DropTransfer, NewModel, SetModel, DropModel}
+use Rattle.ofx_types.specs.declared.transfer.Family.{Family}
+use Rattle.ofx_types.specs.declared.transfer.Family.TheVariants.{Intra, RecIntra}
 use Rattle.ofx_tree.specs.Documents.{leaf_item, branch_item, items_of}
 use Rattle.ofx_tree.proofs.FormLaws.{bind_to, one_again, text_in_found, moment_in_found}
 use Rattle.ofx_tree.proofs.DocumentItems.{children_of_branch, named_of_branch, value_of_leaf}
 use Rattle.ofx_tree.proofs.Leaves.{text_of_leaf, moment_of_leaf}
-use Rattle.msg_bank.specs.DeedsAsDocuments.{info_documents, processing_documents, set_documents, change_name, change_documents, change_document, deed_reply_documents, DeedRepliesReadBack}
-use Rattle.msg_bank.specs.Sound.{IsSoundId, IsSoundMoment, IsSoundRow, IsSoundChange, IsSoundChangeByCode}
+use Rattle.msg_bank.specs.DeedsAsDocuments.{info_documents, recur_documents, processing_documents, set_documents, first_documents, change_name, change_documents, change_document, deed_reply_documents, DeedRepliesReadBack}
+use Rattle.msg_bank.specs.Sound.{IsSoundId, IsSoundMoment, IsSoundRow, IsSoundModelRow, IsSoundChange, family_of_change, IsSoundChangeByCode}
+use Rattle.msg_bank.specs.Laws.{deed_reply_names}
 use Rattle.msg_bank.specs.Wire.{without_model, wire_change, wire}
 use Rattle.msg_bank.proofs.Lawful.{named}
 use Rattle.msg_bank.proofs.Statuses.{status_found}
 use Rattle.msg_bank.proofs.RepliesBack.{statuses_back}
 use Rattle.msg_bank.proofs.DeedReplies.{reply_again}
-use Rattle.msg_bank.proofs.DeedDocuments.{new_with, code_leaf, processing_lawful, new_lawful, set_lawful, change_lawful, deed_reply_lawful}
-use Rattle.msg_bank.proofs.DeedsBack.{is_id_of_leaf, only_in_front, info_stands}
+use Rattle.msg_bank.proofs.DeedDocuments.{new_with, code_leaf, processing_lawful, new_lawful, set_lawful, first_lawful, change_lawful, deed_reply_lawful}
+use Rattle.msg_bank.proofs.DeedsBack.{is_id_of_leaf, is_flag_of_leaf, only_in_front, info_stands, recur_stands}
 
 -- ---- how far a transfer is
 
@@ -61,7 +67,7 @@ row_stands first one second two third three reply row r id info processing = rec
 }
 
 new_stands : (place index : ℕ) (is_none : Bool) (row : TransferRow) → nat_eq row.model 0 ≡ is_none → IsSoundRow row → IsSoundId row.model →
-    IsTransferReply (branch_item place index (codes "INTRARS") (new_with is_none row)) (NewTransfer row)
+    IsChange (branch_item place index (codes "INTRARS") (new_with is_none row)) (NewTransfer row)
 new_stands place index true row none r m =
     let inner = new_with true row in
     let lawful = new_lawful 2 true row (omega arith) r m in
@@ -83,7 +89,7 @@ new_stands place index false row some r m =
     (refl, stands, inr (is_id_of_leaf (codes "RECSRVRTID") row.model _ _ item (named (codes "RECSRVRTID") refl refl) m (named_of_branch place index 2 (codes "INTRARS") (codes "RECSRVRTID") inner lawful)))
 
 set_stands : (place index : ℕ) (row : TransferRow) → IsSoundRow row →
-    IsTransferReply (branch_item place index (codes "INTRAMODRS") (set_documents row)) (SetTransfer (without_model row))
+    IsChange (branch_item place index (codes "INTRAMODRS") (set_documents row)) (SetTransfer (without_model row))
 set_stands place index row r =
     let inner = set_documents row in
     let lawful = set_lawful 2 row (omega arith) r in
@@ -94,35 +100,104 @@ set_stands place index row r =
     (named_of_branch place index 2 (codes "INTRAMODRS") (codes "XFERPRCSTS") inner lawful) in
     (refl, record { id = stands.id; info = stands.info; processing = stands.processing }, refl)
 
+-- ---- rows of recurring transfers
+
+model_stands : (first one second two third three : ℕ) (reply : Item) (row : ModelRow) → IsSoundModelRow row
+    → IsOnly (codes "RECSRVRTID") reply (leaf_item first one (codes "RECSRVRTID") (decimal row.id))
+    → IsOnly (codes "RECURRINST") reply (branch_item second two (codes "RECURRINST") (recur_documents row.recur))
+    → IsOnly (codes "INTRARS") reply (branch_item third three (codes "INTRARS") (first_documents row))
+    → IsModelRow reply row
+model_stands first one second two third three reply row r id recur intrars =
+    let inner = first_documents row in
+    let lawful = first_lawful 2 row (omega arith) r in
+    let item = branch_item third three (codes "INTRARS") inner in
+    record {
+      id = is_id_of_leaf (codes "RECSRVRTID") row.id first one reply (named (codes "RECSRVRTID") refl refl) r.id id;
+      recur = (_, recur, recur_stands second two row.recur r.recur);
+      is_first = record {
+        intrars = item;
+        has_intrars = intrars;
+        id = row.id;
+        has_id = is_id_of_leaf (codes "SRVRTID") row.id _ _ item (named (codes "SRVRTID") refl refl) r.id (named_of_branch third three 2 (codes "INTRARS") (codes "SRVRTID") inner lawful);
+        has_info = (_, named_of_branch third three 2 (codes "INTRARS") (codes "XFERINFO") inner lawful, info_stands _ _ (first_info row) r.info);
+        model = row.id;
+        has_model = inr (is_id_of_leaf (codes "RECSRVRTID") row.id _ _ item (named (codes "RECSRVRTID") refl refl) r.id (named_of_branch third three 2 (codes "INTRARS") (codes "RECSRVRTID") inner lawful));
+      };
+    }
+
 -- ---- changes
 
-change_stands : (place index : ℕ) (change : Change) → IsSoundChange change → IsTransferReply (branch_item place index (change_name change) (change_documents change)) (wire_change change)
+change_stands : (place index : ℕ) (change : Change) → IsSoundChange change → IsChange (branch_item place index (change_name change) (change_documents change)) (wire_change change)
 change_stands place index (NewTransfer row) c = new_stands place index (nat_eq row.model 0) row refl c.0 c.1
 change_stands place index (SetTransfer row) c = set_stands place index row c
 change_stands place index (DropTransfer id) c =
     let inner = change_documents (DropTransfer id) in
-    let lawful = change_lawful 2 (DropTransfer id) (omega arith) c in
+    let lawful = change_lawful 3 (DropTransfer id) (omega arith) c in
     let item = branch_item place index (codes "INTRACANRS") inner in
-    (refl, is_id_of_leaf (codes "SRVRTID") id _ _ item (named (codes "SRVRTID") refl refl) c (named_of_branch place index 2 (codes "INTRACANRS") (codes "SRVRTID") inner lawful))
+    (refl, is_id_of_leaf (codes "SRVRTID") id _ _ item (named (codes "SRVRTID") refl refl) c (named_of_branch place index 3 (codes "INTRACANRS") (codes "SRVRTID") inner lawful))
+change_stands place index (NewModel row) c =
+    let inner = change_documents (NewModel row) in
+    let lawful = change_lawful 3 (NewModel row) (omega arith) c in
+    let item = branch_item place index (codes "RECINTRARS") inner in (
+      refl,
+      model_stands _ _ _ _ _ _ item row c
+          (named_of_branch place index 3 (codes "RECINTRARS") (codes "RECSRVRTID") inner lawful)
+          (named_of_branch place index 3 (codes "RECINTRARS") (codes "RECURRINST") inner lawful)
+          (named_of_branch place index 3 (codes "RECINTRARS") (codes "INTRARS") inner lawful),
+    )
+change_stands place index (SetModel row pending) c =
+    let inner = change_documents (SetModel row pending) in
+    let lawful = change_lawful 3 (SetModel row pending) (omega arith) c in
+    let item = branch_item place index (codes "RECINTRAMODRS") inner in (
+      refl,
+      model_stands _ _ _ _ _ _ item row c
+          (named_of_branch place index 3 (codes "RECINTRAMODRS") (codes "RECSRVRTID") inner lawful)
+          (named_of_branch place index 3 (codes "RECINTRAMODRS") (codes "RECURRINST") inner lawful)
+          (named_of_branch place index 3 (codes "RECINTRAMODRS") (codes "INTRARS") inner lawful),
+      is_flag_of_leaf (codes "MODPENDING") pending _ _ item (named (codes "MODPENDING") refl refl) (named_of_branch place index 3 (codes "RECINTRAMODRS") (codes "MODPENDING") inner lawful),
+    )
+change_stands place index (DropModel id pending) c =
+    let inner = change_documents (DropModel id pending) in
+    let lawful = change_lawful 3 (DropModel id pending) (omega arith) c in
+    let item = branch_item place index (codes "RECINTRACANRS") inner in (
+      refl,
+      is_id_of_leaf (codes "RECSRVRTID") id _ _ item (named (codes "RECSRVRTID") refl refl) c (named_of_branch place index 3 (codes "RECINTRACANRS") (codes "RECSRVRTID") inner lawful),
+      is_flag_of_leaf (codes "CANPENDING") pending _ _ item (named (codes "CANPENDING") refl refl) (named_of_branch place index 3 (codes "RECINTRACANRS") (codes "CANPENDING") inner lawful),
+    )
 
--- ---- INTRATRNRS
+-- ---- the transaction
 
-abbrev reply_item : ℕ → ℕ → List ℕ → ℕ → Option Change → Item
-reply_item place index trnuid code change = branch_item place index (codes "INTRATRNRS") (deed_reply_documents trnuid code change)
+abbrev reply_item : ℕ → ℕ → List ℕ → ℕ → Family → Option Change → Item
+reply_item place index trnuid code family change = branch_item place index (reply_name family) (deed_reply_documents trnuid code change)
 
 -- those with the name of a reply
-abbrev replies_of : List Item → List Item
-replies_of items = filter (λ child. is_one_of transfer_replies child.node.name && not (is_absent child.node)) items
+abbrev replies_among : Family → List Item → List Item
+replies_among family items = filter (λ child. is_one_of (replies_in family) child.node.name && not (is_absent child.node)) items
 
-change_by_code_stands : (place index : ℕ) (trnuid : List ℕ) (code : ℕ) (change : Option Change) → IsSoundChangeByCode code change →
-    IsChangeByCode code (reply_item place index trnuid code change) (option_map wire_change change)
-change_by_code_stands place index trnuid code None c = c
-change_by_code_stands place index trnuid code (Some (NewTransfer row)) c =
-    (c.0, (_, ap replies_of (children_of_branch place index (codes "INTRATRNRS") (deed_reply_documents trnuid code (Some (NewTransfer row)))), change_stands _ _ (NewTransfer row) c.1))
-change_by_code_stands place index trnuid code (Some (SetTransfer row)) c =
-    (c.0, (_, ap replies_of (children_of_branch place index (codes "INTRATRNRS") (deed_reply_documents trnuid code (Some (SetTransfer row)))), change_stands _ _ (SetTransfer row) c.1))
-change_by_code_stands place index trnuid code (Some (DropTransfer id)) c =
-    (c.0, (_, ap replies_of (children_of_branch place index (codes "INTRATRNRS") (deed_reply_documents trnuid code (Some (DropTransfer id)))), change_stands _ _ (DropTransfer id) c.1))
+-- what is told of a change in the transaction of a family
+abbrev Told : ℕ → ℕ → List ℕ → ℕ → Change → Family → Type 0
+Told place index trnuid code change family =
+    (reply : Item) × IsOnlyOf (replies_in family) (reply_item place index trnuid code family (Some change)) reply × IsChange reply (wire_change change)
+
+only_reply : (place index : ℕ) (trnuid : List ℕ) (code : ℕ) (change : Change) → IsSoundChange change → Told place index trnuid code change (family_of_change change)
+only_reply place index trnuid code (NewTransfer row) c =
+    (_, ap (replies_among Intra) (children_of_branch place index (codes "INTRATRNRS") (deed_reply_documents trnuid code (Some (NewTransfer row)))), change_stands _ _ (NewTransfer row) c)
+only_reply place index trnuid code (SetTransfer row) c =
+    (_, ap (replies_among Intra) (children_of_branch place index (codes "INTRATRNRS") (deed_reply_documents trnuid code (Some (SetTransfer row)))), change_stands _ _ (SetTransfer row) c)
+only_reply place index trnuid code (DropTransfer id) c =
+    (_, ap (replies_among Intra) (children_of_branch place index (codes "INTRATRNRS") (deed_reply_documents trnuid code (Some (DropTransfer id)))), change_stands _ _ (DropTransfer id) c)
+only_reply place index trnuid code (NewModel row) c =
+    (_, ap (replies_among RecIntra) (children_of_branch place index (codes "RECINTRATRNRS") (deed_reply_documents trnuid code (Some (NewModel row)))), change_stands _ _ (NewModel row) c)
+only_reply place index trnuid code (SetModel row pending) c =
+    (_, ap (replies_among RecIntra) (children_of_branch place index (codes "RECINTRATRNRS") (deed_reply_documents trnuid code (Some (SetModel row pending)))), change_stands _ _ (SetModel row pending) c)
+only_reply place index trnuid code (DropModel id pending) c =
+    (_, ap (replies_among RecIntra) (children_of_branch place index (codes "RECINTRATRNRS") (deed_reply_documents trnuid code (Some (DropModel id pending)))), change_stands _ _ (DropModel id pending) c)
+
+change_by_code_stands : (place index : ℕ) (trnuid : List ℕ) (code : ℕ) (family : Family) (change : Option Change) → IsSoundChangeByCode code family change →
+    IsChangeByCode code family (reply_item place index trnuid code family change) (option_map wire_change change)
+change_by_code_stands place index trnuid code family None c = c
+change_by_code_stands place index trnuid code family (Some change) c =
+    (c.0, subst (Told place index trnuid code change) c.1 (only_reply place index trnuid code change c.2))
 
 -- no change has the name of the uid or of the status
 other_names : (change : Option Change) (place index : ℕ) →
@@ -132,18 +207,26 @@ other_names None place index = (refl, refl)
 other_names (Some (NewTransfer row)) place index = (refl, refl)
 other_names (Some (SetTransfer row)) place index = (refl, refl)
 other_names (Some (DropTransfer id)) place index = (refl, refl)
+other_names (Some (NewModel row)) place index = (refl, refl)
+other_names (Some (SetModel row pending)) place index = (refl, refl)
+other_names (Some (DropModel id pending)) place index = (refl, refl)
+
+is_named : (family : Family) → (family ≡ Intra) ⊎ (family ≡ RecIntra) → is_one_of deed_reply_names (reply_name family) ≡ true
+is_named family (inl h) = rw h refl
+is_named family (inr h) = rw h refl
 
 pub deed_replies_back : DeedRepliesReadBack
 unfolding status_of
 deed_replies_back place index reply r =
+    let name = reply_name reply.family in
     let inner = deed_reply_documents reply.trnuid reply.code reply.change in
-    let item = reply_item place index reply.trnuid reply.code reply.change in
-    let lawful = deed_reply_lawful 3 reply (omega arith) r in
-    let uid = only_in_front (codes "TRNUID") item _ (change_document reply.change) _ _ (other_names reply.change _ _).0 (named_of_branch place index 3 (codes "INTRATRNRS") (codes "TRNUID") inner lawful) in
-    let status = only_in_front (codes "STATUS") item _ (change_document reply.change) _ _ (other_names reply.change _ _).1 (named_of_branch place index 3 (codes "INTRATRNRS") (codes "STATUS") inner lawful) in
-    reply_again item (wire reply) (record {
+    let item = reply_item place index reply.trnuid reply.code reply.family reply.change in
+    let lawful = deed_reply_lawful 4 reply (omega arith) r in
+    let uid = only_in_front (codes "TRNUID") item _ (change_document reply.change) _ _ (other_names reply.change _ _).0 (named_of_branch place index 4 name (codes "TRNUID") inner lawful) in
+    let status = only_in_front (codes "STATUS") item _ (change_document reply.change) _ _ (other_names reply.change _ _).1 (named_of_branch place index 4 name (codes "STATUS") inner lawful) in
+    reply_again item (wire reply) (is_named reply.family r.is_family) (record {
+      is_named = refl;
       has_trnuid = text_in_found (codes "TRNUID") 36 item reply.trnuid (text_of_leaf (codes "TRNUID") reply.trnuid 36 _ _ item lawful.0 r.is_uid.is_within uid);
       has_status = status_found item reply.code (bind_to _ code_of _ (one_again (codes "STATUS") item _ status) ∙ statuses_back _ _ reply.code r.is_code);
-      is_change = change_by_code_stands place index reply.trnuid reply.code reply.change r.is_change;
-      family = r.is_intra;
+      is_change = change_by_code_stands place index reply.trnuid reply.code reply.family reply.change r.is_change;
     })

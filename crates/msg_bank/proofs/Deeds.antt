@@ -1,122 +1,160 @@
--- A transfer request has its form exactly where reading finds it, and its faults have places.
-use Rattle.std.proofs.Common.{◌≡◌, ℕ, inl, inr, Bool, true, false, ◌||◌, List, [], ◌∷◌, Ok, codes, refl, subst, ◌∙◌}
-use Rattle.std.specs.Str.{bytes_eq}
+-- The request of a deed has its form exactly where reading finds it, and its faults have places.
+use Rattle.std.proofs.Common.{◌≡◌, ℕ, inl, inr, true, false, List, Ok, codes, refl, sym, ap, subst, ◌∙◌}
 use Rattle.ofx_types.specs.TagNames.{is_one_of}
 use Rattle.ofx_types.specs.Nodes.{Item}
-use Rattle.ofx_types.specs.FormWords.{has_name, one_of, id_in}
+use Rattle.ofx_types.specs.FormWords.{has_name, one_of, IsOnlyOf}
+use Rattle.ofx_types.specs.MessageForm.{is_named_one_of}
 use Rattle.ofx_types.specs.RequestReading.{trnuid_of}
-use Rattle.ofx_types.specs.TransferForm.{transfer_requests, IsTransferRequest, IsDeed}
-use Rattle.ofx_types.specs.TransferReading.{info_in, transfer_of, modify_of, cancel_of, request_of, deed_of}
+use Rattle.ofx_types.specs.TransferForm.{transfer_requests}
+use Rattle.ofx_types.specs.RecurringForm.{model_requests}
+use Rattle.ofx_types.specs.DeedForm.{family_of, request_name, requests_in, IsDeedRequest, IsDeed}
+use Rattle.ofx_types.specs.DeedReading.{family_asked, request_of, deed_of}
 use Rattle.ofx_types.specs.declared.transfer.Deed.{Deed}
-use Rattle.ofx_types.specs.declared.transfer.Deed.TheVariants.{Transfer, ModifyTransfer, CancelTransfer}
+use Rattle.ofx_types.specs.declared.transfer.Deed.TheVariants.{Transfer, ModifyTransfer, CancelTransfer, Model, ModifyModel, CancelModel}
+use Rattle.ofx_types.specs.declared.transfer.Family.{Family}
+use Rattle.ofx_types.specs.declared.transfer.Family.TheVariants.{Intra, RecIntra, BankMail, Mail}
 use Rattle.ofx_tree.specs.Placed.{Stands, Any, IsWithin}
-use Rattle.ofx_tree.proofs.FormLaws.{bind_ok, bind_to, one_value, chosen, bytes_same, one_of_found, one_of_again, has_one_of, id_in_found, id_in_again}
-use Rattle.ofx_tree.proofs.FormPlaces.{bound, either, one_of_within, id_within}
+use Rattle.ofx_tree.proofs.FormLaws.{bind_ok, bind_to, one_value, chosen, bytes_same, one_of_found, one_of_again, has_one_of}
+use Rattle.ofx_tree.proofs.FormPlaces.{bound, either, one_of_within}
+use Rattle.msg_bank.specs.Laws.{deed_names}
 use Rattle.msg_bank.proofs.StatementLaws.{trnuid_found, trnuid_again}
 use Rattle.msg_bank.proofs.StatementPlaces.{trnuid_within}
-use Rattle.msg_bank.proofs.TransferParts.{info_in_found, info_in_again, info_in_within}
+use Rattle.msg_bank.proofs.Named.{third_name, none_of_three, other_name, name_of_family}
+use Rattle.msg_bank.proofs.TransferRequests.{IsRequestOf, transfer_found, modify_found, cancel_found, transfer_again, modify_again, cancel_again, transfer_within, modify_within, cancel_within}
+use Rattle.msg_bank.proofs.ModelRequests.{model_found, modify_model_found, cancel_model_found, model_again, modify_model_again, cancel_model_again, model_within, modify_model_within, cancel_model_within}
 
--- ---- the name of one of three
+-- ---- the six requests
 
-last_of : (a b c : Bool) → (a || (b || (c || false))) ≡ true → a ≡ false → b ≡ false → c ≡ true
-last_of true b c h other second = cc
-last_of false true c h other second = cc
-last_of false false true h other second = refl
-last_of false false false h other second = cc
-
--- it is the third where it is neither of the others
-pub third_name : (name first second third : List ℕ) → is_one_of (first ∷ second ∷ third ∷ []) name ≡ true →
-    bytes_eq name first ≡ false → bytes_eq name second ≡ false → name ≡ third
-third_name name first second third one other last =
-    bytes_same name third (last_of (bytes_eq name first) (bytes_eq name second) (bytes_eq name third) one other last)
-
--- ---- the three requests
-
-transfer_found : (request : Item) (deed : Deed) → request.node.name ≡ codes "INTRARQ" → transfer_of request ≡ Ok deed → IsTransferRequest request deed
-unfolding transfer_of
-transfer_found request deed name h =
-    let info = bind_ok (info_in request) _ deed h in
-    let P : Deed → Type 0 = λ d. IsTransferRequest request d in
-    subst P (one_value _ _ deed refl info.2) (name, info_in_found request info.0 info.1)
-
-modify_found : (request : Item) (deed : Deed) → request.node.name ≡ codes "INTRAMODRQ" → modify_of request ≡ Ok deed → IsTransferRequest request deed
-unfolding modify_of
-modify_found request deed name h =
-    let id = bind_ok (id_in (codes "SRVRTID") request) _ deed h in
-    let info = bind_ok (info_in request) _ deed id.2 in
-    let P : Deed → Type 0 = λ d. IsTransferRequest request d in
-    subst P (one_value _ _ deed refl info.2) (name, id_in_found (codes "SRVRTID") request id.0 id.1, info_in_found request info.0 info.1)
-
-cancel_found : (request : Item) (deed : Deed) → request.node.name ≡ codes "INTRACANRQ" → cancel_of request ≡ Ok deed → IsTransferRequest request deed
-unfolding cancel_of
-cancel_found request deed name h =
-    let id = bind_ok (id_in (codes "SRVRTID") request) _ deed h in
-    let P : Deed → Type 0 = λ d. IsTransferRequest request d in
-    subst P (one_value _ _ deed refl id.2) (name, id_in_found (codes "SRVRTID") request id.0 id.1)
-
-request_found : (request : Item) (deed : Deed) → is_one_of transfer_requests request.node.name ≡ true → request_of request ≡ Ok deed →
-    IsTransferRequest request deed
+transfer_request : (request : Item) (deed : Deed) → is_one_of transfer_requests request.node.name ≡ true → request_of request ≡ Ok deed →
+    IsRequestOf Intra request deed
 unfolding request_of
-request_found request deed named h = elim (chosen (has_name (codes "INTRARQ") request) _ _ _ h) [
+transfer_request request deed named h = elim (chosen (has_name (codes "INTRARQ") request) _ _ _ h) [
   | inl (is, read) ↦ transfer_found request deed (bytes_same _ _ is) read
-  | inr (other, more) ↦ elim (chosen (has_name (codes "INTRAMODRQ") request) _ _ _ more) [
+  | inr (first, more) ↦ elim (chosen (has_name (codes "INTRAMODRQ") request) _ _ _ more) [
     | inl (is, read) ↦ modify_found request deed (bytes_same _ _ is) read
-    | inr (last, read) ↦ cancel_found request deed (third_name request.node.name _ _ _ named other last) read
+    | inr (second, last) ↦ elim (chosen (has_name (codes "INTRACANRQ") request) _ _ _ last) [
+      | inl (is, read) ↦ cancel_found request deed (bytes_same _ _ is) read
+      | inr (third, read) ↦ absurd (none_of_three _ _ _ named first second third)
+    ]
   ]
 ]
 
-request_again : (request : Item) (deed : Deed) → IsTransferRequest request deed → request_of request ≡ Ok deed
-unfolding request_of transfer_of modify_of cancel_of
-request_again request (Transfer info) (name, has) =
-    let is : has_name (codes "INTRARQ") request ≡ true = rw name refl in
-    rw is (bind_to _ _ info (info_in_again request info has))
-request_again request (ModifyTransfer id info) (name, has_id, has) =
-    let other : has_name (codes "INTRARQ") request ≡ false = rw name refl in
-    let is : has_name (codes "INTRAMODRQ") request ≡ true = rw name refl in
-    rw (other, is)
-    (bind_to _ _ id (id_in_again (codes "SRVRTID") request id has_id) ∙ bind_to _ _ info (info_in_again request info has))
-request_again request (CancelTransfer id) (name, has_id) =
-    let other : has_name (codes "INTRARQ") request ≡ false = rw name refl in
-    let last : has_name (codes "INTRAMODRQ") request ≡ false = rw name refl in
-    rw (other, last) (bind_to _ _ id (id_in_again (codes "SRVRTID") request id has_id))
+model_request : (request : Item) (deed : Deed) → is_one_of model_requests request.node.name ≡ true → request_of request ≡ Ok deed →
+    IsRequestOf RecIntra request deed
+unfolding request_of
+model_request request deed named h = elim (chosen (has_name (codes "INTRARQ") request) _ _ _ h) [
+  | inl (is, read) ↦ absurd (other_name model_requests request.node.name (codes "INTRARQ") refl named (bytes_same request.node.name (codes "INTRARQ") is))
+  | inr (_, behind) ↦ elim (chosen (has_name (codes "INTRAMODRQ") request) _ _ _ behind) [
+    | inl (is, read) ↦ absurd (other_name model_requests request.node.name (codes "INTRAMODRQ") refl named (bytes_same request.node.name (codes "INTRAMODRQ") is))
+    | inr (_, next) ↦ elim (chosen (has_name (codes "INTRACANRQ") request) _ _ _ next) [
+      | inl (is, read) ↦ absurd (other_name model_requests request.node.name (codes "INTRACANRQ") refl named (bytes_same request.node.name (codes "INTRACANRQ") is))
+      | inr (_, more) ↦ elim (chosen (has_name (codes "RECINTRARQ") request) _ _ _ more) [
+        | inl (is, read) ↦ model_found request deed (bytes_same _ _ is) read
+        | inr (first, last) ↦ elim (chosen (has_name (codes "RECINTRAMODRQ") request) _ _ _ last) [
+          | inl (is, read) ↦ modify_model_found request deed (bytes_same _ _ is) read
+          | inr (second, read) ↦ cancel_model_found request deed (third_name request.node.name _ _ _ named first second) read
+        ]
+      ]
+    ]
+  ]
+]
+
+request_found : (family : Family) (request : Item) (deed : Deed) → is_one_of (requests_in family) request.node.name ≡ true →
+    request_of request ≡ Ok deed → IsRequestOf family request deed
+request_found Intra request deed named h = transfer_request request deed named h
+request_found RecIntra request deed named h = model_request request deed named h
+request_found BankMail request deed named h = cc
+request_found Mail request deed named h = cc
+
+request_again : (request : Item) (deed : Deed) → IsDeedRequest request deed → request_of request ≡ Ok deed
+unfolding request_of
+request_again request (Transfer info) r =
+    let is : has_name (codes "INTRARQ") request ≡ true = rw r.0 refl in
+    rw is (transfer_again request info r.1)
+request_again request (ModifyTransfer id info) r =
+    let first : has_name (codes "INTRARQ") request ≡ false = rw r.0 refl in
+    let is : has_name (codes "INTRAMODRQ") request ≡ true = rw r.0 refl in
+    rw (first, is) (modify_again request id info r)
+request_again request (CancelTransfer id) r =
+    let first : has_name (codes "INTRARQ") request ≡ false = rw r.0 refl in
+    let second : has_name (codes "INTRAMODRQ") request ≡ false = rw r.0 refl in
+    let is : has_name (codes "INTRACANRQ") request ≡ true = rw r.0 refl in
+    rw (first, second, is) (cancel_again request id r)
+request_again request (Model recur info) r =
+    let first : has_name (codes "INTRARQ") request ≡ false = rw r.0 refl in
+    let second : has_name (codes "INTRAMODRQ") request ≡ false = rw r.0 refl in
+    let third : has_name (codes "INTRACANRQ") request ≡ false = rw r.0 refl in
+    let is : has_name (codes "RECINTRARQ") request ≡ true = rw r.0 refl in
+    rw (first, second, third, is) (model_again request recur info r)
+request_again request (ModifyModel id recur info pending) r =
+    let first : has_name (codes "INTRARQ") request ≡ false = rw r.0 refl in
+    let second : has_name (codes "INTRAMODRQ") request ≡ false = rw r.0 refl in
+    let third : has_name (codes "INTRACANRQ") request ≡ false = rw r.0 refl in
+    let fourth : has_name (codes "RECINTRARQ") request ≡ false = rw r.0 refl in
+    let is : has_name (codes "RECINTRAMODRQ") request ≡ true = rw r.0 refl in
+    rw (first, second, third, fourth, is) (modify_model_again request id recur info pending r)
+request_again request (CancelModel id pending) r =
+    let first : has_name (codes "INTRARQ") request ≡ false = rw r.0 refl in
+    let second : has_name (codes "INTRAMODRQ") request ≡ false = rw r.0 refl in
+    let third : has_name (codes "INTRACANRQ") request ≡ false = rw r.0 refl in
+    let fourth : has_name (codes "RECINTRARQ") request ≡ false = rw r.0 refl in
+    let fifth : has_name (codes "RECINTRAMODRQ") request ≡ false = rw r.0 refl in
+    rw (first, second, third, fourth, fifth) (cancel_model_again request id pending r)
 
 request_within : (most : ℕ) (request : Item) → IsWithin most request → Stands most Any (request_of request)
-unfolding request_of transfer_of modify_of cancel_of
+unfolding request_of
 request_within most request h =
-    either most Any (has_name (codes "INTRARQ") request) _ _
-    (bound most Any Any (info_in request) _ (info_in_within most request h) (λ info _. tt))
-    (either most Any (has_name (codes "INTRAMODRQ") request) _ _
-    (bound most Any Any (id_in (codes "SRVRTID") request) _ (id_within most (codes "SRVRTID") request h) (λ id _.
-    bound most Any Any (info_in request) _ (info_in_within most request h) (λ info _. tt)))
-    (bound most Any Any (id_in (codes "SRVRTID") request) _ (id_within most (codes "SRVRTID") request h) (λ id _. tt)))
+    either most Any (has_name (codes "INTRARQ") request) _ _ (transfer_within most request h)
+    (either most Any (has_name (codes "INTRAMODRQ") request) _ _ (modify_within most request h)
+    (either most Any (has_name (codes "INTRACANRQ") request) _ _ (cancel_within most request h)
+    (either most Any (has_name (codes "RECINTRARQ") request) _ _ (model_within most request h)
+    (either most Any (has_name (codes "RECINTRAMODRQ") request) _ _ (modify_model_within most request h)
+    (cancel_model_within most request h)))))
 
--- ---- INTRATRNRQ
+-- ---- the transaction
 
-pub deed_found : (intratrnrq : Item) (trnuid : List ℕ) (deed : Deed) → deed_of intratrnrq ≡ Ok (trnuid, deed) → IsDeed intratrnrq trnuid deed
+-- its name tells what the deed belongs to
+asked_again : (transaction : Item) (deed : Deed) → transaction.node.name ≡ request_name (family_of deed) → family_asked transaction ≡ family_of deed
+asked_again transaction (Transfer info) name = rw name refl
+asked_again transaction (ModifyTransfer id info) name = rw name refl
+asked_again transaction (CancelTransfer id) name = rw name refl
+asked_again transaction (Model recur info) name = rw name refl
+asked_again transaction (ModifyModel id recur info pending) name = rw name refl
+asked_again transaction (CancelModel id pending) name = rw name refl
+
+pub deed_found : (transaction : Item) (trnuid : List ℕ) (deed : Deed) → is_named_one_of deed_names transaction ≡ true →
+    deed_of transaction ≡ Ok (trnuid, deed) → IsDeed transaction trnuid deed
 unfolding deed_of
-deed_found intratrnrq trnuid deed h =
-    let uid = bind_ok (trnuid_of intratrnrq) _ (trnuid, deed) h in
-    let request = bind_ok (one_of transfer_requests intratrnrq) _ (trnuid, deed) uid.2 in
-    let found = bind_ok (request_of request.0) _ (trnuid, deed) request.2 in
-    let only = one_of_found transfer_requests intratrnrq request.0 request.1 in
-    let P : List ℕ × Deed → Type 0 = λ said. IsDeed intratrnrq said.0 said.1 in
-    subst P (one_value _ _ (trnuid, deed) refl found.2) (record {
-      has_trnuid = trnuid_found intratrnrq uid.0 uid.1;
+deed_found transaction trnuid deed named h =
+    let family = family_asked transaction in
+    let uid = bind_ok (trnuid_of transaction) _ (trnuid, deed) h in
+    let request = bind_ok (one_of (requests_in family) transaction) _ (trnuid, deed) uid.2 in
+    let read = bind_ok (request_of request.0) _ (trnuid, deed) request.2 in
+    let only = one_of_found (requests_in family) transaction request.0 request.1 in
+    let found = request_found family request.0 read.0 (has_one_of (requests_in family) transaction request.0 only) read.1 in
+    let P : List ℕ × Deed → Type 0 = λ said. IsDeed transaction said.0 said.1 in
+    let Only : Family → Type 0 = λ f. IsOnlyOf (requests_in f) transaction request.0 in
+    subst P (one_value _ _ (trnuid, deed) refl read.2) (record {
+      is_named = name_of_family _ _ transaction.node.name request_name refl refl named ∙ ap request_name (sym found.1);
+      has_trnuid = trnuid_found transaction uid.0 uid.1;
       request = request.0;
-      has_request = only;
-      is_request = request_found request.0 found.0 (has_one_of transfer_requests intratrnrq request.0 only) found.1;
+      has_request = subst Only (sym found.1) only;
+      is_request = found.0;
     })
 
-pub deed_again : (intratrnrq : Item) (trnuid : List ℕ) (deed : Deed) → IsDeed intratrnrq trnuid deed → deed_of intratrnrq ≡ Ok (trnuid, deed)
+pub deed_again : (transaction : Item) (trnuid : List ℕ) (deed : Deed) → IsDeed transaction trnuid deed → deed_of transaction ≡ Ok (trnuid, deed)
 unfolding deed_of
-deed_again intratrnrq trnuid deed d =
-    bind_to _ _ trnuid (trnuid_again intratrnrq trnuid d.has_trnuid)
-    ∙ bind_to _ _ d.request (one_of_again transfer_requests intratrnrq d.request d.has_request)
+deed_again transaction trnuid deed d =
+    let Only : Family → Type 0 = λ f. IsOnlyOf (requests_in f) transaction d.request in
+    let only = subst Only (sym (asked_again transaction deed d.is_named)) d.has_request in
+    bind_to _ _ trnuid (trnuid_again transaction trnuid d.has_trnuid)
+    ∙ bind_to _ _ d.request (one_of_again (requests_in (family_asked transaction)) transaction d.request only)
     ∙ bind_to _ _ deed (request_again d.request deed d.is_request)
 
-pub deed_within : (most : ℕ) (intratrnrq : Item) → IsWithin most intratrnrq → Stands most Any (deed_of intratrnrq)
+pub deed_within : (most : ℕ) (transaction : Item) → IsWithin most transaction → Stands most Any (deed_of transaction)
 unfolding deed_of
-deed_within most intratrnrq h =
-    bound most Any Any (trnuid_of intratrnrq) _ (trnuid_within most intratrnrq h) (λ trnuid _.
-    bound most (IsWithin most) Any (one_of transfer_requests intratrnrq) _ (one_of_within most transfer_requests intratrnrq h) (λ request r.
+deed_within most transaction h =
+    let names = requests_in (family_asked transaction) in
+    bound most Any Any (trnuid_of transaction) _ (trnuid_within most transaction h) (λ trnuid _.
+    bound most (IsWithin most) Any (one_of names transaction) _ (one_of_within most names transaction h) (λ request r.
     bound most Any Any (request_of request) _ (request_within most request r) (λ deed _. tt)))

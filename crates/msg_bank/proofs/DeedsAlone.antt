@@ -1,7 +1,8 @@
--- Transfer requests and replies that are written alone between the tags of OFX read back.
-use Rattle.std.proofs.Common.{◌∙◌, codes, arith, append-nil}
-use Rattle.ofx_types.specs.TransferReading.{deed_of, deed_reply_of}
-use Rattle.ofx_types.specs.TransferText.{deed_text, deed_reply_text}
+-- Deeds and the answers to them that are written alone between the tags of OFX read back.
+use Rattle.std.proofs.Common.{◌∙◌, arith, append-nil}
+use Rattle.ofx_types.specs.DeedForm.{family_of, request_name, reply_name}
+use Rattle.ofx_types.specs.DeedReading.{deed_of, deed_reply_of}
+use Rattle.ofx_types.specs.DeedText.{deed_text, deed_reply_text}
 use Rattle.ofx_tree.specs.Documents.{empty}
 use Rattle.msg_bank.specs.DeedsAsDocuments.{deed_documents, deed_reply_documents, DeedsReadBackAlone, DeedRepliesReadBackAlone}
 use Rattle.msg_bank.specs.Wire.{wire}
@@ -12,14 +13,14 @@ use Rattle.msg_bank.proofs.DeedRepliesBack.{deed_replies_back}
 
 pub deeds_alone : DeedsReadBackAlone
 deeds_alone trnuid deed d =
-    read_alone (codes "INTRATRNRQ") (deed_text trnuid deed) (deed_documents trnuid deed) deed_of (trnuid, deed)
+    read_alone (request_name (family_of deed)) (deed_text trnuid deed) (deed_documents trnuid deed) deed_of (trnuid, deed)
     (deeds_printed trnuid deed empty ∙ append-nil (deed_text trnuid deed))
     (deeds_lawful 15 trnuid deed empty (omega arith) d tt)
     (λ place index. deeds_back place index trnuid deed d)
 
 pub deed_replies_alone : DeedRepliesReadBackAlone
 deed_replies_alone reply r =
-    read_alone (codes "INTRATRNRS") (deed_reply_text reply) (deed_reply_documents reply.trnuid reply.code reply.change) deed_reply_of (wire reply)
+    read_alone (reply_name reply.family) (deed_reply_text reply) (deed_reply_documents reply.trnuid reply.code reply.change) deed_reply_of (wire reply)
     (deed_replies_printed reply empty ∙ append-nil (deed_reply_text reply))
     (deed_replies_lawful 15 reply empty (omega arith) r tt)
     (λ place index. deed_replies_back place index reply r)

@@ -1,36 +1,42 @@
--- Sound transfer requests read back as they were written.
-use Rattle.std.proofs.Common.{◌≡◌, ℕ, suc, ◌+◌, ◌*◌, ◌/◌, ◌≤◌, ℤ, pos, negsuc, neg_ℤ, false, not, ◌&&◌, filter, List, [], ◌∷◌, length, codes, Option, None, Some, refl, sym, ap, ◌∙◌, arith}
+-- Sound deeds read back as they were written.
+use Rattle.std.proofs.Common.{◌≡◌, ℕ, suc, ◌+◌, ◌*◌, ◌/◌, ◌≤◌, ℤ, pos, negsuc, neg_ℤ, Bool, false, not, ◌&&◌, filter, List, [], ◌∷◌, length, codes, Option, None, Some, refl, sym, ap, ◌∙◌, arith}
 use Rattle.std.proofs.lemmas.Int.{ints}
 use Rattle.std.proofs.lemmas.Fmt.{length-decimal-le}
 use Rattle.std.specs.Fmt.{decimal}
 use Rattle.std.specs.Prelude.{unwrap_or}
 use Rattle.std.specs.Str.{bytes_eq}
 use Rattle.ofx_types.specs.Calendar.{day_of, midnight}
-use Rattle.ofx_types.specs.FormWords.{has_name, is_absent, named, IsOnly, IsOnlyOf, IsIdIn}
+use Rattle.ofx_types.specs.FormWords.{flag_word, has_name, is_absent, named, IsOnly, IsOnlyOf, IsFlagIn, IsIdIn}
 use Rattle.ofx_types.specs.Nodes.{Item}
 use Rattle.ofx_types.specs.TagNames.{is_one_of}
-use Rattle.ofx_types.specs.TransferForm.{IsMaybeDue, IsXferInfo, transfer_requests, IsTransferRequest}
+use Rattle.ofx_types.specs.TransferForm.{IsMaybeDue, IsXferInfo, HasXferInfo}
+use Rattle.ofx_types.specs.RecurringForm.{freq_word, IsRecur}
+use Rattle.ofx_types.specs.DeedForm.{family_of, request_name, requests_in, IsDeedRequest}
 use Rattle.ofx_types.specs.declared.account.AcctName.{AcctName}
 use Rattle.ofx_types.specs.declared.number.Cents.{Cents}
 use Rattle.ofx_types.specs.declared.number.Day.{Day}
 use Rattle.ofx_types.specs.declared.number.Moment.{Moment}
+use Rattle.ofx_types.specs.declared.recurring.Freq.{Freq}
+use Rattle.ofx_types.specs.declared.recurring.Recur.{Recur}
 use Rattle.ofx_types.specs.declared.transfer.XferInfo.{XferInfo}
 use Rattle.ofx_types.specs.declared.transfer.Deed.{Deed}
-use Rattle.ofx_types.specs.declared.transfer.Deed.TheVariants.{Transfer, ModifyTransfer, CancelTransfer}
+use Rattle.ofx_types.specs.declared.transfer.Deed.TheVariants.{Transfer, ModifyTransfer, CancelTransfer, Model, ModifyModel, CancelModel}
+use Rattle.ofx_types.specs.declared.transfer.Family.{Family}
+use Rattle.ofx_types.specs.declared.transfer.Family.TheVariants.{Intra, RecIntra}
 use Rattle.ofx_values.proofs.PrintedLemmas.{number_printed}
 use Rattle.ofx_tree.specs.PrintedForm.{IsElementName}
 use Rattle.ofx_tree.specs.Documents.{Documents, empty, branch, leaf_item, branch_item, items_of}
-use Rattle.ofx_tree.proofs.FormLaws.{text_in_found, amount_in_found, moment_in_found}
-use Rattle.ofx_tree.proofs.DocumentItems.{children_of_branch, named_of_branch}
-use Rattle.ofx_tree.proofs.Leaves.{text_of_leaf, amount_of_leaf, moment_of_leaf}
-use Rattle.msg_bank.specs.DeedsAsDocuments.{due_document, info_documents, request_name, request_documents, deed_documents, DeedsReadBack}
-use Rattle.msg_bank.specs.Sound.{IsSoundId, IsSoundInfo, IsSoundDeed}
+use Rattle.ofx_tree.proofs.FormLaws.{text_in_found, flag_in_found, amount_in_found, moment_in_found, number_in_found}
+use Rattle.ofx_tree.proofs.DocumentItems.{children_of_branch, named_of_branch, value_of_leaf}
+use Rattle.ofx_tree.proofs.Leaves.{text_of_leaf, flag_of_leaf, amount_of_leaf, moment_of_leaf, number_of_leaf}
+use Rattle.msg_bank.specs.DeedsAsDocuments.{due_document, info_documents, recur_documents, each_documents, asked_name, request_documents, deed_documents, DeedsReadBack}
+use Rattle.msg_bank.specs.Sound.{IsSoundId, IsSoundInfo, IsSoundRecur, IsSoundDeed}
 use Rattle.msg_bank.specs.Steps.{info_with}
 use Rattle.msg_bank.proofs.Lawful as lawful
 use Rattle.msg_bank.proofs.StatementLaws.{account_found}
 use Rattle.msg_bank.proofs.RequestsBack.{account_back}
 use Rattle.msg_bank.proofs.Deeds.{deed_again}
-use Rattle.msg_bank.proofs.DeedDocuments.{IsMoment-midnight, id_leaf, info_lawful, request_lawful, deed_lawful}
+use Rattle.msg_bank.proofs.DeedDocuments.{IsMoment-midnight, id_leaf, freq_leaf, info_lawful, recur_lawful, each_lawful, request_lawful, deed_lawful}
 
 -- What is printed of an id is read as that id.
 pub is_id_of_leaf : (name : List ℕ) (id place index : ℕ) (parent : Item) → IsElementName name → IsSoundId id →
@@ -96,61 +102,135 @@ info_stands place index info i =
       due = due_stands place index info.from info.to info.amount info.due (record { from = i.from; to = i.to; amount = i.amount; due = i.due });
     }
 
--- ---- the three requests
+-- ---- how a transfer recurs
 
-request_stands : (place index : ℕ) (deed : Deed) → IsSoundDeed deed → IsTransferRequest (branch_item place index (request_name deed) (request_documents deed)) deed
-request_stands place index (Transfer info) d =
-    let inner = request_documents (Transfer info) in
-    let sound = request_lawful 2 (Transfer info) (omega arith) d in
-    (refl, (_, named_of_branch place index 2 (codes "INTRARQ") (codes "XFERINFO") inner sound, info_stands _ _ info d))
+abbrev recur_with : Option ℕ → Freq → Recur
+recur_with count freq = record { count = count; freq = freq }
+
+recur_is : (place index : ℕ) (count : Option ℕ) (freq : Freq) → IsSoundRecur (recur_with count freq) →
+    IsRecur (branch_item place index (codes "RECURRINST") (recur_documents (recur_with count freq))) (recur_with count freq)
+recur_is place index None freq r =
+    let inner = recur_documents (recur_with None freq) in
+    let sound = recur_lawful 0 (recur_with None freq) r in
+    record {
+      count = named_of_branch place index 0 (codes "RECURRINST") (codes "NINSTS") inner sound;
+      word = _;
+      has_word = named_of_branch place index 0 (codes "RECURRINST") (codes "FREQ") inner sound;
+      is_word = (value_of_leaf 0 0 (codes "FREQ") (freq_word freq) (freq_leaf freq)).0;
+    }
+recur_is place index (Some count) freq r =
+    let inner = recur_documents (recur_with (Some count) freq) in
+    let sound = recur_lawful 0 (recur_with (Some count) freq) r in
+    let item = branch_item place index (codes "RECURRINST") inner in
+    let small : count ≤ 999 = r.1 in
+    let only = named_of_branch place index 0 (codes "RECURRINST") (codes "NINSTS") inner sound in
+    record {
+      count = (number_in_found (codes "NINSTS") 3 item count (number_of_leaf (codes "NINSTS") 3 count _ _ item (lawful.named (codes "NINSTS") refl refl) (omega arith) (omega arith) (omega arith) only), r.0);
+      word = _;
+      has_word = named_of_branch place index 0 (codes "RECURRINST") (codes "FREQ") inner sound;
+      is_word = (value_of_leaf 0 0 (codes "FREQ") (freq_word freq) (freq_leaf freq)).0;
+    }
+
+pub recur_stands : (place index : ℕ) (recur : Recur) → IsSoundRecur recur →
+    IsRecur (branch_item place index (codes "RECURRINST") (recur_documents recur)) recur
+recur_stands place index recur r = recur_is place index recur.count recur.freq r
+
+each_stands : (place index : ℕ) (info : XferInfo) → IsSoundInfo info → HasXferInfo (branch_item place index (codes "INTRARQ") (each_documents info)) info
+each_stands place index info i =
+    (_, named_of_branch place index 2 (codes "INTRARQ") (codes "XFERINFO") (each_documents info) (each_lawful 2 info (omega arith) i), info_stands _ _ info i)
+
+-- What is printed of a flag is read as that flag.
+pub is_flag_of_leaf : (name : List ℕ) (flag : Bool) (place index : ℕ) (parent : Item) → IsElementName name →
+    IsOnly name parent (leaf_item place index name (flag_word flag)) → IsFlagIn name parent flag
+is_flag_of_leaf name flag place index parent named only = flag_in_found name parent flag (flag_of_leaf name flag place index parent named only)
+
+-- ---- the six requests
+
+request_stands : (place index : ℕ) (deed : Deed) → IsSoundDeed deed → IsDeedRequest (branch_item place index (asked_name deed) (request_documents deed)) deed
+request_stands place index (Transfer info) d = (refl, each_stands place index info d)
 request_stands place index (ModifyTransfer id info) d =
     let inner = request_documents (ModifyTransfer id info) in
-    let sound = request_lawful 2 (ModifyTransfer id info) (omega arith) d in
+    let sound = request_lawful 3 (ModifyTransfer id info) (omega arith) d in
     let item = branch_item place index (codes "INTRAMODRQ") inner in (
       refl,
-      is_id_of_leaf (codes "SRVRTID") id _ _ item (lawful.named (codes "SRVRTID") refl refl) d.0 (named_of_branch place index 2 (codes "INTRAMODRQ") (codes "SRVRTID") inner sound),
-      (_, named_of_branch place index 2 (codes "INTRAMODRQ") (codes "XFERINFO") inner sound, info_stands _ _ info d.1),
+      is_id_of_leaf (codes "SRVRTID") id _ _ item (lawful.named (codes "SRVRTID") refl refl) d.0 (named_of_branch place index 3 (codes "INTRAMODRQ") (codes "SRVRTID") inner sound),
+      (_, named_of_branch place index 3 (codes "INTRAMODRQ") (codes "XFERINFO") inner sound, info_stands _ _ info d.1),
     )
 request_stands place index (CancelTransfer id) d =
     let inner = request_documents (CancelTransfer id) in
-    let sound = request_lawful 2 (CancelTransfer id) (omega arith) d in
+    let sound = request_lawful 3 (CancelTransfer id) (omega arith) d in
     let item = branch_item place index (codes "INTRACANRQ") inner in
-    (refl, is_id_of_leaf (codes "SRVRTID") id _ _ item (lawful.named (codes "SRVRTID") refl refl) d (named_of_branch place index 2 (codes "INTRACANRQ") (codes "SRVRTID") inner sound))
+    (refl, is_id_of_leaf (codes "SRVRTID") id _ _ item (lawful.named (codes "SRVRTID") refl refl) d (named_of_branch place index 3 (codes "INTRACANRQ") (codes "SRVRTID") inner sound))
+request_stands place index (Model recur info) d =
+    let inner = request_documents (Model recur info) in
+    let sound = request_lawful 3 (Model recur info) (omega arith) d in (
+      refl,
+      (_, named_of_branch place index 3 (codes "RECINTRARQ") (codes "RECURRINST") inner sound, recur_stands _ _ recur d.0),
+      (_, named_of_branch place index 3 (codes "RECINTRARQ") (codes "INTRARQ") inner sound, each_stands _ _ info d.1),
+    )
+request_stands place index (ModifyModel id recur info pending) d =
+    let inner = request_documents (ModifyModel id recur info pending) in
+    let sound = request_lawful 3 (ModifyModel id recur info pending) (omega arith) d in
+    let item = branch_item place index (codes "RECINTRAMODRQ") inner in (
+      refl,
+      is_id_of_leaf (codes "RECSRVRTID") id _ _ item (lawful.named (codes "RECSRVRTID") refl refl) d.0 (named_of_branch place index 3 (codes "RECINTRAMODRQ") (codes "RECSRVRTID") inner sound),
+      (_, named_of_branch place index 3 (codes "RECINTRAMODRQ") (codes "RECURRINST") inner sound, recur_stands _ _ recur d.1),
+      (_, named_of_branch place index 3 (codes "RECINTRAMODRQ") (codes "INTRARQ") inner sound, each_stands _ _ info d.2),
+      is_flag_of_leaf (codes "MODPENDING") pending _ _ item (lawful.named (codes "MODPENDING") refl refl) (named_of_branch place index 3 (codes "RECINTRAMODRQ") (codes "MODPENDING") inner sound),
+    )
+request_stands place index (CancelModel id pending) d =
+    let inner = request_documents (CancelModel id pending) in
+    let sound = request_lawful 3 (CancelModel id pending) (omega arith) d in
+    let item = branch_item place index (codes "RECINTRACANRQ") inner in (
+      refl,
+      is_id_of_leaf (codes "RECSRVRTID") id _ _ item (lawful.named (codes "RECSRVRTID") refl refl) d (named_of_branch place index 3 (codes "RECINTRACANRQ") (codes "RECSRVRTID") inner sound),
+      is_flag_of_leaf (codes "CANPENDING") pending _ _ item (lawful.named (codes "CANPENDING") refl refl) (named_of_branch place index 3 (codes "RECINTRACANRQ") (codes "CANPENDING") inner sound),
+    )
 
--- ---- INTRATRNRQ
+-- ---- the transaction
 
 abbrev deed_item : ℕ → ℕ → List ℕ → Deed → Item
-deed_item place index trnuid deed = branch_item place index (codes "INTRATRNRQ") (deed_documents trnuid deed)
+deed_item place index trnuid deed = branch_item place index (request_name (family_of deed)) (deed_documents trnuid deed)
 
 -- those with the name of a request
-abbrev requests_of : List Item → List Item
-requests_of items = filter (λ child. is_one_of transfer_requests child.node.name && not (is_absent child.node)) items
+abbrev requests_among : Family → List Item → List Item
+requests_among family items = filter (λ child. is_one_of (requests_in family) child.node.name && not (is_absent child.node)) items
 
 only_request : (place index : ℕ) (trnuid : List ℕ) (deed : Deed) → IsSoundDeed deed →
-    (request : Item) × IsOnlyOf transfer_requests (deed_item place index trnuid deed) request × IsTransferRequest request deed
+    (request : Item) × IsOnlyOf (requests_in (family_of deed)) (deed_item place index trnuid deed) request × IsDeedRequest request deed
 only_request place index trnuid (Transfer info) d =
-    (_, ap requests_of (children_of_branch place index (codes "INTRATRNRQ") (deed_documents trnuid (Transfer info))), request_stands _ _ (Transfer info) d)
+    (_, ap (requests_among Intra) (children_of_branch place index (codes "INTRATRNRQ") (deed_documents trnuid (Transfer info))), request_stands _ _ (Transfer info) d)
 only_request place index trnuid (ModifyTransfer id info) d =
-    (_, ap requests_of (children_of_branch place index (codes "INTRATRNRQ") (deed_documents trnuid (ModifyTransfer id info))), request_stands _ _ (ModifyTransfer id info) d)
+    (_, ap (requests_among Intra) (children_of_branch place index (codes "INTRATRNRQ") (deed_documents trnuid (ModifyTransfer id info))), request_stands _ _ (ModifyTransfer id info) d)
 only_request place index trnuid (CancelTransfer id) d =
-    (_, ap requests_of (children_of_branch place index (codes "INTRATRNRQ") (deed_documents trnuid (CancelTransfer id))), request_stands _ _ (CancelTransfer id) d)
+    (_, ap (requests_among Intra) (children_of_branch place index (codes "INTRATRNRQ") (deed_documents trnuid (CancelTransfer id))), request_stands _ _ (CancelTransfer id) d)
+only_request place index trnuid (Model recur info) d =
+    (_, ap (requests_among RecIntra) (children_of_branch place index (codes "RECINTRATRNRQ") (deed_documents trnuid (Model recur info))), request_stands _ _ (Model recur info) d)
+only_request place index trnuid (ModifyModel id recur info pending) d =
+    (_, ap (requests_among RecIntra) (children_of_branch place index (codes "RECINTRATRNRQ") (deed_documents trnuid (ModifyModel id recur info pending))), request_stands _ _ (ModifyModel id recur info pending) d)
+only_request place index trnuid (CancelModel id pending) d =
+    (_, ap (requests_among RecIntra) (children_of_branch place index (codes "RECINTRATRNRQ") (deed_documents trnuid (CancelModel id pending))), request_stands _ _ (CancelModel id pending) d)
 
 -- no request has the name of the uid
 abbrev request_document : Deed → Documents
-request_document deed = branch (request_name deed) (request_documents deed) empty
+request_document deed = branch (asked_name deed) (request_documents deed) empty
 
 no_uid : (deed : Deed) (place index : ℕ) → filter (λ item. has_name (codes "TRNUID") item) (items_of place index (request_document deed)) ≡ []
 no_uid (Transfer info) place index = refl
 no_uid (ModifyTransfer id info) place index = refl
 no_uid (CancelTransfer id) place index = refl
+no_uid (Model recur info) place index = refl
+no_uid (ModifyModel id recur info pending) place index = refl
+no_uid (CancelModel id pending) place index = refl
 
 pub deeds_back : DeedsReadBack
 deeds_back place index trnuid deed d =
     let item = deed_item place index trnuid deed in
-    let sound = deed_lawful 3 trnuid deed (omega arith) d in
-    let only = only_in_front (codes "TRNUID") item _ (request_document deed) _ _ (no_uid deed _ _) (named_of_branch place index 3 (codes "INTRATRNRQ") (codes "TRNUID") (deed_documents trnuid deed) sound) in
+    let sound = deed_lawful 4 trnuid deed (omega arith) d in
+    let only = only_in_front (codes "TRNUID") item _ (request_document deed) _ _ (no_uid deed _ _) (named_of_branch place index 4 (request_name (family_of deed)) (codes "TRNUID") (deed_documents trnuid deed) sound) in
     let request = only_request place index trnuid deed d.is_deed in
     deed_again item trnuid deed (record {
+      is_named = refl;
       has_trnuid = record { text = text_in_found (codes "TRNUID") 36 item trnuid (text_of_leaf (codes "TRNUID") trnuid 36 _ _ item sound.0 d.is_uid.is_within only); is_own = d.is_own };
       request = request.0;
       has_request = request.1;

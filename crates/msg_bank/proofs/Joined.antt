@@ -24,3 +24,11 @@ pub aggregate_of_three : {T E : Type 0} (r : Result T E) (o0 o1 o2 o3 o4 o5 name
     OnOk r (o5 ≡ o0 ++ aggregate name (a ++ (b ++ c)))
 aggregate_of_three r o0 o1 o2 o3 o4 o5 name a b c p q s t closed =
     aggregate_of r o0 o1 o4 o5 name (a ++ (b ++ c)) p (behind o1 o2 o4 a (b ++ c) q (behind o2 o3 o4 b c s t)) closed
+
+-- an aggregate with four parts
+pub aggregate_of_four : {T E : Type 0} (r : Result T E) (o0 o1 o2 o3 o4 o5 o6 name a b c d : List ℕ) →
+    o1 ≡ o0 ++ start_line name → o2 ≡ o1 ++ a → o3 ≡ o2 ++ b → o4 ≡ o3 ++ c → o5 ≡ o4 ++ d → OnOk r (o6 ≡ o5 ++ end_line name) →
+    OnOk r (o6 ≡ o0 ++ aggregate name (a ++ (b ++ (c ++ d))))
+aggregate_of_four r o0 o1 o2 o3 o4 o5 o6 name a b c d p q s t u closed =
+    aggregate_of r o0 o1 o5 o6 name (a ++ (b ++ (c ++ d))) p
+    (behind o1 o2 o5 a (b ++ (c ++ d)) q (behind o2 o3 o5 b (c ++ d) s (behind o3 o4 o5 c d t u))) closed

@@ -14,7 +14,14 @@ mod Lists
 mod Replies
 mod DueDays
 mod TransferParts
+mod RecurringParts
+mod Recurs
+mod Named
+mod TransferRequests
+mod ModelRequests
 mod Deeds
+mod TransferReplies
+mod ModelReplies
 mod DeedReplies
 mod DeedDocuments
 mod DeedsBack

@@ -1,12 +1,13 @@
 -- What holds of the forms of messages: each stands exactly where it is read, and its faults have places.
-use Rattle.std.specs.Prelude.{◌≡◌, ◌↔◌, ℕ, List, Ok}
+use Rattle.std.specs.Prelude.{◌≡◌, ◌↔◌, ℕ, true, List, [], ◌∷◌, codes, Ok}
 use Rattle.ofx_types.specs.Nodes.{Item}
 use Rattle.ofx_types.specs.RequestForm.{IsStatement}
 use Rattle.ofx_types.specs.RequestReading.{statement_of}
 use Rattle.ofx_types.specs.ReplyGrammar.{IsStatus, IsStatementReply}
 use Rattle.ofx_types.specs.ReplyReading.{status_of, statement_reply_of}
-use Rattle.ofx_types.specs.TransferForm.{IsDeed, IsDeedReply}
-use Rattle.ofx_types.specs.TransferReading.{deed_of, deed_reply_of}
+use Rattle.ofx_types.specs.DeedForm.{IsDeed, IsDeedReply}
+use Rattle.ofx_types.specs.MessageForm.{is_named_one_of}
+use Rattle.ofx_types.specs.DeedReading.{deed_of, deed_reply_of}
 use Rattle.ofx_types.specs.declared.request.Ask.{Ask}
 use Rattle.ofx_types.specs.declared.reply.AskReply.{AskReply}
 use Rattle.ofx_types.specs.declared.transfer.Deed.{Deed}
@@ -32,26 +33,35 @@ abbrev pub StatementReplyFaultsHavePlaces : Type 0
 StatementReplyFaultsHavePlaces =
     (most : ℕ) (stmttrnrs : Item) → IsWithin most stmttrnrs → Stands most Any (statement_reply_of stmttrnrs)
 
--- A uid and a deed stand in an INTRATRNRQ exactly where reading gives them.
+-- the transactions of deeds
+abbrev pub deed_names : List (List ℕ)
+deed_names = codes "INTRATRNRQ" ∷ codes "RECINTRATRNRQ" ∷ []
+
+-- A uid and a deed stand in an INTRATRNRQ or a RECINTRATRNRQ exactly where reading gives them.
 abbrev pub DeedsAreFound : Type 0
 DeedsAreFound =
-    (intratrnrq : Item) (trnuid : List ℕ) (deed : Deed)
-    → IsDeed intratrnrq trnuid deed ↔ (deed_of intratrnrq ≡ Ok (trnuid, deed))
+    (transaction : Item) (trnuid : List ℕ) (deed : Deed) → is_named_one_of deed_names transaction ≡ true
+    → IsDeed transaction trnuid deed ↔ (deed_of transaction ≡ Ok (trnuid, deed))
 
--- The first fault of an INTRATRNRQ stands at most where its last node does.
+-- The first fault of such a transaction stands at most where its last node does.
 abbrev pub DeedFaultsHavePlaces : Type 0
-DeedFaultsHavePlaces = (most : ℕ) (intratrnrq : Item) → IsWithin most intratrnrq → Stands most Any (deed_of intratrnrq)
+DeedFaultsHavePlaces = (most : ℕ) (transaction : Item) → IsWithin most transaction → Stands most Any (deed_of transaction)
 
--- An answer stands in an INTRATRNRS exactly where reading gives it. A changed transfer is read with model 0, since its
--- reply doesn't say which recurring transfer made it.
+-- the transactions of the answers to them
+abbrev pub deed_reply_names : List (List ℕ)
+deed_reply_names = codes "INTRATRNRS" ∷ codes "RECINTRATRNRS" ∷ []
+
+-- An answer stands in an INTRATRNRS or a RECINTRATRNRS exactly where reading gives it. A changed transfer is read with
+-- model 0, since its reply doesn't say which recurring transfer made it.
 abbrev pub DeedRepliesAreFound : Type 0
 DeedRepliesAreFound =
-    (intratrnrs : Item) (reply : DeedReply) → IsDeedReply intratrnrs reply ↔ (deed_reply_of intratrnrs ≡ Ok reply)
+    (transaction : Item) (reply : DeedReply) → is_named_one_of deed_reply_names transaction ≡ true
+    → IsDeedReply transaction reply ↔ (deed_reply_of transaction ≡ Ok reply)
 
--- The first fault of an INTRATRNRS stands at most where its last node does.
+-- The first fault of such a transaction stands at most where its last node does.
 abbrev pub DeedReplyFaultsHavePlaces : Type 0
 DeedReplyFaultsHavePlaces =
-    (most : ℕ) (intratrnrs : Item) → IsWithin most intratrnrs → Stands most Any (deed_reply_of intratrnrs)
+    (most : ℕ) (transaction : Item) → IsWithin most transaction → Stands most Any (deed_reply_of transaction)
 
 -- A code stands in an item's STATUS exactly where reading gives it.
 abbrev pub StatusesAreFound : Type 0

@@ -1,26 +1,30 @@
 -- Messages that read back as they were written: their values are within the limits of their elements.
-use Rattle.std.specs.Prelude.{◌≢◌, ◌≡◌, ℕ, ◌<◌, ◌≤◌, ◌^◌, List, length, codes, Option, None, Some, unsigned_abs}
+use Rattle.std.specs.Prelude.{◌≢◌, ◌≡◌, ℕ, ◌<◌, ◌≤◌, ◌^◌, ◌⊎◌, List, length, codes, Option, None, Some, unsigned_abs}
 use Rattle.std.specs.List.{AllByRecursion}
 use Rattle.std.specs.Option.{IfSome}
 use Rattle.ofx_types.specs.Calendar.{IsMoment, IsDay}
 use Rattle.ofx_types.specs.TextRules.{IsText}
 use Rattle.ofx_types.specs.TransferForm.{info_of}
+use Rattle.ofx_types.specs.RecurringForm.{first_info}
 use Rattle.ofx_types.specs.declared.account.AcctName.{AcctName}
 use Rattle.ofx_types.specs.declared.number.Cents.{Cents}
 use Rattle.ofx_types.specs.declared.number.Day.{Day}
 use Rattle.ofx_types.specs.declared.number.Moment.{Moment}
+use Rattle.ofx_types.specs.declared.recurring.Recur.{Recur}
+use Rattle.ofx_types.specs.declared.recurring.ModelRow.{ModelRow}
 use Rattle.ofx_types.specs.declared.request.Period.{Period}
 use Rattle.ofx_types.specs.declared.reply.StatementLine.{StatementLine}
 use Rattle.ofx_types.specs.declared.reply.StatementList.{StatementList}
 use Rattle.ofx_types.specs.declared.reply.StatementBody.{StatementBody}
 use Rattle.ofx_types.specs.declared.transfer.XferInfo.{XferInfo}
 use Rattle.ofx_types.specs.declared.transfer.Deed.{Deed}
-use Rattle.ofx_types.specs.declared.transfer.Deed.TheVariants.{Transfer, ModifyTransfer, CancelTransfer}
+use Rattle.ofx_types.specs.declared.transfer.Deed.TheVariants.{Transfer, ModifyTransfer, CancelTransfer, Model, ModifyModel, CancelModel}
 use Rattle.ofx_types.specs.declared.transfer.XferCode.TheVariants.{Cancelled}
 use Rattle.ofx_types.specs.declared.transfer.TransferRow.{TransferRow}
 use Rattle.ofx_types.specs.declared.transfer.Change.{Change}
-use Rattle.ofx_types.specs.declared.transfer.Change.TheVariants.{NewTransfer, SetTransfer, DropTransfer}
-use Rattle.ofx_types.specs.declared.transfer.Family.TheVariants.{Intra}
+use Rattle.ofx_types.specs.declared.transfer.Change.TheVariants.{NewTransfer, SetTransfer, DropTransfer, NewModel, SetModel, DropModel}
+use Rattle.ofx_types.specs.declared.transfer.Family.{Family}
+use Rattle.ofx_types.specs.declared.transfer.Family.TheVariants.{Intra, RecIntra}
 use Rattle.ofx_types.specs.declared.transfer.DeedReply.{DeedReply}
 
 -- a text of 1 byte up to the limit
@@ -80,7 +84,7 @@ pub record IsSoundReply (trnuid : List ℕ) (code : ℕ) (body : Option Statemen
   pub is_code : code ≤ 65535
   pub is_body : IsSoundByCode code body
 
--- ---- transfers
+-- ---- deeds
 
 -- An id has at most ten digits.
 abbrev pub IsSoundId : ℕ → Type 0
@@ -96,10 +100,17 @@ pub record IsSoundInfo (info : XferInfo) : Type 0 where
   pub amount : IsSoundAmount info.amount
   pub due : IfSome info.due IsSoundDay
 
+-- A recurring transfer is made 1 to 999 times, or has no end.
+abbrev pub IsSoundRecur : Recur → Type 0
+IsSoundRecur recur = IfSome recur.count (λ (count : ℕ). (0 < count) × (count ≤ 999))
+
 abbrev pub IsSoundDeed : Deed → Type 0
 IsSoundDeed (Transfer info) = IsSoundInfo info
 IsSoundDeed (ModifyTransfer id info) = IsSoundId id × IsSoundInfo info
 IsSoundDeed (CancelTransfer id) = IsSoundId id
+IsSoundDeed (Model recur info) = IsSoundRecur recur × IsSoundInfo info
+IsSoundDeed (ModifyModel id recur info pending) = IsSoundId id × IsSoundRecur recur × IsSoundInfo info
+IsSoundDeed (CancelModel id pending) = IsSoundId id
 
 -- As of every request, the TRNUID isn't `0`.
 pub record IsSoundDeedRequest (trnuid : List ℕ) (deed : Deed) : Type 0 where
@@ -114,19 +125,36 @@ pub record IsSoundRow (row : TransferRow) : Type 0 where
   pub told : row.code ≢ Cancelled
   pub stamp : IsSoundMoment row.stamp
 
+pub record IsSoundModelRow (row : ModelRow) : Type 0 where
+  pub id : IsSoundId row.id
+  pub recur : IsSoundRecur row.recur
+  pub info : IsSoundInfo (first_info row)
+
 -- The reply to a new transfer says which recurring transfer made it.
 abbrev pub IsSoundChange : Change → Type 0
 IsSoundChange (NewTransfer row) = IsSoundRow row × IsSoundId row.model
 IsSoundChange (SetTransfer row) = IsSoundRow row
 IsSoundChange (DropTransfer id) = IsSoundId id
+IsSoundChange (NewModel row) = IsSoundModelRow row
+IsSoundChange (SetModel row pending) = IsSoundModelRow row
+IsSoundChange (DropModel id pending) = IsSoundId id
 
--- A reply has a change exactly where its code is 0.
-abbrev pub IsSoundChangeByCode : ℕ → Option Change → Type 0
-IsSoundChangeByCode code None = code ≢ 0
-IsSoundChangeByCode code (Some change) = (code ≡ 0) × IsSoundChange change
+-- what a change belongs to
+abbrev pub family_of_change : Change → Family
+family_of_change (NewTransfer row) = Intra
+family_of_change (SetTransfer row) = Intra
+family_of_change (DropTransfer id) = Intra
+family_of_change (NewModel row) = RecIntra
+family_of_change (SetModel row pending) = RecIntra
+family_of_change (DropModel id pending) = RecIntra
+
+-- A reply has a change exactly where its code is 0, and one of its own family.
+abbrev pub IsSoundChangeByCode : ℕ → Family → Option Change → Type 0
+IsSoundChangeByCode code family None = code ≢ 0
+IsSoundChangeByCode code family (Some change) = (code ≡ 0) × (family_of_change change ≡ family) × IsSoundChange change
 
 pub record IsSoundDeedReply (reply : DeedReply) : Type 0 where
   pub is_uid : IsTextWithin 36 reply.trnuid
-  pub is_intra : reply.family ≡ Intra
+  pub is_family : (reply.family ≡ Intra) ⊎ (reply.family ≡ RecIntra)
   pub is_code : reply.code ≤ 65535
-  pub is_change : IsSoundChangeByCode reply.code reply.change
+  pub is_change : IsSoundChangeByCode reply.code reply.family reply.change

@@ -1,8 +1,8 @@
--- What a transfer's reply still says once it is written.
+-- What the answer to a deed still says once it is written.
 use Rattle.std.specs.Option.{option_map}
 use Rattle.ofx_types.specs.declared.transfer.TransferRow.{TransferRow}
 use Rattle.ofx_types.specs.declared.transfer.Change.{Change}
-use Rattle.ofx_types.specs.declared.transfer.Change.TheVariants.{NewTransfer, SetTransfer, DropTransfer}
+use Rattle.ofx_types.specs.declared.transfer.Change.TheVariants.{NewTransfer, SetTransfer, DropTransfer, NewModel, SetModel, DropModel}
 use Rattle.ofx_types.specs.declared.transfer.DeedReply.{DeedReply}
 
 -- INTRAMODRS has no RECSRVRTID, so a changed row doesn't say which recurring transfer made it: its model is 0.
@@ -22,6 +22,9 @@ abbrev pub wire_change : Change → Change
 wire_change (NewTransfer row) = NewTransfer row
 wire_change (SetTransfer row) = SetTransfer (without_model row)
 wire_change (DropTransfer id) = DropTransfer id
+wire_change (NewModel row) = NewModel row
+wire_change (SetModel row pending) = SetModel row pending
+wire_change (DropModel id pending) = DropModel id pending
 
 -- The reply with the model of a changed row set to 0.
 abbrev pub wire : DeedReply → DeedReply

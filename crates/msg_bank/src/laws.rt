@@ -24,22 +24,22 @@ pub fn statement_reply_faults_have_places()
     ensures { StatementReplyFaultsHavePlaces }
 {}
 
-/// A transfer request has its form exactly where it is read, and what is read is what stands there.
+/// The request of a deed has its form exactly where it is read, and what is read is what stands there.
 pub fn deeds_are_found()
     ensures { DeedsAreFound }
 {}
 
-/// The first fault of a transfer request stands within its nodes.
+/// The first fault of the request of a deed stands within its nodes.
 pub fn deed_faults_have_places()
     ensures { DeedFaultsHavePlaces }
 {}
 
-/// A transfer reply has its form exactly where it is read, and what is read is what stands there.
+/// The answer to a deed has its form exactly where it is read, and what is read is what stands there.
 pub fn deed_replies_are_found()
     ensures { DeedRepliesAreFound }
 {}
 
-/// The first fault of a transfer reply stands within its nodes.
+/// The first fault of the answer to a deed stands within its nodes.
 pub fn deed_reply_faults_have_places()
     ensures { DeedReplyFaultsHavePlaces }
 {}
@@ -70,7 +70,7 @@ pub fn statement_replies_read_back()
     ensures alone { StatementRepliesReadBackAlone }
 {}
 
-/// What is written of a sound transfer request are lawful documents, and reads back as that request wherever it stands.
+/// What is written of a sound deed are lawful documents, and reads back as that deed wherever it stands.
 pub fn deeds_read_back()
     ensures written { DeedsAreDocuments }
     ensures lawful { DeedsAreLawful }
@@ -78,7 +78,7 @@ pub fn deeds_read_back()
     ensures alone { DeedsReadBackAlone }
 {}
 
-/// What is written of a sound transfer reply are lawful documents, and reads back as that reply wherever it stands; a
+/// What is written of a sound answer to a deed are lawful documents, and reads back as that answer wherever it stands; a
 /// changed transfer reads back with model 0, since its reply doesn't say which recurring transfer made it.
 pub fn deed_replies_read_back()
     ensures written { DeedRepliesAreDocuments }

@@ -1,17 +1,21 @@
-//! The bank's messages: statement and transfer requests and their replies, read from a tape and written on a sheet
-//! (OFX 1.6, "Statement Download", "Intrabank Funds Transfer").
+//! The bank's messages: requests of statements, transfers and recurring transfers, and their replies, read from a tape and
+//! written on a sheet (OFX 1.6, "Statement Download", "Intrabank Funds Transfer", "Recurring Transactions").
 //!
 //! What is read is the message that stands there, or the first fault of its form with that fault's place. What is
 //! written is the message's one printed form.
 #![tactic(auto)]
 
 mod account;
+mod deed;
+mod flag;
 mod laws;
+mod recurring;
 mod statement;
 mod status;
 mod transfer;
 mod trnuid;
 
+pub use deed::{print_deed, print_reply, read_deed, read_reply};
 pub use laws::{
     deed_faults_have_places, deed_replies_are_found, deed_replies_read_back,
     deed_reply_faults_have_places, deeds_are_found, deeds_read_back, statement_faults_have_places,
@@ -21,7 +25,6 @@ pub use laws::{
 };
 pub use statement::{print_statement, print_statement_reply, read_statement, read_statement_reply};
 pub use status::{print_status, read_status};
-pub use transfer::{print_deed, print_reply, read_deed, read_reply};
 
 #[cfg(test)]
 mod tests;

@@ -1,5 +1,6 @@
 //! Sample messages, read and written.
 
+mod recurring;
 mod transfers;
 
 use crate::{

@@ -7,7 +7,7 @@ use Rattle.ofx_types.specs.ReplyForm.{ask_reply}
 use Rattle.ofx_types.specs.declared.reply.AskReply.{AskReply}
 use Rattle.ofx_types.specs.declared.reply.AskReply.TheVariants.{Statement, One}
 use Rattle.ofx_types.specs.Sheet.{aggregate, aggregate_of_some}
-use Rattle.ofx_types.specs.TransferText.{deed_reply_text}
+use Rattle.ofx_types.specs.DeedText.{deed_reply_text}
 
 -- the answer to an ask is something
 ask_reply_is_there : (reply : AskReply) (rest : List ℕ) → 0 < length (ask_reply reply ++ rest)

@@ -1,19 +1,23 @@
 -- A request has its form exactly where reading finds it, and so each item has one.
 use Rattle.std.proofs.Common.{◌≡◌, ℕ, ◌⊎◌, inl, inr, Bool, true, false, cond, ◌||◌, List, [], ◌∷◌, filter, Option, None, Some, Result, Ok, Err, codes, refl, sym, ap, subst, ◌∙◌}
 use Rattle.std.specs.List.{AllZip, list_any}
+use Rattle.std.specs.Str.{bytes_eq}
 use Rattle.ofx_types.specs.Nodes.{Item, children}
 use Rattle.ofx_types.specs.FormWords.{has_name, ◌>>=◌, one, maybe}
 use Rattle.ofx_types.specs.TagNames.{is_one_of}
 use Rattle.ofx_types.specs.RequestForm.{IsStatement}
 use Rattle.ofx_types.specs.RequestReading.{signon_of, statement_of}
-use Rattle.ofx_types.specs.TransferReading.{deed_of}
+use Rattle.ofx_types.specs.DeedForm.{family_of, request_name}
+use Rattle.ofx_types.specs.DeedReading.{deed_of}
 use Rattle.ofx_types.specs.MessageForm.{bank_names, unread_bank_names, unread_mail_names, is_named_one_of, IsBankAsk, AreMaybeBankAsks, IsMaybeMail, IsRequest}
 use Rattle.ofx_types.specs.MessageReading.{RequestParts, one_ask, bank_ask_of, onto, bank_asks_of, bank_asks_in, no_mail_in, no_mail_of, request_of}
 use Rattle.ofx_types.specs.declared.fault.TreeFault.{TreeFault}
 use Rattle.ofx_types.specs.declared.request.Ask.{Ask}
 use Rattle.ofx_types.specs.declared.request.Ask.TheVariants.{Statement, One}
+use Rattle.ofx_types.specs.declared.transfer.Deed.{Deed}
+use Rattle.ofx_types.specs.declared.transfer.Deed.TheVariants.{Transfer, ModifyTransfer, CancelTransfer, Model, ModifyModel, CancelModel}
 use Rattle.ofx_tree.proofs.FormLaws.{bind_ok, bind_to, one_value, chosen, bytes_same, one_found, one_again, maybe_none, maybe_some, none_again, some_again}
-use Rattle.msg_bank.specs.Laws.{StatementsAreFound, DeedsAreFound}
+use Rattle.msg_bank.specs.Laws.{deed_names, StatementsAreFound, DeedsAreFound}
 use Rattle.msg_mail.specs.SignonLaws.{SignonsAreFound}
 use Rattle.ofx_file.specs.RequestLaws.{RequestsAreFound}
 
@@ -29,17 +33,23 @@ yes_or_no : (b : Bool) → (b ≡ true) ⊎ (b ≡ false)
 yes_or_no true = inl refl
 yes_or_no false = inr refl
 
-last_of : (a b : Bool) → (a || (b || false)) ≡ true → a ≡ false → b ≡ true
-last_of true b h other = cc
-last_of false true h other = refl
-last_of false false h other = cc
+rest_of : (a b : Bool) → (a || b) ≡ true → a ≡ false → b ≡ true
+rest_of true b h other = cc
+rest_of false b h other = h
 
--- a request that is read and isn't a statement request is a transfer request
-second_name : (request : Item) → is_named_one_of bank_names request ≡ true → has_name (codes "STMTTRNRQ") request ≡ false →
-    request.node.name ≡ codes "INTRATRNRQ"
-second_name request named other =
-    bytes_same request.node.name (codes "INTRATRNRQ")
-    (last_of (has_name (codes "STMTTRNRQ") request) (has_name (codes "INTRATRNRQ") request) named other)
+-- a request that is read and isn't a statement request is one of a deed
+deed_name : (request : Item) → is_named_one_of bank_names request ≡ true → has_name (codes "STMTTRNRQ") request ≡ false →
+    is_named_one_of deed_names request ≡ true
+deed_name request named other = rest_of (has_name (codes "STMTTRNRQ") request) (is_named_one_of deed_names request) named other
+
+-- the transaction of a deed has one of their names
+named_as : (name : List ℕ) (deed : Deed) → name ≡ request_name (family_of deed) → (bytes_eq name (codes "STMTTRNRQ") ≡ false) × (is_one_of deed_names name ≡ true)
+named_as name (Transfer info) h = rw h (refl, refl)
+named_as name (ModifyTransfer id info) h = rw h (refl, refl)
+named_as name (CancelTransfer id) h = rw h (refl, refl)
+named_as name (Model recur info) h = rw h (refl, refl)
+named_as name (ModifyModel id recur info pending) h = rw h (refl, refl)
+named_as name (CancelModel id pending) h = rw h (refl, refl)
 
 statement_found : Laws → (request : Item) (ask : Ask) → request.node.name ≡ codes "STMTTRNRQ" → statement_of request ≡ Ok ask → IsBankAsk request ask
 statement_found laws request ask name h =
@@ -47,17 +57,17 @@ statement_found laws request ask name h =
     let P : Ask → Type 0 = λ a. IsStatement request a → IsBankAsk request a in
     subst P (sym is.is_statement) (λ s. (name, s)) is
 
-deed_found : Laws → (request : Item) (ask : Ask) → request.node.name ≡ codes "INTRATRNRQ" → (deed_of request >>= one_ask) ≡ Ok ask → IsBankAsk request ask
-deed_found laws request ask name h =
+deed_found : Laws → (request : Item) (ask : Ask) → is_named_one_of deed_names request ≡ true → (deed_of request >>= one_ask) ≡ Ok ask → IsBankAsk request ask
+deed_found laws request ask named h =
     let deed = bind_ok (deed_of request) one_ask ask h in
     let P : Ask → Type 0 = λ a. IsBankAsk request a in
-    subst P (one_value _ _ ask refl deed.2) (name, (laws.deeds request deed.0.0 deed.0.1).1 deed.1)
+    subst P (one_value _ _ ask refl deed.2) ((laws.deeds request deed.0.0 deed.0.1 named).1 deed.1)
 
 ask_found : Laws → (request : Item) (ask : Ask) → is_named_one_of bank_names request ≡ true → bank_ask_of request ≡ Ok ask → IsBankAsk request ask
 unfolding bank_ask_of
 ask_found laws request ask named h = elim (chosen (has_name (codes "STMTTRNRQ") request) _ _ _ h) [
   | inl (is, read) ↦ statement_found laws request ask (bytes_same _ _ is) read
-  | inr (other, read) ↦ deed_found laws request ask (second_name request named other) read
+  | inr (other, read) ↦ deed_found laws request ask (deed_name request named other) read
 ]
 
 ask_again : Laws → (request : Item) (ask : Ask) → IsBankAsk request ask → bank_ask_of request ≡ Ok ask
@@ -65,9 +75,9 @@ unfolding bank_ask_of
 ask_again laws request (Statement trnuid account period) (name, is) =
     let named : has_name (codes "STMTTRNRQ") request ≡ true = rw name refl in
     rw named ((laws.statements request (Statement trnuid account period)).0 is)
-ask_again laws request (One trnuid deed) (name, is) =
-    let other : has_name (codes "STMTTRNRQ") request ≡ false = rw name refl in
-    rw other (bind_to (deed_of request) one_ask (trnuid, deed) ((laws.deeds request trnuid deed).0 is))
+ask_again laws request (One trnuid deed) is =
+    let named = named_as request.node.name deed is.is_named in
+    rw named.0 (bind_to (deed_of request) one_ask (trnuid, deed) ((laws.deeds request trnuid deed named.1).0 is))
 
 -- ---- the asks of the bank's message set
 
@@ -78,15 +88,18 @@ abbrev is_unread : Item → Bool
 is_unread item = is_named_one_of unread_bank_names item
 
 -- no request that is read is one without a form
-named_so : (name : List ℕ) → (name ≡ codes "STMTTRNRQ") ⊎ (name ≡ codes "INTRATRNRQ") → is_one_of unread_bank_names name ≡ false
-named_so name (inl h) = rw h refl
-named_so name (inr h) = rw h refl
+named_so : (a b c : Bool) (name : List ℕ) → (a || (b || (c || false))) ≡ true → (a ≡ true → name ≡ codes "STMTTRNRQ") →
+    (b ≡ true → name ≡ codes "INTRATRNRQ") → (c ≡ true → name ≡ codes "RECINTRATRNRQ") → is_one_of unread_bank_names name ≡ false
+named_so true b c name h first second third = rw (first refl) refl
+named_so false true c name h first second third = rw (second refl) refl
+named_so false false true name h first second third = rw (third refl) refl
+named_so false false false name h first second third = cc
 
 is_read : (item : Item) → is_request item ≡ true → is_unread item ≡ false
-is_read item h = named_so item.node.name (elim (yes_or_no (has_name (codes "STMTTRNRQ") item)) [
-  | inl is ↦ inl (bytes_same _ _ is)
-  | inr other ↦ inr (second_name item h other)
-])
+is_read item h =
+    let name = item.node.name in
+    named_so (bytes_eq name (codes "STMTTRNRQ")) (bytes_eq name (codes "INTRATRNRQ")) (bytes_eq name (codes "RECINTRATRNRQ")) name h
+    (bytes_same name _) (bytes_same name _) (bytes_same name _)
 
 filter_yes : (child : Item) (more : List Item) → is_request child ≡ true → filter is_request (child ∷ more) ≡ child ∷ filter is_request more
 filter_yes child more h = rw h refl

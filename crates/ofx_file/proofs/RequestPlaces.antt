@@ -6,7 +6,7 @@ use Rattle.ofx_types.specs.Nodes.{TagNode, Item, children, IsRoot}
 use Rattle.ofx_types.specs.FormWords.{has_name, one, maybe}
 use Rattle.ofx_types.specs.MessageForm.{is_named_one_of, bank_names, unread_bank_names, unread_mail_names}
 use Rattle.ofx_types.specs.RequestReading.{signon_of}
-use Rattle.ofx_types.specs.TransferReading.{deed_of}
+use Rattle.ofx_types.specs.DeedReading.{deed_of}
 use Rattle.ofx_types.specs.MessageReading.{RequestParts, one_ask, bank_ask_of, bank_asks_of, bank_asks_in, no_mail_in, no_mail_of, request_of}
 use Rattle.ofx_types.specs.FileForm.{form_place}
 use Rattle.ofx_types.specs.declared.fault.TreeFault.{TreeFault}

@@ -1,5 +1,5 @@
--- A deed that is read is within the bounds of a bank: its accounts, its amount, its due day and its id.
-use Rattle.std.proofs.Common.{◌≡◌, ℕ, zero, suc, ◌≤◌, Bool, true, false, cond, ◌&&◌, nat_le, ℤ, pos, negsuc, unsigned_abs, List, length, Option, None, Some, codes, refl, ap, ◌∙◌, arith, rules}
+-- A deed that is read is within the bounds of a bank: its accounts, its amount, its due day, its id and its count.
+use Rattle.std.proofs.Common.{◌≡◌, ℕ, zero, suc, ◌<◌, ◌≤◌, ◌^◌, Bool, true, false, cond, ◌&&◌, nat_le, ℤ, pos, negsuc, unsigned_abs, List, length, Option, None, Some, codes, refl, ap, ◌∙◌, arith, rules}
 use Rattle.std.proofs.lemmas.Bool.{and_parts, leb-true}
 use Rattle.std.proofs.lemmas.Int.{ints}
 use Rattle.std.proofs.lemmas.Str.Parse.{IsNumeralModel, numerals_by_value, digits_value_short}
@@ -17,13 +17,16 @@ use Rattle.ofx_types.specs.NumberReading.{is_number_within, number_at}
 use Rattle.ofx_types.specs.Nodes.{Item}
 use Rattle.ofx_types.specs.FormWords.{IsTextIn, id_of, IsIdIn}
 use Rattle.ofx_types.specs.RequestForm.{IsAccount}
-use Rattle.ofx_types.specs.TransferForm.{IsMaybeDue, HasXferInfo, IsTransferRequest}
+use Rattle.ofx_types.specs.TransferForm.{IsMaybeDue, HasXferInfo}
+use Rattle.ofx_types.specs.RecurringForm.{IsMaybeCount, HasRecur, HasEachInfo}
+use Rattle.ofx_types.specs.DeedForm.{IsDeedRequest}
 use Rattle.ofx_types.specs.declared.account.AcctName.{AcctName}
 use Rattle.ofx_types.specs.declared.number.Day.{Day}
+use Rattle.ofx_types.specs.declared.recurring.Recur.{Recur}
 use Rattle.ofx_types.specs.declared.transfer.XferInfo.{XferInfo}
 use Rattle.ofx_types.specs.declared.transfer.Deed.{Deed}
-use Rattle.ofx_types.specs.declared.transfer.Deed.TheVariants.{Transfer, ModifyTransfer, CancelTransfer}
-use Rattle.bank_model.specs.Sound.{HasLength, IsSoundAccount, IsSoundInfo, IsId, IsSoundDeed}
+use Rattle.ofx_types.specs.declared.transfer.Deed.TheVariants.{Transfer, ModifyTransfer, CancelTransfer, Model, ModifyModel, CancelModel}
+use Rattle.bank_model.specs.Sound.{HasLength, IsSoundAccount, IsSoundInfo, IsSoundRecur, IsId, IsSoundDeed}
 
 -- ---- accounts
 
@@ -57,28 +60,47 @@ sound_due : (xferinfo : Item) (due : Option Day) → IsMaybeDue xferinfo due →
 sound_due xferinfo None h = tt
 sound_due xferinfo (Some day) (moment, there, same) = let stands = there.stands in rw same (day_within moment.0 stands.is_moment)
 
--- ---- ids
+-- ---- numbers
 
 numerals : IsNumeralModel (λ ds. list_all is_ascii_digit ds ≡ true) (digits_value 10)
 numerals = numerals_by_value _ (search rules)
 
--- ten digits stay below 10,000,000,000
-digits_within : (text : List ℕ) → is_number_within 10 text ≡ true → digits_value 10 text ≤ 9999999999
-digits_within text h =
-    let parts = and_parts (nat_le 1 (length text) && nat_le (length text) 10) (list_all is_ascii_digit text) h in
-    let short : length text ≤ 10 = leb-true (length text) 10 (and_parts (nat_le 1 (length text)) _ parts.0).1 in
-    omega (arith, digits_value_short numerals text 10 parts.1 short)
+-- A number of so many digits stays below the power of ten with as many zeros.
+digits_within : (most : ℕ) (text : List ℕ) → is_number_within most text ≡ true → digits_value 10 text < 10 ^ most
+digits_within most text h =
+    let parts = and_parts (nat_le 1 (length text) && nat_le (length text) most) (list_all is_ascii_digit text) h in
+    let short : length text ≤ most = leb-true (length text) most (and_parts (nat_le 1 (length text)) _ parts.0).1 in
+    digits_value_short numerals text most parts.1 short
 
 id_within : (text : List ℕ) → IsId (id_of text)
 unfolding number_at
-id_within text = by_test (is_number_within 10 text) (digits_within text)
+id_within text = by_test (is_number_within 10 text) (digits_within 10 text)
   where
-    by_test : (b : Bool) → (b ≡ true → digits_value 10 text ≤ 9999999999) → IsId (unwrap_or (cond b (Some (digits_value 10 text)) None) 0)
-    by_test true small = small refl
+    by_test : (b : Bool) → (b ≡ true → digits_value 10 text < 10 ^ 10) → IsId (unwrap_or (cond b (Some (digits_value 10 text)) None) 0)
+    by_test true small = let least : digits_value 10 text < 10 ^ 10 = small refl in omega arith
     by_test false small = omega arith
 
 sound_id : (name : List ℕ) (parent : Item) (id : ℕ) → IsIdIn name parent id → IsId id
 sound_id name parent id i = rw i.is_id (id_within i.text)
+
+-- three digits stay below 1,000
+count_within : (text : List ℕ) (count : ℕ) → number_at 3 text ≡ Some count → count ≤ 999
+unfolding number_at
+count_within text count h = by_test (is_number_within 3 text) (digits_within 3 text) h
+  where
+    by_test : (b : Bool) → (b ≡ true → digits_value 10 text < 10 ^ 3) → cond b (Some (digits_value 10 text)) None ≡ Some count → count ≤ 999
+    by_test true small e =
+        let least : digits_value 10 text < 10 ^ 3 = small refl in
+        let same : digits_value 10 text ≡ count = cc in
+        omega arith
+    by_test false small e = cc
+
+sound_count : (recurrinst : Item) (count : Option ℕ) → IsMaybeCount recurrinst count → IfSome count (λ (n : ℕ). (0 < n) × (n ≤ 999))
+sound_count recurrinst None h = tt
+sound_count recurrinst (Some count) (there, some) = (some, count_within _ count there.stands)
+
+sound_recur : (parent : Item) (recur : Recur) → HasRecur parent recur → IsSoundRecur recur
+sound_recur parent recur (recurrinst, only, is) = sound_count recurrinst recur.count is.count
 
 -- ---- deeds
 
@@ -90,7 +112,14 @@ sound_info parent info (xferinfo, only, i) = record {
   due = sound_due xferinfo info.due i.due;
 }
 
-pub sound_deed : (request : Item) (deed : Deed) → IsTransferRequest request deed → IsSoundDeed deed
+sound_each : (parent : Item) (info : XferInfo) → HasEachInfo parent info → IsSoundInfo info
+sound_each parent info (intrarq, only, has) = sound_info intrarq info has
+
+pub sound_deed : (request : Item) (deed : Deed) → IsDeedRequest request deed → IsSoundDeed deed
 sound_deed request (Transfer info) (name, has) = sound_info request info has
 sound_deed request (ModifyTransfer id info) (name, has_id, has) = (sound_id (codes "SRVRTID") request id has_id, sound_info request info has)
 sound_deed request (CancelTransfer id) (name, has_id) = sound_id (codes "SRVRTID") request id has_id
+sound_deed request (Model recur info) (name, has_recur, has) = (sound_recur request recur has_recur, sound_each request info has)
+sound_deed request (ModifyModel id recur info pending) (name, has_id, has_recur, has, has_flag) =
+    (sound_id (codes "RECSRVRTID") request id has_id, sound_recur request recur has_recur, sound_each request info has)
+sound_deed request (CancelModel id pending) (name, has_id, has_flag) = sound_id (codes "RECSRVRTID") request id has_id

@@ -80,24 +80,26 @@ only_within name parent child h =
 abbrev is_request : Item → Bool
 is_request item = is_named_one_of bank_names item
 
--- the name of a request has 9 bytes or 10
+-- the name of a request has 9 bytes, 10 or 13
 names_long : (name : List ℕ) → is_one_of bank_names name ≡ true → 9 ≤ length name
-names_long name h = either_name (bytes_eq name (codes "STMTTRNRQ")) (bytes_eq name (codes "INTRATRNRQ"))
-    (λ is. length_from name (codes "STMTTRNRQ") is) (λ is. length_from name (codes "INTRATRNRQ") is) h
+names_long name h = any_name (bytes_eq name (codes "STMTTRNRQ")) (bytes_eq name (codes "INTRATRNRQ")) (bytes_eq name (codes "RECINTRATRNRQ"))
+    (λ is. length_from name (codes "STMTTRNRQ") is) (λ is. length_from name (codes "INTRATRNRQ") is) (λ is. length_from name (codes "RECINTRATRNRQ") is) h
   where
     length_from : (a b : List ℕ) → bytes_eq a b ≡ true → length a ≡ length b
     length_from a b is = ap length (bytes_same a b is)
 
-    either_name : (a b : Bool) → (a ≡ true → length name ≡ 9) → (b ≡ true → length name ≡ 10) → (a || (b || false)) ≡ true → 9 ≤ length name
-    either_name true b f g e = let is : length name ≡ 9 = f refl in omega arith
-    either_name false true f g e = let is : length name ≡ 10 = g refl in omega arith
-    either_name false false f g e = cc
+    any_name : (a b c : Bool) → (a ≡ true → length name ≡ 9) → (b ≡ true → length name ≡ 10) → (c ≡ true → length name ≡ 13) →
+        (a || (b || (c || false))) ≡ true → 9 ≤ length name
+    any_name true b c f g h e = let is : length name ≡ 9 = f refl in omega arith
+    any_name false true c f g h e = let is : length name ≡ 10 = g refl in omega arith
+    any_name false false true f g h e = let is : length name ≡ 13 = h refl in omega arith
+    any_name false false false f g h e = cc
 
 chosen_count : (b : Bool) (item : Item) (items : List Item) (some all : ℕ) → (b ≡ true → 11 ≤ some) → 11 * length items ≤ all → 11 * length (cond b (item ∷ items) items) ≤ some + all
 chosen_count true item items some all h i = let is : 11 ≤ some = h refl in omega arith
 chosen_count false item items some all h i = omega arith
 
--- the start tag of a request has 11 bytes or 12
+-- the start tag of a request has 11 bytes or more
 few_requests : (items : List Item) → 11 * length (filter is_request items) ≤ item_bytes items
 few_requests [] = omega arith
 few_requests (item ∷ items) =
@@ -138,7 +140,7 @@ sound_statement item ask s =
 
 sound_ask : (item : Item) (ask : Ask) → IsBankAsk item ask → IsSoundAsk ask
 sound_ask item (Statement trnuid account period) (name, is) = sound_statement item (Statement trnuid account period) is
-sound_ask item (One trnuid deed) (name, is) = (is.has_trnuid.is_own, sound_deed is.request deed is.is_request)
+sound_ask item (One trnuid deed) is = (is.has_trnuid.is_own, sound_deed is.request deed is.is_request)
 
 sound_each : (items : List Item) (asks : List Ask) → AllZip IsBankAsk items asks → AllByRecursion IsSoundAsk asks
 sound_each [] [] h = tt

@@ -276,8 +276,8 @@ fn faults_stand_where_they_are(rt: HostRuntime) -> Result<(), Fail> {
         ),
         (
             b"<STMTTRNRQ>",
-            b"<RECINTRATRNRQ></RECINTRATRNRQ><STMTTRNRQ>",
-            b"<RECINTRATRNRQ>",
+            b"<BANKMAILTRNRQ></BANKMAILTRNRQ><STMTTRNRQ>",
+            b"<BANKMAILTRNRQ>",
         ),
         (
             b"</OFX>",

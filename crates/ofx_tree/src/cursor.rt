@@ -203,6 +203,19 @@ impl<'t> Cursor<'t> {
         self.one(name)?.own_number(most)
     }
 
+    /// The number that its own value is: 1 digit up to `most` of them, at most ten. It takes no memory.
+    ///
+    /// `Value` at its place where the value is no such number.
+    pub fn own_number(&self, most: usize) -> Result<u64, TreeFault>
+        requires { most ≤ 10 }
+        ensures { result ≡ number_of most self.now.node }
+    {
+        match number_of_raw(self.node.value, most) {
+            Some(number) => Ok(number),
+            None => Err(TreeFault::Value(self.node.at as u64)),
+        }
+    }
+
     /// The id that the child of this name, which stands once, has as its value: a number of 1 to 10 digits. Any other
     /// text of at most 64 bytes stands for 0, which names nothing. It takes no memory.
     ///
@@ -271,16 +284,6 @@ impl<'t> Cursor<'t> {
     {
         match moment_of_raw(self.node.value) {
             Some(moment) => Ok(moment),
-            None => Err(TreeFault::Value(self.node.at as u64)),
-        }
-    }
-
-    fn own_number(&self, most: usize) -> Result<u64, TreeFault>
-        requires { most ≤ 10 }
-        ensures { result ≡ number_of most self.now.node }
-    {
-        match number_of_raw(self.node.value, most) {
-            Some(number) => Ok(number),
             None => Err(TreeFault::Value(self.node.at as u64)),
         }
     }

@@ -26,8 +26,13 @@ pub mod RequestText
 pub mod ReplyGrammar
 pub mod ReplyReading
 pub mod TransferForm
+pub mod RecurringForm
+pub mod DeedForm
 pub mod TransferReading
+pub mod RecurringReading
+pub mod DeedReading
 pub mod TransferText
+pub mod DeedText
 pub mod MessageForm
 pub mod MessageReading
 pub mod FileForm

@@ -5,15 +5,14 @@ use Rattle.ofx_types.specs.TagNames.{is_one_of}
 use Rattle.ofx_types.specs.Nodes.{Item, children}
 use Rattle.ofx_types.specs.FormWords.{IsOnly, IsNone}
 use Rattle.ofx_types.specs.RequestForm.{IsSignon, IsStatement}
-use Rattle.ofx_types.specs.TransferForm.{IsDeed}
+use Rattle.ofx_types.specs.DeedForm.{IsDeed}
 use Rattle.ofx_types.specs.declared.request.Ask.{Ask}
 use Rattle.ofx_types.specs.declared.request.Ask.TheVariants.{Statement, One}
 
 -- The requests of the two message sets that have no form yet.
 abbrev pub unread_bank_names : List (List ℕ)
 unread_bank_names =
-    codes "RECINTRATRNRQ" ∷ codes "BANKMAILTRNRQ" ∷ codes "INTRASYNCRQ" ∷ codes "RECINTRASYNCRQ"
-    ∷ codes "BANKMAILSYNCRQ" ∷ []
+    codes "BANKMAILTRNRQ" ∷ codes "INTRASYNCRQ" ∷ codes "RECINTRASYNCRQ" ∷ codes "BANKMAILSYNCRQ" ∷ []
 
 abbrev pub unread_mail_names : List (List ℕ)
 unread_mail_names = codes "MAILTRNRQ" ∷ codes "MAILSYNCRQ" ∷ []
@@ -23,13 +22,13 @@ is_named_one_of names item = is_one_of names item.node.name
 
 -- The requests of the bank's message set that have a form.
 abbrev pub bank_names : List (List ℕ)
-bank_names = codes "STMTTRNRQ" ∷ codes "INTRATRNRQ" ∷ []
+bank_names = codes "STMTTRNRQ" ∷ codes "INTRATRNRQ" ∷ codes "RECINTRATRNRQ" ∷ []
 
--- STMTTRNRQ and INTRATRNRQ
+-- STMTTRNRQ, INTRATRNRQ and RECINTRATRNRQ
 abbrev pub IsBankAsk : Item → Ask → Type 0
 IsBankAsk request (Statement trnuid account period) =
     (request.node.name ≡ codes "STMTTRNRQ") × IsStatement request (Statement trnuid account period)
-IsBankAsk request (One trnuid deed) = (request.node.name ≡ codes "INTRATRNRQ") × IsDeed request trnuid deed
+IsBankAsk request (One trnuid deed) = IsDeed request trnuid deed
 
 -- BANKMSGSRQV1: its requests in the order of the file.
 pub record AreBankAsks (bank : Item) (asks : List Ask) : Type 0 where

@@ -4,7 +4,7 @@ use Rattle.ofx_types.specs.Nodes.{Item, children}
 use Rattle.ofx_types.specs.FormWords.{has_name, ◌>>=◌, one, maybe}
 use Rattle.ofx_types.specs.MessageForm.{is_named_one_of, bank_names, unread_bank_names, unread_mail_names}
 use Rattle.ofx_types.specs.RequestReading.{signon_of, statement_of}
-use Rattle.ofx_types.specs.TransferReading.{deed_of}
+use Rattle.ofx_types.specs.DeedReading.{deed_of}
 use Rattle.ofx_types.specs.declared.fault.TreeFault.{TreeFault}
 use Rattle.ofx_types.specs.declared.fault.TreeFault.TheVariants.{Value}
 use Rattle.ofx_types.specs.declared.transfer.Deed.{Deed}

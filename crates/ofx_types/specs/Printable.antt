@@ -6,7 +6,7 @@ use Rattle.ofx_types.specs.Calendar.{IsMoment, IsDay}
 use Rattle.ofx_types.specs.declared.transfer.XferCode.TheVariants.{Cancelled}
 use Rattle.ofx_types.specs.declared.transfer.TransferRow.{TransferRow}
 use Rattle.ofx_types.specs.declared.transfer.Change.{Change}
-use Rattle.ofx_types.specs.declared.transfer.Change.TheVariants.{NewTransfer, SetTransfer, DropTransfer}
+use Rattle.ofx_types.specs.declared.transfer.Change.TheVariants.{NewTransfer, SetTransfer, DropTransfer, NewModel, SetModel, DropModel}
 use Rattle.ofx_types.specs.declared.reply.StatementLine.{StatementLine}
 use Rattle.ofx_types.specs.declared.reply.StatementList.{StatementList}
 use Rattle.ofx_types.specs.declared.reply.StatementBody.{StatementBody}
@@ -28,7 +28,8 @@ abbrev pub HasBodyByCode : ℕ → Option StatementBody → Type 0
 HasBodyByCode code None = code ≢ 0
 HasBodyByCode code (Some body) = (code ≡ 0) × IsPrintableBody body
 
--- A row that is told isn't cancelled, and its day and its stamp lie in the years 1900 to 9999.
+-- A row that is told isn't cancelled. Its day and its stamp lie in the years 1900 to 9999, and so does the first day of a
+-- recurring transfer.
 pub record IsPrintableRow (row : TransferRow) : Type 0 where
   pub told : row.code ≢ Cancelled
   pub due : IsDay row.due.0
@@ -38,6 +39,9 @@ abbrev pub IsPrintableChange : Change → Type 0
 IsPrintableChange (NewTransfer row) = IsPrintableRow row
 IsPrintableChange (SetTransfer row) = IsPrintableRow row
 IsPrintableChange (DropTransfer id) = Unit {0}
+IsPrintableChange (NewModel row) = IsDay row.first.0
+IsPrintableChange (SetModel row pending) = IsDay row.first.0
+IsPrintableChange (DropModel id pending) = Unit {0}
 
 -- A deed's reply has a change exactly where its code is 0.
 abbrev pub HasChangeByCode : ℕ → Option Change → Type 0

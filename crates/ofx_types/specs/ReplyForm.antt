@@ -6,7 +6,7 @@ use Rattle.ofx_types.specs.Sheet.{element, aggregate, aggregate_of_some, header_
 use Rattle.ofx_types.specs.AmountForm.{amount_text}
 use Rattle.ofx_types.specs.DateForm.{moment_text}
 use Rattle.ofx_types.specs.CommonText.{status, account_from}
-use Rattle.ofx_types.specs.TransferText.{deed_reply_text}
+use Rattle.ofx_types.specs.DeedText.{deed_reply_text}
 use Rattle.ofx_types.specs.declared.number.Cents.{Cents}
 use Rattle.ofx_types.specs.declared.number.Moment.{Moment}
 use Rattle.ofx_types.specs.declared.reply.StatementLine.{StatementLine}

@@ -1,23 +1,16 @@
--- The forms of transfers inside the bank: what is asked, and what is answered (OFX 1.6, "Intrabank Funds Transfer").
+-- The parts of which the forms of transfers inside the bank are made (OFX 1.6, "Intrabank Funds Transfer").
 use Rattle.std.specs.Prelude.{◌≡◌, ◌≢◌, ℕ, List, [], ◌∷◌, codes, Option, None, Some}
 use Rattle.ofx_types.specs.Calendar.{day_of}
 use Rattle.ofx_types.specs.ValueForm.{value_of}
 use Rattle.ofx_types.specs.Nodes.{Item}
-use Rattle.ofx_types.specs.FormWords.{IsOnly, IsOnlyOf, IsNone, IsTextIn, IsAmountIn, IsMomentIn, IsIdIn, IsMaybeIdIn}
-use Rattle.ofx_types.specs.RequestForm.{IsAccount, IsTrnUidOf}
-use Rattle.ofx_types.specs.ReplyGrammar.{IsStatus}
+use Rattle.ofx_types.specs.FormWords.{IsOnly, IsNone, IsAmountIn, IsMomentIn, IsIdIn}
+use Rattle.ofx_types.specs.RequestForm.{IsAccount}
 use Rattle.ofx_types.specs.declared.number.Day.{Day}
 use Rattle.ofx_types.specs.declared.number.Moment.{Moment}
 use Rattle.ofx_types.specs.declared.transfer.XferInfo.{XferInfo}
-use Rattle.ofx_types.specs.declared.transfer.Deed.{Deed}
-use Rattle.ofx_types.specs.declared.transfer.Deed.TheVariants.{Transfer, ModifyTransfer, CancelTransfer}
 use Rattle.ofx_types.specs.declared.transfer.XferCode.{XferCode}
 use Rattle.ofx_types.specs.declared.transfer.XferCode.TheVariants.{Waiting, Posted, NoFunds, Cancelled}
 use Rattle.ofx_types.specs.declared.transfer.TransferRow.{TransferRow}
-use Rattle.ofx_types.specs.declared.transfer.Change.{Change}
-use Rattle.ofx_types.specs.declared.transfer.Change.TheVariants.{NewTransfer, SetTransfer, DropTransfer}
-use Rattle.ofx_types.specs.declared.transfer.Family.TheVariants.{Intra}
-use Rattle.ofx_types.specs.declared.transfer.DeedReply.{DeedReply}
 
 -- DTDUE may stand. The day is that of the moment in GMT.
 abbrev pub IsMaybeDue : Item → Option Day → Type 0
@@ -42,20 +35,6 @@ HasXferInfo parent info = (xferinfo : Item) × IsOnly (codes "XFERINFO") parent 
 
 abbrev pub transfer_requests : List (List ℕ)
 transfer_requests = codes "INTRARQ" ∷ codes "INTRAMODRQ" ∷ codes "INTRACANRQ" ∷ []
-
--- INTRARQ, INTRAMODRQ and INTRACANRQ
-abbrev pub IsTransferRequest : Item → Deed → Type 0
-IsTransferRequest request (Transfer info) = (request.node.name ≡ codes "INTRARQ") × HasXferInfo request info
-IsTransferRequest request (ModifyTransfer id info) =
-    (request.node.name ≡ codes "INTRAMODRQ") × IsIdIn (codes "SRVRTID") request id × HasXferInfo request info
-IsTransferRequest request (CancelTransfer id) = (request.node.name ≡ codes "INTRACANRQ") × IsIdIn (codes "SRVRTID") request id
-
--- INTRATRNRQ: a uid, and just one of the three requests.
-pub record IsDeed (intratrnrq : Item) (trnuid : List ℕ) (deed : Deed) : Type 0 where
-  pub has_trnuid : IsTrnUidOf intratrnrq trnuid
-  pub request : Item
-  pub has_request : IsOnlyOf transfer_requests intratrnrq request
-  pub is_request : IsTransferRequest request deed
 
 -- ---- replies
 
@@ -88,22 +67,3 @@ pub record IsRow (reply : Item) (row : TransferRow) : Type 0 where
 
 abbrev pub transfer_replies : List (List ℕ)
 transfer_replies = codes "INTRARS" ∷ codes "INTRAMODRS" ∷ codes "INTRACANRS" ∷ []
-
-abbrev pub IsTransferReply : Item → Change → Type 0
-IsTransferReply reply (NewTransfer row) =
-    (reply.node.name ≡ codes "INTRARS") × IsRow reply row × IsMaybeIdIn (codes "RECSRVRTID") reply row.model
-IsTransferReply reply (SetTransfer row) = (reply.node.name ≡ codes "INTRAMODRS") × IsRow reply row × (row.model ≡ 0)
-IsTransferReply reply (DropTransfer id) = (reply.node.name ≡ codes "INTRACANRS") × IsIdIn (codes "SRVRTID") reply id
-
--- With code 0 just one of the three replies stands. With any other code nothing more is looked at.
-abbrev pub IsChangeByCode : ℕ → Item → Option Change → Type 0
-IsChangeByCode code intratrnrs None = code ≢ 0
-IsChangeByCode code intratrnrs (Some change) =
-    (code ≡ 0) × ((reply : Item) × IsOnlyOf transfer_replies intratrnrs reply × IsTransferReply reply change)
-
--- INTRATRNRS
-pub record IsDeedReply (intratrnrs : Item) (reply : DeedReply) : Type 0 where
-  pub has_trnuid : IsTextIn (codes "TRNUID") 36 intratrnrs reply.trnuid
-  pub has_status : IsStatus intratrnrs reply.code
-  pub is_change : IsChangeByCode reply.code intratrnrs reply.change
-  pub family : reply.family ≡ Intra

@@ -1,13 +1,11 @@
--- How the forms of transfers are read: form by form, the named children of each in order, and the first fault.
-use Rattle.std.specs.Prelude.{ℕ, List, ◌==◌, codes, Option, None, Some, Result, Ok, Err, if◌then◌else◌}
+-- How the parts of transfers are read: form by form, the named children of each in order, and the first fault.
+use Rattle.std.specs.Prelude.{ℕ, List, codes, Option, None, Some, Result, Ok, Err, if◌then◌else◌}
 use Rattle.std.specs.Str.{bytes_eq}
 use Rattle.ofx_types.specs.Calendar.{day_of}
 use Rattle.ofx_types.specs.ValueForm.{value_of}
 use Rattle.ofx_types.specs.Nodes.{TagNode, Item}
-use Rattle.ofx_types.specs.FormWords.{has_name, ◌>>=◌, one, one_of, text_in, amount_in, moment_in, maybe_moment_in, id_in, maybe_id_in}
-use Rattle.ofx_types.specs.RequestReading.{account_of, trnuid_of}
-use Rattle.ofx_types.specs.ReplyReading.{status_of}
-use Rattle.ofx_types.specs.TransferForm.{transfer_requests, transfer_replies}
+use Rattle.ofx_types.specs.FormWords.{◌>>=◌, one, amount_in, moment_in, maybe_moment_in, id_in, maybe_id_in}
+use Rattle.ofx_types.specs.RequestReading.{account_of}
 use Rattle.ofx_types.specs.declared.fault.TreeFault.{TreeFault}
 use Rattle.ofx_types.specs.declared.fault.TreeFault.TheVariants.{Missing, Value}
 use Rattle.ofx_types.specs.declared.number.Day.{Day}
@@ -20,8 +18,6 @@ use Rattle.ofx_types.specs.declared.transfer.XferCode.TheVariants.{Waiting, Post
 use Rattle.ofx_types.specs.declared.transfer.TransferRow.{TransferRow}
 use Rattle.ofx_types.specs.declared.transfer.Change.{Change}
 use Rattle.ofx_types.specs.declared.transfer.Change.TheVariants.{NewTransfer, SetTransfer, DropTransfer}
-use Rattle.ofx_types.specs.declared.transfer.Family.TheVariants.{Intra}
-use Rattle.ofx_types.specs.declared.transfer.DeedReply.{DeedReply}
 
 -- the day of a moment in GMT
 abbrev pub due_of : Option Moment → Option Day
@@ -54,18 +50,6 @@ modify_of intramodrq = do
 
 unfoldable pub cancel_of : Item → Result Deed TreeFault
 cancel_of intracanrq = id_in (codes "SRVRTID") intracanrq >>= λ id. Ok (CancelTransfer id)
-
-unfoldable pub request_of : Item → Result Deed TreeFault
-request_of request =
-    if has_name (codes "INTRARQ") request then transfer_of request
-    else (if has_name (codes "INTRAMODRQ") request then modify_of request else cancel_of request)
-
-unfoldable pub deed_of : Item → Result (List ℕ × Deed) TreeFault
-deed_of intratrnrq = do
-  trnuid ← trnuid_of intratrnrq
-  request ← one_of transfer_requests intratrnrq
-  deed ← request_of request
-  Ok (trnuid, deed)
 
 -- ---- replies
 
@@ -135,20 +119,3 @@ set_of intramodrs = do
 
 unfoldable pub drop_of : Item → Result Change TreeFault
 drop_of intracanrs = id_in (codes "SRVRTID") intracanrs >>= λ id. Ok (DropTransfer id)
-
-unfoldable pub change_of : Item → Result Change TreeFault
-change_of reply =
-    if has_name (codes "INTRARS") reply then new_of reply
-    else (if has_name (codes "INTRAMODRS") reply then set_of reply else drop_of reply)
-
-unfoldable pub change_by_code : ℕ → Item → Result (Option Change) TreeFault
-change_by_code code intratrnrs =
-    if code == 0 then (one_of transfer_replies intratrnrs >>= λ reply. change_of reply >>= λ change. Ok (Some change))
-    else Ok None
-
-unfoldable pub deed_reply_of : Item → Result DeedReply TreeFault
-deed_reply_of intratrnrs = do
-  trnuid ← text_in (codes "TRNUID") 36 intratrnrs
-  code ← status_of intratrnrs
-  change ← change_by_code code intratrnrs
-  Ok (record { trnuid = trnuid; family = Intra; code = code; change = change })

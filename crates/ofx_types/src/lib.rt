@@ -9,6 +9,7 @@ mod duplicate;
 mod fault;
 mod memory;
 mod number;
+mod recurring;
 mod reply;
 mod request;
 mod sequence;
@@ -22,6 +23,7 @@ pub use duplicate::Duplicate;
 pub use fault::{FileFault, HeaderFault, TapeFault, TreeFault};
 pub use memory::OutOfMemory;
 pub use number::{AcctId, Cents, Day, Moment, ObjectId, Status, UserId};
+pub use recurring::{Freq, ModelRow, Recur};
 pub use reply::{
     AskReplies, AskReply, Lines, ReplyFile, StatementBody, StatementLine, StatementList,
 };

@@ -27,9 +27,10 @@ pub type Lines = Sequence<StatementLine>;
 pub struct StatementList {
     /// The period's first moment (DTSTART).
     pub start: Moment,
-    /// The moment before which it ends (DTEND).
+    /// The moment before which it ends (DTEND). Where the file gave no bound it is the reply's own moment, and the
+    /// lines have no bound.
     pub end: Moment,
-    /// What was posted in between.
+    /// What was posted in the period.
     pub lines: Lines,
 }
 
@@ -54,7 +55,7 @@ pub enum AskReply {
     /// The answer to a statement request (STMTTRNRS): its status code, and the statement exactly where the
     /// code is 0.
     Statement(TrnUid, u16, Option<StatementBody>),
-    /// The answer to a deed (INTRATRNRS).
+    /// The answer to a deed (INTRATRNRS, RECINTRATRNRS).
     One(DeedReply),
 }
 

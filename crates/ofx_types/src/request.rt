@@ -25,7 +25,7 @@ pub struct Period {
 pub enum Ask {
     /// A statement of an account (STMTTRNRQ), with the period of its list where one was given.
     Statement(TrnUid, AcctName, Option<Period>),
-    /// A deed under a uid of its own (INTRATRNRQ).
+    /// A deed under a uid of its own (INTRATRNRQ, RECINTRATRNRQ).
     One(TrnUid, Deed),
 }
 

@@ -5,6 +5,7 @@ use crate::account::AcctName;
 use crate::duplicate::Duplicate;
 use crate::memory::OutOfMemory;
 use crate::number::{Cents, Day, Moment};
+use crate::recurring::{ModelRow, Recur};
 use crate::uid::TrnUid;
 
 /// What a client says of a transfer (XFERINFO).
@@ -29,6 +30,14 @@ pub enum Deed {
     ModifyTransfer(u64, XferInfo),
     /// The cancellation of the transfer with this id (INTRACANRQ).
     CancelTransfer(u64),
+    /// A recurring transfer (RECINTRARQ). The day of what is said of its transfers is that of the first one.
+    Model(Recur, XferInfo),
+    /// A change of the recurring transfer with this id, and whether the transfers that wait are changed too
+    /// (RECINTRAMODRQ, MODPENDING).
+    ModifyModel(u64, Recur, XferInfo, bool),
+    /// The cancellation of the recurring transfer with this id, and whether the transfers that wait are cancelled
+    /// too (RECINTRACANRQ, CANPENDING).
+    CancelModel(u64, bool),
 }
 
 /// How far a transfer is (XFERPRCCODE).
@@ -74,6 +83,13 @@ pub enum Change {
     SetTransfer(TransferRow),
     /// The transfer with this id is cancelled.
     DropTransfer(u64),
+    /// A new recurring transfer.
+    NewModel(ModelRow),
+    /// A recurring transfer has this row from now on and begins anew. The flag tells whether the transfers that
+    /// wait are changed too.
+    SetModel(ModelRow, bool),
+    /// The recurring transfer with this id is cancelled. The flag tells whether the transfers that wait are too.
+    DropModel(u64, bool),
 }
 
 /// The kinds of what is synchronised.
@@ -119,6 +135,11 @@ impl Duplicate for Deed {
             Deed::Transfer(info) => Ok(Deed::Transfer(info.copy()?)),
             Deed::ModifyTransfer(id, info) => Ok(Deed::ModifyTransfer(*id, info.copy()?)),
             Deed::CancelTransfer(id) => Ok(Deed::CancelTransfer(*id)),
+            Deed::Model(recur, info) => Ok(Deed::Model(*recur, info.copy()?)),
+            Deed::ModifyModel(id, recur, info, pending) => {
+                Ok(Deed::ModifyModel(*id, *recur, info.copy()?, *pending))
+            }
+            Deed::CancelModel(id, pending) => Ok(Deed::CancelModel(*id, *pending)),
         }
     }
 }
@@ -144,6 +165,9 @@ impl Duplicate for Change {
             Change::NewTransfer(row) => Ok(Change::NewTransfer(row.copy()?)),
             Change::SetTransfer(row) => Ok(Change::SetTransfer(row.copy()?)),
             Change::DropTransfer(id) => Ok(Change::DropTransfer(*id)),
+            Change::NewModel(row) => Ok(Change::NewModel(row.copy()?)),
+            Change::SetModel(row, pending) => Ok(Change::SetModel(row.copy()?, *pending)),
+            Change::DropModel(id, pending) => Ok(Change::DropModel(*id, *pending)),
         }
     }
 }

@@ -7,7 +7,7 @@ mod told;
 
 use crate::command_line::{Request, read_words};
 use crate::told::{HELP, VERSION, plain, tell};
-use bank_session::{answer_told, answer_words};
+use bank_session::{answer_told, command_of};
 use ofx_ports::{MemKeeper, ReaderSource, SystemClock, WriterSink};
 use ofx_types::{Text, Told};
 use std::process::ExitCode;
@@ -29,7 +29,7 @@ fn main(rt: HostRuntime) -> ExitCode {
 ///
 /// The file is opened only where the words have their form, since opening may wait.
 fn answered(rt: HostRuntime, words: &[Text]) -> Told {
-    if answer_words(words).is_none() {
+    if command_of(words).is_none() {
         return plain(2);
     }
     let alloc = rt.alloc();

@@ -6,9 +6,13 @@ use std::io;
 /// What `--help` prints.
 pub const HELP: &str = "\
 usage: ofxbank answer SETUP - [--at DATE]
+       ofxbank due SETUP -
 
-Answers a stream of Open Financial Exchange 1.6 request files from the standard
-input, each in its frame, on the standard output.
+answer answers a stream of Open Financial Exchange 1.6 request files from the
+standard input, each in its frame, on the standard output. For the frame DUE it
+does what is due at the frame's moment: recurring transfers make their next
+transfers, and transfers that wait are posted on their day, or closed where
+there is no cover. due does the same once, at the moment that the clock shows.
 
   SETUP      the file with the bank, its users and its accounts
   -          the records are kept in memory
@@ -19,7 +23,7 @@ input, each in its frame, on the standard output.
   --help     prints this
   --version  prints the version
 
-Status: 0 all answered, 2 usage, 3 setup, 4 frame, 5 read failed,
+Status: 0 all done, 2 usage, 3 setup, 4 frame, 5 read failed,
 6 write failed, 7 no memory.
 ";
 

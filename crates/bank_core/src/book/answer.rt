@@ -37,8 +37,8 @@ impl<P: Printer> Book<P> {
     ) -> Result<Prepared, OutOfMemory>
         requires event { event.now ≡ events.File sent.0 file.now }
         requires moment { IsMoment sent.1.0 }
-        requires legal { IsLegal self.now.setup event.now }
-        requires named { AreHeld held.now (named self.now.setup event.now) }
+        requires legal { IsLegal self.now.setup self.now.state sent.1 event.now }
+        requires named { AreHeld held.now (named self.now.setup self.now.state event.now) }
         requires balanced { AreBalanced self.now.setup self.now.state held.now }
         ensures { IfOk result (λ prepared. prepared ≡ record {
           setup = self.now.setup;
@@ -106,8 +106,8 @@ impl<P: Printer> Book<P> {
     ) -> Result<Prepared, OutOfMemory>
         requires event { event.now ≡ events.File sent.0 file.now }
         requires moment { IsMoment sent.1.0 }
-        requires legal { IsLegal self.now.setup event.now }
-        requires named { AreHeld held.now (named self.now.setup event.now) }
+        requires legal { IsLegal self.now.setup self.now.state sent.1 event.now }
+        requires named { AreHeld held.now (named self.now.setup self.now.state event.now) }
         requires balanced { AreBalanced self.now.setup self.now.state held.now }
         requires absent { kept_for self.now.state sent.0 file.now.newer ≡ None }
         ensures { IfOk result (λ prepared. prepared ≡ record {
@@ -130,7 +130,7 @@ impl<P: Printer> Book<P> {
     }
 
     /// A draft in which nothing is added yet, on the business day raised to the day of the moment.
-    fn draft(
+    pub(super) fn draft(
         &self,
         alloc: Global,
         held: &Held,
@@ -142,7 +142,7 @@ impl<P: Printer> Book<P> {
           at = sent.1;
           day = (rules.raised self.now.state sent.1).day;
           entries = [];
-          rows = [];
+          effects = [];
           uids = [];
           accounts = held.now;
         }) }
@@ -154,7 +154,7 @@ impl<P: Printer> Book<P> {
 }
 
 /// The later of a day and the day of a moment.
-fn later(day: Day, at: Moment) -> Day
+pub(super) fn later(day: Day, at: Moment) -> Day
     requires { IsMoment at.0 }
     ensures { result.0 ≡ int_max day.0 (calendar.day_of at.0) }
 {

@@ -3,15 +3,15 @@
 ghost use Rattle.std.specs.Prelude.{◌≡◌, ◌++◌, OnOk, codes};
 ghost use Rattle.std.specs.Option.{option_map, IfSome};
 ghost use Rattle.ofx_types.specs.Calendar.{IsMoment};
-ghost use Rattle.ofx_types.specs.FormWords.{Gives, flag_word};
+ghost use Rattle.ofx_types.specs.FormWords.{Gives};
 ghost use Rattle.ofx_types.specs.RequestReading as reading;
 ghost use Rattle.ofx_types.specs.RequestReading.{statement_of};
 ghost use Rattle.ofx_types.specs.RequestText as form;
 ghost use Rattle.ofx_types.specs.RequestText.{statement_request};
-ghost use Rattle.ofx_types.specs.Sheet.{element};
 ghost use Rattle.msg_bank.specs.Steps as steps;
 
 use crate::account::{print_account, read_account};
+use crate::flag::print_flag;
 use crate::trnuid::{print_trnuid, read_own_trnuid};
 use ofx_tree::{Cursor, Sheet};
 use ofx_types::{AcctName, Ask, Moment, OutOfMemory, Period, TreeFault, TrnUid};
@@ -130,13 +130,4 @@ fn print_maybe_moment(
         Some(moment) => sheet.moment(name, moment),
         None => Ok(()),
     }
-}
-
-fn print_flag(name: &[u8], flag: bool, sheet: &mut Sheet) -> Result<(), OutOfMemory>
-    ensures { OnOk result (sheet.new ≡ sheet.old ++ element name.now (flag_word flag)) }
-{
-    if flag {
-        return sheet.element(name, b"Y");
-    }
-    sheet.element(name, b"N")
 }

@@ -68,11 +68,11 @@ const REPLY: &[u8; 479] = b"\
     </OFX>\r\n";
 
 /// 31 January 2024, and its noon.
-const LAST_OF_JANUARY: Day = Day(19_753);
+pub(super) const LAST_OF_JANUARY: Day = Day(19_753);
 
 const NOON: Moment = Moment(1_706_702_400);
 
-fn account(rt: &HostRuntime, number: &[u8]) -> Result<AcctName, Fail> {
+pub(super) fn account(rt: &HostRuntime, number: &[u8]) -> Result<AcctName, Fail> {
     Ok(AcctName {
         bank: Text::new(rt.alloc(), b"121099999", 32)?,
         number: Text::new(rt.alloc(), number, 32)?,

@@ -13,6 +13,22 @@ use ofx_tree::{Cursor, Sheet};
 use ofx_types::{AcctName, Cents, Day, Moment, OutOfMemory, TreeFault, XferInfo};
 use ofx_values::{day_of, midnight};
 use std::alloc::Global;
+use std::marker::Model;
+
+/// What the XFERINFO of a reply says, in which the due day always stands.
+#[derive(Debug, Drop)]
+pub(crate) struct DueInfo {
+    pub(crate) info: XferInfo,
+    pub(crate) due: Day,
+}
+
+impl Model for DueInfo {
+    ghost use Rattle.ofx_types.specs.TransferReading as reading;
+
+    ghost Value = { reading.DueInfo };
+
+    ghost view = { λ asked. record { info = asked.info; due = asked.due } };
+}
 
 /// What the XFERINFO of a request or a reply says.
 #[tactic(auto, unfolding(ofx_types::specs::TransferReading::info_in))]
@@ -25,7 +41,7 @@ pub(crate) fn read_info_in(alloc: Global, parent: &Cursor<'_>) -> Result<XferInf
 
 /// What an XFERINFO says.
 #[tactic(auto, unfolding(ofx_types::specs::TransferReading::info_of), using(crate::proofs::DueDays::due_moments))]
-pub(crate) fn read_info(alloc: Global, xferinfo: &Cursor<'_>) -> Result<XferInfo, TreeFault>
+fn read_info(alloc: Global, xferinfo: &Cursor<'_>) -> Result<XferInfo, TreeFault>
     ensures { Gives result (reading.info_of xferinfo.now) }
 {
     let from = read_account(alloc, &xferinfo.one(b"BANKACCTFROM")?)?;
@@ -48,6 +64,34 @@ fn due_of(moment: Option<Moment>) -> Option<Day>
     match moment {
         Some(moment) => Some(day_of(moment)),
         None => None,
+    }
+}
+
+/// What the XFERINFO of a reply says, in which the due day stands.
+#[tactic(auto, unfolding(ofx_types::specs::TransferReading::due_info_in))]
+pub(crate) fn read_due_info_in(alloc: Global, parent: &Cursor<'_>) -> Result<DueInfo, TreeFault>
+    ensures { Gives result (reading.due_info_in parent.now) }
+{
+    let xferinfo = parent.one(b"XFERINFO")?;
+    read_due_info(alloc, &xferinfo)
+}
+
+#[tactic(auto, unfolding(ofx_types::specs::TransferReading::due_info_of))]
+fn read_due_info(alloc: Global, xferinfo: &Cursor<'_>) -> Result<DueInfo, TreeFault>
+    ensures { Gives result (reading.due_info_of xferinfo.now) }
+{
+    let info = read_info(alloc, xferinfo)?;
+    let due = day_or(info.due, xferinfo.place() as u64)?;
+    Ok(DueInfo { info, due })
+}
+
+/// The due day, which is missing at the place of its aggregate where it doesn't stand.
+fn day_or(due: Option<Day>, place: u64) -> Result<Day, TreeFault>
+    ensures { result ≡ reading.day_or place due }
+{
+    match due {
+        Some(day) => Ok(day),
+        None => Err(TreeFault::Missing(place)),
     }
 }
 

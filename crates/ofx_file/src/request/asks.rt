@@ -63,7 +63,8 @@ fn ask_at(alloc: Global, child: &Cursor<'_>) -> Result<Option<Ask>, TreeFault>
     Ok(None)
 }
 
-/// The ask that a statement request (STMTTRNRQ) or a transfer request (INTRATRNRQ) is, by its name.
+/// The ask that a request of a statement (STMTTRNRQ), a transfer (INTRATRNRQ) or a recurring transfer (RECINTRATRNRQ) is,
+/// by its name.
 #[tactic(auto, unfolding(ofx_types::specs::MessageReading::bank_ask_of))]
 fn bank_ask(alloc: Global, request: &Cursor<'_>) -> Result<Ask, TreeFault>
     ensures { Gives result (reading.bank_ask_of request.now) }
@@ -79,15 +80,16 @@ fn bank_ask(alloc: Global, request: &Cursor<'_>) -> Result<Ask, TreeFault>
 fn is_read(name: &[u8]) -> bool
     ensures { result ≡ is_one_of bank_names name.now }
 {
-    name == b"STMTTRNRQ".as_slice() || name == b"INTRATRNRQ".as_slice()
+    name == b"STMTTRNRQ".as_slice()
+        || name == b"INTRATRNRQ".as_slice()
+        || name == b"RECINTRATRNRQ".as_slice()
 }
 
 /// Whether a name is that of a request that has no form yet.
 fn is_unread(name: &[u8]) -> bool
     ensures { result ≡ is_one_of unread_bank_names name.now }
 {
-    name == b"RECINTRATRNRQ".as_slice()
-        || name == b"BANKMAILTRNRQ".as_slice()
+    name == b"BANKMAILTRNRQ".as_slice()
         || name == b"INTRASYNCRQ".as_slice()
         || name == b"RECINTRASYNCRQ".as_slice()
         || name == b"BANKMAILSYNCRQ".as_slice()

@@ -1,4 +1,5 @@
-//! Files with transfers: the order of their asks, their faults, and the three kinds of change in a reply.
+//! Files with transfers and recurring transfers: the order of their asks, their faults, and the kinds of change in a
+//! reply.
 
 ghost use Rattle.std.specs.Prelude.{◌≡◌, ◌≢◌, IfOk, Some};
 ghost use Rattle.ofx_types.specs.Calendar.{IsDay, IsMoment};
@@ -8,7 +9,7 @@ use super::{HEADER, NOON, read, refused};
 use crate::write_reply;
 use ofx_types::{
     AcctKind, AcctName, Ask, AskReplies, AskReply, Cents, Change, Day, Deed, DeedReply, Family,
-    FileFault, Moment, ReplyFile, Text, TransferRow, TrnUid, XferCode,
+    FileFault, Freq, Moment, ReplyFile, Text, TransferRow, TrnUid, XferCode,
 };
 use std::test::Fail;
 
@@ -72,6 +73,41 @@ const CHANGES: &[u8; 396] = b"\
     <SRVRTID>9999999999\r\n\
     </INTRACANRQ>\r\n\
     </INTRATRNRQ>\r\n\
+    </BANKMSGSRQV1>";
+
+/// A recurring transfer and the cancellation of another.
+const RECURRING: &[u8; 492] = b"\
+    <RECINTRATRNRQ>\r\n\
+    <TRNUID>r1\r\n\
+    <RECINTRARQ>\r\n\
+    <RECURRINST>\r\n\
+    <NINSTS>999\r\n\
+    <FREQ>BIWEEKLY\r\n\
+    </RECURRINST>\r\n\
+    <INTRARQ>\r\n\
+    <XFERINFO>\r\n\
+    <BANKACCTFROM>\r\n\
+    <BANKID>121099999\r\n\
+    <ACCTID>1001\r\n\
+    <ACCTTYPE>CHECKING\r\n\
+    </BANKACCTFROM>\r\n\
+    <BANKACCTTO>\r\n\
+    <BANKID>121099999\r\n\
+    <ACCTID>1002\r\n\
+    <ACCTTYPE>SAVINGS\r\n\
+    </BANKACCTTO>\r\n\
+    <TRNAMT>25.50\r\n\
+    </XFERINFO>\r\n\
+    </INTRARQ>\r\n\
+    </RECINTRARQ>\r\n\
+    </RECINTRATRNRQ>\r\n\
+    <RECINTRATRNRQ>\r\n\
+    <TRNUID>r2\r\n\
+    <RECINTRACANRQ>\r\n\
+    <RECSRVRTID>41\r\n\
+    <CANPENDING>Y\r\n\
+    </RECINTRACANRQ>\r\n\
+    </RECINTRATRNRQ>\r\n\
     </BANKMSGSRQV1>";
 
 const REPLY_BODY: &[u8; 1207] = b"\
@@ -203,6 +239,27 @@ fn changes_of_transfers_are_read(rt: HostRuntime) -> Result<(), Fail> {
             Ok(())
         }
         _ => Err(Fail::new("not a statement, a change and a cancellation")),
+    }
+}
+
+#[test]
+fn recurring_transfers_are_read(rt: HostRuntime) -> Result<(), Fail> {
+    let file = read(&rt, b"</BANKMSGSRQV1>", RECURRING)?;
+    match file.asks.items() {
+        [
+            Ask::Statement(_, _, _),
+            Ask::One(_, Deed::Model(recur, info)),
+            Ask::One(_, Deed::CancelModel(cancelled, pending)),
+        ] => {
+            assert_eq!(rt; recur.count, Some(999));
+            assert_eq!(rt; recur.freq, Freq::Biweekly);
+            assert_eq!(rt; info.amount, Cents(2_550));
+            assert!(rt; info.due.is_none());
+            assert_eq!(rt; *cancelled, 41);
+            assert!(rt; *pending);
+            Ok(())
+        }
+        _ => Err(Fail::new("not a statement, a recurring transfer and a cancellation")),
     }
 }
 

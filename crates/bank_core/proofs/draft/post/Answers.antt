@@ -1,15 +1,14 @@
-use Rattle.std.proofs.Common.{sym, ◌∙◌}
-use Rattle.bank_core.proofs.PostingLemmas.{HoldsPostings-kept, HoldsPostings-posted, HoldsPostings-room}
+use Rattle.std.proofs.Common.{ap, ◌∙◌}
+use Rattle.bank_model.specs.Ledger.{posting_of}
+use Rattle.bank_core.specs.declared.effect.Effect.{Effect}
+use Rattle.bank_core.specs.Effects.{row_given_by}
+use Rattle.bank_core.proofs.PostingLemmas.{HoldsPostings-nothing}
 use Rattle.bank_core.proofs.draft.post.Goals as goal
 
-pub returns-then-not-is_posted-clause-ok : goal.returns-then-not-is_posted-clause-ok
-returns-then-not-is_posted-clause-ok c = λ entries entry holds number posts.
-    HoldsPostings-kept c.args.postings.now entries entry c.args.row.now holds posts (sym c.is_posted.ensures ∙ c.if-not-is_posted.true)
+pub returns-in-Model-clause-ok : goal.returns-in-Model-clause-ok
+returns-in-Model-clause-ok c = λ entries entry holds number posts.
+    HoldsPostings-nothing c.args.postings.now entries entry holds (posts ∙ ap (λ (effect : Effect). posting_of entry.number (row_given_by effect)) c.in-Model.is)
 
-pub returns-clause-ok : goal.returns-clause-ok
-returns-clause-ok c = λ entries entry holds number posts.
-    HoldsPostings-posted c.reserve.new.self c.put.new.self entries entry c.args.row.now
-    (HoldsPostings-room c.args.postings.now c.reserve.new.self entries c.reserve.ensures.rows c.reserve.ensures.postings holds)
-    posts
-    (sym c.is_posted.ensures ∙ c.if-not-is_posted.false)
-    (λ posted stands gives. c.put.ensures.stands posted entry stands number (rw c.in_ok-copy.ensures gives))
+pub returns-in-NoModel-clause-ok : goal.returns-in-NoModel-clause-ok
+returns-in-NoModel-clause-ok c = λ entries entry holds number posts.
+    HoldsPostings-nothing c.args.postings.now entries entry holds (posts ∙ ap (λ (effect : Effect). posting_of entry.number (row_given_by effect)) c.in-NoModel.is)

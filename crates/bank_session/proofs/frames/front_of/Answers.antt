@@ -5,4 +5,4 @@ pub returns-in-NoHead : goal.returns-in-NoHead
 returns-in-NoHead c = (some_bytes c.args.ahead.now c.in-NoHead.ensures, c.in-NoHead.ensures)
 
 pub returns-then-ahead-size : goal.returns-then-ahead-size
-returns-then-ahead-size c = unfinished c.args.ahead.now c.in-Whole.size c.in-Whole.ensures c.if-ahead-size.true
+returns-then-ahead-size c = unfinished c.args.ahead.now c.in-File.size c.in-File.ensures c.if-ahead-size.true

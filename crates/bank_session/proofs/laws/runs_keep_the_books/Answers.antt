@@ -4,7 +4,7 @@ use Rattle.bank_session.proofs.laws.runs_keep_the_books.Goals as goal
 
 pub returns : goal.returns
 returns c = λ setup turns state within years are.
-    holds_after c.spelled_files_are_sound.ensures (AreBooksRight setup) setup turns state
+    holds_after c.spelled_files_are_sound.ensures c.due_work_is_legal.ensures (AreBooksRight setup) setup turns state
     (λ run legal. record {
       uids = c.uids_work_once.ensures setup run within legal;
       files = c.files_are_kept_once.ensures setup run within legal;

@@ -1,19 +1,12 @@
-use Rattle.std.proofs.Common.{◌≤◌, length, sym, ap, ◌∙◌, subst, arith}
+use Rattle.std.proofs.Common.{ℕ, ◌+◌, length, sym, ap, ◌∙◌, subst}
 use Rattle.bank_model.specs.declared.event.State.{State}
-use Rattle.bank_model.specs.Rules.{state_after}
-use Rattle.bank_core.specs.BookView.{ReservedBook, PreparedView, asks_in, HasRoom}
-use Rattle.bank_core.proofs.StateGrowth.{HasRoom-event}
+use Rattle.bank_core.specs.BookView.{PreparedView, HasRoom}
+use Rattle.bank_core.proofs.Outcomes.{HasRoom-added}
 use Rattle.bank_core.proofs.book.Book.answer.Goals as goal
 
 pub returns-clause-room : goal.returns-clause-room
 returns-clause-room g c =
-    let room = c.reserve.new.self.room in
-    let asks = c.ask_count.ensures in
-    let entries : length (asks_in c.args.event.now) ≤ c.reserve.new.self.room.entries = omega (arith, c.in_ok-reserve.ensures.entries, asks) in
-    let transfers : length (asks_in c.args.event.now) ≤ c.reserve.new.self.room.transfers = omega (arith, c.in_ok-reserve.ensures.transfers, asks) in
-    let pairs : length (asks_in c.args.event.now) ≤ c.reserve.new.self.room.pairs = omega (arith, c.in_ok-reserve.ensures.pairs, asks) in
-    let here = HasRoom-event c.self.inside.setup c.reserve.new.self.state c.args.at c.args.event.now room entries transfers pairs c.in_ok-reserve.ensures.files in
-    let same = c.reserve.ensures.state ∙ ap (λ (b : ReservedBook). b.state) c.self.view_is in
-    let after = ap (λ (p : PreparedView). p.after) c.in_ok-prepared.ensures in
-    subst (λ (S : State). HasRoom room c.args.self.now.state S) (sym after)
-    (subst (λ (S : State). HasRoom room S (state_after c.self.inside.setup c.reserve.new.self.state c.args.at c.args.event.now)) same here)
+    let before = ap (λ (p : PreparedView). p.before) c.in_ok-prepared.ensures in
+    let room = c.in_ok-reserve.ensures in
+    subst (λ (S : State). HasRoom c.reserve.new.self.room S c.in_ok-prepared.prepared.after) before
+    (HasRoom-added c.reserve.new.self.room c.in_ok-prepared.prepared.before c.in_ok-prepared.prepared.after c.entries.result.now c.in_ok-entries.entries c.in_ok-uids.uids c.entries.ensures c.in_ok-entries.ensures (c.uid_count.ensures ∙ ap (λ (n : ℕ). length c.in_ok-prepared.prepared.before.used + n) (sym c.in_ok-uids.ensures)) room.entries room.transfers room.models room.pairs room.files)

@@ -19,15 +19,15 @@ asks-requires-clause-sound g c =
 
 pub asks-requires-clause-named : goal.asks-requires-clause-named
 asks-requires-clause-named g c =
-    named_asks c.self.inside.setup c.args.held.now c.in_ok-draft.draft.accounts c.args.event.now c.args.sent.0 c.args.file.now c.items.result.now c.requires.event c.items.ensures
+    named_asks c.self.inside.setup c.self.inside.ledger.state c.args.held.now c.in_ok-draft.draft.accounts c.args.event.now c.args.sent.0 c.args.file.now c.items.result.now c.requires.event c.items.ensures
     (ap (λ (d : DraftView). d.accounts) c.in_ok-draft.ensures)
-    (subst (λ (b : ReservedBook). AreHeld c.args.held.now (named b.setup c.args.event.now)) (sym c.self.view_is) c.requires.named)
+    (subst (λ (b : ReservedBook). AreHeld c.args.held.now (named b.setup b.state c.args.event.now)) (sym c.self.view_is) c.requires.named)
 
 pub print-requires : goal.print-requires
 print-requires g c =
     let is = c.in_ok-draft.ensures ∙ ap (λ (b : ReservedBook). started b.state c.args.sent.0 c.args.sent.1 c.args.held.now) (sym c.self.view_is) in
     let replies = asks_replies-are c.self.inside.setup c.self.inside.ledger.state c.args.sent.0 c.args.sent.1 c.args.held.now c.in_ok-draft.draft c.args.file.now.asks c.items.result.now c.in_ok-replies.replies is c.items.ensures c.in_ok-replies.ensures.replies in
-    let legal = subst (λ (e : Event). IsLegal c.args.self.now.setup e) c.requires.event c.requires.legal in
+    let legal = subst (λ (e : Event). IsLegal c.args.self.now.setup c.args.self.now.state c.args.sent.1 e) c.requires.event c.requires.legal in
     subst IsPrintable (sym (c.in_ok-reply.ensures ∙ ap (reply_file c.args.sent.1 c.args.file.now) replies))
     (IsPrintable-reply_file c.self.inside.setup (raised c.self.inside.ledger.state c.args.sent.1) c.args.sent.0 c.args.sent.1 c.args.file.now c.self.invariant.0
     (IsSoundState-raised c.self.inside.setup c.self.inside.ledger.state c.args.sent.1 c.self.invariant.1 c.requires.moment) c.requires.moment legal.1.asks)
@@ -36,7 +36,7 @@ pub new-requires : goal.new-requires
 new-requires g c =
     let is = c.in_ok-draft.ensures ∙ ap (λ (b : ReservedBook). started b.state c.args.sent.0 c.args.sent.1 c.args.held.now) (sym c.self.view_is) in
     let absent = subst (λ (b : ReservedBook). kept_for b.state c.args.sent.0 c.args.file.now.newer ≡ None) (sym c.self.view_is) c.requires.absent in
-    let legal = subst (λ (b : ReservedBook). IsLegal b.setup c.args.event.now) (sym c.self.view_is) c.requires.legal in
+    let legal = subst (λ (b : ReservedBook). IsLegal b.setup b.state c.args.sent.1 c.args.event.now) (sym c.self.view_is) c.requires.legal in
     let answered = answered_of c.self.inside.setup c.self.inside.ledger.state c.args.sent.0 c.args.sent.1 c.args.held.now c.args.file.now c.in_ok-draft.draft c.asks.new.self c.items.result.now c.in_ok-replies.replies c.in_ok-reply.reply c.in_ok-told.told.items c.in_ok-kept.kept.items is c.items.ensures c.in_ok-replies.ensures.file c.in_ok-replies.ensures.after c.in_ok-replies.ensures.replies c.in_ok-reply.ensures c.in_ok-told.ensures (λ some. c.in_ok-kept.ensures some ∙ c.deref.ensures.value) in
     rw (c.in_ok-older.ensures, c.in_ok-newer.ensures)
     (IsPrepared-anew c.self.inside.setup c.self.inside.ledger.state c.args.event.now c.args.sent.0 c.args.sent.1 c.args.held.now c.args.file.now c.asks.new.self c.in_ok-told.told.items c.in_ok-kept.kept.items c.requires.event c.self.invariant.0 c.self.invariant.1 c.requires.moment legal absent answered c.in_ok-replies.ensures.draft)

@@ -1,5 +1,4 @@
-use Rattle.std.proofs.Common.{ℕ, ◌+◌, None, ap, sym, ◌∙◌}
-use Rattle.std.proofs.lemmas.Bool.{false≢true}
+use Rattle.std.proofs.Common.{ℕ, ◌+◌, None, ap}
 use Rattle.bank_core.specs.DraftView.{drafted}
 use Rattle.bank_core.proofs.DeedAnswers.{cancel_there, cancel_from, IsCancelEntry-of, added_as}
 use Rattle.bank_core.proofs.draft.Draft.cancel.Goals as goal
@@ -13,9 +12,6 @@ object_of-object-requires-clause-there c =
 
 pub enter-requires-clause-next : goal.enter-requires-clause-next
 enter-requires-clause-next c = (IsCancelEntry-of c.args.setup.now (drafted c.args.ledger.now.state c.args.self.now) c.args.self.now.user None c.args.self.now.at c.args.trnuid.now c.args.id (c.count-number.result + 1) c.object_of-object.result c.in_ok-trnuid.trnuid c.in_ok-row.row c.requires.sound c.requires.judged (ap (λ (n : ℕ). n + 1) c.count-number.ensures) c.object_of-object.ensures c.in_ok-trnuid.ensures c.in_ok-row.ensures).next
-
-pub enter-requires-clause-held : goal.enter-requires-clause-held
-enter-requires-clause-held c = λ posted. absurd (false≢true (sym (IsCancelEntry-of c.args.setup.now (drafted c.args.ledger.now.state c.args.self.now) c.args.self.now.user None c.args.self.now.at c.args.trnuid.now c.args.id (c.count-number.result + 1) c.object_of-object.result c.in_ok-trnuid.trnuid c.in_ok-row.row c.requires.sound c.requires.judged (ap (λ (n : ℕ). n + 1) c.count-number.ensures) c.object_of-object.ensures c.in_ok-trnuid.ensures c.in_ok-row.ensures).waits ∙ posted))
 
 pub returns-clause-change : goal.returns-clause-change
 returns-clause-change c = (IsCancelEntry-of c.args.setup.now (drafted c.args.ledger.now.state c.args.self.now) c.args.self.now.user None c.args.self.now.at c.args.trnuid.now c.args.id (c.count-number.result + 1) c.object_of-object.result c.in_ok-trnuid.trnuid c.in_ok-row.row c.requires.sound c.requires.judged (ap (λ (n : ℕ). n + 1) c.count-number.ensures) c.object_of-object.ensures c.in_ok-trnuid.ensures c.in_ok-row.ensures).first

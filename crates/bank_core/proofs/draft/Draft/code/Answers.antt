@@ -1,6 +1,6 @@
-use Rattle.std.proofs.Common.{None, sym, ap, length, ◌∙◌, arith}
+use Rattle.std.proofs.Common.{◌+◌, None, sym, length, ◌∙◌, arith}
 use Rattle.bank_core.specs.DraftView.{drafted}
-use Rattle.bank_core.proofs.DeedLemmas.{deed_done}
+use Rattle.bank_core.proofs.DoneLemmas.{done_count}
 use Rattle.bank_core.proofs.DeedAnswers.{used_code-is, room_code-is, judged_code-is}
 use Rattle.bank_core.proofs.draft.Draft.code.Goals as goal
 
@@ -12,10 +12,10 @@ returns-then-is_used c =
 pub returns-in-0 : goal.returns-in-0
 returns-in-0 c =
     let none = sym c.judged.ensures ∙ c.in-0.is in
-    let does = deed_done c.args.setup.now (drafted c.args.ledger.now.state c.args.self.now) c.args.self.now.user None c.args.self.now.at c.args.trnuid.now c.args.deed.now c.requires.within c.requires.sound c.requires.moment c.requires.deed none in
+    let count = done_count c.args.setup.now (drafted c.args.ledger.now.state c.args.self.now) c.args.self.now.user None c.args.self.now.at c.args.trnuid.now c.args.deed.now c.args.pending.now none c.requires.pending in
     c.room_code.ensures
-    ∙ sym (room_code-is c.args.setup.now (drafted c.args.ledger.now.state c.args.self.now) c.args.self.now.user None c.args.self.now.at c.args.trnuid.now c.args.deed.now
-    (sym c.is_used.ensures ∙ c.if-is_used.false) none (ap length does.only))
+    ∙ sym (room_code-is c.args.setup.now (drafted c.args.ledger.now.state c.args.self.now) c.args.self.now.user None c.args.self.now.at c.args.trnuid.now c.args.deed.now (length c.args.pending.now + 1)
+    (sym c.is_used.ensures ∙ c.if-is_used.false) none count)
 
 pub returns-in_default : goal.returns-in_default
 returns-in_default c =

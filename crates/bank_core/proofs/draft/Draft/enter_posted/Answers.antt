@@ -2,7 +2,8 @@ use Rattle.std.proofs.Common.{ℤ, ◌+ℤ◌, ◌-ℤ◌, arith}
 use Rattle.std.proofs.lemmas.Int.{ints}
 use Rattle.bank_model.specs.Ledger.{balance}
 use Rattle.bank_core.specs.DraftView.{drafted}
-use Rattle.bank_core.proofs.EnteringLemmas.{IsPaid-next, cents_is, HasAdded-posted}
+use Rattle.bank_core.specs.declared.effect.Effect.TheVariants.{Row}
+use Rattle.bank_core.proofs.EnteringLemmas.{IsKnown-next, effect_posts, IsPaid-next, cents_is, HasAdded-posted}
 use Rattle.bank_core.proofs.draft.Draft.enter_posted.Goals as goal
 
 pub more_by-more-requires-clause-balance : goal.more_by-more-requires-clause-balance
@@ -38,3 +39,9 @@ returns c =
 
 pub less_by-less-requires-clause-covered : goal.less_by-less-requires-clause-covered
 less_by-less-requires-clause-covered c = (IsPaid-next c.args.setup.now c.args.ledger.now.state c.args.self.now c.args.entry c.args.row c.account_named-from.result c.account_named-to.result c.held_balance-source.result c.held_balance-destination.result c.requires.within c.requires.sound c.requires.few c.requires.draft c.requires.next c.requires.posted c.account_named-from.ensures c.account_named-to.ensures c.held_balance-source.ensures c.held_balance-destination.ensures).covered
+
+pub add-requires-clause-known : goal.add-requires-clause-known
+add-requires-clause-known c = IsKnown-next c.args.setup.now (drafted c.args.ledger.now.state c.args.self.now) c.args.entry (Row c.args.row) c.requires.sound c.requires.next
+
+pub add-requires-clause-posts : goal.add-requires-clause-posts
+add-requires-clause-posts c = effect_posts c.args.setup.now (drafted c.args.ledger.now.state c.args.self.now) c.args.entry (Row c.args.row) c.requires.next

@@ -1,6 +1,5 @@
 use Rattle.std.proofs.Common.{ℕ, ◌+◌, None, Some, ap, sym, ◌∙◌}
 use Rattle.ofx_types.specs.declared.transfer.Change.{Change}
-use Rattle.std.proofs.lemmas.Bool.{false≢true}
 use Rattle.bank_core.specs.DraftView.{drafted}
 use Rattle.bank_core.proofs.DeedAnswers.{modify_there, modify_from, IsModifyEntry-of, added_as}
 use Rattle.bank_core.proofs.draft.Draft.modify.Goals as goal
@@ -15,8 +14,8 @@ object_of-object-requires-clause-there c =
 pub enter-requires-clause-next : goal.enter-requires-clause-next
 enter-requires-clause-next c = (IsModifyEntry-of c.args.setup.now (drafted c.args.ledger.now.state c.args.self.now) c.args.self.now.user None c.args.self.now.at c.args.trnuid.now c.args.id c.args.info.now (c.count-number.result + 1) c.object_of-object.result c.in_ok-trnuid.trnuid c.in_ok-row.row c.in_ok-copy.field-0 c.requires.sound c.requires.deed c.requires.judged (ap (λ (n : ℕ). n + 1) c.count-number.ensures) c.object_of-object.ensures c.in_ok-trnuid.ensures c.in_ok-row.ensures c.in_ok-copy.ensures).next
 
-pub enter-requires-clause-held : goal.enter-requires-clause-held
-enter-requires-clause-held c = λ posted. absurd (false≢true (sym (IsModifyEntry-of c.args.setup.now (drafted c.args.ledger.now.state c.args.self.now) c.args.self.now.user None c.args.self.now.at c.args.trnuid.now c.args.id c.args.info.now (c.count-number.result + 1) c.object_of-object.result c.in_ok-trnuid.trnuid c.in_ok-row.row c.in_ok-copy.field-0 c.requires.sound c.requires.deed c.requires.judged (ap (λ (n : ℕ). n + 1) c.count-number.ensures) c.object_of-object.ensures c.in_ok-trnuid.ensures c.in_ok-row.ensures c.in_ok-copy.ensures).waits ∙ posted))
+pub enter-requires-clause-nothing : goal.enter-requires-clause-nothing
+enter-requires-clause-nothing c = (IsModifyEntry-of c.args.setup.now (drafted c.args.ledger.now.state c.args.self.now) c.args.self.now.user None c.args.self.now.at c.args.trnuid.now c.args.id c.args.info.now (c.count-number.result + 1) c.object_of-object.result c.in_ok-trnuid.trnuid c.in_ok-row.row c.in_ok-copy.field-0 c.requires.sound c.requires.deed c.requires.judged (ap (λ (n : ℕ). n + 1) c.count-number.ensures) c.object_of-object.ensures c.in_ok-trnuid.ensures c.in_ok-row.ensures c.in_ok-copy.ensures).nothing
 
 pub returns-clause-change : goal.returns-clause-change
 returns-clause-change c =

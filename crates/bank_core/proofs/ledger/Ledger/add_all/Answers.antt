@@ -1,36 +1,45 @@
 use Rattle.std.proofs.Common.{◌∷◌, ◌++◌, [], List, length, sym, ap, ◌∙◌, append_assoc, arith}
-use Rattle.ofx_types.specs.declared.transfer.TransferRow.{TransferRow}
+use Rattle.bank_core.specs.declared.effect.Effect.{Effect}
 use Rattle.bank_model.specs.declared.entry.Entry.{Entry}
 use Rattle.bank_model.specs.declared.event.State.{State}
 use Rattle.bank_core.proofs.DeedAnswers.{state_of}
-use Rattle.bank_core.proofs.TakingIn.{gives_next, taken_more, rest_more}
+use Rattle.bank_core.proofs.TakingIn.{gives_next, known_next, taken_more, rest_more}
 use Rattle.bank_core.proofs.ledger.Ledger.add_all.Goals as goal
 
 pub add-requires-clause-gives : goal.add-requires-clause-gives
 add-requires-clause-gives c =
-    let all = c.loop-row.invariant.items ∙ c.into_iter-row-iterator.ensures.into_iter_gives.0 in
-    let next = ap (λ (l : List TransferRow). c.loop-row.yielded ++ l) (sym c.in-Some.ensures.steps.0) ∙ all in
-    gives_next c.args.self.now.state.entries c.args.entries.items c.loop-row.self.state.entries c.args.rows.items c.loop-row.yielded _ c.in-Some-next.entry c.in-Some.row _ c.requires.given next
-    (sym c.loop-row.invariant.rest ∙ c.in-Some-next.ensures.cases.0)
-    (ap (λ (S : State). S.entries) c.loop-row.invariant.state)
+    let all = c.loop-effect.invariant.items ∙ c.into_iter-effect-iterator.ensures.into_iter_gives.0 in
+    let next = ap (λ (l : List Effect). c.loop-effect.yielded ++ l) (sym c.in-Some.ensures.steps.0) ∙ all in
+    gives_next c.args.self.now.state.entries c.args.entries.items c.loop-effect.self.state.entries c.args.effects.items c.loop-effect.yielded _ c.in-Some-next.entry c.in-Some.effect _ c.requires.given next
+    (sym c.loop-effect.invariant.rest ∙ c.in-Some-next.ensures.cases.0)
+    (ap (λ (S : State). S.entries) c.loop-effect.invariant.state)
 
-pub loop-row-preserved : goal.loop-row-preserved
-loop-row-preserved c =
-    let at = c.loop-row in
+pub add-requires-clause-known : goal.add-requires-clause-known
+add-requires-clause-known c =
+    let all = c.loop-effect.invariant.items ∙ c.into_iter-effect-iterator.ensures.into_iter_gives.0 in
+    let next = ap (λ (l : List Effect). c.loop-effect.yielded ++ l) (sym c.in-Some.ensures.steps.0) ∙ all in
+    known_next c.args.entries.items c.args.effects.items c.loop-effect.yielded _ c.in-Some-next.entry c.in-Some.effect _ c.requires.known next
+    (sym c.loop-effect.invariant.rest ∙ c.in-Some-next.ensures.cases.0)
+
+pub loop-effect-preserved : goal.loop-effect-preserved
+loop-effect-preserved c =
+    let at = c.loop-effect in
     let rest = sym at.invariant.rest ∙ c.in-Some-next.ensures.cases.0 in
     let short = ap length c.in-Some.ensures.steps.0 in
     let room = at.invariant.entries in
     let room_transfers = at.invariant.transfers in
+    let room_models = at.invariant.models in
     record {
-      items = append_assoc at.yielded (c.in-Some.row ∷ []) _ ∙ ap (λ (l : List TransferRow). at.yielded ++ l) (sym c.in-Some.ensures.steps.0) ∙ at.invariant.items;
+      items = append_assoc at.yielded (c.in-Some.effect ∷ []) _ ∙ ap (λ (l : List Effect). at.yielded ++ l) (sym c.in-Some.ensures.steps.0) ∙ at.invariant.items;
       count = let was = at.invariant.count in let gone = c.in-Some.ensures.steps.1 in omega arith;
-      rest = rest_more c.args.entries.items at.yielded c.in-Some-next.entry c.in-Some.row _ rest;
+      rest = rest_more c.args.entries.items at.yielded c.in-Some-next.entry c.in-Some.effect _ rest;
       state =
           c.add.ensures.state
           ∙ ap (λ (S : State). state_of (S.entries ++ c.in-Some-next.entry ∷ []) S.used S.kept S.day) at.invariant.state
-          ∙ ap (λ (l : List Entry). state_of l c.args.self.now.state.used c.args.self.now.state.kept c.args.self.now.state.day) (taken_more c.args.self.now.state.entries c.args.entries.items at.yielded c.in-Some-next.entry c.in-Some.row _ rest);
+          ∙ ap (λ (l : List Entry). state_of l c.args.self.now.state.used c.args.self.now.state.kept c.args.self.now.state.day) (taken_more c.args.self.now.state.entries c.args.entries.items at.yielded c.in-Some-next.entry c.in-Some.effect _ rest);
       entries = let less = c.add.ensures.entries in omega arith;
       transfers = let less = c.add.ensures.transfers in omega arith;
+      models = let less = c.add.ensures.models in omega arith;
       pairs = c.add.ensures.pairs ∙ at.invariant.pairs;
       files = c.add.ensures.files ∙ at.invariant.files;
     }

@@ -2,10 +2,10 @@ use Rattle.std.proofs.Common.{◌≡◌, ◌≤◌, ◌++◌, length, take, drop
 use Rattle.std.specs.Vec.Iter.{into_iter_items, into_iter_len}
 use Rattle.bank_core.proofs.ledger.Ledger.add_all.Given as goal
 
-abbrev pub invariant-loop-row : goal.invariant-loop-row
-invariant-loop-row l = record {
-  items : l.yielded ++ into_iter_items l.row-iterator ≡ into_iter_items l.initial.row-iterator;
-  count : into_iter_len l.row-iterator ≡ length (into_iter_items l.row-iterator);
+abbrev pub invariant-loop-effect : goal.invariant-loop-effect
+invariant-loop-effect l = record {
+  items : l.yielded ++ into_iter_items l.effect-iterator ≡ into_iter_items l.initial.effect-iterator;
+  count : into_iter_len l.effect-iterator ≡ length (into_iter_items l.effect-iterator);
   rest : into_iter_items l.rest ≡ drop (length l.yielded) l.fn.entries.items;
   state : l.self.state ≡ record {
     entries = l.fn.self.state.entries ++ take (length l.yielded) l.fn.entries.items;
@@ -13,8 +13,9 @@ invariant-loop-row l = record {
     kept = l.fn.self.state.kept;
     day = l.fn.self.state.day;
   };
-  entries : length (into_iter_items l.row-iterator) ≤ l.self.room.entries;
-  transfers : length (into_iter_items l.row-iterator) ≤ l.self.room.transfers;
+  entries : length (into_iter_items l.effect-iterator) ≤ l.self.room.entries;
+  transfers : length (into_iter_items l.effect-iterator) ≤ l.self.room.transfers;
+  models : length (into_iter_items l.effect-iterator) ≤ l.self.room.models;
   pairs : l.self.room.pairs ≡ l.fn.self.room.pairs;
   files : l.self.room.files ≡ l.fn.self.room.files;
 }

@@ -1,10 +1,16 @@
-use Rattle.std.proofs.Common.{map, sym, subst}
+use Rattle.std.proofs.Common.{map, sym, ap, ◌∙◌, subst}
+use Rattle.bank_model.specs.declared.event.State.{State}
 use Rattle.bank_accounts.specs.HeldAccounts.{settled}
 use Rattle.bank_core.specs.Balanced.{AreBalanced}
 use Rattle.bank_core.specs.BookView.{PreparedView}
 use Rattle.bank_core.proofs.DraftLemmas.{HaveBalances}
+use Rattle.bank_core.proofs.TakingIn.{given_moved}
 use Rattle.bank_core.proofs.SettledLemmas.{HaveSameNumbers-settled, HaveBalances-settled}
 use Rattle.bank_core.proofs.prepared.Prepared.take_step.Goals as goal
+
+pub add_all-requires-clause-given : goal.add_all-requires-clause-given
+add_all-requires-clause-given c =
+    given_moved c.self.inside.before.value.state.entries c.args.ledger.now.state.entries c.self.inside.draft.entries _ c.self.inside.draft.effects _ (sym (ap (λ (p : PreparedView). p.before.entries) c.self.view_is ∙ ap (λ (S : State). S.entries) c.requires.made)) c.into_parts-entries.ensures.entries c.into_parts-entries.ensures.effects c.self.invariant.draft_of.given
 
 pub returns-clause-numbers : goal.returns-clause-numbers
 returns-clause-numbers c = rw c.settle.ensures (HaveSameNumbers-settled c.accounts.result.now c.args.held.now)

@@ -3,11 +3,11 @@ use Rattle.bank_session.proofs.DeskLemmas.{all_held, still_held}
 use Rattle.bank_session.proofs.desk.Desk.reply_line.Goals as goal
 
 pub answer-requires-clause-named : goal.answer-requires-clause-named
-answer-requires-clause-named c = all_held c.self.inside.book.setup c.self.inside.held c.args.event.now c.self.invariant.0.all
+answer-requires-clause-named c = all_held c.self.inside.book.setup c.self.inside.book.state c.self.inside.held c.args.event.now c.self.invariant.0.all
 
 pub adopt-reply-requires-clause-named : goal.adopt-reply-requires-clause-named
 adopt-reply-requires-clause-named c =
-    rw (c.answer.ensures.accounts, c.answer.ensures.setup) (all_held c.self.inside.book.setup c.self.inside.held c.in_ok-prepared.prepared.event c.self.invariant.0.all)
+    rw (c.answer.ensures.accounts, c.answer.ensures.setup, c.answer.ensures.state) (all_held c.self.inside.book.setup c.self.inside.book.state c.self.inside.held c.in_ok-prepared.prepared.event c.self.invariant.0.all)
 
 pub invariant_of-self-2 : goal.invariant_of-self-2
 invariant_of-self-2 c =

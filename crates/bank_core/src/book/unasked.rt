@@ -1,0 +1,76 @@
+//! Events that nobody asks for, before the book takes their step: the bank posts what is due, and recurring transfers make
+//! their next transfer.
+
+ghost use Rattle.std.specs.Prelude.{◌≡◌, IfOk};
+ghost use Rattle.ofx_types.specs.Calendar.{IsMoment};
+ghost use Rattle.bank_model.specs.declared.event.Event.TheVariants as events;
+ghost use Rattle.bank_model.specs.Rules.{IsLegal, state_after, answer_to, named};
+ghost use Rattle.bank_accounts.specs.HeldAccounts.{AreHeld};
+ghost use Rattle.bank_core.specs.Balanced.{AreBalanced};
+
+use crate::book::Book;
+use crate::prepared::{Prepared, ReplyBytes};
+use bank_accounts::Held;
+use bank_model::{Event, Printer};
+use ofx_types::{Moment, OutOfMemory, UserId};
+use std::alloc::Global;
+
+/// The user of a draft that is no user's: it uses up no uid.
+const NOBODY: UserId = UserId(0);
+
+impl<P: Printer> Book<P> {
+    /// Posts a transfer, or closes it.
+    pub(super) fn prepare_post(
+        &self,
+        alloc: Global,
+        held: &Held,
+        event: &Event,
+        id: u64,
+        at: Moment,
+    ) -> Result<Prepared, OutOfMemory>
+        requires event { event.now ≡ events.Post id }
+        requires moment { IsMoment at.0 }
+        requires legal { IsLegal self.now.setup self.now.state at event.now }
+        requires named { AreHeld held.now (named self.now.setup self.now.state event.now) }
+        requires balanced { AreBalanced self.now.setup self.now.state held.now }
+        ensures { IfOk result (λ prepared. prepared ≡ record {
+          setup = self.now.setup;
+          before = self.now.state;
+          event = event.now;
+          after = state_after self.now.setup self.now.state at event.now;
+          reply = answer_to self.now.setup self.now.state at event.now;
+        }) }
+    {
+        let mut draft = self.draft(alloc, held, (NOBODY, at))?;
+        draft.post(&self.setup, &self.ledger, id)?;
+        let bytes = ReplyBytes::none(alloc);
+        Ok(Prepared::new(&self.setup, &self.ledger, event, draft, None, None, bytes))
+    }
+
+    /// Makes a transfer of a recurring transfer.
+    pub(super) fn prepare_spawn(
+        &self,
+        alloc: Global,
+        held: &Held,
+        event: &Event,
+        next: (u64, u32),
+        at: Moment,
+    ) -> Result<Prepared, OutOfMemory>
+        requires event { event.now ≡ events.Spawn next.0 next.1 }
+        requires moment { IsMoment at.0 }
+        requires legal { IsLegal self.now.setup self.now.state at event.now }
+        requires balanced { AreBalanced self.now.setup self.now.state held.now }
+        ensures { IfOk result (λ prepared. prepared ≡ record {
+          setup = self.now.setup;
+          before = self.now.state;
+          event = event.now;
+          after = state_after self.now.setup self.now.state at event.now;
+          reply = answer_to self.now.setup self.now.state at event.now;
+        }) }
+    {
+        let mut draft = self.draft(alloc, held, (NOBODY, at))?;
+        draft.spawn(&self.setup, &self.ledger, next.0, next.1)?;
+        let bytes = ReplyBytes::none(alloc);
+        Ok(Prepared::new(&self.setup, &self.ledger, event, draft, None, None, bytes))
+    }
+}

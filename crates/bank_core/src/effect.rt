@@ -1,0 +1,74 @@
+//! What an entry gives to the rows that the bank keeps.
+
+ghost use Rattle.std.specs.Prelude.{◌≡◌};
+ghost use Rattle.std.specs.Option.{option_copied};
+ghost use Rattle.bank_core.specs.Effects.{has_row, has_model, cancels, row_given_by, model_given_by};
+
+use ofx_types::{ModelRow, TransferRow};
+
+/// The row that an entry gives, or that a recurring transfer is cancelled.
+#[derive(Drop)]
+pub(crate) enum Effect {
+    /// A transfer has this row from now on.
+    Row(TransferRow),
+    /// A recurring transfer made the transfer with this row.
+    Made(TransferRow),
+    /// A recurring transfer has this row from now on, and begins anew.
+    Model(ModelRow),
+    /// The recurring transfer with this id is cancelled.
+    NoModel(u64),
+}
+
+impl Effect {
+    /// Whether it is a row of the transfer with this id.
+    pub(crate) fn has_row(&self, id: u64) -> bool
+        ensures { result ≡ has_row id self.now }
+    {
+        match self {
+            Effect::Row(row) => row.id == id,
+            Effect::Made(row) => row.id == id,
+            _ => false,
+        }
+    }
+
+    /// Whether it is a row of the recurring transfer with this id.
+    pub(crate) fn has_model(&self, id: u64) -> bool
+        ensures { result ≡ has_model id self.now }
+    {
+        match self {
+            Effect::Model(row) => row.id == id,
+            _ => false,
+        }
+    }
+
+    /// Whether it cancels the recurring transfer with this id.
+    pub(crate) fn cancels(&self, id: u64) -> bool
+        ensures { result ≡ cancels id self.now }
+    {
+        match self {
+            Effect::NoModel(gone) => *gone == id,
+            _ => false,
+        }
+    }
+
+    /// The row of a transfer, lent.
+    pub(crate) fn row(&self) -> Option<&TransferRow>
+        ensures { option_copied result ≡ row_given_by self.now }
+    {
+        match self {
+            Effect::Row(row) => Some(row),
+            Effect::Made(row) => Some(row),
+            _ => None,
+        }
+    }
+
+    /// The row of a recurring transfer, lent.
+    pub(crate) fn model(&self) -> Option<&ModelRow>
+        ensures { option_copied result ≡ model_given_by self.now }
+    {
+        match self {
+            Effect::Model(row) => Some(row),
+            _ => None,
+        }
+    }
+}

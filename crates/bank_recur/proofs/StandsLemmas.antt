@@ -1,0 +1,318 @@
+-- Recurring transfers that stand for a list of entries, and one entry more.
+use Rattle.std.proofs.Common.{◌≡◌, ℕ, ◌+◌, ◌<◌, ◌≤◌, Bool, true, false, ◌||◌, cond, eqb, nat_lt, List, [], ◌∷◌, ◌++◌, length, get_or, set, Option, None, Some, is_some, refl, sym, ap, ◌∙◌, subst}
+use Rattle.std.proofs.Math.Bool.{or-false, or-true}
+use Rattle.std.proofs.Math.Seq.{map-set_same}
+use Rattle.std.proofs.lemmas.Bool.{eqb-true, eq-eqb, ltb-false}
+use Rattle.std.proofs.lemmas.List.{append-nil, map-append}
+use Rattle.std.proofs.lemmas.List.Folds.{find-append, find-set, find_past, find_at}
+use Rattle.std.proofs.lemmas.List.Quantifiers.{position-Some}
+use Rattle.std.proofs.lemmas.Option.{slice_get_past, slice_get-get_or}
+use Rattle.std.specs.Option.{option_map, option_or}
+use Rattle.std.specs.List.{AllByRecursion, IsDistinct, position, position_or_len, slice_get}
+use Rattle.ofx_types.specs.declared.recurring.ModelRow.{ModelRow}
+use Rattle.ofx_types.specs.declared.transfer.TransferRow.{TransferRow}
+use Rattle.ofx_types.specs.declared.transfer.Change.{Change}
+use Rattle.ofx_types.specs.declared.transfer.Change.TheVariants.{NewTransfer, SetTransfer, DropTransfer, NewModel, SetModel, DropModel}
+use Rattle.bank_model.specs.declared.entry.Entry.{Entry}
+use Rattle.bank_model.specs.Models.{model_in, if_model_named, or_model_before, model_of, drops_model, is_of_model, is_made_by, next_place}
+use Rattle.bank_recur.specs.Growth.{place_after}
+use Rattle.bank_recur.specs.ModelsView.{Series, ModelsView, series_found, row_found, is_cancelled_series, cancelled_found, place_in_series, place_found, id_made, ids_of, IsOnce, StandsFor, GivesModel, Cancels, IsMadeBy, IsOfTransfer}
+use Rattle.bank_recur.proofs.GrowthLemmas.{model_of-push, is_model_dropped-push, ids_made-push, next_place-push}
+
+-- ---- one entry more
+
+-- What one entry more does to the recurring transfers.
+pub record Grows (old new : List Series) (entries : List Entry) (change : Change) : Type 0 where
+  pub rows : (id : ℕ) → row_found id new ≡ or_model_before (row_found id old) (if_model_named id (model_in change))
+  pub dropped : (id : ℕ) → cancelled_found id new ≡ (cancelled_found id old || drops_model id change)
+  pub places : (id : ℕ) → is_some (row_found id new) ≡ true → place_found id new ≡ place_after id (next_place id entries) change
+  pub order : ids_of new ≡ ids_of old ++ id_made change
+
+pub stands_more : (old new : ModelsView) (entries : List Entry) (entry : Entry) → StandsFor old entries → Grows old.series new.series entries entry.change → StandsFor new (entries ++ entry ∷ [])
+stands_more old new entries entry stands grows = record {
+  rows = λ id. grows.rows id ∙ ap (λ row. or_model_before row (if_model_named id (model_in entry.change))) (stands.rows id) ∙ sym (model_of-push id entries entry);
+  dropped = λ id. grows.dropped id ∙ ap (λ b. b || drops_model id entry.change) (stands.dropped id) ∙ sym (is_model_dropped-push id entries entry);
+  places = λ id there. grows.places id there ∙ sym (next_place-push id entries entry);
+  order = grows.order ∙ ap (λ ids. ids ++ id_made entry.change) stands.order ∙ sym (ids_made-push entries entry);
+}
+
+-- ---- one recurring transfer in another's stead, or behind all others
+
+-- The recurring transfers are as they were, but for the one of an id.
+abbrev pub IsNow : ℕ → Series → List Series → List Series → Type 0
+IsNow id one old new = (other : ℕ) → series_found other new ≡ cond (eqb id other) (Some one) (series_found other old)
+
+-- What holds of the one of that id, and of all others as they were, holds of each.
+by_id : (id : ℕ) (one : Series) (old new : List Series) → IsNow id one old new → (P : ℕ → Option Series → Type 0) → P id (Some one) → ((other : ℕ) → eqb id other ≡ false → P other (series_found other old)) → (other : ℕ) → P other (series_found other new)
+by_id id one old new now P here elsewhere other = subst (P other) (sym (now other)) (named (eqb id other) refl)
+  where
+    named : (b : Bool) → eqb id other ≡ b → P other (cond b (Some one) (series_found other old))
+    named true e = subst (λ (n : ℕ). P n (Some one)) (eqb-true id other e) here
+    named false e = elsewhere other e
+
+pub found_id : (id : ℕ) (one : Series) (series : List Series) → series_found id series ≡ Some one → one.row.id ≡ id
+found_id id one [] found = cc
+found_id id one (s ∷ series) found = (elim (eqb s.row.id id) as (λ b. eqb s.row.id id ≡ b → cond b (Some s) (series_found id series) ≡ Some one → one.row.id ≡ id) [
+  | true ↦ (λ e is. let same : s ≡ one = cc in ap (λ (o : Series). o.row.id) (sym same) ∙ eqb-true s.row.id id e)
+  | false ↦ (λ e is. found_id id one series is)
+]) refl found
+
+abbrev pub is_named : ℕ → Series → Bool
+is_named id one = eqb one.row.id id
+
+-- where the one of an id stands
+pub record IsAt (id at : ℕ) (one : Series) (series : List Series) : Type 0 where
+  pub place : at ≡ position_or_len (is_named id) series
+  pub within : at < length series
+  pub found : series_found id series ≡ Some one
+  pub element : get_or series at one ≡ one
+
+pub is_at : (id at : ℕ) (one : Series) (series seen : List Series) (where_is : Option ℕ) → where_is ≡ position (is_named id) seen → seen ≡ series → where_is ≡ Some at → one ≡ get_or series at one → IsAt id at one series
+is_at id at one series seen where_is looked same is element =
+    let placed : position (is_named id) series ≡ Some at = sym (looked ∙ ap (position (is_named id)) same) ∙ is in
+    let facts = position-Some (is_named id) series at one placed in
+    let place : at ≡ position_or_len (is_named id) series = first (nat_lt (position_or_len (is_named id) series) (length series)) (position_or_len (is_named id) series) placed in
+    record {
+      place = place;
+      within = facts.0;
+      found = find_at (is_named id) series ∙ ap (slice_get series) (sym place) ∙ slice_get-get_or series at one facts.0 ∙ ap (λ (o : Series). Some o) (sym element);
+      element = sym element;
+    }
+  where
+    first : (b : Bool) (n : ℕ) → cond b (Some n) None ≡ Some at → at ≡ n
+    first true n is = cc
+    first false n is = cc
+
+pub now_set : (id at : ℕ) (one new : Series) (series : List Series) → IsAt id at one series → new.row.id ≡ id → IsNow id new series (set series at new)
+now_set id at one new series is_there same other = named (eqb id other) refl
+  where
+    named : (b : Bool) → eqb id other ≡ b → series_found other (set series at new) ≡ cond b (Some new) (series_found other series)
+    named true e = subst (λ (n : ℕ). series_found n (set series at new) ≡ Some new) (eqb-true id other e) (find-set (is_named id) series at new is_there.place is_there.within (eq-eqb new.row.id id same))
+    named false e = find_past (is_named other) series at new one (ap (λ (o : Series). eqb o.row.id other) is_there.element ∙ ap (λ n. eqb n other) (found_id id one series is_there.found) ∙ e) (ap (λ n. eqb n other) same ∙ e)
+
+pub ids_set : (id at : ℕ) (one new : Series) (series : List Series) → IsAt id at one series → new.row.id ≡ id → ids_of (set series at new) ≡ ids_of series
+ids_set id at one new series is_there same =
+    map-set_same (λ (o : Series). o.row.id) series at new one (same ∙ sym (found_id id one series is_there.found) ∙ sym (ap (λ (o : Series). o.row.id) is_there.element))
+
+pub once_set : (id at : ℕ) (one new : Series) (series : List Series) → IsAt id at one series → new.row.id ≡ id → IsOnce series → IsOnce (set series at new)
+once_set id at one new series is_there same once = subst (IsDistinct (λ a b. eqb a b)) (sym (ids_set id at one new series is_there same)) once
+
+pub none_found : (id : ℕ) (series seen : List Series) (where_is : Option ℕ) → where_is ≡ position (is_named id) seen → seen ≡ series → where_is ≡ None → series_found id series ≡ None
+none_found id series seen where_is looked same is =
+    let none : position (is_named id) series ≡ None = sym (looked ∙ ap (position (is_named id)) same) ∙ is in
+    find_at (is_named id) series ∙ slice_get_past series (position_or_len (is_named id) series) (past (nat_lt (position_or_len (is_named id) series) (length series)) refl none)
+  where
+    past : (b : Bool) → nat_lt (position_or_len (is_named id) series) (length series) ≡ b → cond b (Some (position_or_len (is_named id) series)) None ≡ None → length series ≤ position_or_len (is_named id) series
+    past true e is = cc
+    past false e is = ltb-false (position_or_len (is_named id) series) (length series) e
+
+pub now_pushed : (new : Series) (series : List Series) → series_found new.row.id series ≡ None → IsNow new.row.id new series (series ++ new ∷ [])
+now_pushed new series none other = find-append (is_named other) series (new ∷ []) ∙ named (eqb new.row.id other) refl
+  where
+    named : (b : Bool) → eqb new.row.id other ≡ b → option_or (series_found other series) (cond b (Some new) None) ≡ cond b (Some new) (series_found other series)
+    named true e = ap (λ found. option_or found (Some new)) (ap (λ n. series_found n series) (sym (eqb-true new.row.id other e)) ∙ none)
+    named false e = alone (series_found other series)
+      where
+        alone : (found : Option Series) → option_or found None ≡ found
+        alone None = refl
+        alone (Some one) = refl
+
+apart_pushed : (x new : Series) (series : List Series) → eqb x.row.id new.row.id ≡ false → AllByRecursion (λ id. eqb x.row.id id ≡ false) (ids_of series) → AllByRecursion (λ id. eqb x.row.id id ≡ false) (ids_of (series ++ new ∷ []))
+apart_pushed x new [] apart all = (apart, tt)
+apart_pushed x new (s ∷ series) apart all = (all.0, apart_pushed x new series apart all.1)
+
+pub once_pushed : (new : Series) (series : List Series) → series_found new.row.id series ≡ None → IsOnce series → IsOnce (series ++ new ∷ [])
+unfolding IsDistinct
+once_pushed new [] none once = (tt, tt)
+once_pushed new (s ∷ series) none once =
+    let parts = split (eqb s.row.id new.row.id) none in
+    (apart_pushed s new series parts.0 once.0, once_pushed new series parts.1 once.1)
+  where
+    split : (b : Bool) → cond b (Some s) (series_found new.row.id series) ≡ None → (b ≡ false) × (series_found new.row.id series ≡ None)
+    split true is = cc
+    split false is = (refl, is)
+
+-- ---- what an entry does to the one of an id
+
+-- a row that is given
+given_grows : (old new : ModelsView) (entries : List Entry) (change : Change) (one : Series) → StandsFor old entries → IsNow one.row.id one old.series new.series → one.cancelled ≡ cancelled_found one.row.id old.series → one.place ≡ 0 → ids_of new.series ≡ ids_of old.series ++ id_made change → model_in change ≡ Some one.row → ((id : ℕ) → drops_model id change ≡ false) → ((id : ℕ) → is_made_by id change ≡ false) → Grows old.series new.series entries change
+given_grows old new entries change one stands now cancelled place order gives drops made = record {
+  rows = by_id one.row.id one old.series new.series now (λ id found. option_map (λ (o : Series). o.row) found ≡ or_model_before (row_found id old.series) (if_model_named id (model_in change)))
+      (sym (ap (or_model_before (row_found one.row.id old.series)) (named one.row.id true (eq-eqb one.row.id one.row.id refl))))
+      (λ id e. sym (ap (or_model_before (row_found id old.series)) (named id false e)));
+  dropped = by_id one.row.id one old.series new.series now (λ id found. is_cancelled_series found ≡ (cancelled_found id old.series || drops_model id change))
+      (cancelled ∙ kept one.row.id)
+      (λ id e. kept id);
+  places = by_id one.row.id one old.series new.series now (λ id found. is_some (option_map (λ (o : Series). o.row) found) ≡ true → place_in_series found ≡ place_after id (next_place id entries) change)
+      (λ is. place ∙ sym (placed one.row.id true (eq-eqb one.row.id one.row.id refl)))
+      (λ id e is. stands.places id is ∙ sym (placed id false e ∙ ap (λ b. cond b (next_place id entries + 1) (next_place id entries)) (made id)));
+  order = order;
+}
+  where
+    named : (id : ℕ) (b : Bool) → eqb one.row.id id ≡ b → if_model_named id (model_in change) ≡ cond b (Some one.row) None
+    named id b e = ap (if_model_named id) gives ∙ ap (λ c. cond c (Some one.row) None) e
+
+    kept : (id : ℕ) → cancelled_found id old.series ≡ (cancelled_found id old.series || drops_model id change)
+    kept id = sym (ap (λ b. cancelled_found id old.series || b) (drops id) ∙ or-false (cancelled_found id old.series))
+
+    placed : (id : ℕ) (b : Bool) → eqb one.row.id id ≡ b → place_after id (next_place id entries) change ≡ cond b 0 (cond (is_made_by id change) (next_place id entries + 1) (next_place id entries))
+    placed id b e = ap (λ row. cond (is_of_model id row) 0 (cond (is_made_by id change) (next_place id entries + 1) (next_place id entries))) gives ∙ ap (λ c. cond c 0 (cond (is_made_by id change) (next_place id entries + 1) (next_place id entries))) e
+
+row_is : (id : ℕ) (series : List Series) (row : Option ModelRow) → row_found id series ≡ row → series_found id series ≡ None → row ≡ None
+row_is id series row rows none = sym rows ∙ ap (option_map (λ (o : Series). o.row)) none
+
+is_there : (id : ℕ) (old : ModelsView) (entries : List Entry) → StandsFor old entries → series_found id old.series ≡ None → is_some (model_of id entries) ≡ true → ⊥
+is_there id old entries stands none there = let e : false ≡ true = ap is_some (sym (row_is id old.series (model_of id entries) (stands.rows id) none)) ∙ there in cc
+
+not_there : (id : ℕ) (one : Series) (old : ModelsView) (entries : List Entry) → StandsFor old entries → series_found id old.series ≡ Some one → model_of id entries ≡ None → ⊥
+not_there id one old entries stands found none = let e : Some one.row ≡ None = ap (option_map (λ (o : Series). o.row)) (sym found) ∙ stands.rows id ∙ none in cc
+
+pub place_is : (id : ℕ) (one : Series) (old : ModelsView) (entries : List Entry) → StandsFor old entries → series_found id old.series ≡ Some one → one.place ≡ next_place id entries
+place_is id one old entries stands found = sym (ap place_in_series found) ∙ stands.places id (ap (λ o. is_some (option_map (λ (s : Series). s.row) o)) found)
+
+-- the row of one that is there
+pub stands_set : (old new : ModelsView) (entries : List Entry) (entry : Entry) (at : ℕ) (one : Series) (row : ModelRow) → StandsFor old entries → IsAt row.id at one old.series → GivesModel entries entry.change row → new.series ≡ set old.series at (record { row = row; cancelled = one.cancelled; place = 0 }) → StandsFor new (entries ++ entry ∷ [])
+stands_set old new entries entry at one row stands there gives is = stands_more old new entries entry stands (grows entry.change gives)
+  where
+    begun : Series
+    begun = record { row = row; cancelled = one.cancelled; place = 0 }
+
+    now : IsNow row.id begun old.series new.series
+    now = subst (IsNow row.id begun old.series) (sym is) (now_set row.id at one begun old.series there refl)
+
+    grows : (change : Change) → GivesModel entries change row → Grows old.series new.series entries change
+    grows (NewTransfer given) g = absurd g
+    grows (SetTransfer given) g = absurd g
+    grows (DropTransfer id) g = absurd g
+    grows (NewModel given) g = absurd (not_there row.id one old entries stands there.found g.1)
+    grows (SetModel given pending) g = given_grows old new entries (SetModel given pending) begun stands now (sym (ap is_cancelled_series there.found)) refl (ap ids_of is ∙ ids_set row.id at one begun old.series there refl ∙ sym (append-nil (ids_of old.series))) (ap (λ (r : ModelRow). Some r) g.0) (λ id. refl) (λ id. refl)
+    grows (DropModel id pending) g = absurd g
+
+-- the row of one that is new
+pub stands_pushed : (old new : ModelsView) (entries : List Entry) (entry : Entry) (row : ModelRow) → StandsFor old entries → series_found row.id old.series ≡ None → GivesModel entries entry.change row → new.series ≡ old.series ++ record { row = row; cancelled = false; place = 0 } ∷ [] → StandsFor new (entries ++ entry ∷ [])
+stands_pushed old new entries entry row stands none gives is = stands_more old new entries entry stands (grows entry.change gives)
+  where
+    begun : Series
+    begun = record { row = row; cancelled = false; place = 0 }
+
+    now : IsNow row.id begun old.series new.series
+    now = subst (IsNow row.id begun old.series) (sym is) (now_pushed begun old.series none)
+
+    grows : (change : Change) → GivesModel entries change row → Grows old.series new.series entries change
+    grows (NewTransfer given) g = absurd g
+    grows (SetTransfer given) g = absurd g
+    grows (DropTransfer id) g = absurd g
+    grows (NewModel given) g = given_grows old new entries (NewModel given) begun stands now (sym (ap is_cancelled_series none)) refl (ap ids_of is ∙ map-append (λ (o : Series). o.row.id) old.series (begun ∷ []) ∙ ap (λ (r : ModelRow). ids_of old.series ++ r.id ∷ []) (sym g.0)) (ap (λ (r : ModelRow). Some r) g.0) (λ id. refl) (λ id. refl)
+    grows (SetModel given pending) g = absurd (is_there row.id old entries stands none g.1)
+    grows (DropModel id pending) g = absurd g
+
+-- one that is cancelled
+pub stands_cancelled : (old new : ModelsView) (entries : List Entry) (entry : Entry) (id at : ℕ) (one : Series) → StandsFor old entries → IsAt id at one old.series → Cancels entries entry.change id → new.series ≡ set old.series at (record { row = one.row; cancelled = true; place = one.place }) → StandsFor new (entries ++ entry ∷ [])
+stands_cancelled old new entries entry id at one stands there cancels is = stands_more old new entries entry stands (grows entry.change cancels)
+  where
+    gone : Series
+    gone = record { row = one.row; cancelled = true; place = one.place }
+
+    now : IsNow id gone old.series new.series
+    now = subst (IsNow id gone old.series) (sym is) (now_set id at one gone old.series there (found_id id one old.series there.found))
+
+    same_row : row_found id old.series ≡ Some one.row
+    same_row = ap (option_map (λ (o : Series). o.row)) there.found
+
+    dropped_id : (pending : Bool) → Grows old.series new.series entries (DropModel id pending)
+    dropped_id pending = record {
+      rows = by_id id gone old.series new.series now (λ other found. option_map (λ (o : Series). o.row) found ≡ row_found other old.series) (sym same_row) (λ other e. refl);
+      dropped = by_id id gone old.series new.series now (λ other found. is_cancelled_series found ≡ (cancelled_found other old.series || eqb id other))
+          (sym (ap (λ b. cancelled_found id old.series || b) (eq-eqb id id refl) ∙ or-true (cancelled_found id old.series)))
+          (λ other e. sym (ap (λ b. cancelled_found other old.series || b) e ∙ or-false (cancelled_found other old.series)));
+      places = by_id id gone old.series new.series now (λ other found. is_some (option_map (λ (o : Series). o.row) found) ≡ true → place_in_series found ≡ next_place other entries)
+          (λ is. place_is id one old entries stands there.found)
+          (λ other e. stands.places other);
+      order = ap ids_of is ∙ ids_set id at one gone old.series there (found_id id one old.series there.found) ∙ sym (append-nil (ids_of old.series));
+    }
+
+    grows : (change : Change) → Cancels entries change id → Grows old.series new.series entries change
+    grows (NewTransfer given) g = absurd g
+    grows (SetTransfer given) g = absurd g
+    grows (DropTransfer dropped) g = absurd g
+    grows (NewModel given) g = absurd g
+    grows (SetModel given pending) g = absurd g
+    grows (DropModel dropped pending) g = subst (λ (n : ℕ). Grows old.series new.series entries (DropModel n pending)) (sym g.0) (dropped_id pending)
+
+-- no recurring transfer is cancelled that isn't there
+pub none_cancelled : (old : ModelsView) (entries : List Entry) (change : Change) (id : ℕ) → StandsFor old entries → series_found id old.series ≡ None → Cancels entries change id → ⊥
+none_cancelled old entries (NewTransfer given) id stands none g = g
+none_cancelled old entries (SetTransfer given) id stands none g = g
+none_cancelled old entries (DropTransfer dropped) id stands none g = g
+none_cancelled old entries (NewModel given) id stands none g = g
+none_cancelled old entries (SetModel given pending) id stands none g = g
+none_cancelled old entries (DropModel dropped pending) id stands none g = is_there id old entries stands none g.1
+
+-- one that has made its next transfer
+pub stands_stepped : (old new : ModelsView) (entries : List Entry) (entry : Entry) (id at : ℕ) (one : Series) → StandsFor old entries → IsAt id at one old.series → IsMadeBy entries entry.change id → new.series ≡ set old.series at (record { row = one.row; cancelled = one.cancelled; place = one.place + 1 }) → StandsFor new (entries ++ entry ∷ [])
+stands_stepped old new entries entry id at one stands there makes is = stands_more old new entries entry stands (grows entry.change makes)
+  where
+    next : Series
+    next = record { row = one.row; cancelled = one.cancelled; place = one.place + 1 }
+
+    now : IsNow id next old.series new.series
+    now = subst (IsNow id next old.series) (sym is) (now_set id at one next old.series there (found_id id one old.series there.found))
+
+    same_row : row_found id old.series ≡ Some one.row
+    same_row = ap (option_map (λ (o : Series). o.row)) there.found
+
+    raised : (place : ℕ) (b : Bool) → (e : b ≡ true) → cond b (place + 1) place ≡ place + 1
+    raised place true e = refl
+    raised place false e = cc
+
+    made : (row : TransferRow) → row.model ≡ id → Grows old.series new.series entries (NewTransfer row)
+    made row of_model = record {
+      rows = by_id id next old.series new.series now (λ other found. option_map (λ (o : Series). o.row) found ≡ row_found other old.series) (sym same_row) (λ other e. refl);
+      dropped = by_id id next old.series new.series now (λ other found. is_cancelled_series found ≡ (cancelled_found other old.series || false))
+          (sym (or-false (cancelled_found id old.series) ∙ ap is_cancelled_series there.found))
+          (λ other e. sym (or-false (cancelled_found other old.series)));
+      places = by_id id next old.series new.series now (λ other found. is_some (option_map (λ (o : Series). o.row) found) ≡ true → place_in_series found ≡ cond (eqb row.model other) (next_place other entries + 1) (next_place other entries))
+          (λ is. ap (λ n. n + 1) (place_is id one old entries stands there.found) ∙ sym (raised (next_place id entries) (eqb row.model id) (eq-eqb row.model id of_model)))
+          (λ other e is. stands.places other is ∙ sym (ap (λ b. cond b (next_place other entries + 1) (next_place other entries)) (ap (λ n. eqb n other) of_model ∙ e)));
+      order = ap ids_of is ∙ ids_set id at one next old.series there (found_id id one old.series there.found) ∙ sym (append-nil (ids_of old.series));
+    }
+
+    grows : (change : Change) → IsMadeBy entries change id → Grows old.series new.series entries change
+    grows (NewTransfer row) g = made row g.0
+    grows (SetTransfer given) g = absurd g
+    grows (DropTransfer dropped) g = absurd g
+    grows (NewModel given) g = absurd g
+    grows (SetModel given pending) g = absurd g
+    grows (DropModel dropped pending) g = absurd g
+
+-- ---- a change of a transfer that no recurring transfer makes
+
+kept_transfer : (old : ModelsView) (entries : List Entry) (change : Change) → StandsFor old entries → IsOfTransfer entries change → Grows old.series old.series entries change
+kept_transfer old entries (NewTransfer row) stands is = record {
+  rows = λ id. refl;
+  dropped = λ id. sym (or-false (cancelled_found id old.series));
+  places = λ id there. stands.places id there ∙ unmade id there (eqb row.model id) (eqb-true row.model id);
+  order = sym (append-nil (ids_of old.series));
+}
+  where
+    unmade : (id : ℕ) → is_some (row_found id old.series) ≡ true → (made : Bool) → (made ≡ true → row.model ≡ id) → next_place id entries ≡ cond made (next_place id entries + 1) (next_place id entries)
+    unmade id there true same = let e : false ≡ true = ap is_some (sym (stands.rows id ∙ ap (λ n. model_of n entries) (sym (same refl)) ∙ is)) ∙ there in cc
+    unmade id there false same = refl
+kept_transfer old entries (SetTransfer row) stands is = record {
+  rows = λ id. refl;
+  dropped = λ id. sym (or-false (cancelled_found id old.series));
+  places = stands.places;
+  order = sym (append-nil (ids_of old.series));
+}
+kept_transfer old entries (DropTransfer gone) stands is = record {
+  rows = λ id. refl;
+  dropped = λ id. sym (or-false (cancelled_found id old.series));
+  places = stands.places;
+  order = sym (append-nil (ids_of old.series));
+}
+kept_transfer old entries (NewModel row) stands is = absurd is
+kept_transfer old entries (SetModel row pending) stands is = absurd is
+kept_transfer old entries (DropModel id pending) stands is = absurd is
+
+pub stands_kept : (models : ModelsView) (entries : List Entry) (entry : Entry) → StandsFor models entries → IsOfTransfer entries entry.change → StandsFor models (entries ++ entry ∷ [])
+stands_kept models entries entry stands is = stands_more models models entries entry stands (kept_transfer models entries entry.change stands is)

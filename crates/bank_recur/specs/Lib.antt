@@ -1,0 +1,3 @@
+pub mod ModelsView
+pub mod Spawning
+pub mod Growth

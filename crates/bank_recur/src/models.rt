@@ -1,0 +1,194 @@
+//! The rows of a bank's recurring transfers, with how many transfers each has made.
+
+ghost use Rattle.std.specs.Prelude.{◌≡◌, ◌+◌, ◌<◌, ◌≤◌, ◌∷◌, ◌++◌, [], List, ◌==◌, is_some, true, OnOk};
+ghost use Rattle.std.specs.Option.{option_copied, option_map};
+ghost use Rattle.std.specs.List.{find, position};
+ghost use Rattle.ofx_types.specs.Calendar.{IsDay};
+ghost use Rattle.bank_model.specs.declared.entry.Entry.{Entry};
+ghost use Rattle.bank_model.specs.Models.{model_of, is_model_dropped, next_place};
+ghost use Rattle.bank_model.specs.Due.{first_task, to_make, date_to_make};
+ghost use Rattle.bank_recur.specs.ModelsView.{series_found, row_found, place_found, StandsFor, GivesModel, Cancels, IsMadeBy};
+ghost use Rattle.bank_recur.specs.Spawning.{date_found, first_spawn};
+
+use crate::series::HeldSeries;
+use crate::spawn::{Spawn, earlier};
+use ofx_types::{Day, ModelRow, OutOfMemory};
+use std::alloc::Global;
+use std::marker::Model;
+
+/// The recurring transfers of a bank, in the order in which they were made.
+#[derive(Debug, Drop)]
+pub struct Models {
+    series: Vec<HeldSeries>,
+}
+
+impl Model for Models {
+    ghost use Rattle.std.specs.Prelude.{◌-◌, ◌==◌, vec_len, vec_capacity};
+    ghost use Rattle.std.specs.List.{IsDistinct};
+    ghost use Rattle.bank_recur.specs.ModelsView.{ModelsView, IsOnce};
+
+    ghost Value = { ModelsView };
+
+    ghost view = { λ m. record {
+      series = m.series.items;
+      room = vec_capacity m.series - vec_len m.series;
+    } };
+
+    ghost invariant = { λ m. IsOnce m.series.items };
+}
+
+impl Models {
+    /// The recurring transfers before any entry. Takes no memory.
+    pub fn new(alloc: Global) -> Models
+        ensures { StandsFor result [] }
+    {
+        Models {
+            series: Vec::new(alloc),
+        }
+    }
+
+    /// The row of the recurring transfer with this id (RECSRVRTID), lent, also where it is cancelled. Takes no memory.
+    pub fn get(&self, id: u64) -> Option<&ModelRow>
+        ensures held { option_copied result ≡ row_found id self.now.series }
+        ensures stood_for { (entries : List Entry) → StandsFor self.now entries
+            → option_copied result ≡ model_of id entries }
+    {
+        match own(&self.series, id) {
+            Some(one) => Some(one.row()),
+            None => None,
+        }
+    }
+
+    /// Whether the recurring transfer with this id is cancelled. Takes no memory.
+    pub fn cancelled(&self, id: u64) -> bool
+        ensures { (entries : List Entry) → StandsFor self.now entries → result ≡ is_model_dropped id entries }
+    {
+        match own(&self.series, id) {
+            Some(one) => one.is_cancelled(),
+            None => false,
+        }
+    }
+
+    /// The place of the next transfer of the recurring transfer with this id, which is there, in its series from 0.
+    /// Takes no memory.
+    pub fn next_k(&self, id: u64) -> u32
+        requires { is_some (row_found id self.now.series) ≡ true }
+        ensures held { result ≡ place_found id self.now.series }
+        ensures stood_for { (entries : List Entry) → StandsFor self.now entries → result ≡ next_place id entries }
+    {
+        match own(&self.series, id) {
+            Some(one) => one.place(),
+            None => 0,
+        }
+    }
+
+    /// Makes room for so many more recurring transfers.
+    ///
+    /// Where memory is refused, all is as before, and so is the room that there was.
+    pub fn reserve(&mut self, models: u32) -> Result<(), OutOfMemory>
+        ensures series { self.new.series ≡ self.old.series }
+        ensures stands { (entries : List Entry) → StandsFor self.old entries → StandsFor self.new entries }
+        ensures room { OnOk result (models ≤ self.new.room) }
+        ensures room_stays { self.old.room ≤ self.new.room }
+    {
+        self.series.reserve(models as usize)?;
+        Ok(())
+    }
+
+    /// Takes in a new recurring transfer, behind all others, or the row that one has from now on, in its place; it begins
+    /// anew. There is room for it, and it takes no memory.
+    pub fn put(&mut self, row: ModelRow)
+        requires room { 0 < self.old.room }
+        requires first { IsDay row.first.0 }
+        ensures stands { (entries : List Entry) (entry : Entry) → StandsFor self.old entries
+            → GivesModel entries entry.change row
+            → StandsFor self.new (entries ++ entry ∷ []) }
+        ensures room { self.old.room ≤ self.new.room + 1 }
+    {
+        match place_of(&self.series, row.id) {
+            Some(at) => self.series[at].begin_anew(row),
+            None => self.series.push_reserved(HeldSeries::new(row)),
+        }
+    }
+
+    /// The recurring transfer with this id is cancelled. Takes no memory.
+    pub fn cancel(&mut self, id: u64)
+        ensures stands { (entries : List Entry) (entry : Entry) → StandsFor self.old entries
+            → Cancels entries entry.change id
+            → StandsFor self.new (entries ++ entry ∷ []) }
+        ensures room { self.new.room ≡ self.old.room }
+    {
+        if let Some(at) = place_of(&self.series, id) {
+            self.series[at].cancel();
+        }
+    }
+
+    /// The recurring transfer with this id, which is there, has made its next transfer. Takes no memory.
+    pub fn spawned(&mut self, id: u64)
+        requires there { is_some (row_found id self.old.series) ≡ true }
+        requires below { place_found id self.old.series < 4294967295 }
+        ensures stands { (entries : List Entry) (entry : Entry) → StandsFor self.old entries
+            → IsMadeBy entries entry.change id
+            → StandsFor self.new (entries ++ entry ∷ []) }
+        ensures room { self.new.room ≡ self.old.room }
+    {
+        if let Some(at) = place_of(&self.series, id) {
+            self.series[at].step();
+        }
+    }
+
+    /// The date of the next transfer of the recurring transfer with this id, where it makes one by a last day. Takes no
+    /// memory.
+    pub fn date_to_make(&self, id: u64, last: Day) -> Option<Day>
+        ensures { (entries : List Entry) → StandsFor self.now entries → result ≡ date_to_make last id entries }
+    {
+        next_date(own(&self.series, id), last)
+    }
+
+    /// The recurring transfer that makes its next transfer first of those that make one by a last day, with the
+    /// transfer's place in its series: that with the earliest date, and on one date the least id. Takes no memory.
+    pub fn next_spawn(&self, last: Day) -> Option<(u64, u32)>
+        ensures { (entries : List Entry) → StandsFor self.now entries → result
+            ≡ option_map (λ task. (task.id, next_place task.id entries)) (first_task (to_make last entries)) }
+    {
+        match first_of(&self.series, last) {
+            Some(spawn) => Some((spawn.id, spawn.place)),
+            None => None,
+        }
+    }
+}
+
+/// The recurring transfer with this id.
+fn own(series: &[HeldSeries], id: u64) -> Option<&HeldSeries>
+    ensures { option_copied result ≡ series_found id series.now }
+{
+    series.iter().find(|one| one.id() == id)
+}
+
+/// The date of the next transfer of a recurring transfer, where there is one and it makes one by a last day.
+fn next_date(one: Option<&HeldSeries>, last: Day) -> Option<Day>
+    ensures { result ≡ date_found last (option_copied one.entry) }
+{
+    match one {
+        Some(one) => one.date_by(last),
+        None => None,
+    }
+}
+
+/// Where the recurring transfer with this id stands.
+fn place_of(series: &[HeldSeries], id: u64) -> Option<usize>
+    ensures { result ≡ position (λ one. one.row.id == id) series.now }
+{
+    series.iter().position(|one| one.id() == id)
+}
+
+/// The first of all next transfers by a last day.
+fn first_of(series: &[HeldSeries], last: Day) -> Option<Spawn>
+    ensures { result ≡ first_spawn last series.now }
+{
+    let mut first = None;
+    for one in series {
+        first = earlier(first, one.spawn_by(last));
+    }
+    first
+}

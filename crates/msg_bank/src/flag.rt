@@ -1,0 +1,18 @@
+//! Flags (`Y` and `N`), written.
+
+ghost use Rattle.std.specs.Prelude.{◌≡◌, ◌++◌, OnOk};
+ghost use Rattle.ofx_types.specs.FormWords.{flag_word};
+ghost use Rattle.ofx_types.specs.Sheet.{element};
+
+use ofx_tree::Sheet;
+use ofx_types::OutOfMemory;
+
+/// Writes a flag by its letter.
+pub(crate) fn print_flag(name: &[u8], flag: bool, sheet: &mut Sheet) -> Result<(), OutOfMemory>
+    ensures { OnOk result (sheet.new ≡ sheet.old ++ element name.now (flag_word flag)) }
+{
+    if flag {
+        return sheet.element(name, b"Y");
+    }
+    sheet.element(name, b"N")
+}
