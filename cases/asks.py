@@ -1,4 +1,4 @@
-"""Request files of bank messages in a few words, and the replies that most answers are near to.
+"""Request files in a few words.
 
     {"user": "NAME PASSWORD", "old": UID, "new": UID, "asks": [ASK, ..], "changes": CHANGES}
 
@@ -13,9 +13,15 @@ is one of these texts:
     rewrite TRNUID ID PENDING SERIES ACCOUNT ACCOUNT AMOUNT [DUE]
                                                         RECINTRAMODRQ, with MODPENDING
     stop TRNUID ID PENDING                              RECINTRACANRQ, with CANPENDING
+    write TRNUID ACCOUNT [TO [SUBJECT [BODY]]]          BANKMAILRQ
+    mail TRNUID [TO [SUBJECT [BODY]]]                   MAILRQ
+    sync FAMILY ACCOUNT CHOICE [strict]                 INTRASYNCRQ, RECINTRASYNCRQ or BANKMAILSYNCRQ
+    sync mail CHOICE [strict]                           MAILSYNCRQ
 
-A SERIES is FREQ, or `FREQ*NINSTS`. An account is 1001 or 1002, those of samples/setup, or `NUMBER/KIND`, or
-`BANK/NUMBER/KIND`. START is `-` where only the end stands.
+or a list, of a `sync` and the asks that are embedded in it. A SERIES is FREQ, or `FREQ*NINSTS`. An account is 1001 or
+1002, those of samples/setup, or `NUMBER/KIND`, or `BANK/NUMBER/KIND`. START is `-` where only the end stands. Without
+TO a mail goes to BANK. A FAMILY is intra, recintra or bankmail; a CHOICE is a token, or `only` for TOKENONLY, or
+`refresh` for REFRESH; `strict` is REJECTIFMISSING Y.
 """
 BANK = "121099999"
 ACCOUNTS = {"1001": "1001/CHECKING", "1002": "1002/SAVINGS"}
@@ -67,28 +73,6 @@ def printed(tree):
     return "".join(line + "\r\n" for line in lines(tree))
 
 
-def status(code):
-    return ("STATUS", [("CODE", code), ("SEVERITY", "INFO" if code == "0" else "ERROR")])
-
-
-def answered(family, trnuid, *done):
-    """The printed answer to a deed that is done, or that was done before."""
-    return printed([(family, [("TRNUID", trnuid), status("0" if done else "2019"), *done])])
-
-
-POSTED = answered("INTRATRNRS", "x1", ("INTRARS", [
-    ("CURDEF", "USD"), ("SRVRTID", "1"), terms("1001", "1002", "10.00", "20240131000000"),
-    ("XFERPRCSTS", [("XFERPRCCODE", "POSTEDON"), ("DTXFERPRC", "20240131120000")]),
-]))
-REFUSED = answered("INTRATRNRS", "x1")
-REPEATED = answered("RECINTRATRNRS", "x1", ("RECINTRARS", [
-    ("RECSRVRTID", "1"), series("MONTHLY"), ("INTRARS", [
-        ("CURDEF", "USD"), ("SRVRTID", "1"), terms("1001", "1002", "10.00", "20240201000000"), ("RECSRVRTID", "1"),
-    ]),
-]))
-STOPPED = answered("RECINTRATRNRS", "x2", ("RECINTRACANRS", [("RECSRVRTID", "1"), ("CANPENDING", "Y")]))
-
-
 def repeat(trnuid, often, *words):
     return ("RECINTRATRNRQ", [("TRNUID", trnuid), ("RECINTRARQ", [series(often), ("INTRARQ", [terms(*words)])])])
 
@@ -103,19 +87,54 @@ def stop(trnuid, id, pending):
     return ("RECINTRATRNRQ", [("TRNUID", trnuid), ("RECINTRACANRQ", [("RECSRVRTID", id), ("CANPENDING", pending)])])
 
 
+def text(to="BANK", subject="Hello", body="Hi"):
+    texts = [("FROM", "alice"), ("TO", to), ("SUBJECT", subject), ("MSGBODY", body)]
+    return ("MAIL", [("DTCREATED", "20240131120000")] + texts)
+
+
+def write(trnuid, about, *words):
+    return ("BANKMAILTRNRQ", [
+        ("TRNUID", trnuid), ("BANKMAILRQ", [("BANKACCTFROM", account(about)), text(*words)]),
+    ])
+
+
+def mail(trnuid, *words):
+    return ("MAILTRNRQ", [("TRNUID", trnuid), ("MAILRQ", [text(*words)])])
+
+
+def sync(family, *words):
+    about, (choice, *strict) = ((), words) if family == "mail" else (words[:1], words[1:])
+    chosen = {"only": ("TOKENONLY", "Y"), "refresh": ("REFRESH", "Y")}.get(choice, ("TOKEN", choice))
+    return (family.upper() + "SYNCRQ", [
+        chosen, ("REJECTIFMISSING", "Y" if strict else "N"), *(("BANKACCTFROM", account(one)) for one in about),
+    ])
+
+
 ASKS = {
     "statement": statement, "transfer": transfer, "change": change, "cancel": cancel, "repeat": repeat,
-    "rewrite": rewrite, "stop": stop,
+    "rewrite": rewrite, "stop": stop, "write": write, "mail": mail, "sync": sync,
 }
+
+
+def form(ask):
+    """The form of an ask, with the forms that are embedded in it."""
+    if isinstance(ask, list):
+        name, children = form(ask[0])
+        return (name, children + [form(one) for one in ask[1:]])
+    deed, *words = ask.split(" ")
+    return ASKS[deed](*words)
 
 
 def asked(header, what):
     """The file, with this header."""
     name, password = what.get("user", "alice secret").split(" ")
     signon = [("DTCLIENT", "20240131120000"), ("USERID", name), ("USERPASS", password)]
-    asks = [ASKS[deed](*words) for deed, *words in (ask.split(" ") for ask in what["asks"])]
-    sets = [("SIGNONMSGSRQV1", [("SONRQ", signon)])] + [("BANKMSGSRQV1", asks)] * bool(asks)
+    asks = [form(ask) for ask in what["asks"]]
+    sets = [("SIGNONMSGSRQV1", [("SONRQ", signon)])]
+    for messages, of_mail in (("BANKMSGSRQV1", False), ("EMAILMSGSRQV1", True)):
+        inner = [ask for ask in asks if ask[0].startswith("MAIL") == of_mail]
+        sets += [(messages, inner)] * bool(inner)
     for tag, uid in (("OLDFILEUID", what.get("old")), ("NEWFILEUID", what.get("new"))):
         if uid is not None:
             header = header.replace(b"%s:NONE" % tag.encode(), b"%s:%s" % (tag.encode(), uid.encode("latin-1")))
-    return header + "".join(line + "\r\n" for line in lines([("OFX", sets)])).encode("latin-1")
+    return header + printed([("OFX", sets)]).encode("latin-1")

@@ -5,6 +5,8 @@ The frames of a batch go to one bank, one after the other.
 import random
 import re
 
+import mailed
+import synced
 from dated import any_date
 from frames import DUE, frame
 from pieces import FILES
@@ -26,7 +28,11 @@ AMOUNT = re.compile(rb"<TRNAMT>([^<>]+)(?=<)")
 DEED_TAG = re.compile(rb"</?(?:INTRATRNRQ|INTRARQ|INTRAMODRQ|INTRACANRQ|XFERINFO)>")
 MODEL_TAG = re.compile(rb"</?(?:RECINTRATRNRQ|RECINTRARQ|RECINTRAMODRQ|RECINTRACANRQ|RECURRINST|INTRARQ)>")
 MODEL_VALUE = re.compile(rb"<(?:NINSTS|FREQ|MODPENDING|CANPENDING|RECSRVRTID)>([^<>]+)(?=<)")
-# The number in a name of a file, or in a TRNUID of a transfer.
+MAIL_TAG = re.compile(rb"</?(?:BANKMAILTRNRQ|MAILTRNRQ|BANKMAILRQ|MAILRQ|MAIL)>")
+MAIL_VALUE = re.compile(rb"<(?:FROM|TO|SUBJECT|MSGBODY)>([^<>]+)(?=<)")
+SYNC_TAG = re.compile(rb"</?(?:INTRA|RECINTRA|BANKMAIL|MAIL)SYNCRQ>")
+SYNC_VALUE = re.compile(rb"<(?:TOKEN|TOKENONLY|REFRESH|REJECTIFMISSING)>([^<>]+)(?=<)")
+# The number in a name of a file, or in a TRNUID of a deed.
 NAME_NUMBER = re.compile(rb"((?:NEWFILEUID:|<TRNUID>)[ \t\r\n]*[ux])[0-9]+")
 PERIOD_TAG = re.compile(rb"</?INCTRAN>|<INCLUDE>")
 ELEMENT = re.compile(rb"<([A-Za-z0-9._-]+)>([^<>]+)(?=<)")
@@ -35,7 +41,7 @@ KNOWN = sorted(ELEMENTS | AGGREGATES)
 NAMES = [b"A", b"X", b"INTU.BID", b"X-C_d.9", b"ofx", b"Sonrq", b"N" * 32, b"N" * 33, b""]
 LIMITS = {
     b"USERID": 32, b"USERPASS": 64, b"TRNUID": 36, b"BANKID": 32, b"ACCTID": 32, b"SRVRTID": 64, b"RECSRVRTID": 64,
-    b"TRNAMT": 32, b"NINSTS": 3,
+    b"TRNAMT": 32, b"NINSTS": 3, b"FROM": 32, b"TO": 32, b"SUBJECT": 64, b"MSGBODY": 10000, b"TOKEN": 64,
 }
 BYTES = b"\x00\x01\x08\t\n\x0b\x0c\r\x1f <>&/;:.-_0AZaz\x7f\x80\xff"
 ENTITIES = [b"&lt;", b"&gt;", b"&amp;", b"&amp;lt;", b"&", b"&lt", b"&LT;", b"&#60;"]
@@ -185,35 +191,64 @@ def an_amount(r, file):
     return another_value(r, file, amounts, any_amount) if amounts else a_value(r, file)
 
 
-def a_deed(r, file):
-    """A child of one of the forms of a transfer is put into one of them or beside it."""
-    places = [tag.start() for tag in DEED_TAG.finditer(file)]
+def a_child(r, file, tags, otherwise, new):
+    """A child of one of the forms with these tags is put into one of them or beside it."""
+    places = [tag.start() for tag in tags.finditer(file)]
     if not places:
-        return an_insert(r, file)
+        return otherwise(r, file)
     at = r.choice(places)
-    new = r.choice((
+    return file[:at] + new(r) + file[at:]
+
+
+def a_deed(r, file):
+    return a_child(r, file, DEED_TAG, an_insert, child_of_deed)
+
+
+def child_of_deed(r):
+    return r.choice((
         b"<INTRARQ></INTRARQ>", b"<INTRAMODRQ></INTRAMODRQ>", b"<INTRACANRQ><SRVRTID>%d</INTRACANRQ>" % r.randrange(99),
         b"<TRNUID>x%d" % r.randrange(1000), b"<SRVRTID>%d" % r.randrange(99), b"<SRVRTID>" + b"1" * r.randrange(9, 66),
         b"<XFERINFO></XFERINFO>", b"<BANKACCTTO></BANKACCTTO>", b"<TRNAMT>" + any_amount(r), b"<DTDUE>" + any_date(r),
         b"<INTRATRNRQ></INTRATRNRQ>",
     ))
-    return file[:at] + new + file[at:]
 
 
 def a_model(r, file):
-    """A child of one of the forms of a model is put into one of them or beside it."""
-    places = [tag.start() for tag in MODEL_TAG.finditer(file)]
-    if not places:
-        return a_deed(r, file)
-    at = r.choice(places)
-    new = r.choice((
+    return a_child(r, file, MODEL_TAG, a_deed, child_of_model)
+
+
+def child_of_model(r):
+    return r.choice((
         b"<RECINTRARQ></RECINTRARQ>", b"<RECINTRAMODRQ></RECINTRAMODRQ>", b"<RECINTRATRNRQ></RECINTRATRNRQ>",
         b"<RECINTRACANRQ><RECSRVRTID>%d<CANPENDING>Y</RECINTRACANRQ>" % r.randrange(99), b"<INTRARQ></INTRARQ>",
         b"<RECURRINST></RECURRINST>", b"<RECURRINST><FREQ>WEEKLY</RECURRINST>", b"<NINSTS>" + r.choice(ANY_COUNTS),
         b"<FREQ>" + r.choice(ANY_FREQUENCIES + list(FREQUENCIES)), b"<MODPENDING>" + r.choice(FLAGS + [b"Y", b"N"]),
         b"<CANPENDING>" + r.choice(FLAGS + [b"Y", b"N"]), b"<RECSRVRTID>" + b"1" * r.randrange(1, 66),
     ))
-    return file[:at] + new + file[at:]
+
+
+def a_mail(r, file):
+    return a_child(r, file, MAIL_TAG, a_deed, mailed.any_child)
+
+
+def a_sync(r, file):
+    return a_child(r, file, SYNC_TAG, a_mail, synced.any_child)
+
+
+def a_mail_value(r, file):
+    """A text of a mail is replaced, or gets an entity in it."""
+    values = list(MAIL_VALUE.finditer(file))
+    return another_value(r, file, values, mailed.any_text) if values else a_value(r, file)
+
+
+def a_sync_value(r, file):
+    """A token or a flag of a synchronisation: replaced, or with an entity in it."""
+    values = list(SYNC_VALUE.finditer(file))
+    return another_value(r, file, values, any_sync_value) if values else a_mail_value(r, file)
+
+
+def any_sync_value(r):
+    return r.choice(r.choice((synced.ANY_TOKENS, synced.YES)))
 
 
 def a_model_value(r, file):
@@ -307,6 +342,7 @@ DEEDS = (
     a_byte, a_byte, a_byte, a_cut, a_span, two_spans, a_tag, a_tag, between_tags, between_tags, a_value, a_value,
     a_value, an_aggregate, an_aggregate, a_nest, an_insert, an_insert, a_header_line, a_filling, a_date, a_date, a_date,
     a_period, a_period, an_amount, an_amount, a_deed, a_deed, a_model, a_model, a_model_value, a_model_value,
+    a_mail, a_mail, a_mail_value, a_sync, a_sync, a_sync, a_sync_value, a_sync_value,
 )
 COUNTS = (0, 0, 0, 1, 1, 1, 1, 1, 1, 2, 2, 3, 6)
 

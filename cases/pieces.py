@@ -9,6 +9,9 @@
     {"refused": N}             N copies of the reply to that transfer where x1 is used
     {"repeated": N}            N copies of the reply to the first model at that bank, x1 of 10.00 from 1001, MONTHLY
     {"stopped": N}             N copies of the reply to x2, which cancels it with what waits
+    {"newest": N}              N copies of the reply to the first synchronisation there, of the transfers of 1001
+    {"told": N}                N copies of the reply to one that asks for what is above 0 behind that transfer
+    {"mailed": N}              N copies of the reply to the first mail there, m1
     {"request": CHANGES}       one frame, of the file in samples/statement.request with changes; the replies likewise
     {"sample": NAME}           the bytes of the file of this name in samples/
     {"header": CHANGES}        the header of the sample files, with its empty line, with changes
@@ -21,13 +24,16 @@
     {"doubled": [A, B]}        the same with one byte doubled
     {"set": [TEXT, A, B]}      the same with one byte replaced by the text
 
+The last four may have one part more, ASKED, and then are about the file that asks for this.
+
 PIECES is one piece or a list of them. CHANGES is a list of pairs, flat: a text that stands exactly once in what the
 pairs before have left, and the pieces that take its place.
 """
 import os
 
-from asks import POSTED, REFUSED, REPEATED, STOPPED, asked
+from asks import asked
 from frames import frame
+from replied import ANSWERED, message_set
 
 SAMPLES = os.path.join(os.path.dirname(os.path.abspath(__file__)), "..", "samples")
 
@@ -53,9 +59,9 @@ GOOD, WRONG = b"<CODE>0\r\n<SEVERITY>INFO\r\n", b"<CODE>%d\r\n<SEVERITY>ERROR\r\
 FILES = {"request": sample_file("statement.request"), "reply": sample_file("statement.reply")}
 FILES["denied"] = without(FILES["reply"], b"BANKMSGSRSV1").replace(GOOD, WRONG % 15500)
 FILES["no account"] = (WRONG % 2003).join(without(FILES["reply"], b"STMTRS").rsplit(GOOD, 1))
-for name, reply in (("posted", POSTED), ("refused", REFUSED), ("repeated", REPEATED), ("stopped", STOPPED)):
-    bank_messages = "<BANKMSGSRSV1>\r\n%s</BANKMSGSRSV1>\r\n" % reply
-    FILES[name] = without(FILES["reply"], b"BANKMSGSRSV1").replace(b"</OFX>", bank_messages.encode() + b"</OFX>")
+for name in ANSWERED:
+    alone = message_set(name).encode() + b"</OFX>"
+    FILES[name] = without(FILES["reply"], b"BANKMSGSRSV1").replace(b"</OFX>", alone)
 FRAMES = {name: frame(file) for name, file in FILES.items()}
 HEADER = FILES["request"][:FILES["request"].index(b"<OFX>")]
 
@@ -83,28 +89,34 @@ def sample_frame(name):
     return lambda what: FRAMES[name] * what if isinstance(what, int) else frame(changed(FILES[name], what))
 
 
-def each_byte(put, first, last):
-    """Frames of the sample request, in each of which `put` replaces one byte, from the first to the one before last."""
-    file = FILES["request"]
+def asked_file(what):
+    return changed(asked(HEADER, what), what.get("changes", []))
+
+
+def swept(what=None):
+    """The file whose bytes are taken one by one."""
+    return FILES["request"] if what is None else asked_file(what)
+
+
+def prefixes(first, last, *of):
+    return b"".join(frame(swept(*of)[:size]) for size in range(first, last))
+
+
+def each_byte(put, first, last, *of):
+    """Frames of a file, in each of which `put` replaces one byte, from the first to the one before last."""
+    file = swept(*of)
     return b"".join(frame(file[:at] + put(file[at:at + 1]) + file[at + 1:]) for at in range(first, last))
 
 
 KINDS = {
-    "request": sample_frame("request"),
-    "reply": sample_frame("reply"),
-    "denied": sample_frame("denied"),
-    "no account": sample_frame("no account"),
-    "posted": sample_frame("posted"),
-    "refused": sample_frame("refused"),
-    "repeated": sample_frame("repeated"),
-    "stopped": sample_frame("stopped"),
+    **{name: sample_frame(name) for name in FILES},
     "sample": sample,
     "header": lambda changes: changed(HEADER, changes),
-    "asked": lambda what: frame(changed(asked(HEADER, what), what.get("changes", []))),
+    "asked": lambda what: frame(asked_file(what)),
     "frame": lambda pieces: frame(whole(pieces)),
     "repeat": lambda what: whole(what[0]) * what[1],
     "numbered": lambda what: b"".join(whole(what[0]).replace(b"#", b"%d" % n) for n in range(1, what[1] + 1)),
-    "prefixes": lambda what: b"".join(frame(FILES["request"][:size]) for size in range(*what)),
+    "prefixes": lambda what: prefixes(*what),
     "left out": lambda what: each_byte(lambda byte: b"", *what),
     "doubled": lambda what: each_byte(lambda byte: byte * 2, *what),
     "set": lambda what: each_byte(lambda byte: whole(what[0]), *what[1:]),

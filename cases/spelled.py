@@ -1,9 +1,11 @@
 """Request files at random that are well spelled."""
 from dated import any_date, date
+from mailed import about_account, about_none
 from pieces import HEADER
 from priced import amount, any_amount
 from reference.names import ELEMENTS
 from reference.requests import FREQUENCIES
+from synced import FAMILIES, poll, sync
 
 LEAVES = sorted(ELEMENTS)
 # The forms of bank and mail messages beside the statement request.
@@ -61,6 +63,11 @@ class Style:
             children.insert(self.r.randrange(len(children) + 1), stranger(self.r))
         return b"<" + name + b">" + self.line_end + b"".join(children) + b"</" + name + b">" + self.line_end
 
+    def account(self, name, number):
+        kind = b"CHECKING" if number == b"1001" else b"SAVINGS"
+        children = (b"BANKID", b"121099999"), (b"ACCTID", number), (b"ACCTTYPE", kind)
+        return self.aggregate(name, [self.element(*child) for child in children])
+
 
 def stranger(r):
     """A child that no form names."""
@@ -71,12 +78,13 @@ def stranger(r):
     ))
 
 
-def request_header(r):
+def request_header(r, named):
+    """A header. Each of its two names stands in this share of files."""
     lines = [line + b"\r\n" for line in HEADER.split(b"\r\n")[:9]]
     lines[2] = b"VERSION:%s\r\n" % r.choice((b"102", b"103", b"151", b"160"))
     lines[5] = b"CHARSET:%s\r\n" % r.choice((b"1252", b"ISO-8859-1", b"NONE"))
     for k in (7, 8):
-        if r.random() < 0.25:
+        if r.random() < named:
             names = (b"u%d" % r.randrange(40),) * 4 + (b"u" * 36, b"none", b"\xe9:<&", b"a b")
             lines[k] = lines[k].replace(b"NONE", r.choice(names))
     if r.random() < 0.2:
@@ -88,7 +96,7 @@ def request_header(r):
 
 
 def spelled(r):
-    """A request file that spells, though perhaps with a child that isn't read yet."""
+    """A request file that spells, though now and then with an empty form in it."""
     style = Style(r)
     element, aggregate = style.element, style.aggregate
     user, password = r.choice(((b"alice", b"secret"), (b"alice", b"secret"), (b"bob", b"hunter")))
@@ -96,22 +104,46 @@ def spelled(r):
         password = b"wrong"
     sonrq = [element(b"DTCLIENT", b"20240131120000"), element(b"USERID", user), element(b"USERPASS", password)]
     sonrq += [element(b"LANGUAGE", b"ENG"), element(b"APPID", b"QWIN"), element(b"APPVER", b"0900")]
-    asks = [r.choice((statement, transfer, recurring))(r, style, user) for _ in range(r.choice((0, 1, 1, 1, 2, 3, 6)))]
-    if r.random() < 0.05:
-        asks.append(aggregate(r.choice(FORMS), []))
+    only_tokens = r.random() < 0.1
     sets = [aggregate(b"SIGNONMSGSRQV1", [aggregate(b"SONRQ", sonrq)])]
-    if asks or r.random() < 0.5:
-        sets.append(aggregate(b"BANKMSGSRQV1", asks))
-    if r.random() < 0.1:
-        mails = [aggregate(r.choice(FORMS), [])] if r.random() < 0.4 else []
-        sets.append(aggregate(b"EMAILMSGSRQV1", mails))
-    return request_header(r) + aggregate(b"OFX", sets)
+    sets += polls(r, style, user) if only_tokens else message_sets(r, style, user)
+    return request_header(r, 0.05 if only_tokens else 0.25) + aggregate(b"OFX", sets)
+
+
+def message_sets(r, style, user):
+    """The message sets of the bank and of mail. Each may be left out or be empty."""
+    asks = [r.choice(BANK_ASKS)(r, style, user) for _ in range(r.choice((0, 1, 1, 1, 2, 3, 6)))]
+    mails = [r.choice(MAIL_ASKS)(r, style, user) for _ in range(r.choice((0, 0, 0, 0, 0, 0, 1, 1, 2)))]
+    for some, share in ((asks, 0.05), (mails, 0.03)):
+        if r.random() < share:
+            some.append(style.aggregate(r.choice(FORMS), []))
+    sets = [style.aggregate(b"BANKMSGSRQV1", asks)] if asks or r.random() < 0.5 else []
+    return sets + ([style.aggregate(b"EMAILMSGSRQV1", mails)] if mails or r.random() < 0.05 else [])
+
+
+def polls(r, style, user):
+    """Message sets that only ask for tokens."""
+    asked = {True: [], False: []}
+    for _ in range(r.choice((1, 1, 2, 3, 5))):
+        family = r.choice(FAMILIES)
+        asked[family == b"MAIL"].append(poll(r, style, user, family))
+    names = (b"BANKMSGSRQV1", False), (b"EMAILMSGSRQV1", True)
+    return [style.aggregate(name, asked[of_mail]) for name, of_mail in names if asked[of_mail]]
+
+
+def synchronised(*families):
+    """What makes a synchronisation of one of these families, with a few deeds of its family in it, or of another."""
+    def make(r, style, user):
+        family = r.choice(families)
+        kinds = [family if r.random() < 0.97 else r.choice(FAMILIES) for _ in range(r.choice((0, 0, 0, 1, 1, 2)))]
+        return sync(r, style, user, family, [DEEDS[kind](r, style, user) for kind in kinds])
+    return make
 
 
 def statement(r, style, user):
     element, aggregate = style.element, style.aggregate
     number = b"1001" if user == b"alice" and r.random() < 0.7 else b"1002"
-    body = [account(style, b"BANKACCTFROM", number)]
+    body = [style.account(b"BANKACCTFROM", number)]
     if r.random() < 0.8:
         inctran = [element(b"INCLUDE", r.choice((b"Y", b"Y", b"N")))]
         for name in (b"DTSTART", b"DTEND"):
@@ -120,12 +152,6 @@ def statement(r, style, user):
         body.append(aggregate(b"INCTRAN", inctran))
     trnuid = r.choice((b"s%d" % r.randrange(100), b"a&amp;b", b"&lt;>", b"x" * 36, b"00", b"a b"))
     return aggregate(b"STMTTRNRQ", [element(b"TRNUID", trnuid), aggregate(b"STMTRQ", body)])
-
-
-def account(style, name, number):
-    kind = b"CHECKING" if number == b"1001" else b"SAVINGS"
-    children = (b"BANKID", b"121099999"), (b"ACCTID", number), (b"ACCTTYPE", kind)
-    return style.aggregate(name, [style.element(*child) for child in children])
 
 
 def transfer(r, style, user):
@@ -166,10 +192,16 @@ def terms(r, style, user, dated):
     source, target = r.choice(((b"1001", b"1002"), (b"1002", b"1001")) if user == b"alice" else ((b"1002", b"1001"),))
     if r.random() < 0.1:
         source, target = r.choice((b"1001", b"1002", b"1003")), r.choice((b"1001", b"1002", b"1003"))
-    children = [account(style, b"BANKACCTFROM", source), account(style, b"BANKACCTTO", target)]
+    children = [style.account(b"BANKACCTFROM", source), style.account(b"BANKACCTTO", target)]
     children.append(style.element(b"TRNAMT", amount(r) if r.random() < 0.9 else any_amount(r)))
     if r.random() < dated:
         days = (b"20240130", b"20240131", b"20240201", b"20240205120000", b"20240201[+5]", b"99991231")
         due = r.choice(days) if r.random() < 0.8 else r.choice((date, any_date))(r)
         children.append(style.element(b"DTDUE", due))
     return style.aggregate(b"XFERINFO", children)
+
+
+DEEDS = {b"INTRA": transfer, b"RECINTRA": recurring, b"BANKMAIL": about_account, b"MAIL": about_none}
+BANK_ASKS = (statement, transfer, recurring) * 2 + (about_account,)
+BANK_ASKS += (synchronised(b"INTRA", b"RECINTRA", b"BANKMAIL"),) * 2
+MAIL_ASKS = (about_none, synchronised(b"MAIL"))

@@ -1,4 +1,4 @@
-"""A whole run of `ofxbank answer` or `ofxbank due`: its words, its frames, and what it writes for each of them."""
+"""A whole run of `ofxbank`: its words, its input, and what it writes."""
 import re
 from datetime import datetime, timezone
 from typing import NamedTuple, Optional
@@ -9,7 +9,8 @@ from .dates import read_moment
 from .due import due_run
 from .fault import Fault
 from .kept import exchanged
-from .requests import read_request
+from .mailing import write_to
+from .requests import MOST_IN_A_BODY, MOST_IN_A_SUBJECT, read_request
 from .setup import SetupFault, read_setup
 from .tags import FORBIDDEN
 from .text import trimmed
@@ -27,39 +28,48 @@ class Outcome(NamedTuple):
     note: Optional[str]  # the first line of the error stream, which says why the run ended; None where it is empty
 
 
-def answer(words, setup_text, frames, takes_output=True):
-    """The outcome of a run with these words, whose second one is the path of the setup's text, on an input of frames.
+class Stopped(Exception):
+    """Why a run ends before it is done: its status, and the first line of the error stream."""
 
-    Text and frames are None where they can't be read. A frame is a line `FILE n` and n bytes, n from 0 to 262,144, or a
-    line `DUE`. A run reads at most 1,000,000 of them. With the word `due` the run is over one frame DUE, and it reads
-    no input.
-    """
-    words = [trimmed(word) for word in words]
+    def __init__(self, status, note):
+        super().__init__(status, note)
+        self.status = status
+        self.note = note
+
+
+def answer(words, setup_text, given, takes_output=True):
+    """The outcome of a run with these words, whose second one is the path of the setup's text, on an input. Text and
+    input are None where they can't be read."""
+    written = []
+    try:
+        for one in lines_of([trimmed(word) for word in words], setup_text, given):
+            written.append(one)
+            if not takes_output:
+                raise Stopped(6, "write failed")
+    except Stopped as stopped:
+        return Outcome(stopped.status, b"".join(written), stopped.note)
+    return Outcome(0, b"".join(written), None)
+
+
+def lines_of(words, setup_text, given):
+    """What is written, answer by answer. `due` is a run over one frame DUE, and it reads no input."""
     clock = clock_of(words)
     if clock is None:
-        return Outcome(2, b"", "usage")
+        raise Stopped(2, "usage")
     if setup_text is None:
-        return Outcome(5, b"", "read failed")
+        raise Stopped(5, "read failed")
     try:
-        setup = read_setup(setup_text)
+        bank = Bank(read_setup(setup_text))
     except SetupFault as fault:
-        return Outcome(3, b"", "setup line %d" % fault.line)
+        raise Stopped(3, "setup line %d" % fault.line)
     if words[0] == b"due":
-        frames = b"DUE\n"
-    if frames is None:
-        return Outcome(5, b"", "read failed")
-    bank, written, place = Bank(setup), [], 0
-    while place < len(frames):
-        line = FRAME_LINE.match(frames, place)
-        size = int(line[1] or 0) if line else MOST_BYTES + 1
-        if len(written) == MOST_FRAMES or size > MOST_BYTES or len(frames) < line.end() + size:
-            return Outcome(4, b"".join(written), "frame at %d" % place)
-        place = line.end() + size
-        file = None if line[1] is None else frames[line.end():place]
-        written.append(answered(bank, file, clock()))
-        if not takes_output:
-            return Outcome(6, b"", "write failed")
-    return Outcome(0, b"".join(written), None)
+        given = b"DUE\n"
+    if given is None:
+        raise Stopped(5, "read failed")
+    if words[0] == b"mail":
+        yield mailed(bank, words[3], words[4], given, clock)
+    else:
+        yield from frames_of(bank, given, clock)
 
 
 def is_word(word):
@@ -72,18 +82,46 @@ def is_word(word):
 
 
 def clock_of(words):
-    """What tells the moment of a frame. None where the words are others than `due SETUP -` or `answer SETUP -`, the
-    latter perhaps with `--at` and a date, which then is every frame's moment."""
+    """What tells the moment of an event. None where the words are others than `due SETUP -`, `mail SETUP - USER
+    SUBJECT`, or `answer SETUP -`, the latter perhaps with `--at` and a date, which then is every frame's moment."""
     if not all(map(is_word, words)) or len(words) not in (3, 5) or words[2] != b"-":
         return None
     if len(words) == 3:
         return now if words[0] in (b"answer", b"due") else None
+    if words[0] == b"mail":
+        return now if 1 <= len(words[4]) <= MOST_IN_A_SUBJECT else None
     at = read_moment(words[4]) if (words[0], words[3]) == (b"answer", b"--at") else None
     return None if at is None else lambda: at
 
 
 def now():
     return datetime.now(timezone.utc).replace(microsecond=0, tzinfo=None)
+
+
+def mailed(bank, user, subject, given, clock):
+    """The line of a letter to a user, with the number of its entry. The input is its body."""
+    body = trimmed(given)
+    if len(given) > MOST_BYTES or not 1 <= len(body) <= MOST_IN_A_BODY or FORBIDDEN.search(body):
+        raise Stopped(4, "frame at 0")
+    if user not in bank.setup.users:
+        raise Stopped(10, "no user")
+    if not bank.has_room(1):
+        raise Stopped(10, "full")
+    write_to(bank, user, subject, body, clock())
+    return b"MAIL %d\n" % bank.count
+
+
+def frames_of(bank, frames, clock):
+    """The answers to frames. A frame is a line `FILE n` and n bytes, n from 0 to 262,144, or a line `DUE`. A run reads
+    at most 1,000,000 of them."""
+    count = place = 0
+    while place < len(frames):
+        line = FRAME_LINE.match(frames, place)
+        size = int(line[1] or 0) if line else MOST_BYTES + 1
+        if count == MOST_FRAMES or size > MOST_BYTES or len(frames) < line.end() + size:
+            raise Stopped(4, "frame at %d" % place)
+        count, place = count + 1, line.end() + size
+        yield answered(bank, None if line[1] is None else frames[line.end():place], clock())
 
 
 def answered(bank, file, at):

@@ -1,17 +1,35 @@
 """The bank's state over a run: the entries, the used pairs, the kept replies, and the business day.
 
-Beside the entries stand what they come to: the transfers and models as they stand, and each account's lines. So a run
-of a hundred thousand due events takes seconds.
+Beside the entries stand what they come to: the transfers and models as they stand, each account's lines, and the
+entries of each object. So a run of a hundred thousand due events takes seconds.
 """
 import heapq
+from collections import defaultdict
 from datetime import date, datetime
 from typing import NamedTuple, Optional
 
-from .requests import Account, Series, Terms
+from .requests import Account, Mail, Series, Terms
 
 FIRST_DAY = date(1900, 1, 1)
 
 WAITING, POSTED, NO_FUNDS = b"WILLPROCESSON", b"POSTEDON", b"NOFUNDSON"
+
+# The TRNUID of what the bank does by itself.
+NO_TRNUID = b"0"
+
+
+class Asker(NamedTuple):
+    """Who asks. In a synchronisation of an account's object only this account counts as the user's."""
+
+    user: bytes
+    only: Optional[Account] = None
+
+
+class Object(NamedTuple):
+    """What can be synchronised: the transfers, the models or the bank mail of an account, or a user's mail."""
+
+    family: bytes  # INTRA, RECINTRA, BANKMAIL or MAIL
+    owner: object  # an account, of MAIL a user
 
 
 class Row(NamedTuple):
@@ -33,12 +51,27 @@ class Model(NamedTuple):
     terms: Terms
 
 
-class Entry(NamedTuple):
-    """A change of one transfer or of one model. It stands with the source of these."""
+class Letter(NamedTuple):
+    """A mail between a user and the bank."""
 
+    account: Optional[Account]  # which it is about, where it is about one
+    user: bytes
+    mail: Mail
+
+
+class Change(NamedTuple):
+    """What a deed has changed, or what the bank has by itself as such a deed would."""
+
+    form: bytes  # of the deed: INTRARQ, RECINTRACANRQ, MAILRQ, ..
+    id: Optional[int]  # of the transfer or model
+    what: object  # the row, model or letter as it then stands; None for what is cancelled
+    pending: Optional[bool] = None  # of a change or cancellation of a model
+
+
+class Entry(NamedTuple):
     number: int  # over the whole bank, from 1
-    account: Account
-    what: object  # the row or model as it then stands, or the id of one that is cancelled
+    trnuid: bytes
+    change: Change
 
 
 class Line(NamedTuple):
@@ -52,7 +85,8 @@ class Line(NamedTuple):
 class Bank:
     def __init__(self, setup):
         self.setup = setup
-        self.entries = []
+        self.count = 0  # of the entries
+        self.entries = defaultdict(list)  # those of each object
         self.used = set()  # pairs of a user and a TRNUID
         self.kept = {}  # replies, by user and file uid
         self.day = FIRST_DAY
@@ -75,44 +109,63 @@ class Bank:
     def is_account(self, account):
         return account in self.setup.accounts
 
-    def owns(self, user, account):
-        """Whether the account is the user's: the setup names the user as an owner. An account is found by bank, number
-        and kind together."""
-        return self.is_account(account) and user in self.setup.accounts[account][1]
+    def owns(self, asker, account):
+        """Whether the account is the user's: the setup names the user as an owner, and no other account alone counts.
+        An account is found by bank, number and kind together."""
+        if asker.only not in (None, account):
+            return False
+        return self.is_account(account) and asker.user in self.setup.accounts[account][1]
 
     def next_number(self):
-        return len(self.entries) + 1
+        return self.count + 1
 
     def has_room(self, count):
         """Whether the setup allows so many more entries."""
-        return len(self.entries) + count <= self.setup.most_entries
+        return self.count + count <= self.setup.most_entries
 
-    def put_transfer(self, row):
-        """Enters a transfer, new or as it stands from now on."""
-        number = self.enter(row.terms.source, row)
+    def put_transfer(self, trnuid, row):
+        """Enters a transfer, new or as it stands from now on. The change."""
+        form = b"INTRAMODRQ" if row.id in self.transfers else b"INTRARQ"
+        entry = self.enter(Object(b"INTRA", row.terms.source), trnuid, Change(form, row.id, row))
         self.transfers[row.id] = row
         if row.code == WAITING:
             heapq.heappush(self.queue, (row.terms.due, row.id))
         if row.code == POSTED:
-            self.book(row.terms.source, Line(row.stamp, -row.terms.cents, number))
-            self.book(row.terms.target, Line(row.stamp, row.terms.cents, number))
+            self.book(row.terms.source, Line(row.stamp, -row.terms.cents, entry.number))
+            self.book(row.terms.target, Line(row.stamp, row.terms.cents, entry.number))
+        return entry.change
 
-    def put_model(self, model):
-        """Enters a model, new or as it stands from now on. It begins with its first day."""
-        self.enter(model.terms.source, model)
+    def put_model(self, trnuid, model, pending=None):
+        """Enters a model, new or as it stands from now on. It begins with its first day. The change."""
+        form = b"RECINTRAMODRQ" if model.id in self.models else b"RECINTRARQ"
         self.models[model.id] = model
         self.made[model.id] = 0
+        of = Object(b"RECINTRA", model.terms.source)
+        return self.enter(of, trnuid, Change(form, model.id, model, pending)).change
 
-    def cancel(self, id):
-        """Enters that this transfer or model is cancelled."""
-        standing = self.transfers.get(id) or self.models[id]
-        self.enter(standing.terms.source, id)
+    def cancel_transfer(self, trnuid, id):
+        """Enters that this transfer is cancelled. The change."""
         self.cancelled.add(id)
+        of = Object(b"INTRA", self.transfers[id].terms.source)
+        return self.enter(of, trnuid, Change(b"INTRACANRQ", id, None)).change
 
-    def enter(self, account, what):
-        number = self.next_number()
-        self.entries.append(Entry(number, account, what))
-        return number
+    def cancel_model(self, trnuid, id, pending):
+        """Enters that this model is cancelled. The change."""
+        self.cancelled.add(id)
+        of = Object(b"RECINTRA", self.models[id].terms.source)
+        return self.enter(of, trnuid, Change(b"RECINTRACANRQ", id, None, pending)).change
+
+    def put_letter(self, trnuid, letter):
+        """Enters a mail between a user and the bank. The change."""
+        if letter.account is None:
+            return self.enter(Object(b"MAIL", letter.user), trnuid, Change(b"MAILRQ", None, letter)).change
+        return self.enter(Object(b"BANKMAIL", letter.account), trnuid, Change(b"BANKMAILRQ", None, letter)).change
+
+    def enter(self, of, trnuid, change):
+        self.count += 1
+        entry = Entry(self.count, trnuid, change)
+        self.entries[of].append(entry)
+        return entry
 
     def book(self, account, line):
         self.account_lines[account].append(line)

@@ -48,6 +48,11 @@ def word(node, name, words):
     return value
 
 
+def moment(node, name):
+    """The moment of the child's date."""
+    return read(one(node, name), read_moment)
+
+
 def maybe_moment(node, name):
     """The moment of the child's date. None where the child doesn't stand."""
     child = maybe(node, name)

@@ -5,7 +5,7 @@ without funds where the source doesn't cover it. As long as a model can make one
 """
 from datetime import datetime, time
 
-from .bank import NO_FUNDS, POSTED, WAITING, Row
+from .bank import NO_FUNDS, NO_TRNUID, POSTED, WAITING, Row
 from .series import day_of
 
 MOST_EVENTS = 100000
@@ -49,10 +49,10 @@ def spawns_by(bank, day):
 
 def spawn(bank, due, id):
     terms = bank.models[id].terms._replace(due=due)
-    bank.put_transfer(Row(bank.next_number(), id, terms, WAITING, datetime.combine(due, time())))
+    bank.put_transfer(NO_TRNUID, Row(bank.next_number(), id, terms, WAITING, datetime.combine(due, time())))
     bank.made[id] += 1
 
 
 def post(bank, row, at):
     covered = row.terms.cents <= bank.balance(row.terms.source)
-    bank.put_transfer(row._replace(code=POSTED if covered else NO_FUNDS, stamp=at))
+    bank.put_transfer(NO_TRNUID, row._replace(code=POSTED if covered else NO_FUNDS, stamp=at))

@@ -3,7 +3,7 @@
 
 class Fault(Exception):
     """Kinds of the header: Line, Value, Cut. Of the tags: Tag, Mismatch, Depth, Cut. Of a form: Missing (its place is
-    the parent's), Repeated (the second child's), Value (the element's), Unbuilt (a form that isn't read yet)."""
+    the parent's), Repeated (the second child's), Value (the element's)."""
 
     def __init__(self, kind, at):
         super().__init__(kind, at)

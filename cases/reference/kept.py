@@ -2,18 +2,21 @@
 
 The names are the file uids of the header, each of them a user's own.
 """
-from . import models, replies, transfers
-from .requests import Statement, Transfer
+from . import replies, sync
+from .bank import Asker
+from .deeds import code_and_change
+from .requests import Statement, Sync
 
 
 def exchanged(bank, request, at):
-    """The reply to a file, which is one event. Where the user's NEWFILEUID is kept it is the kept reply, and nothing is
-    done; what is said in the file isn't looked at.
+    """The reply to a file, which is one event, or a poll, which is none. Where the user's NEWFILEUID is kept it is the
+    kept reply, and nothing is done; what is said in the file isn't looked at.
 
     Otherwise its asks are done in their order. Then OLDFILEUID releases the reply that is kept under it, where there is
     one, and then the new reply is kept under NEWFILEUID.
     """
-    bank.begin_event(at)
+    if not sync.is_poll(request):
+        bank.begin_event(at)
     header, user = request.header, request.user
     if (user, header.newer) in bank.kept:
         return bank.kept[user, header.newer]
@@ -27,15 +30,13 @@ def exchanged(bank, request, at):
 def reply_to(bank, user, ask, at):
     if isinstance(ask, Statement):
         return statement(bank, user, ask, at)
-    if isinstance(ask, Transfer):
-        code, row = transfers.code_and_row(bank, user, ask, at)
-        return replies.refused(b"INTRATRNRS", ask, code) if code else replies.transfer(ask, row)
-    code, model = models.code_and_model(bank, user, ask)
-    return replies.refused(b"RECINTRATRNRS", ask, code) if code else replies.recurring(ask, model)
+    if isinstance(ask, Sync):
+        return sync.reply_to(bank, user, ask, at)
+    return replies.to_deed(ask, *code_and_change(bank, Asker(user), ask, at))
 
 
 def statement(bank, user, ask, at):
     """A statement of an account that isn't the user's is refused. A statement uses up no TRNUID."""
-    if not bank.owns(user, ask.account):
-        return replies.refused(b"STMTTRNRS", ask, 2003)
+    if not bank.owns(Asker(user), ask.account):
+        return replies.refused(b"STMTTRNRS", ask.trnuid, 2003)
     return replies.statement(ask, bank, at)

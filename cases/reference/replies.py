@@ -8,6 +8,15 @@ from .text import escaped
 
 FIRST_MOMENT = datetime(FIRST_YEAR, 1, 1)
 
+# The answers in the message set of mail; all others stand in that of the bank.
+OF_MAIL = (b"MAILTRNRS", b"MAILSYNCRS")
+# Of a form of a deed what its family's names begin with.
+FAMILIES = {
+    b"INTRARQ": b"INTRA", b"INTRAMODRQ": b"INTRA", b"INTRACANRQ": b"INTRA",
+    b"RECINTRARQ": b"RECINTRA", b"RECINTRAMODRQ": b"RECINTRA", b"RECINTRACANRQ": b"RECINTRA",
+    b"BANKMAILRQ": b"BANKMAIL", b"MAILRQ": b"MAIL",
+}
+
 
 def moment(at):
     return at.strftime("%Y%m%d%H%M%S").encode()
@@ -25,10 +34,14 @@ def lines(tree):
             yield b"<" + name + b">" + escaped(inner) + b"\r\n"
 
 
-def written(header, at, bank_replies):
+def written(header, at, answers):
     """The reply file to a request with this header whose signon succeeded; a message set is written where it has a
-    child."""
-    return file(header, [signon(0, at)] + ([(b"BANKMSGSRSV1", bank_replies)] if bank_replies else []))
+    child. Those of mail are the last answers."""
+    sets = [signon(0, at)]
+    for name, of_mail in ((b"BANKMSGSRSV1", False), (b"EMAILMSGSRSV1", True)):
+        inner = [answer for answer in answers if (answer[0] in OF_MAIL) == of_mail]
+        sets += [(name, inner)] if inner else []
+    return file(header, sets)
 
 
 def denied(header, at):
@@ -49,9 +62,9 @@ def status(code):
     return (b"STATUS", [(b"CODE", b"%d" % code), (b"SEVERITY", b"ERROR" if code else b"INFO")])
 
 
-def refused(name, ask, code):
+def refused(name, trnuid, code):
     """A reply of this name to an ask that was refused."""
-    return (name, [(b"TRNUID", ask.trnuid), status(code)])
+    return (name, [(b"TRNUID", trnuid), status(code)])
 
 
 def statement(ask, bank, at):
@@ -79,22 +92,27 @@ def transactions(period, lines, at):
     ])
 
 
-def transfer(ask, row):
-    """INTRATRNRS for a deed that was done, with the transfer as it then stands."""
-    number = (b"SRVRTID", b"%d" % (ask.id if row is None else row.id))
-    if ask.form == b"INTRACANRQ":
-        done = (b"INTRACANRS", [number])
-    elif ask.form == b"INTRAMODRQ":
-        done = (b"INTRAMODRS", [number] + standing(row))
-    else:
-        done = (b"INTRARS", [(b"CURDEF", b"USD"), number] + standing(row))
-    return (b"INTRATRNRS", [(b"TRNUID", ask.trnuid), status(0), done])
+def to_deed(deed, code, change=None):
+    """The reply to a deed with this code, and with the change where the code is 0."""
+    family = FAMILIES[deed.form]
+    return told(family, deed.trnuid, change) if code == 0 else refused(family + b"TRNRS", deed.trnuid, code)
 
 
-def standing(row):
-    return [
-        terms(row.terms), (b"XFERPRCSTS", [(b"XFERPRCCODE", row.code), (b"DTXFERPRC", moment(row.stamp))]),
-    ]
+def told(family, trnuid, change):
+    """The reply that tells of a change, to the deed of this TRNUID or later in a history."""
+    inner = INNER[family](change)
+    return (family + b"TRNRS", [(b"TRNUID", trnuid), status(0), (change.form[:-2] + b"RS", inner)])
+
+
+def transfer(change):
+    number, row = (b"SRVRTID", b"%d" % change.id), change.what
+    if row is None:
+        return [number]
+    process = (b"XFERPRCSTS", [(b"XFERPRCCODE", row.code), (b"DTXFERPRC", moment(row.stamp))])
+    if change.form == b"INTRAMODRQ":
+        return [number, terms(row.terms), process]
+    model = [] if row.model is None else [(b"RECSRVRTID", b"%d" % row.model)]
+    return [(b"CURDEF", b"USD"), number, terms(row.terms)] + model + [process]
 
 
 def terms(what):
@@ -105,24 +123,35 @@ def terms(what):
     ])
 
 
-def recurring(ask, model):
-    """RECINTRATRNRS for a deed that was done, with the model as it then stands, None for one that is cancelled.
+def recurring(change):
+    """A model stands as a transfer of the first day, without a word on how that came out."""
+    number, model = (b"RECSRVRTID", b"%d" % change.id), change.what
+    pending = b"Y" if change.pending else b"N"
+    if model is None:
+        return [number, (b"CANPENDING", pending)]
+    count = [] if model.series.count is None else [(b"NINSTS", b"%d" % model.series.count)]
+    first = [(b"CURDEF", b"USD"), (b"SRVRTID", number[1]), terms(model.terms), number]
+    told = [number, (b"RECURRINST", count + [(b"FREQ", model.series.frequency)]), (b"INTRARS", first)]
+    return told + ([(b"MODPENDING", pending)] if change.form == b"RECINTRAMODRQ" else [])
 
-    The model stands as a transfer of the first day, without a word on how that came out.
-    """
-    number = (b"RECSRVRTID", b"%d" % (ask.id if model is None else model.id))
-    if model is not None:
-        count = [] if model.series.count is None else [(b"NINSTS", b"%d" % model.series.count)]
-        first = [(b"CURDEF", b"USD"), (b"SRVRTID", number[1]), terms(model.terms), number]
-        series = [(b"RECURRINST", count + [(b"FREQ", model.series.frequency)]), (b"INTRARS", first)]
-    pending = b"Y" if ask.pending else b"N"
-    if ask.form == b"RECINTRACANRQ":
-        done = (b"RECINTRACANRS", [number, (b"CANPENDING", pending)])
-    elif ask.form == b"RECINTRAMODRQ":
-        done = (b"RECINTRAMODRS", [number] + series + [(b"MODPENDING", pending)])
-    else:
-        done = (b"RECINTRARS", [number] + series)
-    return (b"RECINTRATRNRS", [(b"TRNUID", ask.trnuid), status(0), done])
+
+def mail(change):
+    account_name, user, mail = change.what
+    text = [
+        (b"USERID", user), (b"DTCREATED", moment(mail.created)), (b"FROM", mail.sender), (b"TO", mail.target),
+        (b"SUBJECT", mail.subject), (b"MSGBODY", mail.body), (b"INCIMAGES", b"N"), (b"USEHTML", b"N"),
+    ]
+    about = [] if account_name is None else [(b"BANKACCTFROM", account(account_name))]
+    return about + [(b"MAIL", text)]
+
+
+INNER = {b"INTRA": transfer, b"RECINTRA": recurring, b"BANKMAIL": mail, b"MAIL": mail}
+
+
+def synchronised(ask, token, lost, listed):
+    about = [] if ask.account is None else [(b"BANKACCTFROM", account(ask.account))]
+    first = [(b"TOKEN", b"%d" % token), (b"LOSTSYNC", b"Y" if lost else b"N")]
+    return (ask.family + b"SYNCRS", first + about + listed)
 
 
 def account(name):

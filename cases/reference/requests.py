@@ -3,7 +3,7 @@ import re
 from datetime import date, datetime
 from typing import NamedTuple, Optional
 
-from .children import all_of, amount, maybe, maybe_moment, one, read, text, word
+from .children import all_of, amount, maybe, maybe_moment, moment, one, read, text, word
 from .fault import Fault
 from .header import Header, read_header
 from .tags import read_tags
@@ -14,10 +14,9 @@ FREQUENCIES = (
     b"ANNUALLY",
 )
 FLAGS = (b"Y", b"N")
-
-# The forms of the message sets that aren't read yet.
-UNBUILT_BANK = (b"BANKMAILTRNRQ", b"INTRASYNCRQ", b"RECINTRASYNCRQ", b"BANKMAILSYNCRQ")
-UNBUILT_MAIL = (b"MAILTRNRQ", b"MAILSYNCRQ")
+CHOICES = (b"TOKEN", b"TOKENONLY", b"REFRESH")
+MOST_IN_A_SUBJECT, MOST_IN_A_BODY = 64, 10000
+MAIL_TEXTS = ((b"FROM", 32), (b"TO", 32), (b"SUBJECT", MOST_IN_A_SUBJECT), (b"MSGBODY", MOST_IN_A_BODY))
 
 
 class Account(NamedTuple):
@@ -75,6 +74,37 @@ class Recurring(NamedTuple):
     pending: Optional[bool]  # whether the model's waiting transfers are changed or cancelled with it
 
 
+class Mail(NamedTuple):
+    created: datetime
+    sender: bytes  # FROM
+    target: bytes  # TO
+    subject: bytes
+    body: bytes
+
+
+class Mailing(NamedTuple):
+    """A mail to the bank, about an account (BANKMAILRQ) or about none (MAILRQ)."""
+
+    trnuid: bytes
+    form: bytes
+    account: Optional[Account]
+    mail: Mail
+
+
+class Sync(NamedTuple):
+    """What is new in the transfers, the models or the bank mail of an account, or in the user's mail.
+
+    The family is what the names of the forms begin with: INTRA, RECINTRA, BANKMAIL, or MAIL, which has no account.
+    """
+
+    family: bytes
+    account: Optional[Account]
+    choice: bytes  # TOKEN, TOKENONLY or REFRESH
+    token: Optional[bytes]  # the text of TOKEN
+    strict: bool  # REJECTIFMISSING
+    deeds: tuple  # those embedded in it, of its family
+
+
 class Request(NamedTuple):
     header: Header
     user: bytes
@@ -87,7 +117,7 @@ def read_request(file):
     header = read_header(file)
     ofx = read_tags(file, header.size)
     user, password = signon(one(one(ofx, b"SIGNONMSGSRQV1"), b"SONRQ"))
-    asks = bank_messages(maybe(ofx, b"BANKMSGSRQV1")) + mail_messages(maybe(ofx, b"EMAILMSGSRQV1"))
+    asks = asks_in(maybe(ofx, b"BANKMSGSRQV1"), BANK_FORMS) + asks_in(maybe(ofx, b"EMAILMSGSRQV1"), MAIL_FORMS)
     return Request(header, user, password, tuple(asks))
 
 
@@ -95,19 +125,9 @@ def signon(sonrq):
     return text(sonrq, b"USERID", 32), text(sonrq, b"USERPASS", 64)
 
 
-def bank_messages(messages):
-    asks = []
-    for child in all_of(messages, tuple(BANK_FORMS) + UNBUILT_BANK) if messages else ():
-        if child.name in UNBUILT_BANK:
-            raise Fault("Unbuilt", child.at)
-        asks.append(BANK_FORMS[child.name](child))
-    return asks
-
-
-def mail_messages(messages):
-    for child in all_of(messages, UNBUILT_MAIL) if messages else ():
-        raise Fault("Unbuilt", child.at)
-    return []
+def asks_in(messages, forms):
+    """The asks of a message set, where it stands."""
+    return [forms[child.name](child) for child in all_of(messages, forms)] if messages else []
 
 
 def transaction_uid(node):
@@ -134,7 +154,7 @@ def period(inctran):
 def transfer(intratrnrq):
     trnuid = transaction_uid(intratrnrq)
     deed = one(intratrnrq, b"INTRARQ", b"INTRAMODRQ", b"INTRACANRQ")
-    number = None if deed.name == b"INTRARQ" else entry_number(text(deed, b"SRVRTID", 64))
+    number = None if deed.name == b"INTRARQ" else named(deed, b"SRVRTID")
     return Transfer(trnuid, deed.name, number, None if deed.name == b"INTRACANRQ" else terms(one(deed, b"XFERINFO")))
 
 
@@ -144,7 +164,7 @@ def recurring(recintratrnrq):
     deed = one(recintratrnrq, b"RECINTRARQ", b"RECINTRAMODRQ", b"RECINTRACANRQ")
     number = how_often = what = pending = None
     if deed.name != b"RECINTRARQ":
-        number = entry_number(text(deed, b"RECSRVRTID", 64))
+        number = named(deed, b"RECSRVRTID")
     if deed.name != b"RECINTRACANRQ":
         how_often = series(one(deed, b"RECURRINST"))
         what = terms(one(one(deed, b"INTRARQ"), b"XFERINFO"))
@@ -165,9 +185,14 @@ def read_count(value):
     return int(value) or None if re.fullmatch(rb"[0-9]{1,3}", value) else None
 
 
-def entry_number(value):
-    """The number that an id stands for. 0, which is no entry's, where it isn't 1 to 10 digits."""
-    return int(value) if re.fullmatch(rb"[0-9]{1,10}", value) else 0
+def named(node, name):
+    """The number of the transfer or model that the child names. 0, which is that of none, for other texts."""
+    return read_id(text(node, name, 64)) or 0
+
+
+def read_id(value):
+    """The number that an id or a token stands for, in 1 to 10 digits. None where it isn't so."""
+    return int(value) if re.fullmatch(rb"[0-9]{1,10}", value) else None
 
 
 def terms(xferinfo):
@@ -177,8 +202,37 @@ def terms(xferinfo):
     return Terms(source, target, cents, None if due is None else due.date())
 
 
+def mailing(node):
+    """A mail about an account has that first. The USERID of a mail isn't looked at."""
+    trnuid = transaction_uid(node)
+    deed = one(node, b"BANKMAILRQ" if node.name == b"BANKMAILTRNRQ" else b"MAILRQ")
+    account = bank_account(one(deed, b"BANKACCTFROM")) if deed.name == b"BANKMAILRQ" else None
+    return Mailing(trnuid, deed.name, account, mail(one(deed, b"MAIL")))
+
+
+def mail(node):
+    return Mail(moment(node, b"DTCREATED"), *(text(node, name, most) for name, most in MAIL_TEXTS))
+
+
+def sync(node):
+    """TOKENONLY and REFRESH have no other value than Y."""
+    family, choice = node.name[:-len(b"SYNCRQ")], one(node, *CHOICES).name
+    token = text(node, choice, 64) if choice == b"TOKEN" else None
+    if token is None:
+        word(node, choice, (b"Y",))
+    strict = word(node, b"REJECTIFMISSING", FLAGS) == b"Y"
+    account = None if family == b"MAIL" else bank_account(one(node, b"BANKACCTFROM"))
+    embedded = all_of(node, (family + b"TRNRQ",))
+    return Sync(family, account, choice, token, strict, tuple(DEEDS[child.name](child) for child in embedded))
+
+
 def bank_account(node):
     return Account(text(node, b"BANKID", 32), text(node, b"ACCTID", 32), word(node, b"ACCTTYPE", KINDS))
 
 
-BANK_FORMS = {b"STMTTRNRQ": statement, b"INTRATRNRQ": transfer, b"RECINTRATRNRQ": recurring}
+DEEDS = {b"INTRATRNRQ": transfer, b"RECINTRATRNRQ": recurring, b"BANKMAILTRNRQ": mailing, b"MAILTRNRQ": mailing}
+BANK_FORMS = {
+    b"STMTTRNRQ": statement, b"INTRATRNRQ": transfer, b"RECINTRATRNRQ": recurring, b"BANKMAILTRNRQ": mailing,
+    b"INTRASYNCRQ": sync, b"RECINTRASYNCRQ": sync, b"BANKMAILSYNCRQ": sync,
+}
+MAIL_FORMS = {b"MAILTRNRQ": mailing, b"MAILSYNCRQ": sync}

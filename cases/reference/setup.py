@@ -30,6 +30,7 @@ class SetupFault(Exception):
 class Setup(NamedTuple):
     bank: bytes
     lead: int  # how many days ahead of its day a recurring transfer is made
+    window: int  # how many of an object's last entries a token may lie behind
     most_entries: int
     users: dict  # name: password
     accounts: dict  # Account: (opening in cents, owners)
@@ -63,7 +64,7 @@ def read_setup(text):
         raise SetupFault(count + 1)
     if setup.window * (3 * len(setup.accounts) + len(setup.users)) > MOST_OBJECTS:
         raise SetupFault(count)
-    return Setup(setup.bank, setup.lead_days, setup.most_entries, setup.users, setup.accounts)
+    return Setup(setup.bank, setup.lead_days, setup.window, setup.most_entries, setup.users, setup.accounts)
 
 
 class Lines:

@@ -6,7 +6,6 @@ from datetime import datetime, time
 
 from .bank import POSTED, WAITING, Row
 
-NO_ROOM = 2000  # the setup allows no more entries
 OTHER_SOURCE = 2006
 NO_TARGET = 2009
 NO_AMOUNT = 2012
@@ -14,28 +13,20 @@ NO_DUE_DAY = 2014
 CLOSED_ALREADY = 2016  # posted, or closed without funds
 CANCELLED_ALREADY = 2017
 NO_TRANSFER = 2018
-USED_TRNUID = 2019
 NO_COVER = 10504
 
 
-def code_and_row(bank, user, ask, at):
-    """The status, and where it is 0 the transfer as it then stands, None for one that is cancelled.
+def refusal(bank, asker, ask):
+    """The code of the refusal. None where nothing refuses."""
+    return REFUSALS[ask.form](bank, asker, ask)
 
-    A used pair of user and TRNUID is refused before all else. Every other ask uses its pair up, also where it is
-    refused.
-    """
-    if (user, ask.trnuid) in bank.used:
-        return USED_TRNUID, None
-    bank.used.add((user, ask.trnuid))
-    code = REFUSALS[ask.form](bank, user, ask) or (0 if bank.has_room(1) else NO_ROOM)
-    if code != 0:
-        return code, None
+
+def change(bank, asker, ask, at):
+    """Does what nothing refuses."""
     if ask.form == b"INTRACANRQ":
-        bank.cancel(ask.id)
-        return 0, None
+        return bank.cancel_transfer(ask.trnuid, ask.id)
     row = new_row(bank, ask.terms, at) if ask.form == b"INTRARQ" else changed_row(bank, ask)
-    bank.put_transfer(row)
-    return 0, row
+    return bank.put_transfer(ask.trnuid, row)
 
 
 def due_day(bank, terms):
@@ -60,9 +51,9 @@ def waiting_row(number, model, terms):
     return Row(number, model, terms, WAITING, datetime.combine(terms.due, time()))
 
 
-def refusal_of_new(bank, user, ask):
+def refusal_of_new(bank, asker, ask):
     terms = ask.terms
-    if not bank.owns(user, terms.source):
+    if not bank.owns(asker, terms.source):
         return OTHER_SOURCE
     wrong = refusal_of_terms(bank, terms)
     if wrong:
@@ -78,8 +69,8 @@ def refusal_of_terms(bank, terms):
     return NO_AMOUNT if terms.cents <= 0 else None
 
 
-def refusal_of_change(bank, user, ask):
-    return refusal_of_cancellation(bank, user, ask) or refusal_of_new_terms(
+def refusal_of_change(bank, asker, ask):
+    return refusal_of_cancellation(bank, asker, ask) or refusal_of_new_terms(
         bank, ask.terms, bank.transfers[ask.id].terms)
 
 
@@ -95,10 +86,10 @@ def refusal_of_day(bank, terms):
     return NO_DUE_DAY if terms.due is None or terms.due <= bank.day else None
 
 
-def refusal_of_cancellation(bank, user, ask):
+def refusal_of_cancellation(bank, asker, ask):
     """Only what waits can be changed or cancelled."""
     row = bank.transfers.get(ask.id)
-    if row is None or not bank.owns(user, row.terms.source):
+    if row is None or not bank.owns(asker, row.terms.source):
         return NO_TRANSFER
     if row.id in bank.cancelled:
         return CANCELLED_ALREADY

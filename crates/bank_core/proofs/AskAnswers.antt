@@ -30,60 +30,83 @@ all_rest : {X : Type 0} (P : X → Type 0) (xs ys : List X) → All P (xs ++ ys)
 all_rest P xs ys all k d below =
     subst P (get_or-append-add xs ys k d) (all (length xs + k) d (omega (arith, length-append xs ys)))
 
-held_at : (setup : Setup) (accounts : List AccountView) (asks : List Ask) (k : ℕ) (d : Ask) → AreHeld accounts (flat_map (named_by setup) asks) → k < length asks → AreHeld accounts (named_by setup (get_or asks k d))
-held_at setup accounts [] k d held below = absurd (omega arith)
-held_at setup accounts (ask ∷ asks) zero d held below =
-    all_front (λ (entry : Option AcctId). IfSome entry (λ n. Contains (map (λ (a : AccountView). a.number) accounts) n)) (named_by setup ask) (flat_map (named_by setup) asks) held
-held_at setup accounts (ask ∷ asks) (suc k) d held below =
-    held_at setup accounts asks k d
-    (all_rest (λ (entry : Option AcctId). IfSome entry (λ n. Contains (map (λ (a : AccountView). a.number) accounts) n)) (named_by setup ask) (flat_map (named_by setup) asks) held)
-    (omega arith)
+pub AreHeld-front : (accounts : List AccountView) (names more : List (Option AcctId)) → AreHeld accounts (names ++ more) → AreHeld accounts names
+AreHeld-front accounts names more held = all_front (λ (entry : Option AcctId). IfSome entry (λ n. Contains (map (λ (a : AccountView). a.number) accounts) n)) names more held
+
+pub AreHeld-rest : (accounts : List AccountView) (names more : List (Option AcctId)) → AreHeld accounts (names ++ more) → AreHeld accounts more
+AreHeld-rest accounts names more held = all_rest (λ (entry : Option AcctId). IfSome entry (λ n. Contains (map (λ (a : AccountView). a.number) accounts) n)) names more held
+
+held_at : {X : Type 0} (names : X → List (Option AcctId)) (accounts : List AccountView) (xs : List X) (k : ℕ) (d : X) → AreHeld accounts (flat_map names xs) → k < length xs → AreHeld accounts (names (get_or xs k d))
+held_at names accounts [] k d held below = absurd (omega arith)
+held_at names accounts (x ∷ xs) zero d held below = AreHeld-front accounts (names x) (flat_map names xs) held
+held_at names accounts (x ∷ xs) (suc k) d held below = held_at names accounts xs k d (AreHeld-rest accounts (names x) (flat_map names xs) held) (omega arith)
 
 -- the same accounts are held
 pub AreHeld-numbers : (accounts others : List AccountView) (named : List (Option AcctId)) → HaveSameNumbers others accounts → AreHeld accounts named → AreHeld others named
 AreHeld-numbers accounts others named same held =
     subst (λ (numbers : List AcctId). All (λ (entry : Option AcctId). IfSome entry (λ n. Contains numbers n)) named) (sym same) held
 
--- Where the accounts that all asks name are held, those that one names are.
-pub AreHeld-ask : (setup : Setup) (accounts others : List AccountView) (asks : List Ask) (k : ℕ) (ask : Ask) → AreHeld accounts (flat_map (named_by setup) asks) → HaveSameNumbers others accounts → k < length asks → ask ≡ get_or asks k ask → AreHeld others (named_by setup ask)
-AreHeld-ask setup accounts others asks k ask held same below is =
-    AreHeld-numbers accounts others (named_by setup ask) same
-    (subst (λ (a : Ask). AreHeld accounts (named_by setup a)) (sym is) (held_at setup accounts asks k ask held below))
+-- Where the accounts that all name are held, those that one names are.
+pub AreHeld-one : {X : Type 0} (names : X → List (Option AcctId)) (accounts others : List AccountView) (xs : List X) (k : ℕ) (x : X) → AreHeld accounts (flat_map names xs) → HaveSameNumbers others accounts → k < length xs → x ≡ get_or xs k x → AreHeld others (names x)
+AreHeld-one names accounts others xs k x held same below is =
+    AreHeld-numbers accounts others (names x) same
+    (subst (λ y. AreHeld accounts (names y)) (sym is) (held_at names accounts xs k x held below))
 
 pub all_by_index : {X : Type 0} (P : X → Type 0) (xs : List X) (k : ℕ) (d : X) → AllByRecursion P xs → k < length xs → P (get_or xs k d)
 all_by_index P [] k d all below = absurd (omega arith)
 all_by_index P (x ∷ xs) zero d all below = all.0
 all_by_index P (x ∷ xs) (suc k) d all below = all_by_index P xs k d all.1 (omega arith)
 
--- ---- one ask more
+pub all_from : {X : Type 0} (P : X → Type 0) (xs : List X) → ((k : ℕ) (d : X) → k < length xs → P (get_or xs k d)) → AllByRecursion P xs
+all_from P [] each = tt
+all_from P (x ∷ xs) each = (each 0 x (omega arith), all_from P xs (λ k d below. each (suc k) d (omega arith)))
 
-rest_is : (asks : List Ask) (k : ℕ) (ask : Ask) → k < length asks → ask ≡ get_or asks k ask → drop k asks ≡ ask ∷ drop (k + 1) asks
-rest_is asks k ask below is = rw (add-one, drop-cons asks k ask, ← is) refl
+-- ---- one more of some that are answered in turn, each in the state that the one before left
 
-step_replies : (setup : Setup) (S : State) (user : UserId) (at : Moment) (ask : Ask) (rest : List Ask) → (ask_answers setup S user at (ask ∷ rest)).replies ≡ (ask_answer setup S user at ask).reply ∷ (ask_answers setup (ask_answer setup S user at ask).after user at rest).replies
+pub rest_is : {X : Type 0} (xs : List X) (k : ℕ) (x : X) → k < length xs → x ≡ get_or xs k x → drop k xs ≡ x ∷ drop (k + 1) xs
+rest_is xs k x below is = rw (add-one, drop-cons xs k x, ← is) refl
+
+pub told_more : {X R : Type 0} (answers : State → List X → List R) (S next : State) (xs : List X) (k : ℕ) (x : X) (all replies more : List R) (reply : R) → k < length xs → x ≡ get_or xs k x → answers S (x ∷ drop (k + 1) xs) ≡ reply ∷ answers next (drop (k + 1) xs) → more ≡ replies ++ reply ∷ [] → all ≡ replies ++ answers S (drop k xs) → all ≡ more ++ answers next (drop (k + 1) xs)
+told_more answers S next xs k x all replies more reply below is step is_more so_far =
+    so_far
+    ∙ ap (λ l. replies ++ answers S l) (rest_is xs k x below is)
+    ∙ ap (λ l. replies ++ l) step
+    ∙ sym (append_assoc replies (reply ∷ []) (answers next (drop (k + 1) xs)))
+    ∙ ap (λ l. l ++ answers next (drop (k + 1) xs)) (sym is_more)
+
+pub left_more : {X : Type 0} (left : State → List X → State) (S next : State) (xs : List X) (k : ℕ) (x : X) (all : State) → k < length xs → x ≡ get_or xs k x → left S (x ∷ drop (k + 1) xs) ≡ left next (drop (k + 1) xs) → all ≡ left S (drop k xs) → all ≡ left next (drop (k + 1) xs)
+left_more left S next xs k x all below is step so_far = so_far ∙ ap (left S) (rest_is xs k x below is) ∙ step
+
+nothing_left : {X : Type 0} (xs : List X) (k : ℕ) → length xs ≤ k → drop k xs ≡ []
+nothing_left [] zero past = refl
+nothing_left [] (suc k) past = refl
+nothing_left (x ∷ xs) zero past = absurd (omega arith)
+nothing_left (x ∷ xs) (suc k) past = nothing_left xs k (omega arith)
+
+pub told_end : {X R : Type 0} (answers : State → List X → List R) (S : State) (xs : List X) (k : ℕ) (all replies : List R) → length xs ≤ k → answers S [] ≡ [] → all ≡ replies ++ answers S (drop k xs) → replies ≡ all
+told_end answers S xs k all replies past none so_far =
+    sym (so_far ∙ ap (λ l. replies ++ answers S l) (nothing_left xs k past) ∙ ap (λ l. replies ++ l) none ∙ append-nil replies)
+
+pub left_end : {X : Type 0} (left : State → List X → State) (S : State) (xs : List X) (k : ℕ) (all : State) → length xs ≤ k → left S [] ≡ S → all ≡ left S (drop k xs) → S ≡ all
+left_end left S xs k all past none so_far = sym (so_far ∙ ap (left S) (nothing_left xs k past) ∙ none)
+
+-- ---- asks
+
+step_replies : (setup : Setup) (S next : State) (user : UserId) (at : Moment) (ask : Ask) (rest : List Ask) (reply : AskReply) → reply ≡ (ask_answer setup S user at ask).reply → next ≡ (ask_answer setup S user at ask).after → (ask_answers setup S user at (ask ∷ rest)).replies ≡ reply ∷ (ask_answers setup next user at rest).replies
 unfolding ask_answers
-step_replies setup S user at ask rest = refl
+step_replies setup S next user at ask rest reply is_reply is_next = rw (is_reply, is_next) refl
 
-step_after : (setup : Setup) (S : State) (user : UserId) (at : Moment) (ask : Ask) (rest : List Ask) → (ask_answers setup S user at (ask ∷ rest)).after ≡ (ask_answers setup (ask_answer setup S user at ask).after user at rest).after
+step_after : (setup : Setup) (S next : State) (user : UserId) (at : Moment) (ask : Ask) (rest : List Ask) → next ≡ (ask_answer setup S user at ask).after → (ask_answers setup S user at (ask ∷ rest)).after ≡ (ask_answers setup next user at rest).after
 unfolding ask_answers
-step_after setup S user at ask rest = refl
+step_after setup S next user at ask rest is_next = rw is_next refl
 
 pub replies_more : (setup : Setup) (S next : State) (user : UserId) (at : Moment) (asks : List Ask) (k : ℕ) (ask : Ask) (all replies more : List AskReply) (reply : AskReply) → k < length asks → ask ≡ get_or asks k ask → reply ≡ (ask_answer setup S user at ask).reply → next ≡ (ask_answer setup S user at ask).after → more ≡ replies ++ reply ∷ [] → all ≡ replies ++ (ask_answers setup S user at (drop k asks)).replies → all ≡ more ++ (ask_answers setup next user at (drop (k + 1) asks)).replies
 replies_more setup S next user at asks k ask all replies more reply below is is_reply is_next is_more so_far =
-    so_far
-    ∙ ap (λ (l : List Ask). replies ++ (ask_answers setup S user at l).replies) (rest_is asks k ask below is)
-    ∙ ap (λ (l : List AskReply). replies ++ l) (step_replies setup S user at ask (drop (k + 1) asks))
-    ∙ ap (λ (r : AskReply). replies ++ r ∷ (ask_answers setup (ask_answer setup S user at ask).after user at (drop (k + 1) asks)).replies) (sym is_reply)
-    ∙ ap (λ (T : State). replies ++ reply ∷ (ask_answers setup T user at (drop (k + 1) asks)).replies) (sym is_next)
-    ∙ sym (append_assoc replies (reply ∷ []) (ask_answers setup next user at (drop (k + 1) asks)).replies)
-    ∙ ap (λ (l : List AskReply). l ++ (ask_answers setup next user at (drop (k + 1) asks)).replies) (sym is_more)
+    told_more (λ (T : State) l. (ask_answers setup T user at l).replies) S next asks k ask all replies more reply below is (step_replies setup S next user at ask (drop (k + 1) asks) reply is_reply is_next) is_more so_far
 
 pub after_more : (setup : Setup) (S next : State) (user : UserId) (at : Moment) (asks : List Ask) (k : ℕ) (ask : Ask) (all : State) → k < length asks → ask ≡ get_or asks k ask → next ≡ (ask_answer setup S user at ask).after → all ≡ (ask_answers setup S user at (drop k asks)).after → all ≡ (ask_answers setup next user at (drop (k + 1) asks)).after
 after_more setup S next user at asks k ask all below is is_next so_far =
-    so_far
-    ∙ ap (λ (l : List Ask). (ask_answers setup S user at l).after) (rest_is asks k ask below is)
-    ∙ step_after setup S user at ask (drop (k + 1) asks)
-    ∙ ap (λ (T : State). (ask_answers setup T user at (drop (k + 1) asks)).after) (sym is_next)
+    left_more (λ (T : State) l. (ask_answers setup T user at l).after) S next asks k ask all below is (step_after setup S next user at ask (drop (k + 1) asks) is_next) so_far
 
 pub sound_more_ask : (setup : Setup) (S next : State) (user : UserId) (at : Moment) (asks : List Ask) (k : ℕ) (ask : Ask) → IsWithinLimits setup → IsMoment at.0 → AllByRecursion IsSoundAsk asks → IsSoundState setup S → k < length asks → ask ≡ get_or asks k ask → next ≡ (ask_answer setup S user at ask).after → IsSoundState setup next
 sound_more_ask setup S next user at asks k ask within moment known sound below is is_next =
@@ -100,12 +123,6 @@ same_file_more old mid new first second = record {
 
 -- ---- no ask left
 
-nothing_left : (asks : List Ask) (k : ℕ) → length asks ≤ k → drop k asks ≡ []
-nothing_left [] zero past = refl
-nothing_left [] (suc k) past = refl
-nothing_left (ask ∷ asks) zero past = absurd (omega arith)
-nothing_left (ask ∷ asks) (suc k) past = nothing_left asks k (omega arith)
-
 none_replies : (setup : Setup) (S : State) (user : UserId) (at : Moment) → (ask_answers setup S user at []).replies ≡ []
 unfolding ask_answers
 none_replies setup S user at = refl
@@ -116,13 +133,8 @@ none_after setup S user at = refl
 
 pub replies_end : (setup : Setup) (S : State) (user : UserId) (at : Moment) (asks : List Ask) (k : ℕ) (all replies : List AskReply) → length asks ≤ k → all ≡ replies ++ (ask_answers setup S user at (drop k asks)).replies → replies ≡ all
 replies_end setup S user at asks k all replies past so_far =
-    sym (so_far
-    ∙ ap (λ (l : List Ask). replies ++ (ask_answers setup S user at l).replies) (nothing_left asks k past)
-    ∙ ap (λ (l : List AskReply). replies ++ l) (none_replies setup S user at)
-    ∙ append-nil replies)
+    told_end (λ (T : State) l. (ask_answers setup T user at l).replies) S asks k all replies past (none_replies setup S user at) so_far
 
 pub after_end : (setup : Setup) (S : State) (user : UserId) (at : Moment) (asks : List Ask) (k : ℕ) (all : State) → length asks ≤ k → all ≡ (ask_answers setup S user at (drop k asks)).after → S ≡ all
 after_end setup S user at asks k all past so_far =
-    sym (so_far
-    ∙ ap (λ (l : List Ask). (ask_answers setup S user at l).after) (nothing_left asks k past)
-    ∙ none_after setup S user at)
+    left_end (λ (T : State) l. (ask_answers setup T user at l).after) S asks k all past (none_after setup S user at) so_far

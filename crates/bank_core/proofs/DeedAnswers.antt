@@ -20,7 +20,7 @@ use Rattle.ofx_types.specs.declared.recurring.Recur.{Recur}
 use Rattle.bank_core.specs.declared.effect.Effect.TheVariants as effects
 use Rattle.ofx_types.specs.declared.transfer.XferCode.TheVariants.{Cancelled}
 use Rattle.ofx_types.specs.declared.transfer.Deed.{Deed}
-use Rattle.ofx_types.specs.declared.transfer.Deed.TheVariants.{Transfer, ModifyTransfer, CancelTransfer, Model, ModifyModel, CancelModel}
+use Rattle.ofx_types.specs.declared.transfer.Deed.TheVariants.{Transfer, ModifyTransfer, CancelTransfer, Model, ModifyModel, CancelModel, BankMail, Mail}
 use Rattle.ofx_types.specs.declared.transfer.TransferRow.{TransferRow}
 use Rattle.ofx_types.specs.declared.transfer.XferInfo.{XferInfo}
 use Rattle.ofx_types.specs.declared.transfer.DeedReply.{DeedReply}
@@ -33,11 +33,12 @@ use Rattle.bank_model.specs.declared.once.KeptReply.{KeptReply}
 use Rattle.bank_model.specs.declared.setup.Setup.{Setup}
 use Rattle.bank_model.specs.declared.event.State.{State}
 use Rattle.bank_model.specs.SetupForm.{IsWithinLimits}
+use Rattle.ofx_types.specs.declared.mail.MailText.{MailText}
 use Rattle.bank_model.specs.Once.{is_used}
 use Rattle.bank_model.specs.Ledger.{balance, row_of, with_code, is_posted, posting_of}
 use Rattle.bank_model.specs.SetupLookups.{account_of}
 use Rattle.bank_model.specs.Models.{model_of, is_model_dropped}
-use Rattle.bank_model.specs.Judging.{transfer_code, modify_code, cancel_code, model_code, model_modify_code, model_cancel_code}
+use Rattle.bank_model.specs.Judging.{transfer_code, modify_code, cancel_code, model_code, model_modify_code, model_cancel_code, bank_mail_code, mail_code}
 use Rattle.bank_model.specs.Rules.{named_by_deed}
 use Rattle.bank_model.specs.Sound.{IsSoundDeed}
 use Rattle.bank_model.proofs.SetupWords.{some_is}
@@ -47,6 +48,7 @@ use Rattle.bank_accounts.specs.HeldAccounts.{IsHeld, AreHeld, balance_held}
 use Rattle.bank_accounts.proofs.HeldLemmas.{balance_held-some}
 use Rattle.bank_core.specs.DraftView.{DraftView, pair_of, drafted, with_uid, amount_held, IsNext, HasAdded, HasBothHeld, IsSameFile}
 use Rattle.bank_core.specs.Standing.{IsSoundState}
+use Rattle.bank_core.proofs.Verdicts.{IsInBank-from_mail_code}
 use Rattle.bank_core.proofs.DeedLemmas.{taken_entry, new_fields, changed_fields, transfer_next, transfer_entries, modify_row, modify_entries, modify_next, cancel_row, cancel_entries, cancel_next, model_taken, model_entry, model_entries, model_next}
 use Rattle.bank_core.proofs.DraftLemmas.{HaveBalances}
 use Rattle.bank_core.proofs.EnteringLemmas.{balance_held-balanced}
@@ -71,7 +73,7 @@ answer_is : (setup : Setup) (S : State) (user : UserId) (only : Option AcctId) (
 unfolding deed_answer
 answer_is setup S user only at trnuid deed code is = ap (answer_with setup S user at trnuid deed) is
 
-pub done_reply-is : (setup : Setup) (S : State) (user : UserId) (only : Option AcctId) (at : Moment) (trnuid : List ℕ) (deed : Deed) (change : Change) → code_of setup S user only at trnuid deed ≡ 0 → first_change (done setup S at trnuid deed) ≡ Some change → (record { trnuid = trnuid; family = family_of deed; code = 0; change = Some change }) ≡ (deed_answer setup S user only at trnuid deed).reply
+pub done_reply-is : (setup : Setup) (S : State) (user : UserId) (only : Option AcctId) (at : Moment) (trnuid : List ℕ) (deed : Deed) (change : Change) → code_of setup S user only at trnuid deed ≡ 0 → first_change (done setup S user at trnuid deed) ≡ Some change → (record { trnuid = trnuid; family = family_of deed; code = 0; change = Some change }) ≡ (deed_answer setup S user only at trnuid deed).reply
 done_reply-is setup S user only at trnuid deed change is first =
     ap (λ (c : Option Change). reply_with c) (sym first) ∙ sym (ap (λ a. a.reply) (answer_is setup S user only at trnuid deed 0 is))
   where
@@ -79,10 +81,10 @@ done_reply-is setup S user only at trnuid deed change is first =
     reply_with c = record { trnuid = trnuid; family = family_of deed; code = 0; change = c }
 
 -- A draft with the entries of a deed that is done, and its uid.
-pub done_after-is : (setup : Setup) (S : State) (draft more : DraftView) (only : Option AcctId) (trnuid : List ℕ) (deed : Deed) → code_of setup (drafted S draft) draft.user only draft.at trnuid deed ≡ 0 → HasAdded setup S draft more (done setup (drafted S draft) draft.at trnuid deed) → drafted S (with_uid more trnuid) ≡ (deed_answer setup (drafted S draft) draft.user only draft.at trnuid deed).after
+pub done_after-is : (setup : Setup) (S : State) (draft more : DraftView) (only : Option AcctId) (trnuid : List ℕ) (deed : Deed) → code_of setup (drafted S draft) draft.user only draft.at trnuid deed ≡ 0 → HasAdded setup S draft more (done setup (drafted S draft) draft.user draft.at trnuid deed) → drafted S (with_uid more trnuid) ≡ (deed_answer setup (drafted S draft) draft.user only draft.at trnuid deed).after
 done_after-is setup S draft more only trnuid deed is has =
-    let entries : S.entries ++ more.entries ≡ (S.entries ++ draft.entries) ++ done setup (drafted S draft) draft.at trnuid deed =
-    ap (λ (l : List Entry). S.entries ++ l) has.entries ∙ sym (append_assoc S.entries draft.entries (done setup (drafted S draft) draft.at trnuid deed)) in
+    let entries : S.entries ++ more.entries ≡ (S.entries ++ draft.entries) ++ done setup (drafted S draft) draft.user draft.at trnuid deed =
+    ap (λ (l : List Entry). S.entries ++ l) has.entries ∙ sym (append_assoc S.entries draft.entries (done setup (drafted S draft) draft.user draft.at trnuid deed)) in
     let used : S.used ++ map (pair_of more.user) (more.uids ++ trnuid ∷ []) ≡ (S.used ++ map (pair_of draft.user) draft.uids) ++ pair_of draft.user trnuid ∷ [] =
     ap (λ (u : UserId). S.used ++ map (pair_of u) (more.uids ++ trnuid ∷ [])) has.user
     ∙ ap (λ (l : List (List ℕ)). S.used ++ map (pair_of draft.user) (l ++ trnuid ∷ [])) has.uids
@@ -100,7 +102,7 @@ no_entries code false some entries is other = append-nil entries
 
 pub refused_reply-is : (setup : Setup) (S : State) (user : UserId) (only : Option AcctId) (at : Moment) (trnuid : List ℕ) (deed : Deed) (code : ℕ) → code_of setup S user only at trnuid deed ≡ code → code ≢ 0 → (record { trnuid = trnuid; family = family_of deed; code = code; change = None }) ≡ (deed_answer setup S user only at trnuid deed).reply
 refused_reply-is setup S user only at trnuid deed code is other =
-    sym (ap (λ a. a.reply) (answer_is setup S user only at trnuid deed code is) ∙ ap reply_with (no_change code (eqb code 0) (done setup S at trnuid deed) refl other))
+    sym (ap (λ a. a.reply) (answer_is setup S user only at trnuid deed code is) ∙ ap reply_with (no_change code (eqb code 0) (done setup S user at trnuid deed) refl other))
   where
     reply_with : Option Change → DeedReply
     reply_with c = record { trnuid = trnuid; family = family_of deed; code = code; change = c }
@@ -112,7 +114,7 @@ refused_after-is setup S draft only trnuid deed code is other fresh =
     let used : S.used ++ map (pair_of draft.user) (draft.uids ++ trnuid ∷ []) ≡ used_up code draft.user trnuid pairs =
     uids_more S.used draft.user draft.uids trnuid
     ∙ ap (λ (b : Bool). cond b pairs (pairs ++ pair_of draft.user trnuid ∷ [])) (sym (false_from_ne_true (eqb code 2019) (λ same. fresh (eqb-true code 2019 same)))) in
-    same_state _ _ _ _ S.kept draft.day draft.day (sym (no_entries code (eqb code 0) (done setup (drafted S draft) draft.at trnuid deed) (S.entries ++ draft.entries) refl other)) used refl
+    same_state _ _ _ _ S.kept draft.day draft.day (sym (no_entries code (eqb code 0) (done setup (drafted S draft) draft.user draft.at trnuid deed) (S.entries ++ draft.entries) refl other)) used refl
     ∙ sym (ap (λ a. a.after) (answer_is setup (drafted S draft) draft.user only draft.at trnuid deed code is))
 
 -- A deed with a uid that is used up changes nothing.
@@ -130,7 +132,7 @@ pub used_code-is : (setup : Setup) (S : State) (user : UserId) (only : Option Ac
 unfolding code_of
 used_code-is setup S user only at trnuid deed used = rw used refl
 
-pub room_code-is : (setup : Setup) (S : State) (user : UserId) (only : Option AcctId) (at : Moment) (trnuid : List ℕ) (deed : Deed) (count : ℕ) → is_used user trnuid S.used ≡ false → judged setup S user only deed ≡ 0 → length (done setup S at trnuid deed) ≡ count → code_of setup S user only at trnuid deed ≡ cond (is_full setup (length S.entries + count)) 2000 0
+pub room_code-is : (setup : Setup) (S : State) (user : UserId) (only : Option AcctId) (at : Moment) (trnuid : List ℕ) (deed : Deed) (count : ℕ) → is_used user trnuid S.used ≡ false → judged setup S user only deed ≡ 0 → length (done setup S user at trnuid deed) ≡ count → code_of setup S user only at trnuid deed ≡ cond (is_full setup (length S.entries + count)) 2000 0
 unfolding code_of
 room_code-is setup S user only at trnuid deed count unused none is = rw (unused, none, is) refl
 
@@ -141,7 +143,7 @@ other_code code full false is other = refl
 pub judged_code-is : (setup : Setup) (S : State) (user : UserId) (only : Option AcctId) (at : Moment) (trnuid : List ℕ) (deed : Deed) → is_used user trnuid S.used ≡ false → judged setup S user only deed ≢ 0 → code_of setup S user only at trnuid deed ≡ judged setup S user only deed
 unfolding code_of
 judged_code-is setup S user only at trnuid deed unused other =
-    rw unused (other_code (judged setup S user only deed) (is_full setup (length S.entries + length (done setup S at trnuid deed))) (eqb (judged setup S user only deed) 0) refl other)
+    rw unused (other_code (judged setup S user only deed) (is_full setup (length S.entries + length (done setup S user at trnuid deed))) (eqb (judged setup S user only deed) 0) refl other)
 
 -- ---- the balance of a source
 
@@ -202,19 +204,19 @@ pub added_as : (setup : Setup) (S : State) (old new : DraftView) (entries other 
 added_as setup S old new entries other same has = subst (HasAdded setup S old new) same has
 
 -- What a transfer enters, by the parts that are made of it.
-pub record IsTransferEntry (setup : Setup) (S : State) (at : Moment) (trnuid : List ℕ) (info : XferInfo) (number : ℕ) (object : ObjectId) (uid : List ℕ) (row told : TransferRow) : Type 0 where
+pub record IsTransferEntry (setup : Setup) (S : State) (user : UserId) (at : Moment) (trnuid : List ℕ) (info : XferInfo) (number : ℕ) (object : ObjectId) (uid : List ℕ) (row told : TransferRow) : Type 0 where
   pub next : IsNext setup S (entry_of number object uid (NewTransfer told)) (Row row)
-  pub first : first_change (done setup S at trnuid (Transfer info)) ≡ Some (NewTransfer told)
-  pub entries : entry_of number object uid (NewTransfer told) ∷ [] ≡ done setup S at trnuid (Transfer info)
+  pub first : first_change (done setup S user at trnuid (Transfer info)) ≡ Some (NewTransfer told)
+  pub entries : entry_of number object uid (NewTransfer told) ∷ [] ≡ done setup S user at trnuid (Transfer info)
   pub held : (accounts : List AccountView) → AreHeld accounts (named_by_deed setup (Transfer info)) → HasBothHeld setup accounts row
 
-pub IsTransferEntry-of : (setup : Setup) (S : State) (user : UserId) (only : Option AcctId) (at : Moment) (trnuid : List ℕ) (info : XferInfo) (number : ℕ) (object : ObjectId) (uid : List ℕ) (row told : TransferRow) → IsWithinLimits setup → IsSoundState setup S → IsMoment at.0 → IsSoundDeed (Transfer info) → judged setup S user only (Transfer info) ≡ 0 → number ≡ length S.entries + 1 → object ≡ object_of setup info.from → uid ≡ trnuid → row ≡ new_row number at S.day info → told ≡ row → IsTransferEntry setup S at trnuid info number object uid row told
+pub IsTransferEntry-of : (setup : Setup) (S : State) (user : UserId) (only : Option AcctId) (at : Moment) (trnuid : List ℕ) (info : XferInfo) (number : ℕ) (object : ObjectId) (uid : List ℕ) (row told : TransferRow) → IsWithinLimits setup → IsSoundState setup S → IsMoment at.0 → IsSoundDeed (Transfer info) → judged setup S user only (Transfer info) ≡ 0 → number ≡ length S.entries + 1 → object ≡ object_of setup info.from → uid ≡ trnuid → row ≡ new_row number at S.day info → told ≡ row → IsTransferEntry setup S user at trnuid info number object uid row told
 IsTransferEntry-of setup S user only at trnuid info number object uid row told within sound moment deed none is_number is_object is_uid is_row is_told =
     let row_is : row ≡ new_row (length S.entries + 1) at S.day info = is_row ∙ ap (λ (n : ℕ). new_row n at S.day info) is_number in
     let entry : entry_of number object uid (NewTransfer told) ≡ taken_entry setup S at trnuid info =
     entry_is _ _ _ _ _ _ _ _ is_number is_object is_uid (ap (λ (r : TransferRow). NewTransfer r) (is_told ∙ row_is)) in
-    let entries : entry_of number object uid (NewTransfer told) ∷ [] ≡ done setup S at trnuid (Transfer info) =
-    ap (λ (e : Entry). e ∷ []) entry ∙ sym (transfer_entries setup S at trnuid info) in
+    let entries : entry_of number object uid (NewTransfer told) ∷ [] ≡ done setup S user at trnuid (Transfer info) =
+    ap (λ (e : Entry). e ∷ []) entry ∙ sym (transfer_entries setup S user at trnuid info) in
     record {
       next = next_as setup S (taken_entry setup S at trnuid info) _ (new_row (length S.entries + 1) at S.day info) row entry row_is (transfer_next setup S user only at trnuid info within sound moment deed none);
       first = ap first_change (sym entries);
@@ -231,10 +233,10 @@ IsTransferEntry-of setup S user only at trnuid info number object uid row told w
         (subst (λ (name : AcctName). IfSome (account_of setup name) (IsHeld accounts)) (sym from) both.0, subst (λ (name : AcctName). IfSome (account_of setup name) (IsHeld accounts)) (sym to) both.1)
 
 -- What a change of a transfer enters.
-pub record IsModifyEntry (setup : Setup) (S : State) (at : Moment) (trnuid : List ℕ) (id : ℕ) (info : XferInfo) (number : ℕ) (object : ObjectId) (uid : List ℕ) (row told : TransferRow) : Type 0 where
+pub record IsModifyEntry (setup : Setup) (S : State) (user : UserId) (at : Moment) (trnuid : List ℕ) (id : ℕ) (info : XferInfo) (number : ℕ) (object : ObjectId) (uid : List ℕ) (row told : TransferRow) : Type 0 where
   pub next : IsNext setup S (entry_of number object uid (SetTransfer told)) (Row row)
-  pub first : first_change (done setup S at trnuid (ModifyTransfer id info)) ≡ Some (SetTransfer told)
-  pub entries : entry_of number object uid (SetTransfer told) ∷ [] ≡ done setup S at trnuid (ModifyTransfer id info)
+  pub first : first_change (done setup S user at trnuid (ModifyTransfer id info)) ≡ Some (SetTransfer told)
+  pub entries : entry_of number object uid (SetTransfer told) ∷ [] ≡ done setup S user at trnuid (ModifyTransfer id info)
   pub nothing : posting_of number (Some told) ≡ []
 
 pub modify_there : (setup : Setup) (S : State) (user : UserId) (only : Option AcctId) (id : ℕ) (info : XferInfo) → judged setup S user only (ModifyTransfer id info) ≡ 0 → is_some (row_of id S.entries) ≡ true
@@ -249,7 +251,7 @@ modify_from setup S user only id info row none is =
     let row_is : row ≡ changed_row S.day info found.0 = some_row (row_of id S.entries) (changed_row S.day info) found.0 row found.1 is in
     ap (λ (r : TransferRow). is_some (account_of setup r.from)) row_is ∙ ap (λ (name : AcctName). is_some (account_of setup name)) (changed_fields S.day info found.0).2 ∙ found.2.is_open.from
 
-pub IsModifyEntry-of : (setup : Setup) (S : State) (user : UserId) (only : Option AcctId) (at : Moment) (trnuid : List ℕ) (id : ℕ) (info : XferInfo) (number : ℕ) (object : ObjectId) (uid : List ℕ) (row told : TransferRow) → IsSoundState setup S → IsSoundDeed (ModifyTransfer id info) → judged setup S user only (ModifyTransfer id info) ≡ 0 → number ≡ length S.entries + 1 → object ≡ object_of setup row.from → uid ≡ trnuid → option_map (changed_row S.day info) (row_of id S.entries) ≡ Some row → told ≡ row → IsModifyEntry setup S at trnuid id info number object uid row told
+pub IsModifyEntry-of : (setup : Setup) (S : State) (user : UserId) (only : Option AcctId) (at : Moment) (trnuid : List ℕ) (id : ℕ) (info : XferInfo) (number : ℕ) (object : ObjectId) (uid : List ℕ) (row told : TransferRow) → IsSoundState setup S → IsSoundDeed (ModifyTransfer id info) → judged setup S user only (ModifyTransfer id info) ≡ 0 → number ≡ length S.entries + 1 → object ≡ object_of setup row.from → uid ≡ trnuid → option_map (changed_row S.day info) (row_of id S.entries) ≡ Some row → told ≡ row → IsModifyEntry setup S user at trnuid id info number object uid row told
 IsModifyEntry-of setup S user only at trnuid id info number object uid row told sound deed none is_number is_object is_uid is_row is_told =
     let found = modify_row setup S user only id info none in
     let fields = changed_fields S.day info found.0 in
@@ -257,8 +259,8 @@ IsModifyEntry-of setup S user only at trnuid id info number object uid row told 
     let from : row.from ≡ found.0.from = ap (λ (r : TransferRow). r.from) row_is ∙ fields.2 in
     let entry : entry_of number object uid (SetTransfer told) ≡ next_entry S (object_of setup found.0.from) trnuid (SetTransfer (changed_row S.day info found.0)) =
     entry_is _ _ _ _ _ _ _ _ is_number (is_object ∙ ap (object_of setup) from) is_uid (ap (λ (r : TransferRow). SetTransfer r) (is_told ∙ row_is)) in
-    let entries : entry_of number object uid (SetTransfer told) ∷ [] ≡ done setup S at trnuid (ModifyTransfer id info) =
-    ap (λ (e : Entry). e ∷ []) entry ∙ sym (modify_entries setup S at trnuid id info found.0 found.1) in
+    let entries : entry_of number object uid (SetTransfer told) ∷ [] ≡ done setup S user at trnuid (ModifyTransfer id info) =
+    ap (λ (e : Entry). e ∷ []) entry ∙ sym (modify_entries setup S user at trnuid id info found.0 found.1) in
     record {
       next = next_as setup S _ _ (changed_row S.day info found.0) row entry row_is (modify_next setup S trnuid id info found.0 sound deed found.1 found.2);
       first = ap first_change (sym entries);
@@ -267,10 +269,10 @@ IsModifyEntry-of setup S user only at trnuid id info number object uid row told 
     }
 
 -- What a cancellation enters.
-pub record IsCancelEntry (setup : Setup) (S : State) (at : Moment) (trnuid : List ℕ) (id : ℕ) (number : ℕ) (object : ObjectId) (uid : List ℕ) (row : TransferRow) : Type 0 where
+pub record IsCancelEntry (setup : Setup) (S : State) (user : UserId) (at : Moment) (trnuid : List ℕ) (id : ℕ) (number : ℕ) (object : ObjectId) (uid : List ℕ) (row : TransferRow) : Type 0 where
   pub next : IsNext setup S (entry_of number object uid (DropTransfer id)) (Row row)
-  pub first : first_change (done setup S at trnuid (CancelTransfer id)) ≡ Some (DropTransfer id)
-  pub entries : entry_of number object uid (DropTransfer id) ∷ [] ≡ done setup S at trnuid (CancelTransfer id)
+  pub first : first_change (done setup S user at trnuid (CancelTransfer id)) ≡ Some (DropTransfer id)
+  pub entries : entry_of number object uid (DropTransfer id) ∷ [] ≡ done setup S user at trnuid (CancelTransfer id)
 
 pub cancel_there : (setup : Setup) (S : State) (user : UserId) (only : Option AcctId) (id : ℕ) → judged setup S user only (CancelTransfer id) ≡ 0 → is_some (row_of id S.entries) ≡ true
 cancel_there setup S user only id none = ap is_some (cancel_row setup S user only id none).1
@@ -281,15 +283,15 @@ cancel_from setup S user only id row none is =
     let row_is : row ≡ with_code Cancelled found.0 = some_row (row_of id S.entries) (with_code Cancelled) found.0 row found.1 is in
     ap (λ (r : TransferRow). is_some (account_of setup r.from)) row_is ∙ found.2.from
 
-pub IsCancelEntry-of : (setup : Setup) (S : State) (user : UserId) (only : Option AcctId) (at : Moment) (trnuid : List ℕ) (id : ℕ) (number : ℕ) (object : ObjectId) (uid : List ℕ) (row : TransferRow) → IsSoundState setup S → judged setup S user only (CancelTransfer id) ≡ 0 → number ≡ length S.entries + 1 → object ≡ object_of setup row.from → uid ≡ trnuid → option_map (with_code Cancelled) (row_of id S.entries) ≡ Some row → IsCancelEntry setup S at trnuid id number object uid row
+pub IsCancelEntry-of : (setup : Setup) (S : State) (user : UserId) (only : Option AcctId) (at : Moment) (trnuid : List ℕ) (id : ℕ) (number : ℕ) (object : ObjectId) (uid : List ℕ) (row : TransferRow) → IsSoundState setup S → judged setup S user only (CancelTransfer id) ≡ 0 → number ≡ length S.entries + 1 → object ≡ object_of setup row.from → uid ≡ trnuid → option_map (with_code Cancelled) (row_of id S.entries) ≡ Some row → IsCancelEntry setup S user at trnuid id number object uid row
 IsCancelEntry-of setup S user only at trnuid id number object uid row sound none is_number is_object is_uid is_row =
     let found = cancel_row setup S user only id none in
     let row_is : row ≡ with_code Cancelled found.0 = some_row (row_of id S.entries) (with_code Cancelled) found.0 row found.1 is_row in
     let from : row.from ≡ found.0.from = ap (λ (r : TransferRow). r.from) row_is in
     let entry : entry_of number object uid (DropTransfer id) ≡ next_entry S (object_of setup found.0.from) trnuid (DropTransfer id) =
     entry_is _ _ _ _ _ _ _ _ is_number (is_object ∙ ap (object_of setup) from) is_uid refl in
-    let entries : entry_of number object uid (DropTransfer id) ∷ [] ≡ done setup S at trnuid (CancelTransfer id) =
-    ap (λ (e : Entry). e ∷ []) entry ∙ sym (cancel_entries setup S at trnuid id found.0 found.1) in
+    let entries : entry_of number object uid (DropTransfer id) ∷ [] ≡ done setup S user at trnuid (CancelTransfer id) =
+    ap (λ (e : Entry). e ∷ []) entry ∙ sym (cancel_entries setup S user at trnuid id found.0 found.1) in
     record {
       next = next_as setup S _ _ (with_code Cancelled found.0) row entry row_is (cancel_next setup S trnuid id found.0 sound found.1 found.2);
       first = ap first_change (sym entries);
@@ -301,21 +303,21 @@ model_as setup S entry other row held same_entry same_row next =
     subst (λ (e : Entry). IsNext setup S e (effects.Model held)) (sym same_entry) (subst (λ (r : ModelRow). IsNext setup S entry (effects.Model r)) (sym same_row) next)
 
 -- What a new recurring transfer enters.
-pub record IsModelEntry (setup : Setup) (S : State) (at : Moment) (trnuid : List ℕ) (recur : Recur) (info : XferInfo) (number : ℕ) (object : ObjectId) (uid : List ℕ) (row told : ModelRow) : Type 0 where
+pub record IsModelEntry (setup : Setup) (S : State) (user : UserId) (at : Moment) (trnuid : List ℕ) (recur : Recur) (info : XferInfo) (number : ℕ) (object : ObjectId) (uid : List ℕ) (row told : ModelRow) : Type 0 where
   pub next : IsNext setup S (entry_of number object uid (NewModel told)) (effects.Model row)
-  pub first : first_change (done setup S at trnuid (Model recur info)) ≡ Some (NewModel told)
-  pub entries : entry_of number object uid (NewModel told) ∷ [] ≡ done setup S at trnuid (Model recur info)
+  pub first : first_change (done setup S user at trnuid (Model recur info)) ≡ Some (NewModel told)
+  pub entries : entry_of number object uid (NewModel told) ∷ [] ≡ done setup S user at trnuid (Model recur info)
 
 pub model_from : (setup : Setup) (S : State) (user : UserId) (only : Option AcctId) (recur : Recur) (info : XferInfo) → judged setup S user only (Model recur info) ≡ 0 → is_some (account_of setup info.from) ≡ true
 model_from setup S user only recur info none = (model_taken setup S user only recur info none).from
 
-pub IsModelEntry-of : (setup : Setup) (S : State) (user : UserId) (only : Option AcctId) (at : Moment) (trnuid : List ℕ) (recur : Recur) (info : XferInfo) (number : ℕ) (object : ObjectId) (uid : List ℕ) (row told : ModelRow) → IsSoundState setup S → IsSoundDeed (Model recur info) → judged setup S user only (Model recur info) ≡ 0 → number ≡ length S.entries + 1 → object ≡ model_object_of setup info.from → uid ≡ trnuid → row ≡ new_model number S.day recur info → told ≡ row → IsModelEntry setup S at trnuid recur info number object uid row told
+pub IsModelEntry-of : (setup : Setup) (S : State) (user : UserId) (only : Option AcctId) (at : Moment) (trnuid : List ℕ) (recur : Recur) (info : XferInfo) (number : ℕ) (object : ObjectId) (uid : List ℕ) (row told : ModelRow) → IsSoundState setup S → IsSoundDeed (Model recur info) → judged setup S user only (Model recur info) ≡ 0 → number ≡ length S.entries + 1 → object ≡ model_object_of setup info.from → uid ≡ trnuid → row ≡ new_model number S.day recur info → told ≡ row → IsModelEntry setup S user at trnuid recur info number object uid row told
 IsModelEntry-of setup S user only at trnuid recur info number object uid row told sound deed none is_number is_object is_uid is_row is_told =
     let row_is : row ≡ new_model (length S.entries + 1) S.day recur info = is_row ∙ ap (λ (n : ℕ). new_model n S.day recur info) is_number in
     let entry : entry_of number object uid (NewModel told) ≡ model_entry setup S trnuid recur info =
     entry_is _ _ _ _ _ _ _ _ is_number is_object is_uid (ap (λ (r : ModelRow). NewModel r) (is_told ∙ row_is)) in
-    let entries : entry_of number object uid (NewModel told) ∷ [] ≡ done setup S at trnuid (Model recur info) =
-    ap (λ (e : Entry). e ∷ []) entry ∙ sym (model_entries setup S at trnuid recur info) in
+    let entries : entry_of number object uid (NewModel told) ∷ [] ≡ done setup S user at trnuid (Model recur info) =
+    ap (λ (e : Entry). e ∷ []) entry ∙ sym (model_entries setup S user at trnuid recur info) in
     record {
       next = model_as setup S (model_entry setup S trnuid recur info) _ (new_model (length S.entries + 1) S.day recur info) row entry row_is (model_next setup S user only trnuid recur info sound deed none);
       first = ap first_change (sym entries);
@@ -341,3 +343,16 @@ pub judged_model_cancel-is : (setup : Setup) (S : State) (user : UserId) (only :
 unfolding judged
 judged_model_cancel-is setup S user only deed id also found cancelled result is row gone code =
     code ∙ ap (λ (r : Option ModelRow). model_cancel_code setup user only r cancelled) (model_copied found ∙ row) ∙ ap (λ (b : Bool). model_cancel_code setup user only (model_of id S.entries) b) gone ∙ sym (ap (judged setup S user only) is)
+
+pub judged_bank_mail-is : (setup : Setup) (S : State) (user : UserId) (only : Option AcctId) (deed : Deed) (account : AcctName) (mail : MailText) (result : ℕ) → deed ≡ BankMail account mail → result ≡ bank_mail_code setup user only account mail → result ≡ judged setup S user only deed
+unfolding judged
+judged_bank_mail-is setup S user only deed account mail result is code = code ∙ sym (ap (judged setup S user only) is)
+
+pub judged_mail-is : (setup : Setup) (S : State) (user : UserId) (only : Option AcctId) (deed : Deed) (mail : MailText) (result : ℕ) → deed ≡ Mail mail → result ≡ mail_code mail → result ≡ judged setup S user only deed
+unfolding judged
+judged_mail-is setup S user only deed mail result is code = code ∙ sym (ap (judged setup S user only) is)
+
+-- a mail that isn't refused is about an account of the bank
+pub bank_mail_there : (setup : Setup) (S : State) (user : UserId) (only : Option AcctId) (account : AcctName) (mail : MailText) → judged setup S user only (BankMail account mail) ≡ 0 → is_some (account_of setup account) ≡ true
+unfolding judged
+bank_mail_there setup S user only account mail none = IsInBank-from_mail_code setup user only account mail none

@@ -97,9 +97,9 @@ pub transfer_from : (setup : Setup) (S : State) (user : UserId) (only : Option A
 unfolding judged
 transfer_from setup S user only info none = (IsTaken-from_code setup user only info S.day (source_balance setup S info) none).from
 
-pub transfer_entries : (setup : Setup) (S : State) (at : Moment) (trnuid : List ℕ) (info : XferInfo) → done setup S at trnuid (Transfer info) ≡ taken_entry setup S at trnuid info ∷ []
+pub transfer_entries : (setup : Setup) (S : State) (user : UserId) (at : Moment) (trnuid : List ℕ) (info : XferInfo) → done setup S user at trnuid (Transfer info) ≡ taken_entry setup S at trnuid info ∷ []
 unfolding done
-transfer_entries setup S at trnuid info = refl
+transfer_entries setup S user at trnuid info = refl
 
 -- ---- changes and cancellations
 
@@ -115,9 +115,9 @@ pub modify_row : (setup : Setup) (S : State) (user : UserId) (only : Option Acct
 unfolding judged
 modify_row setup S user only id info none = IsChange-from_code setup user only (row_of id S.entries) info S.day none
 
-pub modify_entries : (setup : Setup) (S : State) (at : Moment) (trnuid : List ℕ) (id : ℕ) (info : XferInfo) (row : TransferRow) → row_of id S.entries ≡ Some row → done setup S at trnuid (ModifyTransfer id info) ≡ next_entry S (object_of setup row.from) trnuid (SetTransfer (changed_row S.day info row)) ∷ []
+pub modify_entries : (setup : Setup) (S : State) (user : UserId) (at : Moment) (trnuid : List ℕ) (id : ℕ) (info : XferInfo) (row : TransferRow) → row_of id S.entries ≡ Some row → done setup S user at trnuid (ModifyTransfer id info) ≡ next_entry S (object_of setup row.from) trnuid (SetTransfer (changed_row S.day info row)) ∷ []
 unfolding done
-modify_entries setup S at trnuid id info row found =
+modify_entries setup S user at trnuid id info row found =
     ap (λ (r : Option TransferRow). entry_on setup S trnuid r (λ held. SetTransfer (changed_row S.day info held))) found
 
 pub modify_next : (setup : Setup) (S : State) (trnuid : List ℕ) (id : ℕ) (info : XferInfo) (row : TransferRow) → IsSoundState setup S → IsSoundDeed (ModifyTransfer id info) → row_of id S.entries ≡ Some row → IsChange setup row info S.day → IsNext setup S (next_entry S (object_of setup row.from) trnuid (SetTransfer (changed_row S.day info row))) (Row (changed_row S.day info row))
@@ -138,9 +138,9 @@ pub cancel_row : (setup : Setup) (S : State) (user : UserId) (only : Option Acct
 unfolding judged
 cancel_row setup S user only id none = IsOpen-from_code setup user only (row_of id S.entries) none
 
-pub cancel_entries : (setup : Setup) (S : State) (at : Moment) (trnuid : List ℕ) (id : ℕ) (row : TransferRow) → row_of id S.entries ≡ Some row → done setup S at trnuid (CancelTransfer id) ≡ next_entry S (object_of setup row.from) trnuid (DropTransfer id) ∷ []
+pub cancel_entries : (setup : Setup) (S : State) (user : UserId) (at : Moment) (trnuid : List ℕ) (id : ℕ) (row : TransferRow) → row_of id S.entries ≡ Some row → done setup S user at trnuid (CancelTransfer id) ≡ next_entry S (object_of setup row.from) trnuid (DropTransfer id) ∷ []
 unfolding done
-cancel_entries setup S at trnuid id row found = ap (λ (r : Option TransferRow). entry_on setup S trnuid r (λ held. DropTransfer id)) found
+cancel_entries setup S user at trnuid id row found = ap (λ (r : Option TransferRow). entry_on setup S trnuid r (λ held. DropTransfer id)) found
 
 pub cancel_next : (setup : Setup) (S : State) (trnuid : List ℕ) (id : ℕ) (row : TransferRow) → IsSoundState setup S → row_of id S.entries ≡ Some row → IsOpen setup row → IsNext setup S (next_entry S (object_of setup row.from) trnuid (DropTransfer id)) (Row (with_code Cancelled row))
 cancel_next setup S trnuid id row sound found is_open =
@@ -160,9 +160,9 @@ abbrev pub model_entry : Setup → State → List ℕ → Recur → XferInfo →
 model_entry setup S trnuid recur info =
     next_entry S (model_object_of setup info.from) trnuid (NewModel (new_model (length S.entries + 1) S.day recur info))
 
-pub model_entries : (setup : Setup) (S : State) (at : Moment) (trnuid : List ℕ) (recur : Recur) (info : XferInfo) → done setup S at trnuid (Model recur info) ≡ model_entry setup S trnuid recur info ∷ []
+pub model_entries : (setup : Setup) (S : State) (user : UserId) (at : Moment) (trnuid : List ℕ) (recur : Recur) (info : XferInfo) → done setup S user at trnuid (Model recur info) ≡ model_entry setup S trnuid recur info ∷ []
 unfolding done
-model_entries setup S at trnuid recur info = refl
+model_entries setup S user at trnuid recur info = refl
 
 pub model_taken : (setup : Setup) (S : State) (user : UserId) (only : Option AcctId) (recur : Recur) (info : XferInfo) → judged setup S user only (Model recur info) ≡ 0 → IsTakenModel setup info S.day
 unfolding judged

@@ -1,5 +1,5 @@
 -- All entries of a deed that isn't refused may come one after another.
-use Rattle.std.proofs.Common.{◌≡◌, ◌≢◌, ℕ, ◌+◌, ◌≤◌, Bool, true, false, cond, eqb, List, [], ◌∷◌, ◌++◌, length, length-append, codes, Option, Some, refl, sym, ap, ◌∙◌, subst, arith}
+use Rattle.std.proofs.Common.{◌≡◌, ◌≢◌, ℕ, ◌+◌, ◌≤◌, Bool, true, false, cond, eqb, List, [], ◌∷◌, ◌++◌, length, length-append, codes, Option, None, Some, refl, sym, ap, ◌∙◌, subst, arith}
 use Rattle.std.specs.Prelude.{is_some}
 use Rattle.std.specs.List.{AllByRecursion}
 use Rattle.std.specs.Option.{IfSome, option_map}
@@ -14,11 +14,13 @@ use Rattle.ofx_types.specs.declared.transfer.TransferRow.{TransferRow}
 use Rattle.ofx_types.specs.declared.transfer.XferInfo.{XferInfo}
 use Rattle.ofx_types.specs.declared.transfer.XferCode.TheVariants.{Cancelled}
 use Rattle.ofx_types.specs.declared.transfer.Change.{Change}
-use Rattle.ofx_types.specs.declared.transfer.Change.TheVariants.{SetTransfer, DropTransfer, SetModel, DropModel}
+use Rattle.ofx_types.specs.declared.transfer.Change.TheVariants.{SetTransfer, DropTransfer, SetModel, DropModel, NewMail}
 use Rattle.ofx_types.specs.declared.transfer.Deed.{Deed}
-use Rattle.ofx_types.specs.declared.transfer.Deed.TheVariants.{Transfer, ModifyTransfer, CancelTransfer, Model, ModifyModel, CancelModel}
+use Rattle.ofx_types.specs.declared.transfer.Deed.TheVariants.{Transfer, ModifyTransfer, CancelTransfer, Model, ModifyModel, CancelModel, BankMail, Mail}
 use Rattle.ofx_types.specs.declared.recurring.ModelRow.{ModelRow}
 use Rattle.ofx_types.specs.declared.recurring.Recur.{Recur}
+use Rattle.ofx_types.specs.declared.account.AcctName.{AcctName}
+use Rattle.ofx_types.specs.declared.mail.MailText.{MailText}
 use Rattle.bank_model.specs.declared.entry.Entry.{Entry}
 use Rattle.bank_model.specs.declared.setup.Setup.{Setup}
 use Rattle.bank_model.specs.declared.event.State.{State}
@@ -29,7 +31,7 @@ use Rattle.bank_model.specs.Models.{model_of, is_waiting, waiting_of}
 use Rattle.bank_model.specs.Judging.{is_positive}
 use Rattle.bank_transfers.specs.Growth.{row_after}
 use Rattle.bank_transfers.proofs.GrowthLemmas.{row_of-push}
-use Rattle.bank_model.specs.Deeds.{judged, object_of, new_row, changed_row, new_model, changed_model, with_terms, next_entry, entries_behind, if_pending, model_entries_on, done}
+use Rattle.bank_model.specs.Deeds.{judged, object_of, new_row, changed_row, new_model, changed_model, with_terms, next_entry, entries_behind, if_pending, model_entries_on, letter_object_of, mail_object, mail_row, done}
 use Rattle.bank_model.specs.Rules.{with_entries}
 use Rattle.bank_model.specs.Sound.{IsSoundInfo, IsSoundDeed}
 use Rattle.bank_core.specs.declared.effect.Effect.{Effect}
@@ -42,7 +44,7 @@ use Rattle.bank_core.proofs.AccountPlaces.{same_account-is}
 use Rattle.bank_core.proofs.Verdicts.{open_waits}
 use Rattle.bank_core.proofs.RowLemmas.{IsSoundRow-with_terms}
 use Rattle.bank_core.proofs.SoundFound.{row_sound}
-use Rattle.bank_core.proofs.NextLemmas.{covered_nothing, waiting_posts, set_next, drop_next}
+use Rattle.bank_core.proofs.NextLemmas.{covered_nothing, waiting_posts, set_next, drop_next, mail_next}
 use Rattle.bank_core.proofs.GivenLemmas.{IsOfModel, model_change_rows}
 use Rattle.bank_core.proofs.PendingLemmas.{IsHere, IsWay, behind_next, waiting_here, waiting_own}
 use Rattle.bank_core.proofs.StandingLemmas.{AreNext, sound_more}
@@ -66,14 +68,14 @@ abbrev pub dropped_behind : Setup → State → Bool → ℕ → List Entry
 dropped_behind setup S also id =
     if_pending also (entries_behind setup (length S.entries + 1) (λ row. DropTransfer row.id) (waiting_of id S.entries))
 
-pub set_model_entries : (setup : Setup) (S : State) (at : Moment) (trnuid : List ℕ) (id : ℕ) (recur : Recur) (info : XferInfo) (also : Bool) (row : ModelRow) → model_of id S.entries ≡ Some row → done setup S at trnuid (ModifyModel id recur info also) ≡ set_entry setup S trnuid recur info also row ∷ changed_behind setup S info also id
+pub set_model_entries : (setup : Setup) (S : State) (user : UserId) (at : Moment) (trnuid : List ℕ) (id : ℕ) (recur : Recur) (info : XferInfo) (also : Bool) (row : ModelRow) → model_of id S.entries ≡ Some row → done setup S user at trnuid (ModifyModel id recur info also) ≡ set_entry setup S trnuid recur info also row ∷ changed_behind setup S info also id
 unfolding done
-set_model_entries setup S at trnuid id recur info also row found =
+set_model_entries setup S user at trnuid id recur info also row found =
     ap (λ (r : Option ModelRow). model_entries_on setup S trnuid r (λ held. SetModel (changed_model S.day recur info held) also) (changed_behind setup S info also id)) found
 
-pub drop_model_entries : (setup : Setup) (S : State) (at : Moment) (trnuid : List ℕ) (id : ℕ) (also : Bool) (row : ModelRow) → model_of id S.entries ≡ Some row → done setup S at trnuid (CancelModel id also) ≡ drop_entry setup S trnuid id also row ∷ dropped_behind setup S also id
+pub drop_model_entries : (setup : Setup) (S : State) (user : UserId) (at : Moment) (trnuid : List ℕ) (id : ℕ) (also : Bool) (row : ModelRow) → model_of id S.entries ≡ Some row → done setup S user at trnuid (CancelModel id also) ≡ drop_entry setup S trnuid id also row ∷ dropped_behind setup S also id
 unfolding done
-drop_model_entries setup S at trnuid id also row found =
+drop_model_entries setup S user at trnuid id also row found =
     ap (λ (r : Option ModelRow). model_entries_on setup S trnuid r (λ held. DropModel id also) (dropped_behind setup S also id)) found
 
 pub behind_count : (setup : Setup) (count : ℕ) (change : TransferRow → Change) (rows : List TransferRow) → length (entries_behind setup count change rows) ≡ length rows
@@ -189,12 +191,20 @@ count_of : (count most : ℕ) (entries rest : List Entry) (entry : Entry) → en
 count_of count most entries rest entry are few =
     let same : length entries ≡ length (entry ∷ rest) = ap length are in omega arith
 
-pub deed_done : (setup : Setup) (S : State) (user : UserId) (only : Option AcctId) (at : Moment) (trnuid : List ℕ) (deed : Deed) → IsWithinLimits setup → IsSoundState setup S → IsMoment at.0 → IsSoundDeed deed → judged setup S user only deed ≡ 0 → length S.entries + length (done setup S at trnuid deed) ≤ setup.entries → IsDone setup S (done setup S at trnuid deed)
+pub bank_mail_entries : (setup : Setup) (S : State) (user : UserId) (at : Moment) (trnuid : List ℕ) (account : AcctName) (mail : MailText) → done setup S user at trnuid (BankMail account mail) ≡ next_entry S (letter_object_of setup account) trnuid (NewMail (mail_row setup user (Some account) mail)) ∷ []
+unfolding done
+bank_mail_entries setup S user at trnuid account mail = refl
+
+pub mail_entries : (setup : Setup) (S : State) (user : UserId) (at : Moment) (trnuid : List ℕ) (mail : MailText) → done setup S user at trnuid (Mail mail) ≡ next_entry S (mail_object setup user) trnuid (NewMail (mail_row setup user None mail)) ∷ []
+unfolding done
+mail_entries setup S user at trnuid mail = refl
+
+pub deed_done : (setup : Setup) (S : State) (user : UserId) (only : Option AcctId) (at : Moment) (trnuid : List ℕ) (deed : Deed) → IsWithinLimits setup → IsSoundState setup S → IsMoment at.0 → IsSoundDeed deed → judged setup S user only deed ≡ 0 → length S.entries + length (done setup S user at trnuid deed) ≤ setup.entries → IsDone setup S (done setup S user at trnuid deed)
 deed_done setup S user only at trnuid (Transfer info) within sound moment deed none few = record {
   entry = taken_entry setup S at trnuid info;
   effect = Row (new_row (length S.entries + 1) at S.day info);
   rest = [];
-  are = transfer_entries setup S at trnuid info;
+  are = transfer_entries setup S user at trnuid info;
   next = transfer_next setup S user only at trnuid info within sound moment deed none;
   rest_next = tt;
 }
@@ -204,7 +214,7 @@ deed_done setup S user only at trnuid (ModifyTransfer id info) within sound mome
       entry = next_entry S (object_of setup change.0.from) trnuid (SetTransfer (changed_row S.day info change.0));
       effect = Row (changed_row S.day info change.0);
       rest = [];
-      are = modify_entries setup S at trnuid id info change.0 change.1;
+      are = modify_entries setup S user at trnuid id info change.0 change.1;
       next = modify_next setup S trnuid id info change.0 sound deed change.1 change.2;
       rest_next = tt;
     }
@@ -214,7 +224,7 @@ deed_done setup S user only at trnuid (CancelTransfer id) within sound moment de
       entry = next_entry S (object_of setup cancelled.0.from) trnuid (DropTransfer id);
       effect = Row (with_code Cancelled cancelled.0);
       rest = [];
-      are = cancel_entries setup S at trnuid id cancelled.0 cancelled.1;
+      are = cancel_entries setup S user at trnuid id cancelled.0 cancelled.1;
       next = cancel_next setup S trnuid id cancelled.0 sound cancelled.1 cancelled.2;
       rest_next = tt;
     }
@@ -222,13 +232,13 @@ deed_done setup S user only at trnuid (Model recur info) within sound moment dee
   entry = model_entry setup S trnuid recur info;
   effect = effects.Model (new_model (length S.entries + 1) S.day recur info);
   rest = [];
-  are = model_entries setup S at trnuid recur info;
+  are = model_entries setup S user at trnuid recur info;
   next = model_next setup S user only trnuid recur info sound deed none;
   rest_next = tt;
 }
 deed_done setup S user only at trnuid (ModifyModel id recur info also) within sound moment deed none few =
     let to = to_change setup S user only id recur info also none in
-    let are = set_model_entries setup S at trnuid id recur info also to.row to.found in
+    let are = set_model_entries setup S user at trnuid id recur info also to.row to.found in
     record {
       entry = set_entry setup S trnuid recur info also to.row;
       effect = effects.Model (changed_model S.day recur info to.row);
@@ -239,7 +249,7 @@ deed_done setup S user only at trnuid (ModifyModel id recur info also) within so
     }
 deed_done setup S user only at trnuid (CancelModel id also) within sound moment deed none few =
     let to = to_drop setup S user only id also none in
-    let are = drop_model_entries setup S at trnuid id also to.row to.found in
+    let are = drop_model_entries setup S user at trnuid id also to.row to.found in
     record {
       entry = drop_entry setup S trnuid id also to.row;
       effect = NoModel id;
@@ -248,6 +258,22 @@ deed_done setup S user only at trnuid (CancelModel id also) within sound moment 
       next = drop_model setup S trnuid id also sound to;
       rest_next = dropped_next setup S trnuid id also sound to (count_of (length S.entries) setup.entries _ _ _ are few);
     }
+deed_done setup S user only at trnuid (BankMail account mail) within sound moment deed none few = record {
+  entry = next_entry S (letter_object_of setup account) trnuid (NewMail (mail_row setup user (Some account) mail));
+  effect = effects.Mail;
+  rest = [];
+  are = bank_mail_entries setup S user at trnuid account mail;
+  next = mail_next setup S (letter_object_of setup account) trnuid (mail_row setup user (Some account) mail) sound deed.1.created;
+  rest_next = tt;
+}
+deed_done setup S user only at trnuid (Mail mail) within sound moment deed none few = record {
+  entry = next_entry S (mail_object setup user) trnuid (NewMail (mail_row setup user None mail));
+  effect = effects.Mail;
+  rest = [];
+  are = mail_entries setup S user at trnuid mail;
+  next = mail_next setup S (mail_object setup user) trnuid (mail_row setup user None mail) sound deed.created;
+  rest_next = tt;
+}
 
 -- Each may come next behind those before it.
 pub all_next : (setup : Setup) (S : State) (entries : List Entry) → IsDone setup S entries → AreNext setup S entries
@@ -263,20 +289,22 @@ one_and : (entries rest : List Entry) (entry : Entry) (count : ℕ) → entries 
 one_and entries rest entry count are is = let same : length entries ≡ length (entry ∷ rest) = ap length are in omega arith
 
 -- A deed that isn't refused adds one entry, and one for each transfer that goes along.
-pub done_count : (setup : Setup) (S : State) (user : UserId) (only : Option AcctId) (at : Moment) (trnuid : List ℕ) (deed : Deed) (ids : List ℕ) → judged setup S user only deed ≡ 0 → ids ≡ ids_of (pending_of S deed) → length (done setup S at trnuid deed) ≡ length ids + 1
-done_count setup S user only at trnuid (Transfer info) ids none are = one_and _ [] _ (length ids) (transfer_entries setup S at trnuid info) (sym (ap length are))
+pub done_count : (setup : Setup) (S : State) (user : UserId) (only : Option AcctId) (at : Moment) (trnuid : List ℕ) (deed : Deed) (ids : List ℕ) → judged setup S user only deed ≡ 0 → ids ≡ ids_of (pending_of S deed) → length (done setup S user at trnuid deed) ≡ length ids + 1
+done_count setup S user only at trnuid (Transfer info) ids none are = one_and _ [] _ (length ids) (transfer_entries setup S user at trnuid info) (sym (ap length are))
 done_count setup S user only at trnuid (ModifyTransfer id info) ids none are =
     let change = modify_row setup S user only id info none in
-    one_and _ [] _ (length ids) (modify_entries setup S at trnuid id info change.0 change.1) (sym (ap length are))
+    one_and _ [] _ (length ids) (modify_entries setup S user at trnuid id info change.0 change.1) (sym (ap length are))
 done_count setup S user only at trnuid (CancelTransfer id) ids none are =
     let cancelled = cancel_row setup S user only id none in
-    one_and _ [] _ (length ids) (cancel_entries setup S at trnuid id cancelled.0 cancelled.1) (sym (ap length are))
-done_count setup S user only at trnuid (Model recur info) ids none are = one_and _ [] _ (length ids) (model_entries setup S at trnuid recur info) (sym (ap length are))
+    one_and _ [] _ (length ids) (cancel_entries setup S user at trnuid id cancelled.0 cancelled.1) (sym (ap length are))
+done_count setup S user only at trnuid (Model recur info) ids none are = one_and _ [] _ (length ids) (model_entries setup S user at trnuid recur info) (sym (ap length are))
 done_count setup S user only at trnuid (ModifyModel id recur info also) ids none are =
     let to = to_change setup S user only id recur info also none in
-    one_and _ _ _ (length ids) (set_model_entries setup S at trnuid id recur info also to.row to.found)
+    one_and _ _ _ (length ids) (set_model_entries setup S user at trnuid id recur info also to.row to.found)
     (pending_count setup S _ also id ∙ sym (ap length are ∙ length-map (waiting_if also id S) (λ (row : TransferRow). row.id)))
 done_count setup S user only at trnuid (CancelModel id also) ids none are =
     let to = to_drop setup S user only id also none in
-    one_and _ _ _ (length ids) (drop_model_entries setup S at trnuid id also to.row to.found)
+    one_and _ _ _ (length ids) (drop_model_entries setup S user at trnuid id also to.row to.found)
     (pending_count setup S _ also id ∙ sym (ap length are ∙ length-map (waiting_if also id S) (λ (row : TransferRow). row.id)))
+done_count setup S user only at trnuid (BankMail account mail) ids none are = one_and _ [] _ (length ids) (bank_mail_entries setup S user at trnuid account mail) (sym (ap length are))
+done_count setup S user only at trnuid (Mail mail) ids none are = one_and _ [] _ (length ids) (mail_entries setup S user at trnuid mail) (sym (ap length are))

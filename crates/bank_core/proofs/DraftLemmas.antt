@@ -26,11 +26,11 @@ use Rattle.bank_accounts.specs.HeldAccounts.{balance_held, HaveSameNumbers}
 use Rattle.bank_accounts.proofs.HeldLemmas.{balance_held-numbers}
 use Rattle.bank_core.specs.Balanced.{AreBalanced}
 use Rattle.bank_core.specs.declared.effect.Effect.{Effect}
-use Rattle.bank_core.specs.declared.effect.Effect.TheVariants.{Row, Made, Model, NoModel}
+use Rattle.bank_core.specs.declared.effect.Effect.TheVariants.{Row, Made, Model, NoModel, Mail}
 use Rattle.bank_core.specs.Effects.{row_given_by, has_row, has_model, cancels, Gives, IsKnown, row_from, model_from, row_drafted, model_drafted, is_cancelled_in}
 use Rattle.bank_core.specs.DraftView.{DraftView, with_uid, IsDraft}
 use Rattle.bank_recur.proofs.GrowthLemmas.{model_of-push, is_model_dropped-push}
-use Rattle.bank_core.proofs.GivenLemmas.{IsOfModel, model_change_rows, model_given, model_dropped, model_is, no_model, no_model_dropped, no_drop, given_drop, dropped_as, or_assoc, or_false}
+use Rattle.bank_core.proofs.GivenLemmas.{IsOfModel, model_change_rows, model_given, model_dropped, model_is, no_model, no_model_dropped, no_drop, given_drop, dropped_as, or_assoc, or_false, mail_apart, mail_no_model, mail_no_drop}
 
 abbrev pub empty_draft : UserId → Moment → Day → List AccountView → DraftView
 empty_draft user at day accounts = record { user = user; at = at; day = day; entries = []; effects = []; uids = []; accounts = accounts }
@@ -134,6 +134,7 @@ rows_more before entries effects entry (Row row) id found gives = row_more befor
 rows_more before entries effects entry (Made row) id found gives = row_more before entries effects entry (Made row) row id refl refl found gives.0
 rows_more before entries effects entry (Model row) id found gives = row_kept before entries effects entry (Model row) id refl found (model_given (before ++ entries) entry.change row gives)
 rows_more before entries effects entry (NoModel gone) id found gives = row_kept before entries effects entry (NoModel gone) id refl found (model_dropped (before ++ entries) entry.change gone gives)
+rows_more before entries effects entry Mail id found gives = row_kept before entries effects entry Mail id refl found (mail_apart entry.change gives)
 
 -- ---- rows of recurring transfers
 
@@ -151,6 +152,7 @@ model_after id entries found rest before change (Model row) is gives =
     named true = refl
     named false = is
 model_after id entries found rest before change (NoModel gone) is gives = ap (λ (r : Option ModelRow). or_model_before found (if_model_named id r)) (no_model_dropped entries change gone gives) ∙ is
+model_after id entries found rest before change Mail is gives = ap (λ (r : Option ModelRow). or_model_before found (if_model_named id r)) (mail_no_model change gives) ∙ is
 
 models_more : (before entries : List Entry) (effects : List Effect) (entry : Entry) (effect : Effect) (id : ℕ) → model_of id (before ++ entries) ≡ option_or (model_drafted id effects) (model_of id before) → Gives (before ++ entries) entry.change effect → model_of id (before ++ (entries ++ entry ∷ [])) ≡ option_or (model_drafted id (effects ++ effect ∷ [])) (model_of id before)
 models_more before entries effects entry effect id found gives =
@@ -164,6 +166,7 @@ drops_as id entries change (Row row) gives = no_drop id entries change row gives
 drops_as id entries change (Made row) gives = no_drop id entries change row gives.0
 drops_as id entries change (Model row) gives = given_drop id entries change row gives
 drops_as id entries change (NoModel gone) gives = dropped_as id entries change gone gives
+drops_as id entries change Mail gives = mail_no_drop id change gives
 
 cancelled_more : (before entries : List Entry) (effects : List Effect) (entry : Entry) (effect : Effect) (id : ℕ) → is_model_dropped id (before ++ entries) ≡ (is_model_dropped id before || is_cancelled_in id effects) → Gives (before ++ entries) entry.change effect → is_model_dropped id (before ++ (entries ++ entry ∷ [])) ≡ (is_model_dropped id before || is_cancelled_in id (effects ++ effect ∷ []))
 cancelled_more before entries effects entry effect id found gives =

@@ -12,7 +12,7 @@ use Rattle.ofx_types.specs.declared.number.Moment.{Moment}
 use Rattle.ofx_types.specs.declared.transfer.TransferRow.{TransferRow}
 use Rattle.ofx_types.specs.declared.transfer.XferCode.TheVariants.{Cancelled}
 use Rattle.ofx_types.specs.declared.transfer.Change.{Change}
-use Rattle.ofx_types.specs.declared.transfer.Change.TheVariants.{NewTransfer, SetTransfer, DropTransfer, NewModel, SetModel, DropModel}
+use Rattle.ofx_types.specs.declared.transfer.Change.TheVariants.{NewTransfer, SetTransfer, DropTransfer, NewModel, SetModel, DropModel, NewMail}
 use Rattle.ofx_types.specs.declared.recurring.ModelRow.{ModelRow}
 use Rattle.bank_model.specs.declared.entry.Entry.{Entry}
 use Rattle.bank_model.specs.declared.setup.Setup.{Setup}
@@ -123,6 +123,7 @@ MakesModel id (DropTransfer gone) = ⊥
 MakesModel id (NewModel row) = row.id ≡ id
 MakesModel id (SetModel row also) = ⊥
 MakesModel id (DropModel gone also) = ⊥
+MakesModel id (NewMail mail) = ⊥
 
 model_new : (id : ℕ) (found : Option ModelRow) (row : ModelRow) (b : Bool) → eqb row.id id ≡ b → is_some (or_model_before found (cond b (Some row) None)) ≡ true → (row.id ≡ id) ⊎ (is_some found ≡ true)
 model_new id found row true same is = inl (eqb-true row.id id same)
@@ -139,6 +140,7 @@ model_begins id before (DropTransfer gone) lawful is = inr is
 model_begins id before (NewModel row) lawful is = model_new id (model_of id before) row (eqb row.id id) refl is
 model_begins id before (SetModel row also) lawful is = inr (model_set id before row (eqb row.id id) refl lawful.0.0 is)
 model_begins id before (DropModel gone also) lawful is = inr is
+model_begins id before (NewMail mail) lawful is = inr is
 
 no_model : (id : ℕ) → is_some (model_of id []) ≡ true → ⊥
 unfolding model_of
@@ -167,6 +169,7 @@ made_task P last entries id date is (NewModel row) new all =
     (subst (λ (found : Option Day). AllByRecursion P (task_on id found)) is (subst (λ (n : ℕ). AllByRecursion P (task_on n (date_to_make last n entries))) new all)).0
 made_task P last entries id date is (SetModel row also) new all = absurd new
 made_task P last entries id date is (DropModel gone also) new all = absurd new
+made_task P last entries id date is (NewMail mail) new all = absurd new
 
 -- what a recurring transfer has to make is one of the tasks
 to_make_has : (P : Task → Type 0) (last : Day) (entries : List Entry) (id : ℕ) (date : Day) → AreLawfulAt entries → date_to_make last id entries ≡ Some date → AllByRecursion P (to_make last entries) → P (record { day = date; id = id })
@@ -183,6 +186,7 @@ MakesTransfer id (DropTransfer gone) = ⊥
 MakesTransfer id (NewModel row) = ⊥
 MakesTransfer id (SetModel row also) = ⊥
 MakesTransfer id (DropModel gone also) = ⊥
+MakesTransfer id (NewMail mail) = ⊥
 
 row_new : (id : ℕ) (found given : Option TransferRow) (row : TransferRow) (b : Bool) → eqb row.id id ≡ b → is_some (cond b given found) ≡ true → (row.id ≡ id) ⊎ (is_some found ≡ true)
 row_new id found given row true same is = inl (eqb-true row.id id same)
@@ -208,6 +212,7 @@ row_begins id before (DropTransfer gone) lawful is = inr (row_dropped (row_of id
 row_begins id before (NewModel row) lawful is = inr is
 row_begins id before (SetModel row also) lawful is = inr is
 row_begins id before (DropModel gone also) lawful is = inr is
+row_begins id before (NewMail mail) lawful is = inr is
 
 no_row : (id : ℕ) → is_some (row_of id []) ≡ true → ⊥
 unfolding row_of last_row
@@ -228,6 +233,7 @@ made_row P entries id row is (DropTransfer gone) new all = absurd new
 made_row P entries id row is (NewModel given) new all = absurd new
 made_row P entries id row is (SetModel given also) new all = absurd new
 made_row P entries id row is (DropModel gone also) new all = absurd new
+made_row P entries id row is (NewMail mail) new all = absurd new
 
 unfiltered : {X : Type 0} (P : X → Type 0) (p : X → Bool) (xs : List X) → AllByRecursion P (filter p xs) → AllByRecursion (λ (x : X). p x ≡ true → P x) xs
 unfiltered P p [] all = tt

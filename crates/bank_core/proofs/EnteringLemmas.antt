@@ -12,7 +12,7 @@ use Rattle.ofx_types.specs.declared.number.Cents.{Cents}
 use Rattle.ofx_types.specs.declared.transfer.TransferRow.{TransferRow}
 use Rattle.ofx_types.specs.declared.transfer.XferCode.TheVariants.{Cancelled}
 use Rattle.ofx_types.specs.declared.transfer.Change.{Change}
-use Rattle.ofx_types.specs.declared.transfer.Change.TheVariants.{NewTransfer, SetTransfer, DropTransfer, NewModel, SetModel, DropModel}
+use Rattle.ofx_types.specs.declared.transfer.Change.TheVariants.{NewTransfer, SetTransfer, DropTransfer, NewModel, SetModel, DropModel, NewMail}
 use Rattle.ofx_types.specs.Calendar.{IsDay}
 use Rattle.ofx_types.specs.declared.recurring.ModelRow.{ModelRow}
 use Rattle.bank_model.specs.declared.entry.Entry.{Entry}
@@ -29,9 +29,9 @@ use Rattle.bank_accounts.specs.HeldAccounts.{IsHeld, balance_held, set_if_named}
 use Rattle.bank_model.specs.Models.{model_in}
 use Rattle.bank_recur.specs.ModelsView.{GivesModel}
 use Rattle.bank_core.specs.declared.effect.Effect.{Effect}
-use Rattle.bank_core.specs.declared.effect.Effect.TheVariants.{Row, Made, Model, NoModel}
+use Rattle.bank_core.specs.declared.effect.Effect.TheVariants.{Row, Made, Model, NoModel, Mail}
 use Rattle.bank_core.specs.Effects.{row_given_by, IsKnown}
-use Rattle.bank_core.proofs.GivenLemmas.{model_given, model_dropped, no_row}
+use Rattle.bank_core.proofs.GivenLemmas.{model_given, model_dropped, no_row, mail_apart}
 use Rattle.bank_core.specs.Standing.{IsSoundRow, IsSoundModel, HasSoundRow, IsSoundState}
 use Rattle.bank_core.specs.DraftView.{DraftView, drafted, IsDraft, IsNext, HasAdded}
 use Rattle.bank_core.proofs.AccountPlaces.{same_account-self, line_of-account}
@@ -49,6 +49,7 @@ sound_given setup entries (SetTransfer given) row gives sound posted = subst (Is
 sound_given setup entries (NewModel given) row gives sound posted = absurd gives
 sound_given setup entries (SetModel given pending) row gives sound posted = absurd gives
 sound_given setup entries (DropModel id pending) row gives sound posted = absurd gives
+sound_given setup entries (NewMail mail) row gives sound posted = absurd gives
 sound_given setup entries (DropTransfer id) row gives sound posted = absurd (unposted (row_of id entries) row gives posted)
   where
     unposted : (found : Option TransferRow) (row : TransferRow) → option_map (with_code Cancelled) found ≡ Some row → is_posted row.code ≡ true → ⊥
@@ -102,6 +103,7 @@ amount_given setup entries (DropTransfer id) row rows gives sound = amount_dropp
 amount_given setup entries (NewModel given) row rows gives sound = absurd gives
 amount_given setup entries (SetModel given pending) row rows gives sound = absurd gives
 amount_given setup entries (DropModel id pending) row rows gives sound = absurd gives
+amount_given setup entries (NewMail mail) row rows gives sound = absurd gives
 
 first_given : (setup : Setup) (entries : List Entry) (change : Change) (row : ModelRow) → GivesModel entries change row → IfSome (model_in change) (IsSoundModel setup) → IsDay row.first.0
 first_given setup entries (NewTransfer given) row gives sound = absurd gives
@@ -110,6 +112,7 @@ first_given setup entries (DropTransfer id) row gives sound = absurd gives
 first_given setup entries (NewModel given) row gives sound = subst (λ (r : ModelRow). IsDay r.first.0) gives.0 sound.first
 first_given setup entries (SetModel given pending) row gives sound = subst (λ (r : ModelRow). IsDay r.first.0) gives.0 sound.first
 first_given setup entries (DropModel id pending) row gives sound = absurd gives
+first_given setup entries (NewMail mail) row gives sound = absurd gives
 
 -- What an entry gives next is within the bounds.
 pub IsKnown-next : (setup : Setup) (S : State) (entry : Entry) (effect : Effect) → IsSoundState setup S → IsNext setup S entry effect → IsKnown effect
@@ -117,6 +120,7 @@ IsKnown-next setup S entry (Row row) sound next = amount_given setup S.entries e
 IsKnown-next setup S entry (Made row) sound next = amount_given setup S.entries entry.change row sound.rows next.gives.0 next.sound
 IsKnown-next setup S entry (Model row) sound next = first_given setup S.entries entry.change row next.gives next.sound_model
 IsKnown-next setup S entry (NoModel id) sound next = tt
+IsKnown-next setup S entry Mail sound next = tt
 
 pub posts-next : (setup : Setup) (S : State) (entry : Entry) (row : TransferRow) → IsNext setup S entry (Row row) → posting_of entry.number (row_in entry.change) ≡ posting_of entry.number (Some row)
 posts-next setup S entry row next = sym (given_posting entry.number S.entries entry.change row next.gives.0)
@@ -131,6 +135,7 @@ effect_posts setup S entry (Row row) next = sym (given_posting entry.number S.en
 effect_posts setup S entry (Made row) next = sym (given_posting entry.number S.entries entry.change row next.gives.0)
 effect_posts setup S entry (Model row) next = ap (posting_of entry.number) (no_row entry.change (model_given S.entries entry.change row next.gives))
 effect_posts setup S entry (NoModel id) next = ap (posting_of entry.number) (no_row entry.change (model_dropped S.entries entry.change id next.gives))
+effect_posts setup S entry Mail next = ap (posting_of entry.number) (no_row entry.change (mail_apart entry.change next.gives))
 
 -- ---- the money of a posted row
 

@@ -6,6 +6,7 @@ pub mod Verdicts
 pub mod RowLemmas
 pub mod SoundFound
 pub mod GivenLemmas
+pub mod TellingLemmas
 pub mod SourceLemmas
 pub mod StandingLemmas
 pub mod NextLemmas
@@ -20,12 +21,17 @@ pub mod MoneyLemmas
 pub mod EnteringLemmas
 pub mod WaitingLemmas
 pub mod DeedAnswers
+pub mod MailAnswers
 pub mod AlongAnswers
 pub mod PendingAnswers
 pub mod PendingSteps
 pub mod UnaskedAnswers
 pub mod ModelAnswers
 pub mod AskAnswers
+pub mod TokenLemmas
+pub mod SyncAnswers
+pub mod HistoryLemmas
+pub mod BankFirst
 pub mod WritingLemmas
 pub mod TakingIn
 pub mod SettledLemmas

@@ -8,8 +8,10 @@ use Rattle.ofx_types.specs.declared.number.ObjectId.{ObjectId}
 use Rattle.ofx_types.specs.declared.transfer.TransferRow.{TransferRow}
 use Rattle.ofx_types.specs.declared.transfer.XferCode.{XferCode}
 use Rattle.ofx_types.specs.declared.transfer.XferCode.TheVariants.{Waiting, Posted, NoFunds, Cancelled}
-use Rattle.ofx_types.specs.declared.transfer.Change.TheVariants.{NewTransfer, SetTransfer, DropTransfer, NewModel, SetModel, DropModel}
+use Rattle.ofx_types.specs.declared.transfer.Change.TheVariants.{NewTransfer, SetTransfer, DropTransfer, NewModel, SetModel, DropModel, NewMail}
 use Rattle.ofx_types.specs.declared.recurring.ModelRow.{ModelRow}
+use Rattle.ofx_types.specs.declared.mail.MailRow.{MailRow}
+use Rattle.ofx_types.specs.Calendar.{IsMoment}
 use Rattle.bank_model.specs.declared.entry.Entry.{Entry}
 use Rattle.bank_model.specs.declared.setup.Setup.{Setup}
 use Rattle.bank_model.specs.declared.event.State.{State}
@@ -19,7 +21,7 @@ use Rattle.bank_model.specs.Judging.{is_cancelled}
 use Rattle.bank_model.specs.Deeds.{next_entry}
 use Rattle.bank_transfers.specs.TransfersView.{waits}
 use Rattle.bank_transfers.proofs.GrowthLemmas.{HasId, row_of-id}
-use Rattle.bank_core.specs.declared.effect.Effect.TheVariants.{Row, Made, Model, NoModel}
+use Rattle.bank_core.specs.declared.effect.Effect.TheVariants.{Row, Made, Model, NoModel, Mail}
 use Rattle.bank_core.specs.Standing.{IsSoundRow, IsSoundModel, IsSoundState, IsOfWaiting, IsWaiting, IsNextOf}
 use Rattle.bank_core.specs.DraftView.{IsNext}
 use Rattle.bank_core.proofs.LedgerSteps.{PostsNothing, balance-kept}
@@ -155,3 +157,15 @@ drop_model_next setup S object trnuid id found also sound there goes_on =
       covered = covered_nothing setup S (next_entry S object trnuid (DropModel id also)) sound refl;
       gives = (refl, ap is_some there);
     }
+
+-- a mail
+pub mail_next : (setup : Setup) (S : State) (object : ObjectId) (trnuid : List ℕ) (row : MailRow) → IsSoundState setup S → IsMoment row.mail.created.0 → IsNext setup S (next_entry S object trnuid (NewMail row)) Mail
+mail_next setup S object trnuid row sound written = record {
+  number = refl;
+  sound = tt;
+  sound_model = tt;
+  made = tt;
+  lawful = tt;
+  covered = covered_nothing setup S (next_entry S object trnuid (NewMail row)) sound refl;
+  gives = written;
+}

@@ -5,7 +5,7 @@ use Rattle.std.proofs.lemmas.List.{append-nil, get_or_at}
 use Rattle.std.proofs.Math.Seq.{take-append_seam}
 use Rattle.ofx_types.specs.declared.transfer.TransferRow.{TransferRow}
 use Rattle.ofx_types.specs.declared.transfer.Change.{Change}
-use Rattle.ofx_types.specs.declared.transfer.Change.TheVariants.{NewTransfer, SetTransfer, DropTransfer, NewModel, SetModel, DropModel}
+use Rattle.ofx_types.specs.declared.transfer.Change.TheVariants.{NewTransfer, SetTransfer, DropTransfer, NewModel, SetModel, DropModel, NewMail}
 use Rattle.ofx_types.specs.declared.recurring.ModelRow.{ModelRow}
 use Rattle.bank_model.specs.declared.entry.Entry.{Entry}
 use Rattle.bank_model.specs.declared.setup.Setup.{Setup}
@@ -17,8 +17,8 @@ use Rattle.bank_transfers.specs.TransfersView.{waits}
 use Rattle.bank_transfers.specs.Lawful as transfers
 use Rattle.bank_transfers.specs.Lawful.{AreLawfulBehind, PostsOnce}
 use Rattle.bank_transfers.proofs.OnceLemmas as once
-use Rattle.bank_core.specs.Standing.{IsSoundState, IsLawful, IsOfWaiting, IsWaiting, IsNumbered, id_in}
-use Rattle.bank_core.proofs.RowLemmas.{AreMade, AreMade-more, id_made, row_of-new, model_made}
+use Rattle.bank_core.specs.Standing.{IsSoundState, IsLawful, IsOfWaiting, IsWaiting, IsNumbered, IsOfMade}
+use Rattle.bank_core.proofs.RowLemmas.{made_up, AreMade, AreMade-more, id_made, row_of-new, model_made}
 use Rattle.bank_core.proofs.StandingLemmas.{AreLawfulAt}
 
 of_waits : (given : TransferRow) (found : Option TransferRow) → IsOfWaiting given found → waits found ≡ true
@@ -36,6 +36,7 @@ lawful_is before (DropTransfer id) made lawful = is_waits (row_of id before) law
 lawful_is before (NewModel row) made lawful = tt
 lawful_is before (SetModel row also) made lawful = tt
 lawful_is before (DropModel id also) made lawful = tt
+lawful_is before (NewMail mail) made lawful = tt
 
 row_there : (count id : ℕ) (entries : List Entry) (found : Option TransferRow) → AreMade count entries → row_of id entries ≡ found → waits found ≡ true → (0 < id) × (id ≤ count)
 row_there count id entries None made is wait = cc
@@ -51,13 +52,14 @@ up_one count id known = (known.0, let most = known.1 in omega arith)
 new_one : (count id : ℕ) → id ≡ count + 1 → (0 < id) × (id ≤ count + 1)
 new_one count id is = (omega arith, omega arith)
 
-made_one : (before : List Entry) (change : Change) → AreMade (length before) before → IsLawful before change → (0 < id_in change) × (id_in change ≤ length before + 1)
+made_one : (before : List Entry) (change : Change) → AreMade (length before) before → IsLawful before change → IsOfMade (length before + 1) change
 made_one before (NewTransfer row) made lawful = new_one (length before) row.id lawful.0
 made_one before (SetTransfer row) made lawful = up_one (length before) row.id (row_there (length before) row.id before (row_of row.id before) made refl (of_waits row (row_of row.id before) lawful))
 made_one before (DropTransfer id) made lawful = up_one (length before) id (row_there (length before) id before (row_of id before) made refl (is_waits (row_of id before) lawful))
 made_one before (NewModel row) made lawful = new_one (length before) row.id lawful
 made_one before (SetModel row also) made lawful = up_one (length before) row.id (model_there (length before) row.id before (model_of row.id before) made refl lawful.0.0)
 made_one before (DropModel id also) made lawful = up_one (length before) id (model_there (length before) id before (model_of id before) made refl lawful.0)
+made_one before (NewMail mail) made lawful = tt
 
 -- an entry that lawful entries have behind some is lawful, and they are made with it
 next_made : (before entries : List Entry) (entry : Entry) → AreMade (length before) before → AreLawfulAt (before ++ entry ∷ entries) → IsLawful before entry.change × AreMade (length (before ++ entry ∷ [])) (before ++ entry ∷ [])
@@ -69,7 +71,7 @@ next_made before entries entry made lawful =
     let first : IsLawful before entry.change = subst (λ (l : List Entry). IsLawful l entry.change) front (subst (λ (e : Entry). IsLawful (take (length before) (before ++ entry ∷ entries)) e.change) at here) in
     let count : length (before ++ entry ∷ []) ≡ length before + 1 = length-append before (entry ∷ []) in
     let one = made_one before entry.change made first in
-    (first, all_push (IsNumbered (length (before ++ entry ∷ []))) before entry (AreMade-more (length before) (length (before ++ entry ∷ [])) before (omega (arith, count)) made) (one.0, let most = one.1 in omega (arith, count)))
+    (first, all_push (IsNumbered (length (before ++ entry ∷ []))) before entry (AreMade-more (length before) (length (before ++ entry ∷ [])) before (omega (arith, count)) made) (made_up (length before + 1) (length (before ++ entry ∷ [])) entry.change (omega (arith, count)) one))
 
 lawful_behind : (before entries : List Entry) → AreMade (length before) before → AreLawfulAt (before ++ entries) → AreLawfulBehind before entries
 lawful_behind before [] made lawful = tt

@@ -50,6 +50,7 @@ IsSoundState-opening setup within = record {
   made = tt;
   lawful = λ k d below. absurd (omega arith);
   sources = λ id. opening_source id;
+  told = tt;
   places = λ id some. opening_place id;
   covered = λ account. not_negative setup setup.accounts account.0 within.lines.accounts;
   used = tt;

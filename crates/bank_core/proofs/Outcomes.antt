@@ -16,13 +16,13 @@ use Rattle.bank_model.specs.declared.once.KeptReply.{KeptReply}
 use Rattle.bank_model.specs.declared.setup.Setup.{Setup}
 use Rattle.bank_model.specs.declared.event.State.{State}
 use Rattle.bank_model.specs.declared.event.Event.{Event}
-use Rattle.bank_model.specs.declared.event.Event.TheVariants.{File, Post, Spawn}
+use Rattle.bank_model.specs.declared.event.Event.TheVariants.{File, Post, Spawn, Letter}
 use Rattle.bank_model.specs.SetupForm.{IsWithinLimits}
 use Rattle.bank_model.specs.Once.{reply_kept}
 use Rattle.bank_model.specs.Ledger.{row_of}
 use Rattle.bank_model.specs.Due.{may_post, posts, may_spawn, spawns}
 use Rattle.bank_model.specs.declared.entry.Entry.{Entry}
-use Rattle.bank_model.specs.Rules.{Outcome, with_entries, unasked, raised, ask_answers, reply_file, release, keep, with_kept, kept_for, outcome_with, new_outcome, outcome_or_kept, file_outcome, step, state_after, answer_to, named_by, named_by_row, named, IsLegal}
+use Rattle.bank_model.specs.Rules.{Outcome, with_entries, unasked, raised, ask_answers, reply_file, release, keep, with_kept, kept_for, outcome_with, new_outcome, outcome_or_kept, file_outcome, letter_entry, step, state_after, answer_to, named_by, named_by_row, named, IsLegal}
 use Rattle.bank_accounts.specs.AccountView.{AccountView}
 use Rattle.bank_accounts.specs.HeldAccounts.{AreHeld}
 use Rattle.bank_core.specs.Balanced.{AreBalanced}
@@ -31,6 +31,7 @@ use Rattle.bank_core.specs.Standing.{IsSoundState}
 use Rattle.bank_core.specs.DraftView.{DraftView, pair_of, drafted, prepared_after, IsDraft, IsPrepared, HasAdded, IsSameFile}
 use Rattle.bank_core.proofs.DraftLemmas.{empty_draft, IsDraft-none}
 use Rattle.bank_core.proofs.DeedAnswers.{same_state}
+use Rattle.bank_core.proofs.EventLemmas.{few_number}
 use Rattle.bank_core.proofs.StateLemmas.{IsSoundState-raised, IsSoundState-step, absent-release}
 
 abbrev pub started : State → UserId → Moment → List AccountView → DraftView
@@ -227,6 +228,20 @@ spawn_step setup S event user at accounts draft id place is is_event =
     ap (step setup S at) is_event
     ∙ sym (ap (λ (T : State). unasked (raised S at) (spawns setup T id place)) (drafted_is S user at accounts draft is))
 
+letter_step : (setup : Setup) (S : State) (event : Event) (user writer : UserId) (at : Moment) (accounts : List AccountView) (draft : DraftView) (subject body : List ℕ) → draft ≡ started S writer at accounts → event ≡ Letter user subject body → step setup S at event ≡ unasked (raised S at) (letter_entry setup (drafted S draft) user draft.at subject body ∷ [])
+letter_step setup S event user writer at accounts draft subject body is is_event =
+    ap (step setup S at) is_event
+    ∙ sym (ap (λ (T : State). unasked (raised S at) (letter_entry setup T user draft.at subject body ∷ [])) (drafted_is S writer at accounts draft is) ∙ ap (λ (d : DraftView). unasked (raised S at) (letter_entry setup (raised S at) user d.at subject body ∷ [])) is)
+
+-- a letter that may be written
+pub letter_few : (setup : Setup) (S : State) (event : Event) (user writer : UserId) (at : Moment) (accounts : List AccountView) (draft : DraftView) (subject body : List ℕ) → draft ≡ started S writer at accounts → event ≡ Letter user subject body → IsLegal setup S at event → length (drafted S draft).entries + 1 ≤ setup.entries
+letter_few setup S event user writer at accounts draft subject body is is_event legal =
+    let may = subst (IsLegal setup S at) is_event legal in
+    subst (λ (T : State). length T.entries + 1 ≤ setup.entries) (sym (drafted_is S writer at accounts draft is)) (few_number setup (raised S at) may.3)
+
+pub letter_known : (setup : Setup) (S : State) (event : Event) (user : UserId) (at : Moment) (subject body : List ℕ) → event ≡ Letter user subject body → IsLegal setup S at event → user.0 < length setup.users
+letter_known setup S event user at subject body is_event legal = (subst (IsLegal setup S at) is_event legal).0
+
 -- What is prepared of such an event, and that it is the event's.
 pub record IsUnasked (setup : Setup) (S : State) (event : Event) (at : Moment) (more : DraftView) (kept told : List ℕ) : Type 0 where
   pub prepared : IsPrepared setup S more None None kept
@@ -246,3 +261,7 @@ unasked_post setup S event user at accounts draft more id kept told is is_event 
 pub unasked_spawn : (setup : Setup) (S : State) (event : Event) (user : UserId) (at : Moment) (accounts : List AccountView) (draft more : DraftView) (id place : ℕ) (kept told : List ℕ) → draft ≡ started S user at accounts → event ≡ Spawn id place → HasAdded setup S draft more (spawns setup (drafted S draft) id place) → told ≡ [] → IsWithinLimits setup → IsSoundState setup S → IsMoment at.0 → IsLegal setup S at event → IsUnasked setup S event at more kept told
 unasked_spawn setup S event user at accounts draft more id place kept told is is_event has none within sound moment legal =
     unasked_of setup S event user at accounts draft more _ kept told is (spawn_step setup S event user at accounts draft id place is is_event) has none within sound moment legal
+
+pub unasked_letter : (setup : Setup) (S : State) (event : Event) (user writer : UserId) (at : Moment) (accounts : List AccountView) (draft more : DraftView) (subject body : List ℕ) (kept told : List ℕ) → draft ≡ started S writer at accounts → event ≡ Letter user subject body → HasAdded setup S draft more (letter_entry setup (drafted S draft) user draft.at subject body ∷ []) → told ≡ [] → IsWithinLimits setup → IsSoundState setup S → IsMoment at.0 → IsLegal setup S at event → IsUnasked setup S event at more kept told
+unasked_letter setup S event user writer at accounts draft more subject body kept told is is_event has none within sound moment legal =
+    unasked_of setup S event writer at accounts draft more _ kept told is (letter_step setup S event user writer at accounts draft subject body is is_event) has none within sound moment legal

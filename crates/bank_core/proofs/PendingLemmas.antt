@@ -5,7 +5,7 @@ use Rattle.std.specs.List.{AllByRecursion, IsDistinct, flat_map}
 use Rattle.std.proofs.lemmas.Bool.{eqb-true, eq-eqb, ne_eqb, true≢false}
 use Rattle.ofx_types.specs.declared.transfer.TransferRow.{TransferRow}
 use Rattle.ofx_types.specs.declared.transfer.Change.{Change}
-use Rattle.ofx_types.specs.declared.transfer.Change.TheVariants.{NewTransfer, SetTransfer, DropTransfer, NewModel, SetModel, DropModel}
+use Rattle.ofx_types.specs.declared.transfer.Change.TheVariants.{NewTransfer, SetTransfer, DropTransfer, NewModel, SetModel, DropModel, NewMail}
 use Rattle.bank_model.specs.declared.entry.Entry.{Entry}
 use Rattle.bank_model.specs.declared.setup.Setup.{Setup}
 use Rattle.bank_model.specs.declared.event.State.{State}
@@ -71,6 +71,7 @@ made_here all (DropTransfer id) = tt
 made_here all (NewModel row) = tt
 made_here all (SetModel row also) = tt
 made_here all (DropModel id also) = tt
+made_here all (NewMail mail) = tt
 
 all_append : {X : Type 0} (P : X → Type 0) (xs ys : List X) → AllByRecursion P xs → AllByRecursion P ys → AllByRecursion P (xs ++ ys)
 all_append P [] ys first second = second
@@ -105,6 +106,7 @@ IsNewAt count (DropTransfer id) = Unit {0}
 IsNewAt count (NewModel row) = Unit {0}
 IsNewAt count (SetModel row also) = Unit {0}
 IsNewAt count (DropModel id also) = Unit {0}
+IsNewAt count (NewMail mail) = Unit {0}
 
 abbrev AreNewAt : ℕ → List Entry → Type 0
 AreNewAt count [] = Unit {0}
@@ -117,6 +119,7 @@ lawful_new before (DropTransfer id) lawful = tt
 lawful_new before (NewModel row) lawful = tt
 lawful_new before (SetModel row also) lawful = tt
 lawful_new before (DropModel id also) lawful = tt
+lawful_new before (NewMail mail) lawful = tt
 
 new_behind : (before entries : List Entry) → AreLawfulAt (before ++ entries) → AreNewAt (length before) entries
 new_behind before [] lawful = tt
@@ -154,6 +157,7 @@ rise_more all count (DropTransfer id) rows new over rise = (above count (count +
 rise_more all count (NewModel row) rows new over rise = (above count (count + 1) rows (omega arith) over, rise)
 rise_more all count (SetModel row also) rows new over rise = (above count (count + 1) rows (omega arith) over, rise)
 rise_more all count (DropModel id also) rows new over rise = (above count (count + 1) rows (omega arith) over, rise)
+rise_more all count (NewMail mail) rows new over rise = (above count (count + 1) rows (omega arith) over, rise)
 
 rise_all : (all entries : List Entry) (count : ℕ) → AreNewAt count entries → AllByRecursion (λ (row : TransferRow). count < row.id) (made_by all entries) × Rise (made_by all entries)
 rise_all all [] count new = (tt, tt)

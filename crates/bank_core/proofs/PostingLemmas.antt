@@ -15,7 +15,7 @@ use Rattle.ofx_types.specs.declared.transfer.TransferRow.{TransferRow}
 use Rattle.ofx_types.specs.declared.transfer.XferCode.{XferCode}
 use Rattle.ofx_types.specs.declared.transfer.XferCode.TheVariants.{Waiting, Posted, NoFunds, Cancelled}
 use Rattle.ofx_types.specs.declared.transfer.Change.{Change}
-use Rattle.ofx_types.specs.declared.transfer.Change.TheVariants.{NewTransfer, SetTransfer, DropTransfer, NewModel, SetModel, DropModel}
+use Rattle.ofx_types.specs.declared.transfer.Change.TheVariants.{NewTransfer, SetTransfer, DropTransfer, NewModel, SetModel, DropModel, NewMail}
 use Rattle.bank_model.specs.declared.entry.Entry.{Entry}
 use Rattle.bank_model.specs.declared.once.UsedPair.{UsedPair}
 use Rattle.bank_model.specs.Ledger.{Posting, row_in, drops, is_dropped, is_posted, posting_of, moved, is_about, is_within_period, line_for, lines_of}
@@ -93,6 +93,7 @@ gives_posted posted number (DropTransfer id) row kept same here = cc
 gives_posted posted number (NewModel given) row kept same here = cc
 gives_posted posted number (SetModel given also) row kept same here = cc
 gives_posted posted number (DropModel id also) row kept same here = cc
+gives_posted posted number (NewMail mail) row kept same here = cc
 
 drops_nothing : (number id : ℕ) (change : Change) (row : TransferRow) → posting_of number (row_in change) ≡ record { number = number; row = row } ∷ [] → drops id change ≡ false
 drops_nothing number id (NewTransfer given) row same = refl
@@ -101,6 +102,7 @@ drops_nothing number id (DropTransfer dropped) row same = cc
 drops_nothing number id (NewModel given) row same = refl
 drops_nothing number id (SetModel given also) row same = refl
 drops_nothing number id (DropModel gone also) row same = refl
+drops_nothing number id (NewMail mail) row same = refl
 
 pub HoldsPostings-posted : (old new : TransfersView) (entries : List Entry) (entry : Entry) (row : TransferRow) → HoldsPostings old entries → posting_of entry.number (row_in entry.change) ≡ posting_of entry.number (Some row) → is_posted row.code ≡ true → ((posted : List Entry) → StandsFor old posted → GivesRow posted entry.change row → StandsFor new (posted ++ entry ∷ [])) → HoldsPostings new (entries ++ entry ∷ [])
 HoldsPostings-posted old new entries entry row holds posts here stands =

@@ -1,8 +1,8 @@
 -- The replies to sound files may be printed.
-use Rattle.std.proofs.Common.{◌≡◌, ◌≢◌, ℕ, rules, Bool, true, false, cond, eqb, List, [], ◌∷◌, ◌++◌, Option, None, Some, map, filter, refl, sym, ap, ◌∙◌, subst, arith}
+use Rattle.std.proofs.Common.{◌≡◌, ◌≢◌, ℕ, rules, Bool, true, false, cond, eqb, List, [], ◌∷◌, ◌++◌, Option, None, Some, map, filter, codes, refl, sym, ap, ◌∙◌, subst, arith}
 use Rattle.std.specs.Prelude.{unwrap_or, negsuc, ◌&&◌}
 use Rattle.std.specs.Option.{IfSome}
-use Rattle.std.specs.List.{AllByRecursion}
+use Rattle.std.specs.List.{AllByRecursion, flat_map}
 use Rattle.std.proofs.lemmas.Bool.{eqb-true, eq-eqb, true≢false}
 use Rattle.ofx_types.specs.Calendar.{IsMoment}
 use Rattle.ofx_types.specs.Printable.{IsPrintable, IsPrintableReply, IsPrintableList, IsPrintableChange, IsPrintableRow, HasChangeByCode}
@@ -10,9 +10,17 @@ use Rattle.ofx_types.specs.declared.number.AcctId.{AcctId}
 use Rattle.ofx_types.specs.declared.number.UserId.{UserId}
 use Rattle.ofx_types.specs.declared.number.Moment.{Moment}
 use Rattle.ofx_types.specs.declared.account.AcctName.{AcctName}
+use Rattle.ofx_types.specs.SyncForm.{object_family}
+use Rattle.ofx_types.specs.declared.number.ObjectId.{ObjectId}
+use Rattle.ofx_types.specs.declared.recurring.ModelRow.{ModelRow}
+use Rattle.ofx_types.specs.declared.sync.SyncKind.{SyncKind}
+use Rattle.ofx_types.specs.declared.sync.SyncKind.TheVariants.{After, TokenOnly, Refresh}
+use Rattle.ofx_types.specs.declared.sync.SyncAsk.{SyncAsk}
+use Rattle.ofx_types.specs.declared.transfer.Family.{Family}
+use Rattle.ofx_types.specs.declared.transfer.DeedReply.{DeedReply}
 use Rattle.ofx_types.specs.declared.request.Period.{Period}
 use Rattle.ofx_types.specs.declared.request.Ask.{Ask}
-use Rattle.ofx_types.specs.declared.request.Ask.TheVariants.{Statement, One}
+use Rattle.ofx_types.specs.declared.request.Ask.TheVariants.{Statement, One, Sync}
 use Rattle.ofx_types.specs.declared.request.RequestFile.{RequestFile}
 use Rattle.ofx_types.specs.declared.reply.StatementLine.{StatementLine}
 use Rattle.ofx_types.specs.declared.transfer.Deed.{Deed}
@@ -20,25 +28,29 @@ use Rattle.ofx_types.specs.declared.transfer.TransferRow.{TransferRow}
 use Rattle.ofx_types.specs.declared.transfer.XferCode.{XferCode}
 use Rattle.ofx_types.specs.declared.transfer.XferCode.TheVariants.{Cancelled}
 use Rattle.ofx_types.specs.declared.transfer.Change.{Change}
-use Rattle.ofx_types.specs.declared.transfer.Change.TheVariants.{NewTransfer, SetTransfer, DropTransfer, NewModel, SetModel, DropModel}
+use Rattle.ofx_types.specs.declared.transfer.Change.TheVariants.{NewTransfer, SetTransfer, DropTransfer, NewModel, SetModel, DropModel, NewMail}
 use Rattle.bank_model.specs.declared.entry.Entry.{Entry}
 use Rattle.bank_model.specs.declared.setup.Setup.{Setup}
 use Rattle.bank_model.specs.declared.event.State.{State}
 use Rattle.bank_model.specs.SetupForm.{IsWithinLimits}
-use Rattle.bank_model.specs.Ledger.{Posting, row_in, is_posted, posting_of, moved, is_about, is_within_period, line_for, lines_of}
+use Rattle.bank_model.specs.Ledger.{Posting, row_in, row_of, is_posted, posting_of, moved, is_about, is_within_period, line_for, lines_of}
 use Rattle.bank_model.specs.Judging.{is_cancelled}
 use Rattle.bank_model.specs.Deeds.{done, code_of, first_change, deed_answer}
-use Rattle.bank_model.specs.Rules.{own_account, asked_list, list_of, statement_reply, ask_answer, ask_answers, reply_file}
-use Rattle.bank_model.specs.Sound.{IsSoundAsk, IsSoundDeed, IsSoundPeriod}
-use Rattle.bank_transfers.specs.TransfersView.{GivesRow}
-use Rattle.bank_model.specs.Models.{model_in}
+use Rattle.bank_model.specs.SetupLookups.{own_account}
+use Rattle.bank_model.specs.Objects.{account_about, object_named, belongs_to, history_of, newest}
+use Rattle.bank_model.specs.Polls.{told_token, newest_if_any, poll_answer, poll_reply}
+use Rattle.bank_model.specs.Sync.{token_of, is_lost, told_as, is_above, entries_above, told_entry, standing_transfer, standing_model, standing_in, standing, history_told, refused_with, is_newest, unless_newest, rejection, deed_answers, deeds_or_rejection, sync_on, sync_answer}
+use Rattle.bank_model.specs.Rules.{asked_list, list_of, statement_reply, ask_answer, ask_answers, reply_file}
+use Rattle.bank_model.specs.Sound.{IsSoundAsk, IsSoundDeed, IsSoundPair, IsSoundSync, IsSoundPeriod}
+use Rattle.bank_model.specs.Models.{model_of, is_model_dropped}
 use Rattle.bank_core.specs.declared.effect.Effect.{Effect}
 use Rattle.bank_core.specs.declared.effect.Effect.TheVariants.{Row, Made, Model, NoModel}
-use Rattle.bank_core.specs.Standing.{IsSoundRow, IsSoundModel, HasSoundRow, IsSoundState}
+use Rattle.bank_core.specs.Standing.{IsSoundRow, HasSoundRow, MayBeTold, IsSoundState}
 use Rattle.bank_core.specs.DraftView.{IsNext}
-use Rattle.bank_core.proofs.GivenLemmas.{IsOfModel, model_given, model_dropped}
+use Rattle.bank_core.proofs.TellingLemmas.{not_cancelled, told_next}
 use Rattle.bank_core.proofs.DoneLemmas.{IsDone, deed_done}
-use Rattle.bank_core.proofs.StateLemmas.{IsAllowed-from_code, IsSoundState-ask}
+use Rattle.bank_core.proofs.SoundFound.{row_sound, model_sound}
+use Rattle.bank_core.proofs.StateLemmas.{IsAllowed-from_code, IsSoundState-deed, IsSoundState-ask}
 
 -- ---- statements
 
@@ -106,42 +118,10 @@ printable_statement setup S at trnuid name period (Some account) good lawful sou
 
 -- ---- deeds
 
-not_cancelled : (code : XferCode) → is_cancelled code ≡ false → code ≢ Cancelled
-not_cancelled code here is = true≢false (sym (ap is_cancelled is) ∙ here)
-
-printable_row : (setup : Setup) (given row : TransferRow) → given ≡ row → is_cancelled row.code ≡ false → IsSoundRow setup given → IsPrintableRow given
-printable_row setup given row same here sound = record {
-  told = not_cancelled given.code (ap (λ (r : TransferRow). is_cancelled r.code) same ∙ here);
-  due = sound.due;
-  stamp = sound.stamp;
-}
-
-printable_change : (setup : Setup) (entries : List Entry) (change : Change) (row : TransferRow) → GivesRow entries change row → IfSome (row_in change) (IsSoundRow setup) → IsPrintableChange change
-printable_change setup entries (NewTransfer given) row gives sound = printable_row setup given row gives.0.0 gives.0.1 sound
-printable_change setup entries (SetTransfer given) row gives sound = printable_row setup given row gives.0.0 gives.0.1 sound
-printable_change setup entries (DropTransfer id) row gives sound = tt
-printable_change setup entries (NewModel given) row gives sound = absurd gives
-printable_change setup entries (SetModel given also) row gives sound = absurd gives
-printable_change setup entries (DropModel id also) row gives sound = absurd gives
-
-printable_model : (setup : Setup) (change : Change) → IsOfModel change → IfSome (model_in change) (IsSoundModel setup) → IsPrintableChange change
-printable_model setup (NewTransfer given) of sound = absurd of
-printable_model setup (SetTransfer given) of sound = absurd of
-printable_model setup (DropTransfer id) of sound = tt
-printable_model setup (NewModel given) of sound = sound.first
-printable_model setup (SetModel given also) of sound = sound.first
-printable_model setup (DropModel id also) of sound = tt
-
-printable_next : (setup : Setup) (S : State) (entry : Entry) (effect : Effect) → IsNext setup S entry effect → IsPrintableChange entry.change
-printable_next setup S entry (Row row) next = printable_change setup S.entries entry.change row next.gives.0 next.sound
-printable_next setup S entry (Made row) next = printable_change setup S.entries entry.change row next.gives.0 next.sound
-printable_next setup S entry (Model row) next = printable_model setup entry.change (model_given S.entries entry.change row next.gives) next.sound_model
-printable_next setup S entry (NoModel id) next = printable_model setup entry.change (model_dropped S.entries entry.change id next.gives) next.sound_model
-
 printable_done : (setup : Setup) (S : State) (entries : List Entry) → IsDone setup S entries → HasChangeByCode 0 (first_change entries)
 printable_done setup S entries does =
     subst (λ (l : List Entry). HasChangeByCode 0 (first_change l)) (sym does.are)
-    (refl, printable_next setup S does.entry does.effect does.next)
+    (refl, told_next setup S does.entry does.effect does.next)
 
 printable_coded : (setup : Setup) (S : State) (code : ℕ) (zero : Bool) (entries : List Entry) → eqb code 0 ≡ zero → (code ≡ 0 → IsDone setup S entries) → HasChangeByCode code (first_change (cond zero entries []))
 printable_coded setup S code true entries is does =
@@ -153,16 +133,127 @@ printable_deed : (setup : Setup) (S : State) (user : UserId) (only : Option Acct
 unfolding deed_answer
 printable_deed setup S user only at trnuid deed within good lawful sound =
     let code : ℕ = code_of setup S user only at trnuid deed in
-    printable_coded setup S code (eqb code 0) (done setup S at trnuid deed) refl
+    printable_coded setup S code (eqb code 0) (done setup S user at trnuid deed) refl
     (λ none. deed_done setup S user only at trnuid deed within good lawful sound (IsAllowed-from_code setup S user only at trnuid deed none).judged (IsAllowed-from_code setup S user only at trnuid deed none).few)
+
+-- ---- synchronisations
+
+abbrev MayBePrinted : DeedReply → Type 0
+MayBePrinted reply = HasChangeByCode reply.code reply.change
+
+all_append : {X : Type 0} (P : X → Type 0) (xs ys : List X) → AllByRecursion P xs → AllByRecursion P ys → AllByRecursion P (xs ++ ys)
+all_append P [] ys first second = second
+all_append P (x ∷ xs) ys first second = (first.0, all_append P xs ys first.1 second)
+
+all_filter : {X : Type 0} (P : X → Type 0) (p : X → Bool) (xs : List X) → AllByRecursion P xs → AllByRecursion P (filter p xs)
+all_filter P p [] all = tt
+all_filter P p (x ∷ xs) all = elim (p x) as (λ b. AllByRecursion P (cond b (x ∷ filter p xs) (filter p xs))) [
+  | true ↦ (all.0, all_filter P p xs all.1)
+  | false ↦ all_filter P p xs all.1
+]
+
+history_told_of : (object : ObjectId) (entries : List Entry) → AllByRecursion MayBeTold entries → AllByRecursion MayBeTold (history_of object entries)
+unfolding history_of
+history_told_of object entries told = all_filter MayBeTold (belongs_to object) entries told
+
+told_entries : (family : Family) (entries : List Entry) → AllByRecursion MayBeTold entries → AllByRecursion MayBePrinted (map (told_entry family) entries)
+told_entries family [] told = tt
+told_entries family (entry ∷ entries) told = ((refl, told.0), told_entries family entries told.1)
+
+above_told : (token : Option ℕ) (entries : List Entry) → AllByRecursion MayBeTold entries → AllByRecursion MayBeTold (entries_above token entries)
+above_told None entries told = tt
+above_told (Some token) entries told = all_filter MayBeTold (is_above token) entries told
+
+-- what stands now of a change that may be told
+standing_row : (setup : Setup) (S : State) (id : ℕ) (found : Option TransferRow) → IsSoundState setup S → row_of id S.entries ≡ found → AllByRecursion IsPrintableChange (standing_transfer found)
+standing_row setup S id None sound is = tt
+standing_row setup S id (Some row) sound is = unless (is_cancelled row.code) refl
+  where
+    good : IsSoundRow setup row
+    good = row_sound setup S id row sound is
+
+    unless : (cancelled : Bool) → is_cancelled row.code ≡ cancelled → AllByRecursion IsPrintableChange (cond cancelled [] (NewTransfer row ∷ []))
+    unless true here = tt
+    unless false here = (record { told = not_cancelled row.code here; due = good.due; stamp = good.stamp }, tt)
+
+standing_recurring : (setup : Setup) (S : State) (id : ℕ) (cancelled : Bool) (found : Option ModelRow) → IsSoundState setup S → model_of id S.entries ≡ found → AllByRecursion IsPrintableChange (standing_model cancelled found)
+standing_recurring setup S id cancelled None sound is = tt
+standing_recurring setup S id true (Some row) sound is = tt
+standing_recurring setup S id false (Some row) sound is = ((model_sound setup S id row sound is).first, tt)
+
+standing_change : (setup : Setup) (S : State) (change : Change) → IsSoundState setup S → IsPrintableChange change → AllByRecursion IsPrintableChange (standing_in S.entries change)
+standing_change setup S (NewTransfer row) sound told = standing_row setup S row.id (row_of row.id S.entries) sound refl
+standing_change setup S (SetTransfer row) sound told = tt
+standing_change setup S (DropTransfer id) sound told = tt
+standing_change setup S (NewModel row) sound told = standing_recurring setup S row.id (is_model_dropped row.id S.entries) (model_of row.id S.entries) sound refl
+standing_change setup S (SetModel row also) sound told = tt
+standing_change setup S (DropModel id also) sound told = tt
+standing_change setup S (NewMail row) sound told = (told, tt)
+
+standing_all : (setup : Setup) (S : State) (entries : List Entry) → IsSoundState setup S → AllByRecursion MayBeTold entries → AllByRecursion IsPrintableChange (flat_map (λ (entry : Entry). standing_in S.entries entry.change) entries)
+standing_all setup S [] sound told = tt
+standing_all setup S (entry ∷ entries) sound told =
+    all_append IsPrintableChange (standing_in S.entries entry.change) _ (standing_change setup S entry.change sound told.0) (standing_all setup S entries sound told.1)
+
+told_changes : (family : Family) (trnuid : List ℕ) (changes : List Change) → AllByRecursion IsPrintableChange changes → AllByRecursion MayBePrinted (map (told_as family trnuid) changes)
+told_changes family trnuid [] told = tt
+told_changes family trnuid (change ∷ changes) told = ((refl, told.0), told_changes family trnuid changes told.1)
+
+printable_history : (setup : Setup) (S : State) (object : ObjectId) (family : Family) (kind : SyncKind) → IsSoundState setup S → AllByRecursion MayBePrinted (history_told setup.window object family S.entries kind)
+unfolding history_told standing
+printable_history setup S object family (After text) sound =
+    elim (is_lost setup.window object S.entries (After text)) as (λ lost. AllByRecursion MayBePrinted (cond lost [] (map (told_entry family) (entries_above (token_of text) (history_of object S.entries))))) [
+      | true ↦ tt
+      | false ↦ told_entries family _ (above_told (token_of text) (history_of object S.entries) (history_told_of object S.entries sound.told))
+    ]
+printable_history setup S object family TokenOnly sound = tt
+printable_history setup S object family Refresh sound =
+    told_changes family (codes "0") _ (standing_all setup S (history_of object S.entries) sound (history_told_of object S.entries sound.told))
+
+printable_refused : (family : Family) (code : ℕ) (deeds : List (List ℕ × Deed)) → code ≢ 0 → AllByRecursion MayBePrinted (map (refused_with family code) deeds)
+printable_refused family code [] other = tt
+printable_refused family code (deed ∷ deeds) other = (other, printable_refused family code deeds other)
+
+printable_deeds : (setup : Setup) (S : State) (user : UserId) (only : Option AcctId) (at : Moment) (family : Family) (deeds : List (List ℕ × Deed)) → IsWithinLimits setup → IsSoundState setup S → IsMoment at.0 → AllByRecursion (IsSoundPair family) deeds → AllByRecursion MayBePrinted (deed_answers setup S user only at deeds).replies
+unfolding deed_answers
+printable_deeds setup S user only at family [] within good lawful sound = tt
+printable_deeds setup S user only at family (deed ∷ deeds) within good lawful sound = (
+  printable_deed setup S user only at deed.0 deed.1 within good lawful sound.0.1,
+  printable_deeds setup (deed_answer setup S user only at deed.0 deed.1).after user only at family deeds within (IsSoundState-deed setup S user only at deed.0 deed.1 within good lawful sound.0.1) lawful sound.1,
+)
+
+unless_coded : (number : ℕ) (kind : SyncKind) → IfSome (unless_newest number kind) (λ (code : ℕ). code ≢ 0)
+unless_coded number (After text) = elim (is_newest number (token_of text)) as (λ b. IfSome (cond b None (Some 6502)) (λ (code : ℕ). code ≢ 0)) [
+  | true ↦ tt
+  | false ↦ (λ (e : 6502 ≡ 0). omega arith)
+]
+unless_coded number TokenOnly = λ (e : 6500 ≡ 0). omega arith
+unless_coded number Refresh = λ (e : 6500 ≡ 0). omega arith
+
+rejection_coded : (reject : Bool) (number : ℕ) (kind : SyncKind) → IfSome (rejection reject number kind) (λ (code : ℕ). code ≢ 0)
+rejection_coded true number kind = unless_coded number kind
+rejection_coded false number kind = tt
+
+printable_sync : (setup : Setup) (S : State) (user : UserId) (at : Moment) (ask : SyncAsk) (found : Option ObjectId) → IsWithinLimits setup → IsSoundState setup S → IsMoment at.0 → IsSoundSync ask → AllByRecursion MayBePrinted (sync_on setup S user at ask found).reply.replies
+unfolding sync_on deeds_or_rejection
+printable_sync setup S user at ask None within good lawful sound = printable_refused (object_family ask.object) 2003 ask.deeds (λ (e : 2003 ≡ 0). omega arith)
+printable_sync setup S user at ask (Some object) within good lawful sound =
+    all_append MayBePrinted (history_told setup.window object (object_family ask.object) S.entries ask.kind) _
+    (printable_history setup S object (object_family ask.object) ask.kind good)
+    (unless (rejection ask.reject (newest object S.entries) ask.kind) (rejection_coded ask.reject (newest object S.entries) ask.kind))
+  where
+    unless : (code : Option ℕ) → IfSome code (λ (n : ℕ). n ≢ 0) → AllByRecursion MayBePrinted (deeds_or_rejection setup S user at ask code).replies
+    unless None coded = printable_deeds setup S user (account_about setup user ask.object) at (object_family ask.object) ask.deeds within good lawful sound.deeds
+    unless (Some code) coded = printable_refused (object_family ask.object) code ask.deeds coded
 
 -- ---- asks and files
 
 printable_ask : (setup : Setup) (S : State) (user : UserId) (at : Moment) (ask : Ask) → IsWithinLimits setup → IsSoundState setup S → IsMoment at.0 → IsSoundAsk ask → IsPrintableReply (ask_answer setup S user at ask).reply
-unfolding ask_answer
+unfolding ask_answer sync_answer
 printable_ask setup S user at (Statement trnuid name period) within good lawful sound =
     printable_statement setup S at trnuid name period (own_account setup user name) good lawful sound.2
 printable_ask setup S user at (One trnuid deed) within good lawful sound = printable_deed setup S user None at trnuid deed within good lawful sound.1
+printable_ask setup S user at (Sync ask) within good lawful sound = printable_sync setup S user at ask (object_named setup user ask.object) within good lawful sound
 
 printable_asks : (setup : Setup) (S : State) (user : UserId) (at : Moment) (asks : List Ask) → IsWithinLimits setup → IsSoundState setup S → IsMoment at.0 → AllByRecursion IsSoundAsk asks → AllByRecursion IsPrintableReply (ask_answers setup S user at asks).replies
 unfolding ask_answers
@@ -179,3 +270,28 @@ IsPrintable-reply_file setup S user at file within good lawful sound = record {
   moment = lawful;
   replies = printable_asks setup S user at file.asks within good lawful sound;
 }
+
+-- ---- polls
+
+token_printable : (ask : SyncAsk) (found : Option ℕ) → AllByRecursion MayBePrinted (told_token ask found).replies
+token_printable ask None = tt
+token_printable ask (Some token) = tt
+
+poll_printable : (setup : Setup) (S : State) (user : UserId) (ask : Ask) → AllByRecursion IsPrintableReply (poll_answer setup S user ask)
+poll_printable setup S user (Statement trnuid name period) = tt
+poll_printable setup S user (One trnuid deed) = tt
+poll_printable setup S user (Sync ask) = (token_printable ask (newest_if_any S (object_named setup user ask.object)), tt)
+
+polls_printable : (setup : Setup) (S : State) (user : UserId) (asks : List Ask) → AllByRecursion IsPrintableReply (flat_map (poll_answer setup S user) asks)
+polls_printable setup S user [] = tt
+polls_printable setup S user (ask ∷ asks) =
+    all_append IsPrintableReply (poll_answer setup S user ask) _ (poll_printable setup S user ask) (polls_printable setup S user asks)
+
+-- The reply to a poll file may be printed.
+pub IsPrintable-poll : (setup : Setup) (S : State) (user : UserId) (at : Moment) (file : RequestFile) → IsMoment at.0 → IsPrintable (reply_file at file (flat_map (poll_answer setup S user) file.asks))
+unfolding reply_file
+IsPrintable-poll setup S user at file lawful = record { moment = lawful; replies = polls_printable setup S user file.asks }
+
+pub poll_reply-is : (setup : Setup) (S : State) (user : UserId) (at : Moment) (file : RequestFile) → reply_file at file (flat_map (poll_answer setup S user) file.asks) ≡ poll_reply setup S user at file
+unfolding reply_file poll_reply
+poll_reply-is setup S user at file = refl

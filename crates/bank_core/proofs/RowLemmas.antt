@@ -16,7 +16,7 @@ use Rattle.ofx_types.specs.declared.recurring.Recur.{Recur}
 use Rattle.ofx_types.specs.declared.transfer.XferInfo.{XferInfo}
 use Rattle.ofx_types.specs.declared.transfer.XferCode.TheVariants.{Cancelled}
 use Rattle.ofx_types.specs.declared.transfer.Change.{Change}
-use Rattle.ofx_types.specs.declared.transfer.Change.TheVariants.{NewTransfer, SetTransfer, DropTransfer, NewModel, SetModel, DropModel}
+use Rattle.ofx_types.specs.declared.transfer.Change.TheVariants.{NewTransfer, SetTransfer, DropTransfer, NewModel, SetModel, DropModel, NewMail}
 use Rattle.bank_model.specs.declared.entry.Entry.{Entry}
 use Rattle.bank_model.specs.declared.setup.Setup.{Setup}
 use Rattle.bank_model.specs.Ledger.{row_in, if_named, or_before, last_row, drops, is_dropped, with_code, row_of}
@@ -26,7 +26,7 @@ use Rattle.bank_model.specs.Judging.{due_day, is_due, is_positive, is_cancelled}
 use Rattle.bank_model.specs.Deeds.{new_row, changed_row, new_model, changed_model, with_terms}
 use Rattle.bank_model.specs.Due.{settled_row, spawned_row}
 use Rattle.bank_model.specs.Sound.{IsSoundInfo}
-use Rattle.bank_core.specs.Standing.{IsSoundRow, IsSoundModel, id_in, IsNumbered}
+use Rattle.bank_core.specs.Standing.{IsSoundRow, IsSoundModel, IsOfMade, IsNumbered}
 use Rattle.bank_core.proofs.AccountPlaces.{same_account-is}
 use Rattle.bank_core.proofs.Verdicts.{IsTaken, IsChange, IsTakenModel, IsModelChange}
 
@@ -150,25 +150,35 @@ IsSoundModel-changed setup day recur info row known sound change =
 abbrev pub AreMade : ℕ → List Entry → Type 0
 AreMade count entries = AllByRecursion (IsNumbered count) entries
 
+pub made_up : (count more : ℕ) (change : Change) → count ≤ more → IsOfMade count change → IsOfMade more change
+made_up count more (NewTransfer row) less made = (made.0, let most = made.1 in omega arith)
+made_up count more (SetTransfer row) less made = (made.0, let most = made.1 in omega arith)
+made_up count more (DropTransfer id) less made = (made.0, let most = made.1 in omega arith)
+made_up count more (NewModel row) less made = (made.0, let most = made.1 in omega arith)
+made_up count more (SetModel row pending) less made = (made.0, let most = made.1 in omega arith)
+made_up count more (DropModel id pending) less made = (made.0, let most = made.1 in omega arith)
+made_up count more (NewMail row) less made = tt
+
 pub AreMade-more : (count more : ℕ) (entries : List Entry) → count ≤ more → AreMade count entries → AreMade more entries
 AreMade-more count more [] less made = tt
 AreMade-more count more (entry ∷ entries) less made =
-    ((made.0.0, omega (arith, made.0.1)), AreMade-more count more entries less made.1)
+    (made_up count more entry.change less made.0, AreMade-more count more entries less made.1)
 
-drops_made : (id : ℕ) (change : Change) → id_in change < id → drops id change ≡ false
-drops_made id (NewTransfer row) less = refl
-drops_made id (SetTransfer row) less = refl
-drops_made id (DropTransfer dropped) less = ne_eqb dropped id (omega arith)
-drops_made id (NewModel row) less = refl
-drops_made id (SetModel row pending) less = refl
-drops_made id (DropModel dropped pending) less = refl
+drops_made : (count id : ℕ) (change : Change) → IsOfMade count change → count < id → drops id change ≡ false
+drops_made count id (NewTransfer row) made less = refl
+drops_made count id (SetTransfer row) made less = refl
+drops_made count id (DropTransfer dropped) made less = ne_eqb dropped id (let most = made.1 in omega arith)
+drops_made count id (NewModel row) made less = refl
+drops_made count id (SetModel row pending) made less = refl
+drops_made count id (DropModel dropped pending) made less = refl
+drops_made count id (NewMail mail) made less = refl
 
 -- a transfer that no entry speaks of isn't dropped
 pub is_dropped-new : (count id : ℕ) (entries : List Entry) → AreMade count entries → count < id → is_dropped id entries ≡ false
 unfolding is_dropped
 is_dropped-new count id [] made less = refl
 is_dropped-new count id (entry ∷ entries) made less =
-    or_from (drops id entry.change) _ (drops_made id entry.change (omega (arith, made.0.1))) (is_dropped-new count id entries made.1 less)
+    or_from (drops id entry.change) _ (drops_made count id entry.change made.0 less) (is_dropped-new count id entries made.1 less)
 
 -- Where a row is found, its id is that of an entry.
 abbrev pub IsMade : {X : Type 0} → ℕ → ℕ → Option X → Type 0
@@ -179,13 +189,14 @@ made_named : {X : Type 0} (count id number : ℕ) (row : X) (b : Bool) → (b �
 made_named count id number row true same made = let is = same refl in (omega (arith, made.0), omega (arith, made.1))
 made_named count id number row false same made = tt
 
-made_change : (count id : ℕ) (change : Change) → (0 < id_in change) × (id_in change ≤ count) → IsMade count id (if_named id (row_in change))
+made_change : (count id : ℕ) (change : Change) → IsOfMade count change → IsMade count id (if_named id (row_in change))
 made_change count id (NewTransfer row) made = made_named count id row.id row (eqb row.id id) (eqb-true row.id id) made
 made_change count id (SetTransfer row) made = made_named count id row.id row (eqb row.id id) (eqb-true row.id id) made
 made_change count id (DropTransfer dropped) made = tt
 made_change count id (NewModel row) made = tt
 made_change count id (SetModel row pending) made = tt
 made_change count id (DropModel dropped pending) made = tt
+made_change count id (NewMail mail) made = tt
 
 made_later : (count id : ℕ) (before row : Option TransferRow) → IsMade count id before → IsMade count id row → IsMade count id (or_before before row)
 made_later count id before None first second = first
@@ -222,13 +233,14 @@ abbrev IsModelNamed : ℕ → Option ModelRow → Type 0
 IsModelNamed id None = Unit {0}
 IsModelNamed id (Some row) = row.id ≡ id
 
-made_model_change : (count id : ℕ) (change : Change) → (0 < id_in change) × (id_in change ≤ count) → IsMade count id (if_model_named id (model_in change))
+made_model_change : (count id : ℕ) (change : Change) → IsOfMade count change → IsMade count id (if_model_named id (model_in change))
 made_model_change count id (NewTransfer row) made = tt
 made_model_change count id (SetTransfer row) made = tt
 made_model_change count id (DropTransfer dropped) made = tt
 made_model_change count id (NewModel row) made = made_named count id row.id row (eqb row.id id) (eqb-true row.id id) made
 made_model_change count id (SetModel row pending) made = made_named count id row.id row (eqb row.id id) (eqb-true row.id id) made
 made_model_change count id (DropModel dropped pending) made = tt
+made_model_change count id (NewMail mail) made = tt
 
 made_model_later : (count id : ℕ) (before row : Option ModelRow) → IsMade count id before → IsMade count id row → IsMade count id (or_model_before before row)
 made_model_later count id before None first second = first

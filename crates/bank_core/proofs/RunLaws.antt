@@ -13,7 +13,7 @@ use Rattle.bank_model.specs.declared.once.KeptReply.{KeptReply}
 use Rattle.bank_model.specs.declared.setup.Setup.{Setup}
 use Rattle.bank_model.specs.declared.event.State.{State}
 use Rattle.bank_model.specs.declared.event.Event.{Event}
-use Rattle.bank_model.specs.declared.event.Event.TheVariants.{File, Post, Spawn}
+use Rattle.bank_model.specs.declared.event.Event.TheVariants.{File, Post, Spawn, Letter}
 use Rattle.bank_model.specs.SetupForm.{IsWithinLimits, openings}
 use Rattle.bank_model.specs.Once.{is_named, reply_kept, released}
 use Rattle.bank_model.specs.Rules.{Outcome, opening_state, raised, ask_answers, reply_file, release, keep, kept_for, new_outcome, outcome_or_kept, file_outcome, state_after, answer_to}
@@ -100,6 +100,7 @@ stays setup S user name bytes at (File other file) apart found =
     stays_or setup (raised S at) user other at file name bytes (kept_for (raised S at) other file.newer) apart found
 stays setup S user name bytes at (Post id) apart found = found
 stays setup S user name bytes at (Spawn id place) apart found = found
+stays setup S user name bytes at (Letter other subject body) apart found = found
 
 stays_kept : (setup : Setup) (S : State) (user : UserId) (name bytes : List ℕ) (run : List Happening) → reply_kept user name S.kept ≡ Some bytes → AllByRecursion (λ (happening : Happening). releases user name happening.event ≡ false) run → StaysKept setup S user name run
 stays_kept setup S user name bytes [] found apart = tt
@@ -218,6 +219,7 @@ kept_still setup S user name bytes at (File other file) found some =
     kept_still_or setup (raised S at) user other at file name bytes (kept_for (raised S at) other file.newer) refl found some
 kept_still setup S user name bytes at (Post id) found some = found
 kept_still setup S user name bytes at (Spawn id place) found some = found
+kept_still setup S user name bytes at (Letter other subject body) found some = found
 
 kept_still_all : (setup : Setup) (S : State) (user : UserId) (name bytes : List ℕ) (run : List Happening) → StaysKept setup S user name run → reply_kept user name S.kept ≡ Some bytes → reply_kept user name (after_all setup S run).kept ≡ Some bytes
 kept_still_all setup S user name bytes [] stays found = found

@@ -10,7 +10,7 @@ use Rattle.ofx_types.specs.Calendar.{IsDay}
 use Rattle.ofx_types.specs.declared.number.Day.{Day}
 use Rattle.ofx_types.specs.declared.transfer.TransferRow.{TransferRow}
 use Rattle.ofx_types.specs.declared.transfer.Change.{Change}
-use Rattle.ofx_types.specs.declared.transfer.Change.TheVariants.{NewTransfer, SetTransfer, DropTransfer, NewModel, SetModel, DropModel}
+use Rattle.ofx_types.specs.declared.transfer.Change.TheVariants.{NewTransfer, SetTransfer, DropTransfer, NewModel, SetModel, DropModel, NewMail}
 use Rattle.ofx_types.specs.declared.recurring.ModelRow.{ModelRow}
 use Rattle.bank_model.specs.declared.entry.Entry.{Entry}
 use Rattle.bank_model.specs.Models.{model_in, if_model_named, or_model_before, model_of, begins_anew, is_of_model, is_made_by, since_anew, next_place}
@@ -39,6 +39,7 @@ count_one id (DropTransfer dropped) entry dates made same = same
 count_one id (NewModel row) entry dates made same = same
 count_one id (SetModel row also) entry dates made same = same
 count_one id (DropModel dropped also) entry dates made same = same
+count_one id (NewMail mail) entry dates made same = same
 
 count_all : (id : ℕ) (entries : List Entry) → length (flat_map (λ (entry : Entry). date_made id entry.change) entries) ≡ length (filter (λ (entry : Entry). is_made_by id entry.change) entries)
 count_all id [] = refl
@@ -82,6 +83,7 @@ dated_one id before (DropTransfer dropped) some lawful dated = dated
 dated_one id before (NewModel row) some lawful dated = dated
 dated_one id before (SetModel row also) some lawful dated = dated
 dated_one id before (DropModel dropped also) some lawful dated = dated
+dated_one id before (NewMail mail) some lawful dated = dated
 
 dated_if : (id : ℕ) (anew : Bool) (before now : Option ModelRow) (dates : List Day) → (anew ≡ false → now ≡ before) → AreDates before dates → AreDates now (cond anew [] dates)
 dated_if id true before now dates same dated = tt

@@ -6,7 +6,7 @@ use Rattle.ofx_types.specs.declared.account.AcctName.{AcctName}
 use Rattle.ofx_types.specs.declared.transfer.TransferRow.{TransferRow}
 use Rattle.ofx_types.specs.declared.transfer.XferCode.TheVariants.{Cancelled}
 use Rattle.ofx_types.specs.declared.transfer.Change.{Change}
-use Rattle.ofx_types.specs.declared.transfer.Change.TheVariants.{NewTransfer, SetTransfer, DropTransfer, NewModel, SetModel, DropModel}
+use Rattle.ofx_types.specs.declared.transfer.Change.TheVariants.{NewTransfer, SetTransfer, DropTransfer, NewModel, SetModel, DropModel, NewMail}
 use Rattle.ofx_types.specs.declared.recurring.ModelRow.{ModelRow}
 use Rattle.bank_model.specs.declared.entry.Entry.{Entry}
 use Rattle.bank_model.specs.Ledger.{is_dropped, with_code, row_of}
@@ -51,6 +51,7 @@ knows_after entries (SetModel given also) row lawful below known =
     (λ same. ap (λ (n : ℕ). source_of n entries) (sym (eqb-true given.id row.model same)) ∙ lawful.1)
     known
 knows_after entries (DropModel id also) row lawful below known = known
+knows_after entries (NewMail mail) row lawful below known = known
 
 -- ---- a row behind one entry more
 
@@ -100,6 +101,7 @@ after_source id entries (DropTransfer gone) made sources lawful = some_dropped (
 after_source id entries (NewModel given) made sources lawful = sources id
 after_source id entries (SetModel given also) made sources lawful = sources id
 after_source id entries (DropModel gone also) made sources lawful = sources id
+after_source id entries (NewMail mail) made sources lawful = sources id
 
 some_after : (entries : List Entry) (entry : Entry) (found : Option TransferRow) → IsLawful entries entry.change → IfSome found (HasSource entries) → IfSome found (HasSource (entries ++ entry ∷ []))
 some_after entries entry None lawful has = tt

@@ -9,7 +9,7 @@ use Rattle.std.proofs.Math.Seq.{take-append_seam}
 use Rattle.ofx_types.specs.declared.number.Day.{Day}
 use Rattle.ofx_types.specs.declared.transfer.TransferRow.{TransferRow}
 use Rattle.ofx_types.specs.declared.transfer.Change.{Change}
-use Rattle.ofx_types.specs.declared.transfer.Change.TheVariants.{NewTransfer, SetTransfer, DropTransfer, NewModel, SetModel, DropModel}
+use Rattle.ofx_types.specs.declared.transfer.Change.TheVariants.{NewTransfer, SetTransfer, DropTransfer, NewModel, SetModel, DropModel, NewMail}
 use Rattle.ofx_types.specs.declared.recurring.ModelRow.{ModelRow}
 use Rattle.bank_model.specs.declared.entry.Entry.{Entry}
 use Rattle.bank_model.specs.declared.once.UsedPair.{UsedPair}
@@ -21,9 +21,10 @@ use Rattle.bank_model.specs.Rules.{with_entries}
 use Rattle.bank_model.proofs.SetupParts.{all_push}
 use Rattle.bank_recur.specs.Growth.{place_after}
 use Rattle.bank_core.specs.declared.effect.Effect.{Effect}
-use Rattle.bank_core.specs.Standing.{IsSoundModel, HasSoundRow, HasSoundModel, IsSoundState, IsLawful, IsNextOf, IsNumbered}
+use Rattle.bank_core.specs.Standing.{MayBeTold, IsSoundModel, HasSoundRow, HasSoundModel, IsSoundState, IsLawful, IsNextOf, IsNumbered}
 use Rattle.bank_core.specs.DraftView.{IsNext}
-use Rattle.bank_core.proofs.RowLemmas.{AreMade-more}
+use Rattle.bank_core.proofs.TellingLemmas.{told_next}
+use Rattle.bank_core.proofs.RowLemmas.{made_up, AreMade-more}
 use Rattle.bank_core.proofs.SourceLemmas.{sources_more}
 use Rattle.bank_recur.proofs.GrowthLemmas.{next_place-push}
 use Rattle.bank_recur.proofs.SeriesDays.{few_places}
@@ -90,6 +91,7 @@ place_change setup id entries (DropTransfer gone) models some most lawful = most
 place_change setup id entries (NewModel row) models some most lawful = place_anew (next_place id entries) (eqb row.id id) most
 place_change setup id entries (SetModel row pending) models some most lawful = place_anew (next_place id entries) (eqb row.id id) most
 place_change setup id entries (DropModel gone pending) models some most lawful = most
+place_change setup id entries (NewMail mail) models some most lawful = most
 
 places_more : (setup : Setup) (entries : List Entry) (entry : Entry) → AllByRecursion (HasSoundModel setup) entries → ((id : ℕ) → 0 < id → next_place id entries ≤ 2958464) → IsLawful entries entry.change → (id : ℕ) → 0 < id → next_place id (entries ++ entry ∷ []) ≤ 2958464
 places_more setup entries entry models places lawful id some =
@@ -105,7 +107,8 @@ sound_more setup S entry effect used sound next few rest =
       few = omega (arith, count);
       rows = all_push (HasSoundRow setup) S.entries entry sound.rows next.sound;
       models = all_push (HasSoundModel setup) S.entries entry sound.models next.sound_model;
-      made = all_push (IsNumbered (length (S.entries ++ entry ∷ []))) S.entries entry (AreMade-more (length S.entries) (length (S.entries ++ entry ∷ [])) S.entries (omega (arith, count)) sound.made) (next.made.0, omega (arith, count, next.made.1));
+      made = all_push (IsNumbered (length (S.entries ++ entry ∷ []))) S.entries entry (AreMade-more (length S.entries) (length (S.entries ++ entry ∷ [])) S.entries (omega (arith, count)) sound.made) (made_up (length S.entries + 1) (length (S.entries ++ entry ∷ [])) entry.change (omega (arith, count)) next.made);
+      told = all_push MayBeTold S.entries entry sound.told (told_next setup S entry effect next);
       lawful = lawful_more S.entries entry sound.lawful next.lawful;
       sources = sources_more S.entries entry sound.made sound.sources next.lawful;
       places = places_more setup S.entries entry sound.models sound.places next.lawful;

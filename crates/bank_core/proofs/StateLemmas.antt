@@ -1,5 +1,5 @@
 -- An event keeps the bank's state sound.
-use Rattle.std.proofs.Common.{◌≡◌, ℕ, ◌+◌, ◌≤◌, Bool, true, false, not, cond, eqb, List, [], ◌∷◌, ◌++◌, length, Option, None, Some, refl, sym, ap, ◌∙◌, subst, arith}
+use Rattle.std.proofs.Common.{◌≡◌, ℕ, ◌+◌, ◌≤◌, Bool, true, false, not, cond, eqb, List, [], ◌∷◌, ◌++◌, length, codes, Option, None, Some, refl, sym, ap, ◌∙◌, subst, arith}
 use Rattle.std.specs.List.{AllByRecursion, find}
 use Rattle.std.specs.Option.{option_map}
 use Rattle.std.proofs.lemmas.Bool.{eqb-true, eq-eqb, ltb-false}
@@ -9,31 +9,38 @@ use Rattle.ofx_types.specs.declared.number.AcctId.{AcctId}
 use Rattle.ofx_types.specs.declared.number.UserId.{UserId}
 use Rattle.ofx_types.specs.declared.number.Moment.{Moment}
 use Rattle.ofx_types.specs.declared.transfer.Deed.{Deed}
+use Rattle.ofx_types.specs.SyncForm.{object_family}
+use Rattle.ofx_types.specs.declared.number.ObjectId.{ObjectId}
+use Rattle.ofx_types.specs.declared.transfer.Family.{Family}
+use Rattle.ofx_types.specs.declared.sync.SyncAsk.{SyncAsk}
 use Rattle.ofx_types.specs.declared.request.Ask.{Ask}
-use Rattle.ofx_types.specs.declared.request.Ask.TheVariants.{Statement, One}
+use Rattle.ofx_types.specs.declared.request.Ask.TheVariants.{Statement, One, Sync}
 use Rattle.ofx_types.specs.declared.request.RequestFile.{RequestFile}
 use Rattle.bank_model.specs.declared.once.UsedPair.{UsedPair}
 use Rattle.bank_model.specs.declared.once.KeptReply.{KeptReply}
 use Rattle.bank_model.specs.declared.setup.Setup.{Setup}
 use Rattle.bank_model.specs.declared.event.State.{State}
 use Rattle.bank_model.specs.declared.event.Event.{Event}
-use Rattle.bank_model.specs.declared.event.Event.TheVariants.{File, Post, Spawn}
+use Rattle.bank_model.specs.declared.event.Event.TheVariants.{File, Post, Spawn, Letter}
 use Rattle.bank_model.specs.SetupForm.{IsWithinLimits}
 use Rattle.bank_model.specs.Once.{is_used, is_named, reply_kept, released}
-use Rattle.bank_model.specs.Deeds.{judged, done, is_full, unless_full, code_of, used_up, deed_answer}
+use Rattle.bank_model.specs.Deeds.{judged, done, is_full, unless_full, code_of, used_up, mail_object, deed_answer}
 use Rattle.bank_model.specs.declared.entry.Entry.{Entry}
 use Rattle.bank_model.specs.Ledger.{row_of}
-use Rattle.bank_model.specs.Due.{may_post, posts, settled_row, has_cover, may_spawn, spawns, spawned_row}
-use Rattle.bank_model.specs.Rules.{with_entries, raised, ask_answer, ask_answers, release, keep, with_kept, kept_for, new_outcome, outcome_or_kept, file_outcome, state_after, IsLegal}
-use Rattle.bank_model.specs.Sound.{IsSoundDeed, IsSoundAsk}
+use Rattle.bank_model.specs.Objects.{account_about, object_named, newest}
+use Rattle.bank_model.specs.Sync.{rejection, deed_answers, deeds_or_rejection, sync_on, sync_answer}
+use Rattle.bank_model.specs.Due.{has_number, may_post, posts, settled_row, has_cover, may_spawn, spawns, spawned_row}
+use Rattle.bank_model.specs.Rules.{with_entries, raised, ask_answer, ask_answers, release, keep, with_kept, kept_for, new_outcome, outcome_or_kept, file_outcome, letter, letter_entry, state_after, IsLegal}
+use Rattle.bank_model.specs.Sound.{IsSoundDeed, IsSoundPair, IsSoundSync, IsSoundAsk}
 use Rattle.once_records.specs.RecordsView.{UsedOnce, KeptOnce}
 use Rattle.once_records.proofs.OnceLemmas.{UsedOnce-push, KeptOnce-push, KeptOnce-released}
 use Rattle.bank_core.specs.Standing.{IsSoundState}
 use Rattle.bank_core.proofs.RowLemmas.{IsDay-of_moment, IsDay-max}
 use Rattle.bank_core.specs.declared.effect.Effect.{Effect}
-use Rattle.bank_core.specs.declared.effect.Effect.TheVariants.{Row, Made}
+use Rattle.bank_core.specs.declared.effect.Effect.TheVariants.{Row, Made, Mail}
 use Rattle.bank_core.specs.DraftView.{IsNext}
 use Rattle.bank_core.proofs.StandingLemmas.{sound_more, sound_all}
+use Rattle.bank_core.proofs.NextLemmas.{mail_next}
 use Rattle.bank_core.proofs.DoneLemmas.{deed_done, all_next}
 use Rattle.bank_core.proofs.EventLemmas.{few_number, to_post, post_entry, post_next, post_entries, to_spawn, spawn_entry, spawn_next, spawn_entries, date_known}
 
@@ -52,12 +59,12 @@ code_parts false full code none = let parts = full_code full code (eqb code 0) r
 pub record IsAllowed (setup : Setup) (S : State) (user : UserId) (only : Option AcctId) (at : Moment) (trnuid : List ℕ) (deed : Deed) : Type 0 where
   pub unused : is_used user trnuid S.used ≡ false
   pub judged : judged setup S user only deed ≡ 0
-  pub few : length S.entries + length (done setup S at trnuid deed) ≤ setup.entries
+  pub few : length S.entries + length (done setup S user at trnuid deed) ≤ setup.entries
 
 pub IsAllowed-from_code : (setup : Setup) (S : State) (user : UserId) (only : Option AcctId) (at : Moment) (trnuid : List ℕ) (deed : Deed) → code_of setup S user only at trnuid deed ≡ 0 → IsAllowed setup S user only at trnuid deed
 unfolding code_of
 IsAllowed-from_code setup S user only at trnuid deed none =
-    let count : ℕ = length S.entries + length (done setup S at trnuid deed) in
+    let count : ℕ = length S.entries + length (done setup S user at trnuid deed) in
     let parts = code_parts (is_used user trnuid S.used) (is_full setup count) (judged setup S user only deed) none in
     record {
       unused = parts.0;
@@ -86,6 +93,7 @@ sound_used setup S used sound once = record {
   rows = sound.rows;
   models = sound.models;
   made = sound.made;
+  told = sound.told;
   lawful = sound.lawful;
   sources = sound.sources;
   places = sound.places;
@@ -99,9 +107,9 @@ used_once : (S : State) (user : UserId) (trnuid : List ℕ) (code : ℕ) (again 
 used_once S user trnuid code true is unused once = once
 used_once S user trnuid code false is unused once = UsedOnce-push S.used (record { user = user; trnuid = trnuid }) once (unused is)
 
-deed_state : (setup : Setup) (S : State) (user : UserId) (at : Moment) (trnuid : List ℕ) (deed : Deed) (code : ℕ) (zero : Bool) → eqb code 0 ≡ zero → (code ≡ 0 → IsSoundState setup (with_entries S (done setup S at trnuid deed))) → IsSoundState setup S → UsedOnce (used_up code user trnuid S.used) → IsSoundState setup (record { entries = S.entries ++ cond zero (done setup S at trnuid deed) []; used = used_up code user trnuid S.used; kept = S.kept; day = S.day })
+deed_state : (setup : Setup) (S : State) (user : UserId) (at : Moment) (trnuid : List ℕ) (deed : Deed) (code : ℕ) (zero : Bool) → eqb code 0 ≡ zero → (code ≡ 0 → IsSoundState setup (with_entries S (done setup S user at trnuid deed))) → IsSoundState setup S → UsedOnce (used_up code user trnuid S.used) → IsSoundState setup (record { entries = S.entries ++ cond zero (done setup S user at trnuid deed) []; used = used_up code user trnuid S.used; kept = S.kept; day = S.day })
 deed_state setup S user at trnuid deed code true is doing sound once =
-    sound_used setup (with_entries S (done setup S at trnuid deed)) (used_up code user trnuid S.used) (doing (eqb-true code 0 is)) once
+    sound_used setup (with_entries S (done setup S user at trnuid deed)) (used_up code user trnuid S.used) (doing (eqb-true code 0 is)) once
 deed_state setup S user at trnuid deed code false is doing sound once = rw (append-nil S.entries) (sound_used setup S (used_up code user trnuid S.used) sound once)
 
 pub IsSoundState-deed : (setup : Setup) (S : State) (user : UserId) (only : Option AcctId) (at : Moment) (trnuid : List ℕ) (deed : Deed) → IsWithinLimits setup → IsSoundState setup S → IsMoment at.0 → IsSoundDeed deed → IsSoundState setup (deed_answer setup S user only at trnuid deed).after
@@ -112,16 +120,48 @@ IsSoundState-deed setup S user only at trnuid deed within sound moment known =
     let once : UsedOnce (used_up code user trnuid S.used) =
     used_once S user trnuid code (eqb code 2019) refl (unused-from_code setup S user only at trnuid deed) sound.used in
     deed_state setup S user at trnuid deed code (eqb code 0) refl
-    (λ none. sound_all setup S (done setup S at trnuid deed) sound (all_next setup S (done setup S at trnuid deed) (deed_done setup S user only at trnuid deed within sound moment known (allowed none).judged (allowed none).few)) (allowed none).few)
+    (λ none. sound_all setup S (done setup S user at trnuid deed) sound (all_next setup S (done setup S user at trnuid deed) (deed_done setup S user only at trnuid deed within sound moment known (allowed none).judged (allowed none).few)) (allowed none).few)
     sound
     once
+
+-- ---- synchronisations
+
+pub IsSoundState-deeds : (setup : Setup) (S : State) (user : UserId) (only : Option AcctId) (at : Moment) (family : Family) (deeds : List (List ℕ × Deed)) → IsWithinLimits setup → IsSoundState setup S → IsMoment at.0 → AllByRecursion (IsSoundPair family) deeds → IsSoundState setup (deed_answers setup S user only at deeds).after
+unfolding deed_answers
+IsSoundState-deeds setup S user only at family [] within sound moment known = sound
+IsSoundState-deeds setup S user only at family (deed ∷ deeds) within sound moment known =
+    IsSoundState-deeds setup (deed_answer setup S user only at deed.0 deed.1).after user only at family deeds within (IsSoundState-deed setup S user only at deed.0 deed.1 within sound moment known.0.1) moment known.1
+
+sync_sound : (setup : Setup) (S : State) (user : UserId) (at : Moment) (ask : SyncAsk) (found : Option ObjectId) → IsWithinLimits setup → IsSoundState setup S → IsMoment at.0 → IsSoundSync ask → IsSoundState setup (sync_on setup S user at ask found).after
+unfolding sync_on deeds_or_rejection
+sync_sound setup S user at ask None within sound moment known = sound
+sync_sound setup S user at ask (Some object) within sound moment known = unless (rejection ask.reject (newest object S.entries) ask.kind)
+  where
+    unless : (code : Option ℕ) → IsSoundState setup (deeds_or_rejection setup S user at ask code).after
+    unless None = IsSoundState-deeds setup S user (account_about setup user ask.object) at (object_family ask.object) ask.deeds within sound moment known.deeds
+    unless (Some code) = sound
+
+kept-deeds : (setup : Setup) (S : State) (user : UserId) (only : Option AcctId) (at : Moment) (deeds : List (List ℕ × Deed)) → (deed_answers setup S user only at deeds).after.kept ≡ S.kept
+unfolding deed_answers deed_answer
+kept-deeds setup S user only at [] = refl
+kept-deeds setup S user only at (deed ∷ deeds) = kept-deeds setup (deed_answer setup S user only at deed.0 deed.1).after user only at deeds
+
+kept-sync : (setup : Setup) (S : State) (user : UserId) (at : Moment) (ask : SyncAsk) (found : Option ObjectId) → (sync_on setup S user at ask found).after.kept ≡ S.kept
+unfolding sync_on deeds_or_rejection
+kept-sync setup S user at ask None = refl
+kept-sync setup S user at ask (Some object) = unless (rejection ask.reject (newest object S.entries) ask.kind)
+  where
+    unless : (code : Option ℕ) → (deeds_or_rejection setup S user at ask code).after.kept ≡ S.kept
+    unless None = kept-deeds setup S user (account_about setup user ask.object) at ask.deeds
+    unless (Some code) = refl
 
 -- ---- asks
 
 pub IsSoundState-ask : (setup : Setup) (S : State) (user : UserId) (at : Moment) (ask : Ask) → IsWithinLimits setup → IsSoundState setup S → IsMoment at.0 → IsSoundAsk ask → IsSoundState setup (ask_answer setup S user at ask).after
-unfolding ask_answer
+unfolding ask_answer sync_answer
 IsSoundState-ask setup S user at (Statement trnuid name period) within sound moment known = sound
 IsSoundState-ask setup S user at (One trnuid deed) within sound moment known = IsSoundState-deed setup S user None at trnuid deed within sound moment known.1
+IsSoundState-ask setup S user at (Sync ask) within sound moment known = sync_sound setup S user at ask (object_named setup user ask.object) within sound moment known
 
 pub IsSoundState-asks : (setup : Setup) (S : State) (user : UserId) (at : Moment) (asks : List Ask) → IsWithinLimits setup → IsSoundState setup S → IsMoment at.0 → AllByRecursion IsSoundAsk asks → IsSoundState setup (ask_answers setup S user at asks).after
 unfolding ask_answers
@@ -131,9 +171,10 @@ IsSoundState-asks setup S user at (ask ∷ asks) within sound moment known =
 
 -- asks keep no reply and let none go
 kept-ask : (setup : Setup) (S : State) (user : UserId) (at : Moment) (ask : Ask) → (ask_answer setup S user at ask).after.kept ≡ S.kept
-unfolding ask_answer deed_answer
+unfolding ask_answer deed_answer sync_answer
 kept-ask setup S user at (Statement trnuid name period) = refl
 kept-ask setup S user at (One trnuid deed) = refl
+kept-ask setup S user at (Sync ask) = kept-sync setup S user at ask (object_named setup user ask.object)
 
 pub kept-asks : (setup : Setup) (S : State) (user : UserId) (at : Moment) (asks : List Ask) → (ask_answers setup S user at asks).after.kept ≡ S.kept
 unfolding ask_answers
@@ -150,6 +191,7 @@ sound_kept setup S kept sound once = record {
   rows = sound.rows;
   models = sound.models;
   made = sound.made;
+  told = sound.told;
   lawful = sound.lawful;
   sources = sound.sources;
   places = sound.places;
@@ -213,6 +255,7 @@ IsSoundState-raised setup S at sound moment = record {
   rows = sound.rows;
   models = sound.models;
   made = sound.made;
+  told = sound.told;
   lawful = sound.lawful;
   sources = sound.sources;
   places = sound.places;
@@ -236,6 +279,10 @@ IsSoundState-spawn setup S id place within sound may =
     let to = to_spawn setup S id place sound may in
     sound_one setup S _ (spawn_entry setup S to.date to.row) (Made (spawned_row (length S.entries + 1) to.date to.row)) (spawn_entries setup S id place to) sound (spawn_next setup S id place sound to (date_known to.row to.date place to.sound.first to.has_date)) (few_number setup S to.number)
 
+pub IsSoundState-letter : (setup : Setup) (S : State) (user : UserId) (at : Moment) (subject body : List ℕ) → IsSoundState setup S → IsMoment at.0 → has_number setup S ≡ true → IsSoundState setup (with_entries S (letter_entry setup S user at subject body ∷ []))
+IsSoundState-letter setup S user at subject body sound moment number =
+    sound_one setup S _ (letter_entry setup S user at subject body) Mail refl sound (mail_next setup S (mail_object setup user) (codes "0") (letter setup user at subject body) sound moment) (few_number setup S number)
+
 -- An event keeps the state sound.
 pub IsSoundState-step : (setup : Setup) (S : State) (at : Moment) (event : Event) → IsWithinLimits setup → IsSoundState setup S → IsMoment at.0 → IsLegal setup S at event → IsSoundState setup (state_after setup S at event)
 unfolding file_outcome
@@ -243,3 +290,4 @@ IsSoundState-step setup S at (File user file) within sound moment legal =
     outcome_sound setup (raised S at) user at file _ refl within (IsSoundState-raised setup S at sound moment) moment legal.1.asks
 IsSoundState-step setup S at (Post id) within sound moment legal = IsSoundState-post setup (raised S at) at id within (IsSoundState-raised setup S at sound moment) moment legal
 IsSoundState-step setup S at (Spawn id place) within sound moment legal = IsSoundState-spawn setup (raised S at) id place within (IsSoundState-raised setup S at sound moment) legal
+IsSoundState-step setup S at (Letter user subject body) within sound moment legal = IsSoundState-letter setup (raised S at) user at subject body (IsSoundState-raised setup S at sound moment) moment legal.3

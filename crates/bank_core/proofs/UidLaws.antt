@@ -41,7 +41,7 @@ added_code : (setup : Setup) (S : State) (user : UserId) (only : Option AcctId) 
 unfolding deed_answer
 added_code setup S user only at trnuid deed added =
     let code : ℕ = code_of setup S user only at trnuid deed in
-    code_zero S.entries (done setup S at trnuid deed) code (eqb code 0) refl added
+    code_zero S.entries (done setup S user at trnuid deed) code (eqb code 0) refl added
 
 pub added-unused : (setup : Setup) (S : State) (user : UserId) (only : Option AcctId) (at : Moment) (trnuid : List ℕ) (deed : Deed) → (deed_answer setup S user only at trnuid deed).after.entries ≢ S.entries → is_used user trnuid S.used ≡ false
 added-unused setup S user only at trnuid deed added =

@@ -13,11 +13,12 @@ use Rattle.ofx_types.specs.declared.transfer.XferInfo.{XferInfo}
 use Rattle.ofx_types.specs.declared.transfer.XferCode.{XferCode}
 use Rattle.ofx_types.specs.declared.transfer.XferCode.TheVariants.{Waiting, Posted, NoFunds, Cancelled}
 use Rattle.ofx_types.specs.declared.recurring.ModelRow.{ModelRow}
+use Rattle.ofx_types.specs.declared.mail.MailText.{MailText}
 use Rattle.bank_model.specs.declared.setup.Setup.{Setup}
 use Rattle.bank_model.specs.Models.{is_waiting}
 use Rattle.bank_model.specs.SetupLookups.{account_of}
 use Rattle.bank_model.specs.Ledger.{is_covered}
-use Rattle.bank_model.specs.Judging.{Refusal, refused, first_of, is_own, is_own_account, is_destination, is_positive, is_due, is_after, is_cancelled, is_closed, transfer_code, modify_code, cancel_code, model_code, model_modify_code, model_cancel_code}
+use Rattle.bank_model.specs.Judging.{Refusal, refused, first_of, is_own, is_own_account, is_destination, is_positive, is_due, is_after, is_cancelled, is_closed, transfer_code, modify_code, cancel_code, model_code, model_modify_code, model_cancel_code, bank_mail_code, is_to_bank}
 
 -- ---- a table in which nothing holds
 
@@ -230,3 +231,11 @@ unfolding model_cancel_code
 IsModelOpen-from_code setup user only None cancelled done = absurd (omega (arith, done))
 IsModelOpen-from_code setup user only (Some row) cancelled done =
     (row, refl, open_model setup user only row cancelled [] (none_holds (model_table setup user only row cancelled []) (lit< tt, (lit< tt, tt)) done))
+
+-- ---- mail
+
+pub IsInBank-from_mail_code : (setup : Setup) (user : UserId) (only : Option AcctId) (account : AcctName) (mail : MailText) → bank_mail_code setup user only account mail ≡ 0 → IsInBank setup account
+unfolding bank_mail_code
+IsInBank-from_mail_code setup user only account mail done =
+    let none = none_holds (refused 2003 (not (is_own setup user only account)) ∷ refused 16501 (not (is_to_bank mail)) ∷ []) (lit< tt, (lit< tt, tt)) done in
+    own_some setup user only (account_of setup account) (not_not (is_own setup user only account) none.0)

@@ -11,13 +11,13 @@ use Rattle.std.proofs.Math.Seq.{take-append_seam}
 use Rattle.ofx_types.specs.declared.transfer.TransferRow.{TransferRow}
 use Rattle.ofx_types.specs.declared.transfer.XferCode.TheVariants.{Cancelled}
 use Rattle.ofx_types.specs.declared.transfer.Change.{Change}
-use Rattle.ofx_types.specs.declared.transfer.Change.TheVariants.{NewTransfer, SetTransfer, DropTransfer, NewModel, SetModel, DropModel}
+use Rattle.ofx_types.specs.declared.transfer.Change.TheVariants.{NewTransfer, SetTransfer, DropTransfer, NewModel, SetModel, DropModel, NewMail}
 use Rattle.bank_model.specs.declared.entry.Entry.{Entry}
 use Rattle.bank_model.specs.Ledger.{is_dropped, with_code, row_of}
 use Rattle.bank_model.specs.Models.{is_waiting, made_in, all_waiting, waiting_of}
 use Rattle.bank_transfers.specs.Growth.{row_after}
 use Rattle.bank_transfers.proofs.GrowthLemmas.{row_of-push}
-use Rattle.bank_core.specs.Standing.{IsOfWaiting, IsLawful, IsNumbered, id_in}
+use Rattle.bank_core.specs.Standing.{IsOfWaiting, IsLawful, IsNumbered, IsOfMade}
 use Rattle.bank_core.specs.Pending.{ids_of, waits_for, id_new, ids_new}
 use Rattle.bank_core.proofs.NextLemmas.{row_of-named}
 use Rattle.bank_core.proofs.StandingLemmas.{AreLawfulAt}
@@ -49,6 +49,7 @@ change_ids model all (DropTransfer id) = refl
 change_ids model all (NewModel row) = refl
 change_ids model all (SetModel row also) = refl
 change_ids model all (DropModel id also) = refl
+change_ids model all (NewMail mail) = refl
 
 kept-append : (model : ℕ) (rows more : List TransferRow) → ids_of (kept_of model (rows ++ more)) ≡ ids_of (kept_of model rows) ++ ids_of (kept_of model more)
 kept-append model rows more =
@@ -97,6 +98,7 @@ waited_one model id before (DropTransfer gone) below lawful waits = dropped_wait
 waited_one model id before (NewModel row) below lawful waits = waits
 waited_one model id before (SetModel row also) below lawful waits = waits
 waited_one model id before (DropModel gone also) below lawful waits = waits
+waited_one model id before (NewMail mail) below lawful waits = waits
 
 waited : (model id : ℕ) (before entries : List Entry) → id ≤ length before → AreLawfulAt (before ++ entries) → waits_for model (row_of id (before ++ entries)) ≡ true → waits_for model (row_of id before) ≡ true
 waited model id before [] below lawful waits = subst (λ (l : List Entry). waits_for model (row_of id l) ≡ true) (append-nil before) waits
@@ -129,18 +131,19 @@ append_all P (x ∷ xs) ys first second = (first.0, append_all P xs ys first.1 s
 abbrev HasWaited : ℕ → List Entry → List Entry → ℕ → Type 0
 HasWaited model before entries id = waits_for model (row_of id (before ++ entries)) ≡ true → waits_for model (row_of id before) ≡ true
 
-change_waited : (model : ℕ) (before entries : List Entry) (change : Change) → id_in change ≤ length before → AreLawfulAt (before ++ entries) → AllByRecursion (HasWaited model before entries) (id_new change)
-change_waited model before entries (NewTransfer row) made lawful = ((λ waits. waited model row.id before entries made lawful waits), tt)
+change_waited : (model : ℕ) (before entries : List Entry) (change : Change) → IsOfMade (length before) change → AreLawfulAt (before ++ entries) → AllByRecursion (HasWaited model before entries) (id_new change)
+change_waited model before entries (NewTransfer row) made lawful = ((λ waits. waited model row.id before entries made.1 lawful waits), tt)
 change_waited model before entries (SetTransfer row) made lawful = tt
 change_waited model before entries (DropTransfer id) made lawful = tt
 change_waited model before entries (NewModel row) made lawful = tt
 change_waited model before entries (SetModel row also) made lawful = tt
 change_waited model before entries (DropModel id also) made lawful = tt
+change_waited model before entries (NewMail mail) made lawful = tt
 
 all_waited : (model : ℕ) (before entries some : List Entry) → AllByRecursion (IsNumbered (length before)) some → AreLawfulAt (before ++ entries) → AllByRecursion (HasWaited model before entries) (ids_new some)
 all_waited model before entries [] made lawful = tt
 all_waited model before entries (entry ∷ some) made lawful =
-    append_all (HasWaited model before entries) (id_new entry.change) (ids_new some) (change_waited model before entries entry.change made.0.1 lawful) (all_waited model before entries some made.1 lawful)
+    append_all (HasWaited model before entries) (id_new entry.change) (ids_new some) (change_waited model before entries entry.change made.0 lawful) (all_waited model before entries some made.1 lawful)
 
 -- Those that wait behind a draft: of those that waited before, and of those that it made.
 pub waiting_drafted : (model : ℕ) (before entries : List Entry) → AllByRecursion (IsNumbered (length before)) before → AreLawfulAt (before ++ entries) → filter (λ (id : ℕ). waits_for model (row_of id (before ++ entries))) (ids_of (waiting_of model before)) ++ filter (λ (id : ℕ). waits_for model (row_of id (before ++ entries))) (ids_new entries) ≡ ids_of (waiting_of model (before ++ entries))

@@ -12,6 +12,8 @@ use Rattle.bank_model.specs.declared.setup.Setup.{Setup}
 use Rattle.bank_model.specs.declared.event.State.{State}
 use Rattle.bank_model.specs.Ledger.{row_of, balance}
 use Rattle.bank_model.specs.Models.{model_of, is_model_dropped}
+use Rattle.bank_model.specs.Deeds.{judged}
+use Rattle.ofx_types.specs.declared.transfer.Deed.{Deed}
 use Rattle.bank_accounts.specs.AccountView.{AccountView}
 use Rattle.bank_accounts.specs.HeldAccounts.{balance_held, IsHeld, HaveSameNumbers}
 use Rattle.bank_model.specs.SetupLookups.{account_of}
@@ -97,6 +99,10 @@ pub record IsSameFile (old new : DraftView) : Type 0 where
 abbrev pub amount_held : List AccountView → Option AcctId → ℤ
 amount_held accounts None = pos 0
 amount_held accounts (Some account) = (unwrap_or (balance_held accounts account) (record { 0 = pos 0 })).0
+
+-- No refusal of the table holds, whichever account alone counts as the user's.
+abbrev pub IsUnrefused : Setup → State → UserId → Deed → Type 0
+IsUnrefused setup S user deed = (only : Option AcctId) × (judged setup S user only deed ≡ 0)
 
 -- a draft with one uid more
 abbrev pub with_uid : DraftView → List ℕ → DraftView

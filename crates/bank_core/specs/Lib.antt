@@ -8,6 +8,7 @@ pub mod Runs
 pub mod Books
 pub mod Opened
 pub mod Pending
+pub mod Telling
 pub mod Naming
 pub mod Series
 pub mod DueFirst

@@ -3,10 +3,10 @@ use Rattle.std.specs.Prelude.{◌≡◌, ℕ, Bool, true, false, ◌==◌, ◌&&
 use Rattle.std.specs.List.{AllByRecursion, IsDistinct, flat_map}
 use Rattle.ofx_types.specs.declared.transfer.TransferRow.{TransferRow}
 use Rattle.ofx_types.specs.declared.transfer.Deed.{Deed}
-use Rattle.ofx_types.specs.declared.transfer.Deed.TheVariants.{Transfer, ModifyTransfer, CancelTransfer, Model, ModifyModel, CancelModel}
+use Rattle.ofx_types.specs.declared.transfer.Deed.TheVariants.{Transfer, ModifyTransfer, CancelTransfer, Model, ModifyModel, CancelModel, BankMail, Mail}
 use Rattle.bank_model.specs.declared.event.State.{State}
 use Rattle.ofx_types.specs.declared.transfer.Change.{Change}
-use Rattle.ofx_types.specs.declared.transfer.Change.TheVariants.{NewTransfer, SetTransfer, DropTransfer, NewModel, SetModel, DropModel}
+use Rattle.ofx_types.specs.declared.transfer.Change.TheVariants.{NewTransfer, SetTransfer, DropTransfer, NewModel, SetModel, DropModel, NewMail}
 use Rattle.bank_model.specs.declared.entry.Entry.{Entry}
 use Rattle.bank_model.specs.declared.setup.Setup.{Setup}
 use Rattle.ofx_types.specs.AccountForm.{same_account}
@@ -29,6 +29,8 @@ pending_of S (CancelTransfer id) = []
 pending_of S (Model recur info) = []
 pending_of S (ModifyModel id recur info also) = waiting_if also id S
 pending_of S (CancelModel id also) = waiting_if also id S
+pending_of S (BankMail account mail) = []
+pending_of S (Mail mail) = []
 
 abbrev pub ids_of : List TransferRow → List ℕ
 ids_of rows = map (λ (row : TransferRow). row.id) rows
@@ -43,6 +45,8 @@ own_entries setup S trnuid (ModifyModel id recur info also) =
     model_entries_on setup S trnuid (model_of id S.entries) (λ row. SetModel (changed_model S.day recur info row) also) []
 own_entries setup S trnuid (CancelModel id also) =
     model_entries_on setup S trnuid (model_of id S.entries) (λ row. DropModel id also) []
+own_entries setup S trnuid (BankMail account mail) = []
+own_entries setup S trnuid (Mail mail) = []
 
 -- ---- the rows of some transfers by their ids
 
@@ -67,6 +71,7 @@ id_new (DropTransfer id) = []
 id_new (NewModel row) = []
 id_new (SetModel row also) = []
 id_new (DropModel id also) = []
+id_new (NewMail mail) = []
 
 abbrev pub ids_new : List Entry → List ℕ
 ids_new entries = flat_map (λ (entry : Entry). id_new entry.change) entries

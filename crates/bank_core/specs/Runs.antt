@@ -7,7 +7,7 @@ use Rattle.ofx_types.specs.declared.number.UserId.{UserId}
 use Rattle.bank_model.specs.declared.setup.Setup.{Setup}
 use Rattle.bank_model.specs.declared.event.State.{State}
 use Rattle.bank_model.specs.declared.event.Event.{Event}
-use Rattle.bank_model.specs.declared.event.Event.TheVariants.{File, Post, Spawn}
+use Rattle.bank_model.specs.declared.event.Event.TheVariants.{File, Post, Spawn, Letter}
 use Rattle.bank_model.specs.Once.{reply_kept}
 use Rattle.bank_model.specs.Rules.{state_after, IsLegal}
 
@@ -43,3 +43,4 @@ abbrev pub releases : UserId → List ℕ → Event → Bool
 releases user name (File other file) = names_file user name other file.older
 releases user name (Post id) = false
 releases user name (Spawn id place) = false
+releases user name (Letter other subject body) = false

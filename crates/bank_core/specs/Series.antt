@@ -3,7 +3,7 @@ use Rattle.std.specs.Prelude.{◌≢◌, ℕ, ◌<◌, ◌==◌, if◌then◌els
 use Rattle.std.specs.List.{flat_map}
 use Rattle.ofx_types.specs.declared.number.Day.{Day}
 use Rattle.ofx_types.specs.declared.transfer.Change.{Change}
-use Rattle.ofx_types.specs.declared.transfer.Change.TheVariants.{NewTransfer, SetTransfer, DropTransfer, NewModel, SetModel, DropModel}
+use Rattle.ofx_types.specs.declared.transfer.Change.TheVariants.{NewTransfer, SetTransfer, DropTransfer, NewModel, SetModel, DropModel, NewMail}
 use Rattle.bank_model.specs.declared.entry.Entry.{Entry}
 use Rattle.bank_model.specs.Models.{since_anew}
 
@@ -15,6 +15,7 @@ date_made id (DropTransfer dropped) = []
 date_made id (NewModel row) = []
 date_made id (SetModel row pending) = []
 date_made id (DropModel dropped pending) = []
+date_made id (NewMail mail) = []
 
 -- The dates for which it made transfers since it last began anew, the latest first.
 abbrev pub dates_made : ℕ → List Entry → List Day

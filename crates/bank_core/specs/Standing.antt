@@ -4,12 +4,13 @@ use Rattle.std.specs.Option.{IfSome, option_map}
 use Rattle.std.specs.List.{AllByRecursion}
 use Rattle.ofx_types.specs.AccountForm.{same_account}
 use Rattle.ofx_types.specs.Calendar.{IsMoment, IsDay}
+use Rattle.ofx_types.specs.Printable.{IsPrintableChange}
 use Rattle.ofx_types.specs.declared.account.AcctName.{AcctName}
 use Rattle.ofx_types.specs.declared.number.AcctId.{AcctId}
 use Rattle.ofx_types.specs.declared.transfer.TransferRow.{TransferRow}
 use Rattle.ofx_types.specs.declared.transfer.Change.{Change}
 use Rattle.ofx_types.specs.declared.recurring.ModelRow.{ModelRow}
-use Rattle.ofx_types.specs.declared.transfer.Change.TheVariants.{NewTransfer, SetTransfer, DropTransfer, NewModel, SetModel, DropModel}
+use Rattle.ofx_types.specs.declared.transfer.Change.TheVariants.{NewTransfer, SetTransfer, DropTransfer, NewModel, SetModel, DropModel, NewMail}
 use Rattle.bank_model.specs.declared.entry.Entry.{Entry}
 use Rattle.bank_model.specs.declared.setup.Setup.{Setup}
 use Rattle.bank_model.specs.declared.event.State.{State}
@@ -45,17 +46,25 @@ HasSoundRow setup entry = IfSome (row_in entry.change) (IsSoundRow setup)
 abbrev pub HasSoundModel : Setup → Entry → Type 0
 HasSoundModel setup entry = IfSome (model_in entry.change) (IsSoundModel setup)
 
--- the transfer, or the recurring transfer, that a change speaks of
-abbrev pub id_in : Change → ℕ
-id_in (NewTransfer row) = row.id
-id_in (SetTransfer row) = row.id
-id_in (DropTransfer id) = id
-id_in (NewModel row) = row.id
-id_in (SetModel row pending) = row.id
-id_in (DropModel id pending) = id
+-- An entry's change may be told to a client.
+abbrev pub MayBeTold : Entry → Type 0
+MayBeTold entry = IsPrintableChange entry.change
+
+abbrev pub IsUpTo : ℕ → ℕ → Type 0
+IsUpTo count id = (0 < id) × (id ≤ count)
+
+-- The transfer, or the recurring transfer, that a change speaks of is one of so many entries'. A mail speaks of none.
+abbrev pub IsOfMade : ℕ → Change → Type 0
+IsOfMade count (NewTransfer row) = IsUpTo count row.id
+IsOfMade count (SetTransfer row) = IsUpTo count row.id
+IsOfMade count (DropTransfer id) = IsUpTo count id
+IsOfMade count (NewModel row) = IsUpTo count row.id
+IsOfMade count (SetModel row pending) = IsUpTo count row.id
+IsOfMade count (DropModel id pending) = IsUpTo count id
+IsOfMade count (NewMail row) = Unit {0}
 
 abbrev pub IsNumbered : ℕ → Entry → Type 0
-IsNumbered count entry = (0 < id_in entry.change) × (id_in entry.change ≤ count)
+IsNumbered count entry = IsOfMade count entry.change
 
 -- The recurring transfer that made a transfer was made by then, and has the transfer's source. A transfer that a user asked
 -- for has none, 0.
@@ -92,7 +101,7 @@ IsNextOf entries row =
 
 -- What is new has its entry's number as its id. A new transfer was asked for, or is the next one of a recurring transfer.
 -- A transfer that is changed, posted, closed or cancelled waits, and a recurring transfer that is changed or cancelled
--- isn't cancelled yet. Neither changes its source.
+-- isn't cancelled yet. Neither changes its source. Mail may always come.
 abbrev pub IsLawful : List Entry → Change → Type 0
 IsLawful before (NewTransfer row) = (row.id ≡ length before + 1) × ((row.model ≡ 0) ⊎ IsNextOf before row)
 IsLawful before (SetTransfer row) = IsOfWaiting row (row_of row.id before)
@@ -100,9 +109,10 @@ IsLawful before (DropTransfer id) = IsWaiting (row_of id before)
 IsLawful before (NewModel row) = row.id ≡ length before + 1
 IsLawful before (SetModel row pending) = GoesOn before row.id × (source_of row.id before ≡ Some row.from)
 IsLawful before (DropModel id pending) = GoesOn before id
+IsLawful before (NewMail row) = Unit {0}
 
 -- Entry i, from 1, has the number i, and there are no more entries than the setup allows. Each speaks of what an entry has
--- made by then, and may stand behind those before it. A transfer has the source of its recurring transfer. No recurring
+-- made by then, may stand behind those before it, and may be told to a client. A transfer has the source of its recurring transfer. No recurring
 -- transfer has made more transfers since it last began anew than there are dates. No balance is below zero. No user has
 -- used up a uid twice, and no file of a user has two replies.
 pub record IsSoundState (setup : Setup) (S : State) : Type 0 where
@@ -111,6 +121,7 @@ pub record IsSoundState (setup : Setup) (S : State) : Type 0 where
   pub rows : AllByRecursion (HasSoundRow setup) S.entries
   pub models : AllByRecursion (HasSoundModel setup) S.entries
   pub made : AllByRecursion (IsNumbered (length S.entries)) S.entries
+  pub told : AllByRecursion MayBeTold S.entries
   pub lawful : (k : ℕ) (d : Entry) → k < length S.entries → IsLawful (take k S.entries) (slice_index_or S.entries k d).change
   pub sources : AreSources S.entries
   pub places : (id : ℕ) → 0 < id → next_place id S.entries ≤ 2958464

@@ -1,6 +1,6 @@
 //! The asks of a user's file, answered one after another.
 
-ghost use Rattle.std.specs.Prelude.{◌≡◌, IfOk, OnOk};
+ghost use Rattle.std.specs.Prelude.{◌≡◌, ◌<◌, length, IfOk, OnOk};
 ghost use Rattle.std.specs.List.{AllByRecursion, flat_map};
 ghost use Rattle.ofx_types.specs.Calendar.{IsMoment};
 ghost use Rattle.bank_model.specs.SetupForm.{IsWithinLimits};
@@ -26,6 +26,7 @@ impl Draft {
         asks: &[Ask],
     ) -> Result<AskReplies, OutOfMemory>
         requires within { IsWithinLimits setup.now }
+        requires known { self.old.user.0 < length setup.now.users }
         requires moment { IsMoment self.old.at.0 }
         requires sound { IsSoundState setup.now (drafted ledger.now.state self.old) }
         requires draft { IsDraft setup.now ledger.now.state self.old }
@@ -55,6 +56,7 @@ impl Draft {
         ask: &Ask,
     ) -> Result<AskReply, OutOfMemory>
         requires within { IsWithinLimits setup.now }
+        requires known { self.old.user.0 < length setup.now.users }
         requires moment { IsMoment self.old.at.0 }
         requires sound { IsSoundState setup.now (drafted ledger.now.state self.old) }
         requires draft { IsDraft setup.now ledger.now.state self.old }
@@ -73,8 +75,12 @@ impl Draft {
                 Ok(reply)
             }
             Ask::One(trnuid, deed) => {
-                let reply = self.deed(alloc, setup, ledger, trnuid, deed)?;
+                let reply = self.deed(alloc, setup, ledger, None, trnuid, deed)?;
                 Ok(AskReply::One(reply))
+            }
+            Ask::Sync(ask) => {
+                let reply = self.sync(alloc, setup, ledger, ask)?;
+                Ok(AskReply::Sync(reply))
             }
         }
     }

@@ -4,6 +4,7 @@ mod answer;
 mod due;
 mod legal;
 mod named;
+mod poll;
 mod unasked;
 
 ghost use Rattle.std.specs.Prelude.{◌≡◌, ◌+◌, ◌<◌, ◌≤◌, length, IfSome, IfNone, IfOk, OnErr};
@@ -148,6 +149,9 @@ impl<P: Printer> Book<P> {
             Event::File(user, file) => self.prepare(alloc, held, event, (*user, at), file),
             Event::Post(id) => self.prepare_post(alloc, held, event, *id, at),
             Event::Spawn(id, place) => self.prepare_spawn(alloc, held, event, (*id, *place), at),
+            Event::Letter(user, subject, body) => {
+                self.prepare_letter(alloc, held, event, (*user, at), subject, body)
+            }
         }
     }
 

@@ -1,7 +1,7 @@
-//! A deed of a user's file: its code, and what it adds to a draft (OFX 1.6, "Intrabank Funds Transfer" and "Recurring
-//! Transactions").
+//! A deed of a user's file: its code, and what it adds to a draft (OFX 1.6, "Intrabank Funds Transfer", "Recurring
+//! Transactions" and "Communication Between Customers and Financial Institutions").
 
-ghost use Rattle.std.specs.Prelude.{◌≡◌, ◌+◌, ◌≤◌, None, Some, length, if◌then◌else◌, IfOk, OnOk};
+ghost use Rattle.std.specs.Prelude.{◌≡◌, ◌+◌, ◌<◌, ◌≤◌, None, Some, length, if◌then◌else◌, IfOk, OnOk};
 ghost use Rattle.ofx_types.specs.Calendar.{IsMoment};
 ghost use Rattle.ofx_types.specs.DeedForm as forms;
 ghost use Rattle.bank_model.specs.SetupForm.{IsWithinLimits};
@@ -13,14 +13,17 @@ ghost use Rattle.bank_model.specs.Sound.{IsSoundDeed};
 ghost use Rattle.bank_accounts.specs.HeldAccounts.{AreHeld};
 ghost use Rattle.bank_core.specs.Standing.{IsSoundState};
 ghost use Rattle.bank_core.specs.Pending.{pending_of, ids_of};
-ghost use Rattle.bank_core.specs.DraftView.{drafted, amount_held, IsDraft, HasAdded, IsSameFile};
+ghost use Rattle.bank_core.specs.DraftView.{drafted, IsUnrefused, amount_held, IsDraft, HasAdded, IsSameFile};
 
 use crate::draft::Draft;
 use crate::ledger::Ledger;
+use bank_mail::{judge_bank_mail, judge_mail};
 use bank_model::Setup;
 use bank_recur::{judge_model, judge_model_cancel, judge_model_modify};
 use bank_transfers::{judge_cancel, judge_modify, judge_transfer};
-use ofx_types::{Cents, Change, Deed, DeedReply, Duplicate, Family, OutOfMemory, TrnUid, XferInfo};
+use ofx_types::{
+    AcctId, Cents, Change, Deed, DeedReply, Duplicate, Family, OutOfMemory, TrnUid, XferInfo,
+};
 use std::alloc::Global;
 
 /// The code of a deed that was done.
@@ -34,30 +37,34 @@ const USED_UP: u16 = 2019;
 
 impl Draft {
     /// Answers a deed under a uid, and adds what it does. A uid is used up whatever comes of the deed.
+    ///
+    /// Where the deed stands in the synchronisation of one account, `only` is that account.
     pub(crate) fn deed(
         &mut self,
         alloc: Global,
         setup: &Setup,
         ledger: &Ledger,
+        only: Option<AcctId>,
         trnuid: &TrnUid,
         deed: &Deed,
     ) -> Result<DeedReply, OutOfMemory>
         requires within { IsWithinLimits setup.now }
+        requires known { self.old.user.0 < length setup.now.users }
         requires moment { IsMoment self.old.at.0 }
         requires sound { IsSoundState setup.now (drafted ledger.now.state self.old) }
         requires draft { IsDraft setup.now ledger.now.state self.old }
         requires deed { IsSoundDeed deed.now }
         requires named { AreHeld self.old.accounts (named_by_deed setup.now deed.now) }
         ensures reply { IfOk result (λ reply. reply ≡ (deed_answer setup.now (drafted ledger.now.state self.old)
-            self.old.user None self.old.at trnuid.now deed.now).reply) }
+            self.old.user only self.old.at trnuid.now deed.now).reply) }
         ensures after { OnOk result (drafted ledger.now.state self.new ≡ (deed_answer setup.now
-            (drafted ledger.now.state self.old) self.old.user None self.old.at trnuid.now deed.now).after) }
+            (drafted ledger.now.state self.old) self.old.user only self.old.at trnuid.now deed.now).after) }
         ensures draft { OnOk result (IsDraft setup.now ledger.now.state self.new) }
         ensures file { OnOk result (IsSameFile self.old self.new) }
     {
         let pending = self.pending(alloc, setup, ledger, deed)?;
-        match self.code(setup, ledger, trnuid, deed, &pending) {
-            DONE => self.done_reply(setup, ledger, trnuid, deed, &pending),
+        match self.code(setup, ledger, only, trnuid, deed, &pending) {
+            DONE => self.done_reply(setup, ledger, only, trnuid, deed, &pending),
             USED_UP => {
                 let reply = refusal(trnuid, deed, USED_UP)?;
                 Ok(reply)
@@ -76,23 +83,25 @@ impl Draft {
         &mut self,
         setup: &Setup,
         ledger: &Ledger,
+        only: Option<AcctId>,
         trnuid: &TrnUid,
         deed: &Deed,
         pending: &[u64],
     ) -> Result<DeedReply, OutOfMemory>
         requires within { IsWithinLimits setup.now }
+        requires known { self.old.user.0 < length setup.now.users }
         requires moment { IsMoment self.old.at.0 }
         requires sound { IsSoundState setup.now (drafted ledger.now.state self.old) }
         requires draft { IsDraft setup.now ledger.now.state self.old }
         requires deed { IsSoundDeed deed.now }
         requires named { AreHeld self.old.accounts (named_by_deed setup.now deed.now) }
-        requires done { code_of setup.now (drafted ledger.now.state self.old) self.old.user None self.old.at trnuid.now
+        requires done { code_of setup.now (drafted ledger.now.state self.old) self.old.user only self.old.at trnuid.now
             deed.now ≡ 0 }
         requires pending { pending.now ≡ ids_of (pending_of (drafted ledger.now.state self.old) deed.now) }
         ensures reply { IfOk result (λ reply. reply ≡ (deed_answer setup.now (drafted ledger.now.state self.old)
-            self.old.user None self.old.at trnuid.now deed.now).reply) }
+            self.old.user only self.old.at trnuid.now deed.now).reply) }
         ensures after { OnOk result (drafted ledger.now.state self.new ≡ (deed_answer setup.now
-            (drafted ledger.now.state self.old) self.old.user None self.old.at trnuid.now deed.now).after) }
+            (drafted ledger.now.state self.old) self.old.user only self.old.at trnuid.now deed.now).after) }
         ensures draft { OnOk result (IsDraft setup.now ledger.now.state self.new) }
         ensures file { OnOk result (IsSameFile self.old self.new) }
     {
@@ -114,6 +123,7 @@ impl Draft {
         &self,
         setup: &Setup,
         ledger: &Ledger,
+        only: Option<AcctId>,
         trnuid: &TrnUid,
         deed: &Deed,
         pending: &[u64],
@@ -125,13 +135,13 @@ impl Draft {
         requires deed { IsSoundDeed deed.now }
         requires named { AreHeld self.now.accounts (named_by_deed setup.now deed.now) }
         requires pending { pending.now ≡ ids_of (pending_of (drafted ledger.now.state self.now) deed.now) }
-        ensures { result ≡ code_of setup.now (drafted ledger.now.state self.now) self.now.user None self.now.at trnuid.now
+        ensures { result ≡ code_of setup.now (drafted ledger.now.state self.now) self.now.user only self.now.at trnuid.now
             deed.now }
     {
         if self.is_used(ledger, trnuid) {
             return USED_UP;
         }
-        match self.judged(setup, ledger, deed) {
+        match self.judged(setup, ledger, only, deed) {
             DONE => self.room_code(setup, ledger, pending.len()),
             code => code,
         }
@@ -161,36 +171,40 @@ impl Draft {
     }
 
     /// The code of a deed by the table of refusals.
-    fn judged(&self, setup: &Setup, ledger: &Ledger, deed: &Deed) -> u16
+    fn judged(&self, setup: &Setup, ledger: &Ledger, only: Option<AcctId>, deed: &Deed) -> u16
         requires within { IsWithinLimits setup.now }
         requires draft { IsDraft setup.now ledger.now.state self.now }
         requires named { AreHeld self.now.accounts (named_by_deed setup.now deed.now) }
-        ensures { result ≡ rules.judged setup.now (drafted ledger.now.state self.now) self.now.user None deed.now }
+        ensures { result ≡ rules.judged setup.now (drafted ledger.now.state self.now) self.now.user only deed.now }
     {
         match deed {
             Deed::Transfer(info) => {
                 let balance = self.source_balance(setup, info);
-                judge_transfer(setup, self.user(), None, info, self.day(), balance)
+                judge_transfer(setup, self.user(), only, info, self.day(), balance)
             }
             Deed::ModifyTransfer(id, info) => {
                 let row = self.row(ledger, *id);
-                judge_modify(setup, self.user(), None, row, info, self.day())
+                judge_modify(setup, self.user(), only, row, info, self.day())
             }
             Deed::CancelTransfer(id) => {
                 let row = self.row(ledger, *id);
-                judge_cancel(setup, self.user(), None, row)
+                judge_cancel(setup, self.user(), only, row)
             }
-            Deed::Model(_, info) => judge_model(setup, self.user(), None, info, self.day()),
+            Deed::Model(_, info) => judge_model(setup, self.user(), only, info, self.day()),
             Deed::ModifyModel(id, _, info, _) => {
                 let row = self.model(ledger, *id);
                 let cancelled = self.is_cancelled(ledger, *id);
-                judge_model_modify(setup, self.user(), None, row, cancelled, info, self.day())
+                judge_model_modify(setup, self.user(), only, row, cancelled, info, self.day())
             }
             Deed::CancelModel(id, _) => {
                 let row = self.model(ledger, *id);
                 let cancelled = self.is_cancelled(ledger, *id);
-                judge_model_cancel(setup, self.user(), None, row, cancelled)
+                judge_model_cancel(setup, self.user(), only, row, cancelled)
             }
+            Deed::BankMail(account, mail) => {
+                judge_bank_mail(setup, self.user(), only, account, mail)
+            }
+            Deed::Mail(mail) => judge_mail(mail),
         }
     }
 
@@ -215,18 +229,19 @@ impl Draft {
         pending: &[u64],
     ) -> Result<Change, OutOfMemory>
         requires within { IsWithinLimits setup.now }
+        requires known { self.old.user.0 < length setup.now.users }
         requires moment { IsMoment self.old.at.0 }
         requires sound { IsSoundState setup.now (drafted ledger.now.state self.old) }
         requires few { length (drafted ledger.now.state self.old).entries + (length pending.now + 1) ≤ setup.now.entries }
         requires draft { IsDraft setup.now ledger.now.state self.old }
         requires deed { IsSoundDeed deed.now }
         requires named { AreHeld self.old.accounts (named_by_deed setup.now deed.now) }
-        requires judged { rules.judged setup.now (drafted ledger.now.state self.old) self.old.user None deed.now ≡ 0 }
+        requires judged { IsUnrefused setup.now (drafted ledger.now.state self.old) self.old.user deed.now }
         requires pending { pending.now ≡ ids_of (pending_of (drafted ledger.now.state self.old) deed.now) }
         ensures change { IfOk result (λ change. first_change (done setup.now (drafted ledger.now.state self.old)
-            self.old.at trnuid.now deed.now) ≡ Some change) }
+            self.old.user self.old.at trnuid.now deed.now) ≡ Some change) }
         ensures added { OnOk result (HasAdded setup.now ledger.now.state self.old self.new
-            (done setup.now (drafted ledger.now.state self.old) self.old.at trnuid.now deed.now)) }
+            (done setup.now (drafted ledger.now.state self.old) self.old.user self.old.at trnuid.now deed.now)) }
     {
         match deed {
             Deed::Transfer(info) => self.transfer(setup, ledger, trnuid, info),
@@ -239,12 +254,16 @@ impl Draft {
             Deed::CancelModel(id, also) => {
                 self.cancel_model(setup, ledger, trnuid, (*id, *also), pending)
             }
+            Deed::BankMail(account, mail) => {
+                self.mail_about(setup, ledger, trnuid, account, mail)
+            }
+            Deed::Mail(mail) => self.mail(setup, ledger, trnuid, mail),
         }
     }
 }
 
 /// What a deed belongs to.
-fn family_of(deed: &Deed) -> Family
+pub(crate) fn family_of(deed: &Deed) -> Family
     ensures { result ≡ forms.family_of deed.now }
 {
     match deed {
@@ -254,6 +273,8 @@ fn family_of(deed: &Deed) -> Family
         Deed::Model(_, _) => Family::RecIntra,
         Deed::ModifyModel(_, _, _, _) => Family::RecIntra,
         Deed::CancelModel(_, _) => Family::RecIntra,
+        Deed::BankMail(_, _) => Family::BankMail,
+        Deed::Mail(_) => Family::Mail,
     }
 }
 

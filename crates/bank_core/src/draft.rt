@@ -325,6 +325,7 @@ fn post(postings: &mut Transfers, number: u64, effect: &Effect) -> Result<(), Ou
         Effect::Made(row) => post_row(postings, number, row),
         Effect::Model(_) => Ok(()),
         Effect::NoModel(_) => Ok(()),
+        Effect::Mail => Ok(()),
     }
 }
 

@@ -17,6 +17,8 @@ pub(crate) enum Effect {
     Model(ModelRow),
     /// The recurring transfer with this id is cancelled.
     NoModel(u64),
+    /// A mail came in or went out, which changes no row.
+    Mail,
 }
 
 impl Effect {

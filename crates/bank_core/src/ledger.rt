@@ -90,6 +90,13 @@ impl Ledger {
         self.entries.len() as u64
     }
 
+    /// The history, lent.
+    pub(crate) fn entries(&self) -> &[Entry]
+        ensures { result.now ≡ self.now.state.entries }
+    {
+        self.entries.as_slice()
+    }
+
     /// The business day.
     pub(crate) fn day(&self) -> Day
         ensures { result ≡ self.now.state.day }
@@ -220,6 +227,7 @@ impl Ledger {
                 self.models.cancel(id);
                 self.entries.push_reserved(entry);
             }
+            Effect::Mail => self.entries.push_reserved(entry),
         }
     }
 

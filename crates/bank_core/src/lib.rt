@@ -12,8 +12,10 @@ mod due;
 mod effect;
 mod entering;
 mod failed_signon;
+mod history;
 mod laws;
 mod ledger;
+mod mail;
 mod models;
 mod opening;
 mod pending;
@@ -21,6 +23,7 @@ mod prepared;
 mod rows;
 mod sound;
 mod statement;
+mod sync;
 mod transfers;
 
 pub use book::Book;

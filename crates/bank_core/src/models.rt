@@ -13,7 +13,7 @@ ghost use Rattle.bank_model.specs.Sound.{IsSoundDeed};
 ghost use Rattle.bank_core.specs.Standing.{IsSoundState};
 ghost use Rattle.bank_core.specs.Effects.{model_drafted};
 ghost use Rattle.bank_core.specs.Pending.{pending_of, ids_of, own_entries};
-ghost use Rattle.bank_core.specs.DraftView.{drafted, IsDraft, HasAdded};
+ghost use Rattle.bank_core.specs.DraftView.{drafted, IsUnrefused, IsDraft, HasAdded};
 
 use crate::draft::Draft;
 use crate::effect::Effect;
@@ -37,12 +37,12 @@ impl Draft {
         requires few { length (drafted ledger.now.state self.old).entries + 1 ≤ setup.now.entries }
         requires draft { IsDraft setup.now ledger.now.state self.old }
         requires deed { IsSoundDeed (deeds.Model recur info.now) }
-        requires judged { rules.judged setup.now (drafted ledger.now.state self.old) self.old.user None
-            (deeds.Model recur info.now) ≡ 0 }
+        requires judged { IsUnrefused setup.now (drafted ledger.now.state self.old) self.old.user
+            (deeds.Model recur info.now) }
         ensures change { IfOk result (λ change. first_change (done setup.now (drafted ledger.now.state self.old)
-            self.old.at trnuid.now (deeds.Model recur info.now)) ≡ Some change) }
+            self.old.user self.old.at trnuid.now (deeds.Model recur info.now)) ≡ Some change) }
         ensures added { OnOk result (HasAdded setup.now ledger.now.state self.old self.new
-            (done setup.now (drafted ledger.now.state self.old) self.old.at trnuid.now (deeds.Model recur info.now))) }
+            (done setup.now (drafted ledger.now.state self.old) self.old.user self.old.at trnuid.now (deeds.Model recur info.now))) }
     {
         let number = self.count(setup, ledger) + 1;
         let row = new_model(number, self.day(), recur, info)?;
@@ -75,14 +75,14 @@ impl Draft {
         requires few { length (drafted ledger.now.state self.old).entries + (length pending.now + 1) ≤ setup.now.entries }
         requires draft { IsDraft setup.now ledger.now.state self.old }
         requires deed { IsSoundDeed (deeds.ModifyModel asked.0 asked.1 info.now asked.2) }
-        requires judged { rules.judged setup.now (drafted ledger.now.state self.old) self.old.user None
-            (deeds.ModifyModel asked.0 asked.1 info.now asked.2) ≡ 0 }
+        requires judged { IsUnrefused setup.now (drafted ledger.now.state self.old) self.old.user
+            (deeds.ModifyModel asked.0 asked.1 info.now asked.2) }
         requires pending { pending.now ≡ ids_of (pending_of (drafted ledger.now.state self.old)
             (deeds.ModifyModel asked.0 asked.1 info.now asked.2)) }
         ensures change { IfOk result (λ change. first_change (done setup.now (drafted ledger.now.state self.old)
-            self.old.at trnuid.now (deeds.ModifyModel asked.0 asked.1 info.now asked.2)) ≡ Some change) }
+            self.old.user self.old.at trnuid.now (deeds.ModifyModel asked.0 asked.1 info.now asked.2)) ≡ Some change) }
         ensures added { OnOk result (HasAdded setup.now ledger.now.state self.old self.new
-            (done setup.now (drafted ledger.now.state self.old) self.old.at trnuid.now
+            (done setup.now (drafted ledger.now.state self.old) self.old.user self.old.at trnuid.now
             (deeds.ModifyModel asked.0 asked.1 info.now asked.2))) }
     {
         let told = self.change_model(setup, ledger, trnuid, asked, info)?;
@@ -103,14 +103,14 @@ impl Draft {
         requires sound { IsSoundState setup.now (drafted ledger.now.state self.old) }
         requires few { length (drafted ledger.now.state self.old).entries + (length pending.now + 1) ≤ setup.now.entries }
         requires draft { IsDraft setup.now ledger.now.state self.old }
-        requires judged { rules.judged setup.now (drafted ledger.now.state self.old) self.old.user None
-            (deeds.CancelModel asked.0 asked.1) ≡ 0 }
+        requires judged { IsUnrefused setup.now (drafted ledger.now.state self.old) self.old.user
+            (deeds.CancelModel asked.0 asked.1) }
         requires pending { pending.now ≡ ids_of (pending_of (drafted ledger.now.state self.old)
             (deeds.CancelModel asked.0 asked.1)) }
         ensures change { IfOk result (λ change. first_change (done setup.now (drafted ledger.now.state self.old)
-            self.old.at trnuid.now (deeds.CancelModel asked.0 asked.1)) ≡ Some change) }
+            self.old.user self.old.at trnuid.now (deeds.CancelModel asked.0 asked.1)) ≡ Some change) }
         ensures added { OnOk result (HasAdded setup.now ledger.now.state self.old self.new
-            (done setup.now (drafted ledger.now.state self.old) self.old.at trnuid.now
+            (done setup.now (drafted ledger.now.state self.old) self.old.user self.old.at trnuid.now
             (deeds.CancelModel asked.0 asked.1))) }
     {
         self.drop_model(setup, ledger, trnuid, asked.0, asked.1)?;
@@ -132,8 +132,8 @@ impl Draft {
         requires few { length (drafted ledger.now.state self.old).entries + 1 ≤ setup.now.entries }
         requires draft { IsDraft setup.now ledger.now.state self.old }
         requires deed { IsSoundDeed (deeds.ModifyModel asked.0 asked.1 info.now asked.2) }
-        requires judged { rules.judged setup.now (drafted ledger.now.state self.old) self.old.user None
-            (deeds.ModifyModel asked.0 asked.1 info.now asked.2) ≡ 0 }
+        requires judged { IsUnrefused setup.now (drafted ledger.now.state self.old) self.old.user
+            (deeds.ModifyModel asked.0 asked.1 info.now asked.2) }
         ensures change { IfOk result (λ change. first_change (own_entries setup.now (drafted ledger.now.state self.old)
             trnuid.now (deeds.ModifyModel asked.0 asked.1 info.now asked.2)) ≡ Some change) }
         ensures added { OnOk result (HasAdded setup.now ledger.now.state self.old self.new (own_entries setup.now
@@ -168,8 +168,8 @@ impl Draft {
         requires sound { IsSoundState setup.now (drafted ledger.now.state self.old) }
         requires few { length (drafted ledger.now.state self.old).entries + 1 ≤ setup.now.entries }
         requires draft { IsDraft setup.now ledger.now.state self.old }
-        requires judged { rules.judged setup.now (drafted ledger.now.state self.old) self.old.user None
-            (deeds.CancelModel id also) ≡ 0 }
+        requires judged { IsUnrefused setup.now (drafted ledger.now.state self.old) self.old.user
+            (deeds.CancelModel id also) }
         ensures { OnOk result (HasAdded setup.now ledger.now.state self.old self.new (own_entries setup.now
             (drafted ledger.now.state self.old) trnuid.now (deeds.CancelModel id also))) }
     {

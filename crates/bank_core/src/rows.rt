@@ -119,6 +119,15 @@ pub(crate) fn model_object_of(setup: &Setup, source: &AcctName) -> ObjectId
     ObjectId(3 * account_named(setup, source).0 + 1)
 }
 
+/// The object of the mail about the account of that name.
+pub(crate) fn letter_object_of(setup: &Setup, about: &AcctName) -> ObjectId
+    requires within { IsWithinLimits setup.now }
+    requires there { is_some (account_of setup.now about.now) ≡ true }
+    ensures { result ≡ deeds.letter_object_of setup.now about.now }
+{
+    ObjectId(3 * account_named(setup, about).0 + 2)
+}
+
 /// The row of a new recurring transfer.
 #[tactic(auto, unfolding(bank_model::specs::Deeds::new_model))]
 pub(crate) fn new_model(

@@ -3,7 +3,7 @@
 ghost use Rattle.std.specs.Prelude.{◌≡◌, Some, IfOk};
 ghost use Rattle.std.specs.Option.{IfSome};
 ghost use Rattle.bank_model.specs.SetupForm.{IsWithinLimits};
-ghost use Rattle.bank_model.specs.SetupLookups.{account_of};
+ghost use Rattle.bank_model.specs.SetupLookups.{account_of, own_account};
 ghost use Rattle.bank_model.specs.Rules as rules;
 ghost use Rattle.bank_accounts.specs.HeldAccounts.{IsHeld};
 ghost use Rattle.bank_core.specs.Balanced.{AreBalanced};
@@ -14,7 +14,7 @@ use crate::ledger::Ledger;
 use bank_model::Setup;
 use ofx_types::{
     AcctId, AcctName, AskReply, Duplicate, Moment, OutOfMemory, Period, StatementBody,
-    StatementList, TrnUid, UserId,
+    StatementList, TrnUid,
 };
 use std::alloc::Global;
 
@@ -42,9 +42,9 @@ impl Draft {
         requires named { IfSome (account_of setup.now name.now) (IsHeld self.now.accounts) }
         requires balanced { AreBalanced setup.now (drafted ledger.now.state self.now) self.now.accounts }
         ensures { IfOk result (λ reply. reply ≡ rules.statement_reply setup.now (drafted ledger.now.state self.now)
-            self.now.at trnuid.now name.now period (rules.own_account setup.now self.now.user name.now)) }
+            self.now.at trnuid.now name.now period (own_account setup.now self.now.user name.now)) }
     {
-        match own_account(setup, self.user(), name) {
+        match setup.own_account(self.user(), name) {
             Some(account) => {
                 let body = self.body(alloc, setup, ledger, name, period, account)?;
                 Ok(AskReply::Statement(trnuid.copy()?, DONE, Some(body)))
@@ -114,17 +114,5 @@ impl Draft {
             end: period.end.unwrap_or(self.at()),
             lines: self.lines(alloc, ledger, name, (start, period.end))?,
         })
-    }
-}
-
-/// The account of that name, where it is the user's.
-fn own_account(setup: &Setup, user: UserId, name: &AcctName) -> Option<AcctId>
-    requires within { IsWithinLimits setup.now }
-    ensures own { result ≡ rules.own_account setup.now user name.now }
-    ensures known { IfSome result (λ account. account_of setup.now name.now ≡ Some account) }
-{
-    match setup.account(name) {
-        Some(account) if setup.owns(user, account) => Some(account),
-        _ => None,
     }
 }

@@ -15,7 +15,7 @@ ghost use Rattle.bank_model.specs.Sound.{IsSoundDeed};
 ghost use Rattle.bank_accounts.specs.HeldAccounts.{AreHeld};
 ghost use Rattle.bank_core.specs.Standing.{IsSoundState};
 ghost use Rattle.bank_core.specs.Effects.{row_drafted};
-ghost use Rattle.bank_core.specs.DraftView.{drafted, IsDraft, HasAdded};
+ghost use Rattle.bank_core.specs.DraftView.{drafted, IsUnrefused, IsDraft, HasAdded};
 
 use crate::draft::Draft;
 use crate::effect::Effect;
@@ -40,12 +40,12 @@ impl Draft {
         requires draft { IsDraft setup.now ledger.now.state self.old }
         requires deed { IsSoundDeed (asked.Transfer info.now) }
         requires named { AreHeld self.old.accounts (named_by_deed setup.now (asked.Transfer info.now)) }
-        requires judged { rules.judged setup.now (drafted ledger.now.state self.old) self.old.user None
-            (asked.Transfer info.now) ≡ 0 }
+        requires judged { IsUnrefused setup.now (drafted ledger.now.state self.old) self.old.user
+            (asked.Transfer info.now) }
         ensures change { IfOk result (λ change. first_change (done setup.now (drafted ledger.now.state self.old)
-            self.old.at trnuid.now (asked.Transfer info.now)) ≡ Some change) }
+            self.old.user self.old.at trnuid.now (asked.Transfer info.now)) ≡ Some change) }
         ensures added { OnOk result (HasAdded setup.now ledger.now.state self.old self.new
-            (done setup.now (drafted ledger.now.state self.old) self.old.at trnuid.now (asked.Transfer info.now))) }
+            (done setup.now (drafted ledger.now.state self.old) self.old.user self.old.at trnuid.now (asked.Transfer info.now))) }
     {
         let number = self.count(setup, ledger) + 1;
         let row = new_row(number, self.at(), self.day(), info)?;
@@ -77,12 +77,12 @@ impl Draft {
         requires few { length (drafted ledger.now.state self.old).entries + 1 ≤ setup.now.entries }
         requires draft { IsDraft setup.now ledger.now.state self.old }
         requires deed { IsSoundDeed (asked.ModifyTransfer id info.now) }
-        requires judged { rules.judged setup.now (drafted ledger.now.state self.old) self.old.user None
-            (asked.ModifyTransfer id info.now) ≡ 0 }
+        requires judged { IsUnrefused setup.now (drafted ledger.now.state self.old) self.old.user
+            (asked.ModifyTransfer id info.now) }
         ensures change { IfOk result (λ change. first_change (done setup.now (drafted ledger.now.state self.old)
-            self.old.at trnuid.now (asked.ModifyTransfer id info.now)) ≡ Some change) }
+            self.old.user self.old.at trnuid.now (asked.ModifyTransfer id info.now)) ≡ Some change) }
         ensures added { OnOk result (HasAdded setup.now ledger.now.state self.old self.new
-            (done setup.now (drafted ledger.now.state self.old) self.old.at trnuid.now (asked.ModifyTransfer id info.now))) }
+            (done setup.now (drafted ledger.now.state self.old) self.old.user self.old.at trnuid.now (asked.ModifyTransfer id info.now))) }
     {
         let number = self.count(setup, ledger) + 1;
         let row = self.changed(ledger, id, info)?;
@@ -112,12 +112,12 @@ impl Draft {
         requires sound { IsSoundState setup.now (drafted ledger.now.state self.old) }
         requires few { length (drafted ledger.now.state self.old).entries + 1 ≤ setup.now.entries }
         requires draft { IsDraft setup.now ledger.now.state self.old }
-        requires judged { rules.judged setup.now (drafted ledger.now.state self.old) self.old.user None
-            (asked.CancelTransfer id) ≡ 0 }
+        requires judged { IsUnrefused setup.now (drafted ledger.now.state self.old) self.old.user
+            (asked.CancelTransfer id) }
         ensures change { IfOk result (λ change. first_change (done setup.now (drafted ledger.now.state self.old)
-            self.old.at trnuid.now (asked.CancelTransfer id)) ≡ Some change) }
+            self.old.user self.old.at trnuid.now (asked.CancelTransfer id)) ≡ Some change) }
         ensures added { OnOk result (HasAdded setup.now ledger.now.state self.old self.new
-            (done setup.now (drafted ledger.now.state self.old) self.old.at trnuid.now (asked.CancelTransfer id))) }
+            (done setup.now (drafted ledger.now.state self.old) self.old.user self.old.at trnuid.now (asked.CancelTransfer id))) }
     {
         let number = self.count(setup, ledger) + 1;
         let row = self.cancelled(ledger, id)?;

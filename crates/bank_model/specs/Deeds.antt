@@ -11,21 +11,23 @@ use Rattle.ofx_types.specs.declared.number.Moment.{Moment}
 use Rattle.ofx_types.specs.declared.transfer.XferCode.TheVariants.{Waiting, Posted}
 use Rattle.ofx_types.specs.declared.transfer.XferInfo.{XferInfo}
 use Rattle.ofx_types.specs.declared.transfer.Deed.{Deed}
-use Rattle.ofx_types.specs.declared.transfer.Deed.TheVariants.{Transfer, ModifyTransfer, CancelTransfer, Model, ModifyModel, CancelModel}
+use Rattle.ofx_types.specs.declared.transfer.Deed.TheVariants.{Transfer, ModifyTransfer, CancelTransfer, Model, ModifyModel, CancelModel, BankMail, Mail}
 use Rattle.ofx_types.specs.declared.transfer.TransferRow.{TransferRow}
 use Rattle.ofx_types.specs.declared.recurring.Recur.{Recur}
 use Rattle.ofx_types.specs.declared.recurring.ModelRow.{ModelRow}
+use Rattle.ofx_types.specs.declared.mail.MailText.{MailText}
+use Rattle.ofx_types.specs.declared.mail.MailRow.{MailRow}
 use Rattle.ofx_types.specs.declared.transfer.Change.{Change}
-use Rattle.ofx_types.specs.declared.transfer.Change.TheVariants.{NewTransfer, SetTransfer, DropTransfer, NewModel, SetModel, DropModel}
+use Rattle.ofx_types.specs.declared.transfer.Change.TheVariants.{NewTransfer, SetTransfer, DropTransfer, NewModel, SetModel, DropModel, NewMail}
 use Rattle.ofx_types.specs.declared.transfer.DeedReply.{DeedReply}
 use Rattle.bank_model.specs.declared.setup.Setup.{Setup}
 use Rattle.bank_model.specs.declared.entry.Entry.{Entry}
 use Rattle.bank_model.specs.declared.once.UsedPair.{UsedPair}
 use Rattle.bank_model.specs.declared.event.State.{State}
-use Rattle.bank_model.specs.SetupLookups.{account_of}
+use Rattle.bank_model.specs.SetupLookups.{account_of, user_name}
 use Rattle.bank_model.specs.Ledger.{balance, row_of}
 use Rattle.bank_model.specs.Models.{model_of, is_model_dropped, waiting_of}
-use Rattle.bank_model.specs.Judging.{due_day, is_due, transfer_code, modify_code, cancel_code, model_code, model_modify_code, model_cancel_code}
+use Rattle.bank_model.specs.Judging.{due_day, is_due, transfer_code, modify_code, cancel_code, model_code, model_modify_code, model_cancel_code, bank_mail_code, mail_code}
 use Rattle.bank_model.specs.Once.{is_used}
 
 -- ---- what is refused
@@ -48,6 +50,8 @@ judged setup S user only (ModifyModel id recur info pending) =
     model_modify_code setup user only (model_of id S.entries) (is_model_dropped id S.entries) info S.day
 judged setup S user only (CancelModel id pending) =
     model_cancel_code setup user only (model_of id S.entries) (is_model_dropped id S.entries)
+judged setup S user only (BankMail account mail) = bank_mail_code setup user only account mail
+judged setup S user only (Mail mail) = mail_code mail
 
 -- ---- what is done
 
@@ -66,6 +70,18 @@ recurring_of (Some account) = record { 0 = 3 * account.0 + 1 }
 
 abbrev pub model_object_of : Setup → AcctName → ObjectId
 model_object_of setup source = recurring_of (account_of setup source)
+
+-- And the mail about it at 3a + 2.
+abbrev pub letters_of : Option AcctId → ObjectId
+letters_of None = record { 0 = 0 }
+letters_of (Some account) = record { 0 = 3 * account.0 + 2 }
+
+abbrev pub letter_object_of : Setup → AcctName → ObjectId
+letter_object_of setup about = letters_of (account_of setup about)
+
+-- Behind those of all accounts come the users' other mails.
+abbrev pub mail_object : Setup → UserId → ObjectId
+mail_object setup user = record { 0 = 3 * length setup.accounts + user.0 }
 
 -- A transfer that is due is posted at once, with the moment as its stamp. Any other waits, and its stamp is the midnight
 -- of its due day.
@@ -154,23 +170,31 @@ model_entries_on setup S trnuid None change more = []
 model_entries_on setup S trnuid (Some row) change more =
     next_entry S (model_object_of setup row.from) trnuid (change row) ∷ more
 
+-- A mail is kept with the name of the user who sent it.
+abbrev pub mail_row : Setup → UserId → Option AcctName → MailText → MailRow
+mail_row setup user about mail = record { about = about; user = user_name setup user; mail = mail }
+
 -- The entries that a deed adds which isn't refused. Those of transfers stand in the history of the source's transfers,
--- those of recurring transfers in the history of the source's recurring transfers.
-unfoldable pub done : Setup → State → Moment → List ℕ → Deed → List Entry
-done setup S at trnuid (Transfer info) =
+-- those of recurring transfers in the history of the source's recurring transfers, and a mail in that of the mail about its
+-- account, or of the user's other mail.
+unfoldable pub done : Setup → State → UserId → Moment → List ℕ → Deed → List Entry
+done setup S user at trnuid (Transfer info) =
     next_entry S (object_of setup info.from) trnuid (NewTransfer (new_row (length S.entries + 1) at S.day info)) ∷ []
-done setup S at trnuid (ModifyTransfer id info) =
+done setup S user at trnuid (ModifyTransfer id info) =
     entry_on setup S trnuid (row_of id S.entries) (λ row. SetTransfer (changed_row S.day info row))
-done setup S at trnuid (CancelTransfer id) = entry_on setup S trnuid (row_of id S.entries) (λ row. DropTransfer id)
-done setup S at trnuid (Model recur info) =
+done setup S user at trnuid (CancelTransfer id) = entry_on setup S trnuid (row_of id S.entries) (λ row. DropTransfer id)
+done setup S user at trnuid (Model recur info) =
     next_entry S (model_object_of setup info.from) trnuid (NewModel (new_model (length S.entries + 1) S.day recur info)) ∷ []
-done setup S at trnuid (ModifyModel id recur info pending) =
+done setup S user at trnuid (ModifyModel id recur info pending) =
     model_entries_on setup S trnuid (model_of id S.entries) (λ row. SetModel (changed_model S.day recur info row) pending)
     (if_pending pending (entries_behind setup (length S.entries + 1) (λ row. SetTransfer (with_terms info row))
     (waiting_of id S.entries)))
-done setup S at trnuid (CancelModel id pending) =
+done setup S user at trnuid (CancelModel id pending) =
     model_entries_on setup S trnuid (model_of id S.entries) (λ row. DropModel id pending)
     (if_pending pending (entries_behind setup (length S.entries + 1) (λ row. DropTransfer row.id) (waiting_of id S.entries)))
+done setup S user at trnuid (BankMail account mail) =
+    next_entry S (letter_object_of setup account) trnuid (NewMail (mail_row setup user (Some account) mail)) ∷ []
+done setup S user at trnuid (Mail mail) = next_entry S (mail_object setup user) trnuid (NewMail (mail_row setup user None mail)) ∷ []
 
 -- ---- the code, the answer and the state behind it
 
@@ -186,11 +210,11 @@ unless_full full code = if code == 0 then (if full then 2000 else 0) else code
 unfoldable pub code_of : Setup → State → UserId → Option AcctId → Moment → List ℕ → Deed → ℕ
 code_of setup S user only at trnuid deed =
     if is_used user trnuid S.used then 2019
-    else unless_full (is_full setup (length S.entries + length (done setup S at trnuid deed))) (judged setup S user only deed)
+    else unless_full (is_full setup (length S.entries + length (done setup S user at trnuid deed))) (judged setup S user only deed)
 
 -- Only a deed with code 0 adds entries.
-abbrev pub added : Setup → State → Moment → List ℕ → Deed → ℕ → List Entry
-added setup S at trnuid deed code = if code == 0 then done setup S at trnuid deed else []
+abbrev pub added : Setup → State → UserId → Moment → List ℕ → Deed → ℕ → List Entry
+added setup S user at trnuid deed code = if code == 0 then done setup S user at trnuid deed else []
 
 -- A uid is used up whatever came of the deed, unless it was used up before.
 abbrev pub used_up : ℕ → UserId → List ℕ → List UsedPair → List UsedPair
@@ -215,7 +239,7 @@ pub record DeedAnswer : Type 0 where
 
 abbrev pub answer_with : Setup → State → UserId → Moment → List ℕ → Deed → ℕ → DeedAnswer
 answer_with setup S user at trnuid deed code =
-    let entries = added setup S at trnuid deed code in
+    let entries = added setup S user at trnuid deed code in
     record {
       reply = record { trnuid = trnuid; family = family_of deed; code = code; change = first_change entries };
       after = after_deed S user trnuid code entries;

@@ -9,7 +9,7 @@ use Rattle.ofx_types.specs.declared.transfer.XferCode.TheVariants.{Waiting, Post
 use Rattle.ofx_types.specs.declared.transfer.TransferRow.{TransferRow}
 use Rattle.ofx_types.specs.declared.recurring.ModelRow.{ModelRow}
 use Rattle.ofx_types.specs.declared.transfer.Change.{Change}
-use Rattle.ofx_types.specs.declared.transfer.Change.TheVariants.{NewTransfer, SetTransfer, DropTransfer, NewModel, SetModel, DropModel}
+use Rattle.ofx_types.specs.declared.transfer.Change.TheVariants.{NewTransfer, SetTransfer, DropTransfer, NewModel, SetModel, DropModel, NewMail}
 use Rattle.bank_model.specs.declared.setup.Setup.{Setup}
 use Rattle.bank_model.specs.declared.entry.Entry.{Entry}
 use Rattle.bank_model.specs.declared.event.State.{State}
@@ -144,6 +144,7 @@ makes last entries (DropTransfer id) = []
 makes last entries (NewModel row) = task_on row.id (date_to_make last row.id entries)
 makes last entries (SetModel row pending) = []
 makes last entries (DropModel id pending) = []
+makes last entries (NewMail row) = []
 
 unfoldable pub to_make : Day → List Entry → List Task
 to_make last entries = flat_map (λ (entry : Entry). makes last entries entry.change) entries

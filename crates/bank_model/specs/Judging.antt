@@ -1,6 +1,7 @@
--- What is refused of a transfer and of a recurring transfer, of their changes and of their cancellations, and with which
--- code.
-use Rattle.std.specs.Prelude.{ℕ, Bool, true, false, not, ◌&&◌, ◌==◌, if◌then◌else◌, ℤ, pos, int_le, int_lt, List, [], ◌∷◌, Option, None, Some, is_some, unwrap_or}
+-- What is refused of a transfer and of a recurring transfer, of their changes and of their cancellations, and of mail, and
+-- with which code.
+use Rattle.std.specs.Prelude.{ℕ, codes, Bool, true, false, not, ◌&&◌, ◌==◌, if◌then◌else◌, ℤ, pos, int_le, int_lt, List, [], ◌∷◌, Option, None, Some, is_some, unwrap_or}
+use Rattle.std.specs.Str.{bytes_eq}
 use Rattle.ofx_types.specs.AccountForm.{same_account}
 use Rattle.ofx_types.specs.declared.account.AcctName.{AcctName}
 use Rattle.ofx_types.specs.declared.number.AcctId.{AcctId}
@@ -11,6 +12,7 @@ use Rattle.ofx_types.specs.declared.transfer.XferCode.TheVariants.{Waiting, Post
 use Rattle.ofx_types.specs.declared.transfer.XferInfo.{XferInfo}
 use Rattle.ofx_types.specs.declared.transfer.TransferRow.{TransferRow}
 use Rattle.ofx_types.specs.declared.recurring.ModelRow.{ModelRow}
+use Rattle.ofx_types.specs.declared.mail.MailText.{MailText}
 use Rattle.bank_model.specs.declared.setup.Setup.{Setup}
 use Rattle.bank_model.specs.SetupLookups.{account_of, is_owner}
 use Rattle.bank_model.specs.Ledger.{is_covered}
@@ -148,3 +150,20 @@ model_modify_code setup user only row cancelled info day = model_row_code setup 
 -- A cancellation has no more.
 unfoldable pub model_cancel_code : Setup → UserId → Option AcctId → Option ModelRow → Bool → ℕ
 model_cancel_code setup user only row cancelled = model_row_code setup user only row cancelled (λ found. [])
+
+-- ---- mail
+
+-- The bank takes mail to `BANK`.
+abbrev pub is_to_bank : MailText → Bool
+is_to_bank mail = bytes_eq mail.target (codes "BANK")
+
+-- A mail about an account: the account isn't the user's; it isn't to the bank.
+unfoldable pub bank_mail_code : Setup → UserId → Option AcctId → AcctName → MailText → ℕ
+bank_mail_code setup user only account mail = first_of (
+    refused 2003 (not (is_own setup user only account))
+    ∷ refused 16501 (not (is_to_bank mail))
+    ∷ [])
+
+-- Any other mail: it isn't to the bank.
+unfoldable pub mail_code : MailText → ℕ
+mail_code mail = first_of (refused 16501 (not (is_to_bank mail)) ∷ [])

@@ -11,7 +11,7 @@ use Rattle.ofx_types.specs.declared.transfer.XferCode.{XferCode}
 use Rattle.ofx_types.specs.declared.transfer.XferCode.TheVariants.{Waiting, Posted, NoFunds, Cancelled}
 use Rattle.ofx_types.specs.declared.transfer.TransferRow.{TransferRow}
 use Rattle.ofx_types.specs.declared.transfer.Change.{Change}
-use Rattle.ofx_types.specs.declared.transfer.Change.TheVariants.{NewTransfer, SetTransfer, DropTransfer, NewModel, SetModel, DropModel}
+use Rattle.ofx_types.specs.declared.transfer.Change.TheVariants.{NewTransfer, SetTransfer, DropTransfer, NewModel, SetModel, DropModel, NewMail}
 use Rattle.bank_model.specs.declared.entry.Entry.{Entry}
 use Rattle.bank_model.specs.declared.setup.AccountLine.{AccountLine}
 use Rattle.bank_model.specs.declared.setup.Setup.{Setup}
@@ -25,6 +25,7 @@ row_in (DropTransfer id) = None
 row_in (NewModel row) = None
 row_in (SetModel row pending) = None
 row_in (DropModel id pending) = None
+row_in (NewMail row) = None
 
 -- ---- the row of a transfer
 
@@ -47,6 +48,7 @@ drops id (DropTransfer dropped) = dropped == id
 drops id (NewModel row) = false
 drops id (SetModel row pending) = false
 drops id (DropModel dropped pending) = false
+drops id (NewMail row) = false
 
 -- A transfer is cancelled where an entry drops it.
 unfoldable pub is_dropped : ℕ → List Entry → Bool

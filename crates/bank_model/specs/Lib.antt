@@ -10,6 +10,10 @@ pub mod Recurrence
 pub mod Judging
 pub mod Once
 pub mod Deeds
+pub mod Objects
+pub mod Sync
+pub mod Polls
+pub mod Stores
 pub mod Due
 pub mod Rules
 pub mod DueRun

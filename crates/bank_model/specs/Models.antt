@@ -7,7 +7,7 @@ use Rattle.ofx_types.specs.declared.transfer.XferCode.TheVariants.{Waiting, Post
 use Rattle.ofx_types.specs.declared.transfer.TransferRow.{TransferRow}
 use Rattle.ofx_types.specs.declared.recurring.ModelRow.{ModelRow}
 use Rattle.ofx_types.specs.declared.transfer.Change.{Change}
-use Rattle.ofx_types.specs.declared.transfer.Change.TheVariants.{NewTransfer, SetTransfer, DropTransfer, NewModel, SetModel, DropModel}
+use Rattle.ofx_types.specs.declared.transfer.Change.TheVariants.{NewTransfer, SetTransfer, DropTransfer, NewModel, SetModel, DropModel, NewMail}
 use Rattle.bank_model.specs.declared.entry.Entry.{Entry}
 use Rattle.bank_model.specs.Ledger.{row_of}
 
@@ -21,6 +21,7 @@ model_in (DropTransfer id) = None
 model_in (NewModel row) = Some row
 model_in (SetModel row pending) = Some row
 model_in (DropModel id pending) = None
+model_in (NewMail row) = None
 
 abbrev pub if_model_named : ℕ → Option ModelRow → Option ModelRow
 if_model_named id None = None
@@ -42,6 +43,7 @@ drops_model id (DropTransfer dropped) = false
 drops_model id (NewModel row) = false
 drops_model id (SetModel row pending) = false
 drops_model id (DropModel dropped pending) = dropped == id
+drops_model id (NewMail row) = false
 
 -- A recurring transfer is cancelled where an entry drops it.
 unfoldable pub is_model_dropped : ℕ → List Entry → Bool
@@ -65,6 +67,7 @@ is_made_by id (DropTransfer dropped) = false
 is_made_by id (NewModel row) = false
 is_made_by id (SetModel row pending) = false
 is_made_by id (DropModel dropped pending) = false
+is_made_by id (NewMail row) = false
 
 -- The entries behind the last one that begins it anew, the latest first.
 abbrev pub since_anew : ℕ → List Entry → List Entry
@@ -91,6 +94,7 @@ made_in entries (DropTransfer id) = []
 made_in entries (NewModel row) = []
 made_in entries (SetModel row pending) = []
 made_in entries (DropModel id pending) = []
+made_in entries (NewMail row) = []
 
 -- The rows of all transfers that wait, in the order in which they were made, which is that of their ids.
 unfoldable pub all_waiting : List Entry → List TransferRow

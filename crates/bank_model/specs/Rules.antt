@@ -1,5 +1,5 @@
 -- What a bank answers to an event, and the state that it leaves.
-use Rattle.std.specs.Prelude.{◌≡◌, ℕ, ◌<◌, true, negsuc, List, [], ◌∷◌, ◌++◌, length, Option, None, Some, unwrap_or, if◌then◌else◌}
+use Rattle.std.specs.Prelude.{◌≡◌, ℕ, ◌<◌, true, false, codes, negsuc, List, [], ◌∷◌, ◌++◌, length, Option, None, Some, unwrap_or, if◌then◌else◌}
 use Rattle.std.specs.Option.{option_map}
 use Rattle.std.specs.List.{flat_map}
 use Rattle.std.specs.Int.{int_max}
@@ -10,8 +10,12 @@ use Rattle.ofx_types.specs.declared.number.UserId.{UserId}
 use Rattle.ofx_types.specs.declared.number.Moment.{Moment}
 use Rattle.ofx_types.specs.declared.account.AcctName.{AcctName}
 use Rattle.ofx_types.specs.declared.transfer.Deed.{Deed}
-use Rattle.ofx_types.specs.declared.transfer.Deed.TheVariants.{Transfer, ModifyTransfer, CancelTransfer, Model, ModifyModel, CancelModel}
+use Rattle.ofx_types.specs.declared.transfer.Deed.TheVariants.{Transfer, ModifyTransfer, CancelTransfer, Model, ModifyModel, CancelModel, BankMail, Mail}
+use Rattle.ofx_types.specs.declared.transfer.Change.TheVariants.{NewMail}
 use Rattle.ofx_types.specs.declared.transfer.TransferRow.{TransferRow}
+use Rattle.ofx_types.specs.declared.mail.MailRow.{MailRow}
+use Rattle.ofx_types.specs.declared.sync.ObjectName.{ObjectName}
+use Rattle.ofx_types.specs.declared.sync.ObjectName.TheVariants as objects
 use Rattle.ofx_types.specs.declared.request.Period.{Period}
 use Rattle.ofx_types.specs.declared.request.Ask.{Ask}
 use Rattle.ofx_types.specs.declared.request.Ask.TheVariants as asks
@@ -26,14 +30,16 @@ use Rattle.bank_model.specs.declared.entry.Entry.{Entry}
 use Rattle.bank_model.specs.declared.once.KeptReply.{KeptReply}
 use Rattle.bank_model.specs.declared.event.State.{State}
 use Rattle.bank_model.specs.declared.event.Event.{Event}
-use Rattle.bank_model.specs.declared.event.Event.TheVariants.{File, Post, Spawn}
-use Rattle.bank_model.specs.SetupLookups.{account_of, is_owner}
+use Rattle.bank_model.specs.declared.event.Event.TheVariants.{File, Post, Spawn, Letter}
+use Rattle.bank_model.specs.SetupLookups.{account_of, own_account, user_name}
 use Rattle.bank_model.specs.Ledger.{balance, moved, lines_of, row_of}
 use Rattle.bank_model.specs.Models.{next_place}
 use Rattle.bank_model.specs.Once.{reply_kept, released}
-use Rattle.bank_model.specs.Deeds.{deed_answer}
+use Rattle.bank_model.specs.Deeds.{deed_answer, next_entry, mail_object}
+use Rattle.bank_model.specs.Sync.{sync_answer}
+use Rattle.bank_model.specs.Polls.{is_poll}
 use Rattle.bank_model.specs.Due.{Task, has_number, last_day, may_post, posts, may_spawn, spawns, first_task, to_make, to_post}
-use Rattle.bank_model.specs.Sound.{IsSound}
+use Rattle.bank_model.specs.Sound.{IsSound, HasLength}
 
 -- A bank opens with no history. The business day begins at 1 January 1900.
 abbrev pub opening_state : State
@@ -44,14 +50,6 @@ abbrev pub raised : State → Moment → State
 raised S at = record { entries = S.entries; used = S.used; kept = S.kept; day = record { 0 = int_max S.day.0 (day_of at.0) } }
 
 -- ---- statements
-
--- An account that a file names, where it is the user's.
-abbrev pub if_owned : Setup → UserId → Option AcctId → Option AcctId
-if_owned setup user None = None
-if_owned setup user (Some account) = if is_owner setup user account then Some account else None
-
-abbrev pub own_account : Setup → UserId → AcctName → Option AcctId
-own_account setup user name = if_owned setup user (account_of setup name)
 
 -- 1 January 1900
 abbrev pub first_moment : Moment
@@ -100,6 +98,9 @@ ask_answer setup S user at (asks.Statement trnuid name period) =
 ask_answer setup S user at (asks.One trnuid deed) =
     let answer = deed_answer setup S user None at trnuid deed in
     record { reply = replies.One answer.reply; after = answer.after }
+ask_answer setup S user at (asks.Sync ask) =
+    let answer = sync_answer setup S user at ask in
+    record { reply = replies.Sync answer.reply; after = answer.after }
 
 -- The asks are answered in their order, each in the state that the one before left.
 pub record AskAnswers : Type 0 where
@@ -176,11 +177,31 @@ with_entries S entries = record { entries = S.entries ++ entries; used = S.used;
 abbrev pub unasked : State → List Entry → Outcome
 unasked S entries = record { reply = []; after = with_entries S entries }
 
+-- A letter is a mail from the bank to a user.
+abbrev pub letter : Setup → UserId → Moment → List ℕ → List ℕ → MailRow
+letter setup user at subject body = record {
+  about = None;
+  user = user_name setup user;
+  mail = record {
+    created = at;
+    sender = codes "BANK";
+    target = user_name setup user;
+    subject = subject;
+    body = body;
+  };
+}
+
+abbrev pub letter_entry : Setup → State → UserId → Moment → List ℕ → List ℕ → Entry
+letter_entry setup S user at subject body =
+    next_entry S (mail_object setup user) (codes "0") (NewMail (letter setup user at subject body))
+
 -- An event first raises the business day.
 abbrev pub step : Setup → State → Moment → Event → Outcome
 step setup S at (File user file) = file_outcome setup (raised S at) user at file
 step setup S at (Post id) = unasked (raised S at) (posts setup (raised S at) at (row_of id S.entries))
 step setup S at (Spawn id place) = unasked (raised S at) (spawns setup (raised S at) id place)
+step setup S at (Letter user subject body) =
+    unasked (raised S at) (letter_entry setup (raised S at) user at subject body ∷ [])
 
 abbrev pub state_after : Setup → State → Moment → Event → State
 state_after setup S at event = (step setup S at event).after
@@ -188,13 +209,15 @@ state_after setup S at event = (step setup S at event).after
 abbrev pub answer_to : Setup → State → Moment → Event → List ℕ
 answer_to setup S at event = (step setup S at event).reply
 
--- A file is legal for a user of the setup where it is sound. A transfer may be posted where it waits and is due, and a
--- recurring transfer may make the transfer at just the next place of its series, where its date is near; both where a
--- number is left for their entry.
+-- A file is legal for a user of the setup where it is sound and no poll. A transfer may be posted where it waits and is due,
+-- and a recurring transfer may make the transfer at just the next place of its series, where its date is near. A letter has a
+-- subject of 1 to 64 bytes and a body of 1 to 10,000. All but a file need a number that is left for their entry.
 abbrev pub IsLegal : Setup → State → Moment → Event → Type 0
-IsLegal setup S at (File user file) = (user.0 < length setup.users) × IsSound file
+IsLegal setup S at (File user file) = (user.0 < length setup.users) × IsSound file × (is_poll file ≡ false)
 IsLegal setup S at (Post id) = may_post setup (raised S at) (row_of id S.entries) ≡ true
 IsLegal setup S at (Spawn id place) = may_spawn setup (raised S at) id place ≡ true
+IsLegal setup S at (Letter user subject body) =
+    (user.0 < length setup.users) × HasLength 64 subject × HasLength 10000 body × (has_number setup (raised S at) ≡ true)
 
 -- ---- which event the bank makes next by itself
 
@@ -222,10 +245,22 @@ named_by_deed setup (CancelTransfer id) = []
 named_by_deed setup (Model recur info) = account_of setup info.from ∷ account_of setup info.to ∷ []
 named_by_deed setup (ModifyModel id recur info pending) = account_of setup info.from ∷ account_of setup info.to ∷ []
 named_by_deed setup (CancelModel id pending) = []
+named_by_deed setup (BankMail account mail) = account_of setup account ∷ []
+named_by_deed setup (Mail mail) = []
+
+abbrev pub named_by_pair : Setup → List ℕ × Deed → List (Option AcctId)
+named_by_pair setup deed = named_by_deed setup deed.1
+
+abbrev pub named_by_object : Setup → ObjectName → List (Option AcctId)
+named_by_object setup (objects.Intra account) = account_of setup account ∷ []
+named_by_object setup (objects.RecIntra account) = account_of setup account ∷ []
+named_by_object setup (objects.BankMail account) = account_of setup account ∷ []
+named_by_object setup objects.Mail = []
 
 abbrev pub named_by : Setup → Ask → List (Option AcctId)
 named_by setup (asks.Statement trnuid name period) = account_of setup name ∷ []
 named_by setup (asks.One trnuid deed) = named_by_deed setup deed
+named_by setup (asks.Sync ask) = named_by_object setup ask.object ++ flat_map (named_by_pair setup) ask.deeds
 
 abbrev pub named_by_row : Setup → Option TransferRow → List (Option AcctId)
 named_by_row setup None = []
@@ -236,3 +271,4 @@ abbrev pub named : Setup → State → Event → List (Option AcctId)
 named setup S (File user file) = flat_map (named_by setup) file.asks
 named setup S (Post id) = named_by_row setup (row_of id S.entries)
 named setup S (Spawn id place) = []
+named setup S (Letter user subject body) = []

@@ -1,5 +1,5 @@
 -- What a setup knows of users and accounts.
-use Rattle.std.specs.Prelude.{ℕ, Bool, ◌&&◌, ◌==◌, false, List, Option, None, Some, position}
+use Rattle.std.specs.Prelude.{ℕ, Bool, ◌&&◌, ◌==◌, false, List, [], Option, None, Some, position, if◌then◌else◌}
 use Rattle.std.specs.Option.{option_map}
 use Rattle.std.specs.List.{slice_get, list_any}
 use Rattle.std.specs.Str.{bytes_eq}
@@ -32,3 +32,19 @@ names_owner user (Some line) = list_any (λ (owner : UserId). owner.0 == user.0)
 -- An account is a user's where the setup names the user among its owners.
 abbrev pub is_owner : Setup → UserId → AcctId → Bool
 is_owner setup user account = names_owner user (line_at setup account)
+
+-- An account that a file names, where it is the user's.
+abbrev pub if_owned : Setup → UserId → Option AcctId → Option AcctId
+if_owned setup user None = None
+if_owned setup user (Some account) = if is_owner setup user account then Some account else None
+
+abbrev pub own_account : Setup → UserId → AcctName → Option AcctId
+own_account setup user name = if_owned setup user (account_of setup name)
+
+-- the name of a user
+abbrev pub name_in : Option User → List ℕ
+name_in None = []
+name_in (Some user) = user.name
+
+abbrev pub user_name : Setup → UserId → List ℕ
+user_name setup user = name_in (slice_get setup.users user.0)

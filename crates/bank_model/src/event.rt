@@ -2,7 +2,7 @@
 
 use crate::entry::Entry;
 use crate::once::{KeptReply, UsedPair};
-use ofx_types::{Day, Duplicate, OutOfMemory, RequestFile, Sequence, UserId};
+use ofx_types::{Day, Duplicate, OutOfMemory, RequestFile, Sequence, Text, UserId};
 
 /// What may change a bank. Each event happens at a moment.
 #[derive(Debug, Drop)]
@@ -13,6 +13,8 @@ pub enum Event {
     Post(u64),
     /// The recurring transfer with this id makes its next transfer, which has this place in its series, from 0.
     Spawn(u64, u32),
+    /// The bank writes a user a letter with this subject, 1 to 64 bytes, and this body, 1 to 10,000 bytes.
+    Letter(UserId, Text, Text),
 }
 
 /// The state of a bank between two events.
@@ -34,6 +36,9 @@ impl Duplicate for Event {
             Event::File(user, file) => Ok(Event::File(*user, file.copy()?)),
             Event::Post(id) => Ok(Event::Post(*id)),
             Event::Spawn(model, place) => Ok(Event::Spawn(*model, *place)),
+            Event::Letter(user, subject, body) => {
+                Ok(Event::Letter(*user, subject.copy()?, body.copy()?))
+            }
         }
     }
 }

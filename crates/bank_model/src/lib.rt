@@ -7,6 +7,7 @@
 mod asked;
 mod entry;
 mod event;
+mod objects;
 mod once;
 mod printer;
 mod setup;
@@ -16,6 +17,7 @@ mod tests;
 pub use asked::{is_after, is_positive};
 pub use entry::Entry;
 pub use event::{Event, State};
+pub use objects::is_poll;
 pub use once::{KeptReply, UsedPair};
 pub use printer::Printer;
 pub use setup::{

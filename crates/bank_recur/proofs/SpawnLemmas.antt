@@ -9,7 +9,7 @@ use Rattle.std.specs.Option.{option_map}
 use Rattle.std.specs.List.{AllByRecursion, IsDistinct, flat_map}
 use Rattle.ofx_types.specs.declared.number.Day.{Day}
 use Rattle.ofx_types.specs.declared.transfer.Change.{Change}
-use Rattle.ofx_types.specs.declared.transfer.Change.TheVariants.{NewTransfer, SetTransfer, DropTransfer, NewModel, SetModel, DropModel}
+use Rattle.ofx_types.specs.declared.transfer.Change.TheVariants.{NewTransfer, SetTransfer, DropTransfer, NewModel, SetModel, DropModel, NewMail}
 use Rattle.bank_model.specs.declared.entry.Entry.{Entry}
 use Rattle.bank_model.specs.Models.{model_of, is_model_dropped, next_place}
 use Rattle.bank_model.specs.Due.{Task, date_in_series, if_by, date_to_make, date_if_any, or_earlier, first_task, task_on, makes, to_make}
@@ -30,6 +30,7 @@ makes_id last entries (DropTransfer id) = refl
 makes_id last entries (NewModel row) = sym (append-nil (made_of last entries row.id))
 makes_id last entries (SetModel row pending) = refl
 makes_id last entries (DropModel id pending) = refl
+makes_id last entries (NewMail mail) = refl
 
 makes_ids : (last : Day) (all entries : List Entry) → flat_map (λ (entry : Entry). makes last all entry.change) entries ≡ flat_map (made_of last all) (ids_made entries)
 makes_ids last all [] = refl

@@ -12,11 +12,11 @@ use Rattle.std.specs.List.{AllByRecursion, IsDistinct, position, position_or_len
 use Rattle.ofx_types.specs.declared.recurring.ModelRow.{ModelRow}
 use Rattle.ofx_types.specs.declared.transfer.TransferRow.{TransferRow}
 use Rattle.ofx_types.specs.declared.transfer.Change.{Change}
-use Rattle.ofx_types.specs.declared.transfer.Change.TheVariants.{NewTransfer, SetTransfer, DropTransfer, NewModel, SetModel, DropModel}
+use Rattle.ofx_types.specs.declared.transfer.Change.TheVariants.{NewTransfer, SetTransfer, DropTransfer, NewModel, SetModel, DropModel, NewMail}
 use Rattle.bank_model.specs.declared.entry.Entry.{Entry}
 use Rattle.bank_model.specs.Models.{model_in, if_model_named, or_model_before, model_of, drops_model, is_of_model, is_made_by, next_place}
 use Rattle.bank_recur.specs.Growth.{place_after}
-use Rattle.bank_recur.specs.ModelsView.{Series, ModelsView, series_found, row_found, is_cancelled_series, cancelled_found, place_in_series, place_found, id_made, ids_of, IsOnce, StandsFor, GivesModel, Cancels, IsMadeBy, IsOfTransfer}
+use Rattle.bank_recur.specs.ModelsView.{Series, ModelsView, series_found, row_found, is_cancelled_series, cancelled_found, place_in_series, place_found, id_made, ids_of, IsOnce, StandsFor, GivesModel, Cancels, IsMadeBy, LeavesModels}
 use Rattle.bank_recur.proofs.GrowthLemmas.{model_of-push, is_model_dropped-push, ids_made-push, next_place-push}
 
 -- ---- one entry more
@@ -187,6 +187,7 @@ stands_set old new entries entry at one row stands there gives is = stands_more 
     grows (NewModel given) g = absurd (not_there row.id one old entries stands there.found g.1)
     grows (SetModel given pending) g = given_grows old new entries (SetModel given pending) begun stands now (sym (ap is_cancelled_series there.found)) refl (ap ids_of is ∙ ids_set row.id at one begun old.series there refl ∙ sym (append-nil (ids_of old.series))) (ap (λ (r : ModelRow). Some r) g.0) (λ id. refl) (λ id. refl)
     grows (DropModel id pending) g = absurd g
+    grows (NewMail mail) g = absurd g
 
 -- the row of one that is new
 pub stands_pushed : (old new : ModelsView) (entries : List Entry) (entry : Entry) (row : ModelRow) → StandsFor old entries → series_found row.id old.series ≡ None → GivesModel entries entry.change row → new.series ≡ old.series ++ record { row = row; cancelled = false; place = 0 } ∷ [] → StandsFor new (entries ++ entry ∷ [])
@@ -205,6 +206,7 @@ stands_pushed old new entries entry row stands none gives is = stands_more old n
     grows (NewModel given) g = given_grows old new entries (NewModel given) begun stands now (sym (ap is_cancelled_series none)) refl (ap ids_of is ∙ map-append (λ (o : Series). o.row.id) old.series (begun ∷ []) ∙ ap (λ (r : ModelRow). ids_of old.series ++ r.id ∷ []) (sym g.0)) (ap (λ (r : ModelRow). Some r) g.0) (λ id. refl) (λ id. refl)
     grows (SetModel given pending) g = absurd (is_there row.id old entries stands none g.1)
     grows (DropModel id pending) g = absurd g
+    grows (NewMail mail) g = absurd g
 
 -- one that is cancelled
 pub stands_cancelled : (old new : ModelsView) (entries : List Entry) (entry : Entry) (id at : ℕ) (one : Series) → StandsFor old entries → IsAt id at one old.series → Cancels entries entry.change id → new.series ≡ set old.series at (record { row = one.row; cancelled = true; place = one.place }) → StandsFor new (entries ++ entry ∷ [])
@@ -238,6 +240,7 @@ stands_cancelled old new entries entry id at one stands there cancels is = stand
     grows (NewModel given) g = absurd g
     grows (SetModel given pending) g = absurd g
     grows (DropModel dropped pending) g = subst (λ (n : ℕ). Grows old.series new.series entries (DropModel n pending)) (sym g.0) (dropped_id pending)
+    grows (NewMail mail) g = absurd g
 
 -- no recurring transfer is cancelled that isn't there
 pub none_cancelled : (old : ModelsView) (entries : List Entry) (change : Change) (id : ℕ) → StandsFor old entries → series_found id old.series ≡ None → Cancels entries change id → ⊥
@@ -247,6 +250,7 @@ none_cancelled old entries (DropTransfer dropped) id stands none g = g
 none_cancelled old entries (NewModel given) id stands none g = g
 none_cancelled old entries (SetModel given pending) id stands none g = g
 none_cancelled old entries (DropModel dropped pending) id stands none g = is_there id old entries stands none g.1
+none_cancelled old entries (NewMail mail) id stands none g = g
 
 -- one that has made its next transfer
 pub stands_stepped : (old new : ModelsView) (entries : List Entry) (entry : Entry) (id at : ℕ) (one : Series) → StandsFor old entries → IsAt id at one old.series → IsMadeBy entries entry.change id → new.series ≡ set old.series at (record { row = one.row; cancelled = one.cancelled; place = one.place + 1 }) → StandsFor new (entries ++ entry ∷ [])
@@ -284,11 +288,12 @@ stands_stepped old new entries entry id at one stands there makes is = stands_mo
     grows (NewModel given) g = absurd g
     grows (SetModel given pending) g = absurd g
     grows (DropModel dropped pending) g = absurd g
+    grows (NewMail mail) g = absurd g
 
--- ---- a change of a transfer that no recurring transfer makes
+-- ---- a change of a transfer that no recurring transfer makes, and mail
 
-kept_transfer : (old : ModelsView) (entries : List Entry) (change : Change) → StandsFor old entries → IsOfTransfer entries change → Grows old.series old.series entries change
-kept_transfer old entries (NewTransfer row) stands is = record {
+left_alone : (old : ModelsView) (entries : List Entry) (change : Change) → StandsFor old entries → LeavesModels entries change → Grows old.series old.series entries change
+left_alone old entries (NewTransfer row) stands is = record {
   rows = λ id. refl;
   dropped = λ id. sym (or-false (cancelled_found id old.series));
   places = λ id there. stands.places id there ∙ unmade id there (eqb row.model id) (eqb-true row.model id);
@@ -298,21 +303,27 @@ kept_transfer old entries (NewTransfer row) stands is = record {
     unmade : (id : ℕ) → is_some (row_found id old.series) ≡ true → (made : Bool) → (made ≡ true → row.model ≡ id) → next_place id entries ≡ cond made (next_place id entries + 1) (next_place id entries)
     unmade id there true same = let e : false ≡ true = ap is_some (sym (stands.rows id ∙ ap (λ n. model_of n entries) (sym (same refl)) ∙ is)) ∙ there in cc
     unmade id there false same = refl
-kept_transfer old entries (SetTransfer row) stands is = record {
+left_alone old entries (SetTransfer row) stands is = record {
   rows = λ id. refl;
   dropped = λ id. sym (or-false (cancelled_found id old.series));
   places = stands.places;
   order = sym (append-nil (ids_of old.series));
 }
-kept_transfer old entries (DropTransfer gone) stands is = record {
+left_alone old entries (DropTransfer gone) stands is = record {
   rows = λ id. refl;
   dropped = λ id. sym (or-false (cancelled_found id old.series));
   places = stands.places;
   order = sym (append-nil (ids_of old.series));
 }
-kept_transfer old entries (NewModel row) stands is = absurd is
-kept_transfer old entries (SetModel row pending) stands is = absurd is
-kept_transfer old entries (DropModel id pending) stands is = absurd is
+left_alone old entries (NewModel row) stands is = absurd is
+left_alone old entries (SetModel row pending) stands is = absurd is
+left_alone old entries (DropModel id pending) stands is = absurd is
+left_alone old entries (NewMail mail) stands is = record {
+  rows = λ id. refl;
+  dropped = λ id. sym (or-false (cancelled_found id old.series));
+  places = stands.places;
+  order = sym (append-nil (ids_of old.series));
+}
 
-pub stands_kept : (models : ModelsView) (entries : List Entry) (entry : Entry) → StandsFor models entries → IsOfTransfer entries entry.change → StandsFor models (entries ++ entry ∷ [])
-stands_kept models entries entry stands is = stands_more models models entries entry stands (kept_transfer models entries entry.change stands is)
+pub stands_kept : (models : ModelsView) (entries : List Entry) (entry : Entry) → StandsFor models entries → LeavesModels entries entry.change → StandsFor models (entries ++ entry ∷ [])
+stands_kept models entries entry stands is = stands_more models models entries entry stands (left_alone models entries entry.change stands is)

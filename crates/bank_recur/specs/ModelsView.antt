@@ -4,7 +4,7 @@ use Rattle.std.specs.Option.{option_map}
 use Rattle.std.specs.List.{find, flat_map, IsDistinct}
 use Rattle.ofx_types.specs.declared.recurring.ModelRow.{ModelRow}
 use Rattle.ofx_types.specs.declared.transfer.Change.{Change}
-use Rattle.ofx_types.specs.declared.transfer.Change.TheVariants.{NewTransfer, SetTransfer, DropTransfer, NewModel, SetModel, DropModel}
+use Rattle.ofx_types.specs.declared.transfer.Change.TheVariants.{NewTransfer, SetTransfer, DropTransfer, NewModel, SetModel, DropModel, NewMail}
 use Rattle.bank_model.specs.declared.entry.Entry.{Entry}
 use Rattle.bank_model.specs.Models.{model_of, is_model_dropped, next_place}
 
@@ -56,6 +56,7 @@ id_made (DropTransfer id) = []
 id_made (NewModel row) = row.id ∷ []
 id_made (SetModel row pending) = []
 id_made (DropModel id pending) = []
+id_made (NewMail mail) = []
 
 abbrev pub ids_made : List Entry → List ℕ
 ids_made entries = flat_map (λ (entry : Entry). id_made entry.change) entries
@@ -77,6 +78,7 @@ GivesModel entries (DropTransfer id) row = ⊥
 GivesModel entries (NewModel given) row = (given ≡ row) × (model_of row.id entries ≡ None)
 GivesModel entries (SetModel given pending) row = (given ≡ row) × (is_some (model_of row.id entries) ≡ true)
 GivesModel entries (DropModel id pending) row = ⊥
+GivesModel entries (NewMail mail) row = ⊥
 
 -- The change cancels the recurring transfer of this id, which the entries have.
 abbrev pub Cancels : List Entry → Change → ℕ → Type 0
@@ -86,6 +88,7 @@ Cancels entries (DropTransfer dropped) id = ⊥
 Cancels entries (NewModel given) id = ⊥
 Cancels entries (SetModel given pending) id = ⊥
 Cancels entries (DropModel dropped pending) id = (dropped ≡ id) × (is_some (model_of id entries) ≡ true)
+Cancels entries (NewMail mail) id = ⊥
 
 -- The change is a new transfer that the recurring transfer of this id made.
 abbrev pub IsMadeBy : List Entry → Change → ℕ → Type 0
@@ -95,12 +98,14 @@ IsMadeBy entries (DropTransfer dropped) id = ⊥
 IsMadeBy entries (NewModel given) id = ⊥
 IsMadeBy entries (SetModel given pending) id = ⊥
 IsMadeBy entries (DropModel dropped pending) id = ⊥
+IsMadeBy entries (NewMail mail) id = ⊥
 
--- The change is one of a transfer that no recurring transfer makes now.
-abbrev pub IsOfTransfer : List Entry → Change → Type 0
-IsOfTransfer entries (NewTransfer row) = model_of row.model entries ≡ None
-IsOfTransfer entries (SetTransfer row) = Unit {0}
-IsOfTransfer entries (DropTransfer id) = Unit {0}
-IsOfTransfer entries (NewModel row) = ⊥
-IsOfTransfer entries (SetModel row pending) = ⊥
-IsOfTransfer entries (DropModel id pending) = ⊥
+-- The change leaves recurring transfers as they are: it is one of a transfer that no recurring transfer makes now, or a mail.
+abbrev pub LeavesModels : List Entry → Change → Type 0
+LeavesModels entries (NewTransfer row) = model_of row.model entries ≡ None
+LeavesModels entries (SetTransfer row) = Unit {0}
+LeavesModels entries (DropTransfer id) = Unit {0}
+LeavesModels entries (NewModel row) = ⊥
+LeavesModels entries (SetModel row pending) = ⊥
+LeavesModels entries (DropModel id pending) = ⊥
+LeavesModels entries (NewMail mail) = Unit {0}

@@ -4,7 +4,7 @@ ghost use Rattle.std.specs.Prelude.{◌≡◌, ℕ, ◌||◌, ◌∷◌, ◌++�
 ghost use Rattle.bank_model.specs.declared.entry.Entry.{Entry};
 ghost use Rattle.bank_model.specs.Models.{model_in, if_model_named, or_model_before, model_of, drops_model, is_model_dropped, next_place};
 ghost use Rattle.bank_recur.specs.Growth.{place_after};
-ghost use Rattle.bank_recur.specs.ModelsView.{ModelsView, StandsFor, IsOfTransfer};
+ghost use Rattle.bank_recur.specs.ModelsView.{ModelsView, StandsFor, LeavesModels};
 
 /// The row of a recurring transfer behind one entry more is the one that the entry gives to it, or else its row before.
 pub fn model_by_one_more()
@@ -25,8 +25,8 @@ pub fn place_by_one_more()
         next_place id (entries ++ entry ∷ []) ≡ place_after id (next_place id entries) entry.change }
 {}
 
-/// A change of a transfer that no recurring transfer makes leaves the recurring transfers as they are.
-pub fn stands_by_transfer()
+/// A change of a transfer that no recurring transfer makes leaves the recurring transfers as they are, and so does a mail.
+pub fn others_leave_models()
     ensures { (models : ModelsView) (entries : List Entry) (entry : Entry) → StandsFor models entries
-        → IsOfTransfer entries entry.change → StandsFor models (entries ++ entry ∷ []) }
+        → LeavesModels entries entry.change → StandsFor models (entries ++ entry ∷ []) }
 {}

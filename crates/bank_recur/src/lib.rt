@@ -18,7 +18,7 @@ pub use date::{
 };
 pub use judging::{judge_model, judge_model_cancel, judge_model_modify};
 pub use laws::{
-    model_by_one_more, model_dropped_by_one_more, place_by_one_more, stands_by_transfer,
+    model_by_one_more, model_dropped_by_one_more, others_leave_models, place_by_one_more,
 };
 pub use models::Models;
 

@@ -9,10 +9,13 @@ use Rattle.std.proofs.lemmas.List.Elements.{All-from_recursion, All-append}
 use Rattle.std.specs.List.{All, AllByRecursion, Contains, flat_map}
 use Rattle.ofx_types.specs.AccountForm.{same_account}
 use Rattle.ofx_types.specs.declared.number.AcctId.{AcctId}
+use Rattle.ofx_types.specs.declared.number.UserId.{UserId}
 use Rattle.ofx_types.specs.declared.request.Ask.{Ask}
-use Rattle.ofx_types.specs.declared.request.Ask.TheVariants.{Statement, One}
+use Rattle.ofx_types.specs.declared.request.Ask.TheVariants as asks
+use Rattle.ofx_types.specs.declared.sync.ObjectName.{ObjectName}
+use Rattle.ofx_types.specs.declared.sync.ObjectName.TheVariants as objects
 use Rattle.ofx_types.specs.declared.transfer.Deed.{Deed}
-use Rattle.ofx_types.specs.declared.transfer.Deed.TheVariants.{Transfer, ModifyTransfer, CancelTransfer, Model, ModifyModel, CancelModel}
+use Rattle.ofx_types.specs.declared.transfer.Deed.TheVariants.{Transfer, ModifyTransfer, CancelTransfer, Model, ModifyModel, CancelModel, BankMail, Mail}
 use Rattle.ofx_types.specs.declared.transfer.TransferRow.{TransferRow}
 use Rattle.ofx_types.specs.declared.account.AcctName.{AcctName}
 use Rattle.ofx_types.specs.declared.request.RequestFile.{RequestFile}
@@ -20,10 +23,10 @@ use Rattle.bank_model.specs.declared.setup.Setup.{Setup}
 use Rattle.bank_model.specs.declared.setup.AccountLine.{AccountLine}
 use Rattle.bank_model.specs.declared.event.State.{State}
 use Rattle.bank_model.specs.declared.event.Event.{Event}
-use Rattle.bank_model.specs.declared.event.Event.TheVariants.{File, Post, Spawn}
+use Rattle.bank_model.specs.declared.event.Event.TheVariants.{File, Post, Spawn, Letter}
 use Rattle.bank_model.specs.SetupLookups.{account_of}
 use Rattle.bank_model.specs.Ledger.{row_of}
-use Rattle.bank_model.specs.Rules.{named, named_by, named_by_deed, named_by_row, opening_state, denial}
+use Rattle.bank_model.specs.Rules.{named, named_by, named_by_deed, named_by_pair, named_by_object, named_by_row, opening_state, denial}
 use Rattle.ofx_types.specs.Calendar.{IsMoment}
 use Rattle.ofx_types.specs.Printable.{IsPrintable}
 use Rattle.ofx_types.specs.declared.number.Moment.{Moment}
@@ -38,6 +41,15 @@ pub found_within : {X : Type 0} (test : X → Bool) (xs : List X) (place : ℕ) 
 found_within test xs place e =
     let parts = cond_some (nat_lt (prefix_len (λ x. not (test x)) xs) (length xs)) (prefix_len (λ x. not (test x)) xs) place e in
     omega (arith, parts.1, ltb-true _ _ parts.0)
+
+some_inside : {X : Type 0} (x y : X) → Some x ≡ Some y → x ≡ y
+some_inside x y e = cc
+
+-- and where it is a user's so is the user's number
+pub user_within : (found : Option ℕ) (count : ℕ) (user : UserId) → ((place : ℕ) → found ≡ Some place → place < count) → option_map (λ (place : ℕ). record { 0 = place }) found ≡ Some user → user.0 < count
+user_within None count user within is = cc
+user_within (Some place) count user within is =
+    subst (λ (u : UserId). u.0 < count) (some_inside (record { 0 = place }) user is) (within place refl)
 
 abbrev numbered : ℕ → AcctId
 numbered place = record { 0 = place }
@@ -70,18 +82,37 @@ deed_held setup accounts (CancelTransfer id) all = tt
 deed_held setup accounts (Model recur info) all = both_held setup accounts info.from info.to all
 deed_held setup accounts (ModifyModel id recur info pending) all = both_held setup accounts info.from info.to all
 deed_held setup accounts (CancelModel id pending) all = tt
+deed_held setup accounts (BankMail account mail) all = (name_held setup accounts account all, tt)
+deed_held setup accounts (Mail mail) all = tt
 
-ask_held : (setup : Setup) (accounts : List AccountView) (ask : Ask) → AreAll setup accounts → AllByRecursion (IsAtHand accounts) (named_by setup ask)
-ask_held setup accounts (Statement trnuid name period) all = (name_held setup accounts name all, tt)
-ask_held setup accounts (One trnuid deed) all = deed_held setup accounts deed all
+object_held : (setup : Setup) (accounts : List AccountView) (object : ObjectName) → AreAll setup accounts → AllByRecursion (IsAtHand accounts) (named_by_object setup object)
+object_held setup accounts (objects.Intra account) all = (name_held setup accounts account all, tt)
+object_held setup accounts (objects.RecIntra account) all = (name_held setup accounts account all, tt)
+object_held setup accounts (objects.BankMail account) all = (name_held setup accounts account all, tt)
+object_held setup accounts objects.Mail all = tt
 
-asks_held : (setup : Setup) (accounts : List AccountView) (asks : List Ask) → AreAll setup accounts → All (IsAtHand accounts) (flat_map (named_by setup) asks)
-asks_held setup accounts [] all = All-from_recursion (IsAtHand accounts) [] tt
-asks_held setup accounts (ask ∷ asks) all =
-    All-append (IsAtHand accounts) (named_by setup ask) (flat_map (named_by setup) asks) (All-from_recursion (IsAtHand accounts) (named_by setup ask) (ask_held setup accounts ask all)) (asks_held setup accounts asks all)
+-- a list whose items are at hand one by one
+each_held : (accounts : List AccountView) (entries : List (Option AcctId)) → AllByRecursion (IsAtHand accounts) entries → All (IsAtHand accounts) entries
+each_held accounts entries held = All-from_recursion (IsAtHand accounts) entries held
+
+deeds_held : (setup : Setup) (accounts : List AccountView) (deeds : List (List ℕ × Deed)) → AreAll setup accounts → All (IsAtHand accounts) (flat_map (named_by_pair setup) deeds)
+deeds_held setup accounts [] all = each_held accounts [] tt
+deeds_held setup accounts (deed ∷ deeds) all =
+    All-append (IsAtHand accounts) (named_by_deed setup deed.1) (flat_map (named_by_pair setup) deeds) (each_held accounts (named_by_deed setup deed.1) (deed_held setup accounts deed.1 all)) (deeds_held setup accounts deeds all)
+
+ask_held : (setup : Setup) (accounts : List AccountView) (ask : Ask) → AreAll setup accounts → All (IsAtHand accounts) (named_by setup ask)
+ask_held setup accounts (asks.Statement trnuid name period) all = each_held accounts (account_of setup name ∷ []) (name_held setup accounts name all, tt)
+ask_held setup accounts (asks.One trnuid deed) all = each_held accounts (named_by_deed setup deed) (deed_held setup accounts deed all)
+ask_held setup accounts (asks.Sync sync) all =
+    All-append (IsAtHand accounts) (named_by_object setup sync.object) (flat_map (named_by_pair setup) sync.deeds) (each_held accounts (named_by_object setup sync.object) (object_held setup accounts sync.object all)) (deeds_held setup accounts sync.deeds all)
+
+asks_held : (setup : Setup) (accounts : List AccountView) (list : List Ask) → AreAll setup accounts → All (IsAtHand accounts) (flat_map (named_by setup) list)
+asks_held setup accounts [] all = each_held accounts [] tt
+asks_held setup accounts (ask ∷ more) all =
+    All-append (IsAtHand accounts) (named_by setup ask) (flat_map (named_by setup) more) (ask_held setup accounts ask all) (asks_held setup accounts more all)
 
 row_held : (setup : Setup) (accounts : List AccountView) (row : Option TransferRow) → AreAll setup accounts → All (IsAtHand accounts) (named_by_row setup row)
-row_held setup accounts None all = All-from_recursion (IsAtHand accounts) [] tt
+row_held setup accounts None all = each_held accounts [] tt
 row_held setup accounts (Some row) all =
     All-from_recursion (IsAtHand accounts) (account_of setup row.from ∷ account_of setup row.to ∷ []) (both_held setup accounts row.from row.to all)
 
@@ -89,7 +120,8 @@ row_held setup accounts (Some row) all =
 pub all_held : (setup : Setup) (state : State) (accounts : List AccountView) (event : Event) → AreAll setup accounts → AreHeld accounts (named setup state event)
 all_held setup state accounts (File user file) all = asks_held setup accounts file.asks all
 all_held setup state accounts (Post id) all = row_held setup accounts (row_of id state.entries) all
-all_held setup state accounts (Spawn id place) all = All-from_recursion (IsAtHand accounts) [] tt
+all_held setup state accounts (Spawn id place) all = each_held accounts [] tt
+all_held setup state accounts (Letter user subject body) all = each_held accounts [] tt
 
 -- where accounts keep their numbers and have their balances in another state, all are at hand there
 pub still_held : (setup : Setup) (state state' : State) (before after : List AccountView) → HaveSameNumbers after before → AreBalanced setup state' after → HasAccounts setup state before → HasAccounts setup state' after

@@ -1,5 +1,5 @@
 -- A run of due work, one event after another.
-use Rattle.std.proofs.Common.{◌≡◌, ℕ, ◌≤◌, ◌+◌, List, [], ◌∷◌, ◌++◌, length, zero, suc, true, false, None, Some, ◌⊎◌, inl, inr, arith, refl, sym, ap, ◌∙◌, subst, length-append}
+use Rattle.std.proofs.Common.{◌≡◌, ℕ, ◌≤◌, ◌+◌, List, [], ◌∷◌, ◌++◌, length, true, false, None, Some, inl, inr, arith, refl, sym, ap, ◌∙◌, length-append}
 use Rattle.std.specs.Prelude.{Result, Ok, Err, OnErr, Option}
 use Rattle.std.proofs.KnownBytes.{Keeps-refl}
 use Rattle.ofx_ports.specs.Told.{Grows}
@@ -30,9 +30,6 @@ pub record HaveHappened (at : Moment) (before now : BookView) (count : ℕ) : Ty
   pub are_due : AreDue before.setup before.state at events
   pub counted : length events ≡ count
   pub state : now.state ≡ after_events before.setup before.state at events
-
-pub none_yet : (at : Moment) (before : BookView) → HaveHappened at before before 0
-none_yet at before = record { setup = refl; events = []; are_due = tt; counted = refl; state = refl }
 
 pub one_more_event : (at : Moment) (before now after : BookView) (count : ℕ) → HaveHappened at before now count → after.setup ≡ now.setup → TakesNext at now after true → HaveHappened at before after (count + 1)
 one_more_event at before now after count have setup (event, next, taken) =
@@ -80,9 +77,6 @@ front_made at before now after count have few same = record {
   few = omega (arith, few, have.counted);
   state = same ∙ have.state;
 }
-
-pub whole_front : (at : Moment) (before after : BookView) (count : ℕ) → MadeRun at before after count → MadeFront at before after
-whole_front at before after count run = record { events = run.events; are_due = run.is_run.are_due; few = run.is_run.few; state = run.state }
 
 -- what is known anyway is known where the answer is a refusal
 pub where_refused : {A E P : Type 0} (result : Result A E) → P → OnErr result P

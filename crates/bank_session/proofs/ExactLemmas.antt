@@ -152,19 +152,21 @@ spelled_setup before contents rest line gives refused =
     let P : Option (List ℕ) → Type 0 = λ left. IsNoSetup left line in (subst P gives.setup_is refused).0 gives.setup gives.spelled
 
 -- and one that isn't is no run's
-unspelled_setup : (before : Outside) (text : List ℕ) (setup : Setup) → before.setup_left ≡ Some text → ((other : Setup) → SpellsSetup text other → ⊥) → IsSetupOf before.setup_left setup → ⊥
+pub unspelled_setup : (before : Outside) (text : List ℕ) (setup : Setup) → before.setup_left ≡ Some text → ((other : Setup) → SpellsSetup text other → ⊥) → IsSetupOf before.setup_left setup → ⊥
 unspelled_setup before text setup told none found =
     let P : Option (List ℕ) → Type 0 = λ left. IsSetupOf left setup in none setup (subst P told found)
 
 -- the line of its fault is told
-fault_told : (before : Outside) (text : List ℕ) (line : ℕ) → before.setup_left ≡ Some text → IsNoSetup before.setup_left line → IsSetupFault text line
+pub fault_told : (before : Outside) (text : List ℕ) (line : ℕ) → before.setup_left ≡ Some text → IsNoSetup before.setup_left line → IsSetupFault text line
 fault_told before text line told refused =
     let P : Option (List ℕ) → Type 0 = λ left. IsNoSetup left line in (subst P told refused).1
 
 -- frames and nothing behind them end a run with 0
 pub answers_all : (at : Option Moment) (before after : Outside) (end : Result (Unit {0}) Stop) → EndsSo at before after end → AnswersAll before after (told_of end)
 answers_all at before after (Ok done) ends = λ contents gives. inl refl
+answers_all at before after (Err (stops.Letter fault)) (inl h) = absurd h.cause
 answers_all at before after (Err stops.Usage) (inl h) = absurd h.cause
+answers_all at before after (Err (stops.Letter fault)) (inr h) = absurd h.ends
 answers_all at before after (Err stops.Usage) (inr h) = absurd h.ends
 answers_all at before after (Err (stops.Setup line)) (inl h) = λ contents gives. absurd (spelled_setup before contents [] line gives h.cause)
 answers_all at before after (Err (stops.Setup line)) (inr h) = absurd h.ends
@@ -179,7 +181,9 @@ answers_all at before after (Err stops.NoMemory) ends = λ contents gives. inr (
 -- bytes behind the frames end it with 4, and their place is told
 pub refuses_frame : (at : Option Moment) (before after : Outside) (end : Result (Unit {0}) Stop) → EndsSo at before after end → RefusesFrame before after (told_of end)
 refuses_frame at before after (Ok done) h = λ contents rest gives some stuck. absurd (no_end h.setup at before after contents rest gives some stuck h.ends)
+refuses_frame at before after (Err (stops.Letter fault)) (inl h) = absurd h.cause
 refuses_frame at before after (Err stops.Usage) (inl h) = absurd h.cause
+refuses_frame at before after (Err (stops.Letter fault)) (inr h) = absurd h.ends
 refuses_frame at before after (Err stops.Usage) (inr h) = absurd h.ends
 refuses_frame at before after (Err (stops.Setup line)) (inl h) = λ contents rest gives some stuck. absurd (spelled_setup before contents rest line gives h.cause)
 refuses_frame at before after (Err (stops.Setup line)) (inr h) = absurd h.ends
@@ -194,6 +198,7 @@ refuses_frame at before after (Err stops.NoMemory) ends = λ contents rest gives
 -- a setup that isn't spelled ends it with 3, and its line is told
 pub refuses_setup : (at : Option Moment) (before after : Outside) (end : Result (Unit {0}) Stop) → EndsSo at before after end → RefusesSetup before after (told_of end)
 refuses_setup at before after (Ok done) h = λ text told none. absurd (unspelled_setup before text h.setup told none h.found)
+refuses_setup at before after (Err (stops.Letter fault)) (inl h) = absurd h.cause
 refuses_setup at before after (Err stops.Usage) (inl h) = absurd h.cause
 refuses_setup at before after (Err (stops.Setup line)) (inl h) = λ text told none. inl (line, fault_told before text line told h.cause, refl)
 refuses_setup at before after (Err (stops.Frame place)) (inl h) = absurd h.cause
@@ -213,14 +218,16 @@ is_run at before after end what e ends = record {
 
 -- ---- the command `due`
 
-no_setup_spelled : (before : Outside) (text : List ℕ) (setup : Setup) (line : ℕ) → before.setup_left ≡ Some text → SpellsSetup text setup → IsNoSetup before.setup_left line → ⊥
+pub no_setup_spelled : (before : Outside) (text : List ℕ) (setup : Setup) (line : ℕ) → before.setup_left ≡ Some text → SpellsSetup text setup → IsNoSetup before.setup_left line → ⊥
 no_setup_spelled before text setup line told spelled refused =
     let P : Option (List ℕ) → Type 0 = λ left. IsNoSetup left line in (subst P told refused).0 setup spelled
 
 -- a setup that is spelled ends the command with 0
 does_all : (before after : Outside) (end : Result (Unit {0}) Stop) → DueEndsSo before after end → DoesAll before after (told_of end)
 does_all before after (Ok done) ends = λ text setup told spelled. inl refl
+does_all before after (Err (stops.Letter fault)) (inl h) = absurd h.cause
 does_all before after (Err stops.Usage) (inl h) = absurd h.cause
+does_all before after (Err (stops.Letter fault)) (inr h) = absurd h.ends
 does_all before after (Err stops.Usage) (inr h) = absurd h.ends
 does_all before after (Err (stops.Setup line)) (inl h) = λ text setup told spelled. absurd (no_setup_spelled before text setup line told spelled h.cause)
 does_all before after (Err (stops.Setup line)) (inr h) = absurd h.ends
@@ -235,6 +242,7 @@ does_all before after (Err stops.NoMemory) ends = λ text setup told spelled. in
 -- and one that isn't with 3 and its line
 refuses_due_setup : (before after : Outside) (end : Result (Unit {0}) Stop) → DueEndsSo before after end → RefusesDueSetup before after (told_of end)
 refuses_due_setup before after (Ok done) h = λ text told none. absurd (unspelled_setup before text h.setup told none h.found)
+refuses_due_setup before after (Err (stops.Letter fault)) (inl h) = absurd h.cause
 refuses_due_setup before after (Err stops.Usage) (inl h) = absurd h.cause
 refuses_due_setup before after (Err (stops.Setup line)) (inl h) = λ text told none. inl (line, fault_told before text line told h.cause, refl)
 refuses_due_setup before after (Err (stops.Frame place)) (inl h) = absurd h.cause
@@ -258,7 +266,9 @@ of_end end what e two = ap (λ (t : Told). t.status.0) (sym e) ∙ two
 
 ends_otherwise : (at : Option Moment) (before after : Outside) (end : Result (Unit {0}) Stop) → EndsSo at before after end → (told_of end).status.0 ≡ 2 → ⊥
 ends_otherwise at before after (Ok done) ends two = absurd (omega (arith, two))
+ends_otherwise at before after (Err (stops.Letter fault)) (inl h) two = h.cause
 ends_otherwise at before after (Err stops.Usage) (inl h) two = h.cause
+ends_otherwise at before after (Err (stops.Letter fault)) (inr h) two = h.ends
 ends_otherwise at before after (Err stops.Usage) (inr h) two = h.ends
 ends_otherwise at before after (Err (stops.Setup line)) ends two = absurd (omega (arith, two))
 ends_otherwise at before after (Err (stops.Frame place)) ends two = absurd (omega (arith, two))
@@ -271,7 +281,9 @@ never_usage at before after end what e ends two = ends_otherwise at before after
 
 due_ends_otherwise : (before after : Outside) (end : Result (Unit {0}) Stop) → DueEndsSo before after end → (told_of end).status.0 ≡ 2 → ⊥
 due_ends_otherwise before after (Ok done) ends two = absurd (omega (arith, two))
+due_ends_otherwise before after (Err (stops.Letter fault)) (inl h) two = h.cause
 due_ends_otherwise before after (Err stops.Usage) (inl h) two = h.cause
+due_ends_otherwise before after (Err (stops.Letter fault)) (inr h) two = h.ends
 due_ends_otherwise before after (Err stops.Usage) (inr h) two = h.ends
 due_ends_otherwise before after (Err (stops.Setup line)) ends two = absurd (omega (arith, two))
 due_ends_otherwise before after (Err (stops.Frame place)) ends two = absurd (omega (arith, two))

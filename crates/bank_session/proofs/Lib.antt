@@ -13,5 +13,6 @@ pub mod DueLemmas
 pub mod TurnLemmas
 pub mod RunLemmas
 pub mod ExactLemmas
+pub mod MailLemmas
 pub mod LineLemmas
 pub mod TurnEvents

@@ -1,5 +1,5 @@
 -- What is written for a frame is determined.
-use Rattle.std.proofs.Common.{◌≡◌, ℕ, List, [], ◌∷◌, ◌++◌, Option, None, Some, inl, inr, refl, sym, ap, ◌∙◌, subst, codes, get_or, length, arith}
+use Rattle.std.proofs.Common.{◌≡◌, ℕ, Bool, true, false, List, [], ◌∷◌, ◌++◌, Option, None, Some, inl, inr, refl, sym, ap, ◌∙◌, subst, codes, get_or, length, arith}
 use Rattle.ofx_types.specs.FileForm.{SpellsFile, OneFile, OneFault, FaultsSpellNothing}
 use Rattle.ofx_types.specs.declared.fault.FileFault.{FileFault}
 use Rattle.ofx_types.specs.declared.number.Moment.{Moment}
@@ -11,13 +11,15 @@ use Rattle.bank_model.specs.declared.event.Event.{Event}
 use Rattle.bank_model.specs.declared.event.Event.TheVariants.{File}
 use Rattle.bank_model.specs.SetupLookups.{signed_on}
 use Rattle.bank_model.specs.Rules.{answer_to, state_after, denial}
+use Rattle.bank_model.specs.Polls.{is_poll, poll_reply}
 use Rattle.ofx_types.specs.ReplyForm.{reply_text}
 use Rattle.std.specs.Fmt.{decimal}
+use Rattle.std.proofs.lemmas.Bool.{false≢true}
 use Rattle.std.proofs.lemmas.List.{append_cancel_left, append_cancel_right}
 use Rattle.bank_session.specs.Frames.{Content, request, due_work, frame, frame_head}
 use Rattle.bank_session.specs.Answers.{Says, SaysOfFile, due_line, IsSignedOn, IsRefused, fault_place, bad_line, AreTurns, written_in}
 use Rattle.bank_model.specs.DueRun.{after_events}
-use Rattle.bank_session.specs.Determined.{OneDueRun, OneLine, OneOutput, OneRefusal, RefusedIsUnanswered, RefusedIsUndenied, DeniedIsUnanswered, WhereAnswered, WhereDenied, WhereRefused, OnlyWhereRefused}
+use Rattle.bank_session.specs.Determined.{OneDueRun, OneLine, OneOutput, OneRefusal, RefusedIsUnanswered, RefusedIsUndenied, DeniedIsUnanswered, WhereAnswered, WherePolled, WhereDenied, WhereRefused, OnlyWhereRefused}
 
 same_inside : {X : Type 0} {x y : X} → Some x ≡ Some y → x ≡ y
 same_inside e = cc
@@ -59,24 +61,56 @@ same_event one setup bytes file file' user user' a b =
     let by : user ≡ user' = same_inside (sym signed ∙ b.signed) in
     ap (λ (u : UserId). File u file) by ∙ ap (λ (f : RequestFile). File user' f) same
 
+-- a file that is a poll is no event
+is_both : {x : Bool} → x ≡ true → x ≡ false → ⊥
+is_both up down = absurd (false≢true (sym down ∙ up))
+
+polled_and_event : OneFile → (bytes : List ℕ) (a b : RequestFile) → SpellsFile bytes a → SpellsFile bytes b → is_poll a ≡ true → is_poll b ≡ false → ⊥
+polled_and_event one bytes a b spells spells' poll event =
+    is_both (of_other one bytes a b (λ (f : RequestFile). is_poll f ≡ true) spells spells' poll) event
+
 pub where_answered : OneFile → RefusedIsUnanswered → DeniedIsUnanswered → WhereAnswered
-where_answered one apart once setup at before bytes line after file user (inl a) answered =
+where_answered one apart once setup at before bytes line after file user (inl a) answered event_is =
     let event : File a.user a.file ≡ File user file = same_event one setup bytes a.file file a.user user a.is_signed_on answered in
     (a.reply ∙ ap (λ (e : Event). frame (answer_to setup before at e)) event, a.state ∙ ap (λ (e : Event). state_after setup before at e) event)
-where_answered one apart once setup at before bytes line after file user (inr (inl d)) answered = absurd (once setup bytes file d.file user answered d.is_denied)
-where_answered one apart once setup at before bytes line after file user (inr (inr b)) answered = absurd (apart setup bytes file user b.place answered b.refused)
+where_answered one apart once setup at before bytes line after file user (inr (inl p)) answered event_is =
+    absurd (polled_and_event one bytes p.file file p.is_signed_on.spelled answered.spelled p.is_no_event event_is)
+where_answered one apart once setup at before bytes line after file user (inr (inr (inl d))) answered event_is = absurd (once setup bytes file d.file user answered d.is_denied)
+where_answered one apart once setup at before bytes line after file user (inr (inr (inr b))) answered event_is = absurd (apart setup bytes file user b.place answered b.refused)
+
+-- two readings of a poll are one user's one file
+same_poll : OneFile → (setup : Setup) (bytes : List ℕ) (file file' : RequestFile) (user user' : UserId) → IsSignedOn setup bytes file user → IsSignedOn setup bytes file' user' → (file ≡ file') × (user ≡ user')
+same_poll one setup bytes file file' user user' a b =
+    let same : file ≡ file' = one bytes file file' a.spelled b.spelled in
+    let signed : signed_on setup file'.user file'.pass ≡ Some user = subst (λ (f : RequestFile). signed_on setup f.user f.pass ≡ Some user) same a.signed in
+    (same, same_inside (sym signed ∙ b.signed))
+
+pub where_polled : OneFile → RefusedIsUnanswered → DeniedIsUnanswered → WherePolled
+where_polled one apart once setup at before bytes line after file user (inl a) polled poll =
+    absurd (polled_and_event one bytes file a.file polled.spelled a.is_signed_on.spelled poll a.is_event)
+where_polled one apart once setup at before bytes line after file user (inr (inl p)) polled poll =
+    let same = same_poll one setup bytes p.file file p.user user p.is_signed_on polled in (
+      p.reply
+          ∙ (ap (λ (u : UserId). frame (reply_text (poll_reply setup before u at p.file))) same.1
+          ∙ ap (λ (f : RequestFile). frame (reply_text (poll_reply setup before user at f))) same.0),
+      p.state,
+    )
+where_polled one apart once setup at before bytes line after file user (inr (inr (inl d))) polled poll = absurd (once setup bytes file d.file user polled d.is_denied)
+where_polled one apart once setup at before bytes line after file user (inr (inr (inr b))) polled poll = absurd (apart setup bytes file user b.place polled b.refused)
 
 pub where_denied : OneFile → RefusedIsUndenied → DeniedIsUnanswered → WhereDenied
 where_denied one apart once setup at before bytes line after file (inl a) denied = absurd (once setup bytes a.file file a.user a.is_signed_on denied)
-where_denied one apart once setup at before bytes line after file (inr (inl d)) denied =
+where_denied one apart once setup at before bytes line after file (inr (inl p)) denied = absurd (once setup bytes p.file file p.user p.is_signed_on denied)
+where_denied one apart once setup at before bytes line after file (inr (inr (inl d))) denied =
     let same : d.file ≡ file = one bytes d.file file d.is_denied.spelled denied.spelled in
     (d.reply ∙ ap (λ (f : RequestFile). frame (reply_text (denial f at))) same, d.state)
-where_denied one apart once setup at before bytes line after file (inr (inr b)) denied = absurd (apart setup bytes file b.place denied b.refused)
+where_denied one apart once setup at before bytes line after file (inr (inr (inr b))) denied = absurd (apart setup bytes file b.place denied b.refused)
 
 pub where_refused : OneRefusal → RefusedIsUnanswered → RefusedIsUndenied → WhereRefused
 where_refused one apart apart' setup at before bytes line after place (inl a) refused = absurd (apart setup bytes a.file a.user place a.is_signed_on refused)
-where_refused one apart apart' setup at before bytes line after place (inr (inl d)) refused = absurd (apart' setup bytes d.file place d.is_denied refused)
-where_refused one apart apart' setup at before bytes line after place (inr (inr b)) refused =
+where_refused one apart apart' setup at before bytes line after place (inr (inl p)) refused = absurd (apart setup bytes p.file p.user place p.is_signed_on refused)
+where_refused one apart apart' setup at before bytes line after place (inr (inr (inl d))) refused = absurd (apart' setup bytes d.file place d.is_denied refused)
+where_refused one apart apart' setup at before bytes line after place (inr (inr (inr b))) refused =
     (b.bad ∙ ap (λ (p : ℕ). bad_line p) (one bytes b.place place b.refused refused), b.state)
 
 -- a framed reply tells no place
@@ -89,26 +123,30 @@ same_digits a b e = append_cancel_left (codes "BAD ") a b (append_cancel_right (
 
 pub only_where_refused : OnlyWhereRefused
 only_where_refused setup at before bytes after printed (inl a) = absurd (frame_tells_nothing _ printed a.reply)
-only_where_refused setup at before bytes after printed (inr (inl d)) = absurd (frame_tells_nothing _ printed d.reply)
-only_where_refused setup at before bytes after printed (inr (inr b)) = (b.place, b.refused, same_digits (decimal b.place) (decimal printed) (sym b.bad))
+only_where_refused setup at before bytes after printed (inr (inl p)) = absurd (frame_tells_nothing _ printed p.reply)
+only_where_refused setup at before bytes after printed (inr (inr (inl d))) = absurd (frame_tells_nothing _ printed d.reply)
+only_where_refused setup at before bytes after printed (inr (inr (inr b))) = (b.place, b.refused, same_digits (decimal b.place) (decimal printed) (sym b.bad))
 
 -- for the bytes of a file there is one line, and one state behind it
-same_file_line : WhereAnswered → WhereDenied → WhereRefused → (setup : Setup) (at : Moment) (before : State) (bytes line line' : List ℕ) (after after' : State) →
+same_file_line : WhereAnswered → WherePolled → WhereDenied → WhereRefused → (setup : Setup) (at : Moment) (before : State) (bytes line line' : List ℕ) (after after' : State) →
     SaysOfFile setup at before bytes line after → SaysOfFile setup at before bytes line' after' → (line ≡ line') × (after ≡ after')
-same_file_line answered denied refused setup at before bytes line line' after after' says (inl b) =
-    let there = answered setup at before bytes line after b.file b.user says b.is_signed_on in
+same_file_line answered polled denied refused setup at before bytes line line' after after' says (inl b) =
+    let there = answered setup at before bytes line after b.file b.user says b.is_signed_on b.is_event in
     (there.0 ∙ sym b.reply, there.1 ∙ sym b.state)
-same_file_line answered denied refused setup at before bytes line line' after after' says (inr (inl b)) =
+same_file_line answered polled denied refused setup at before bytes line line' after after' says (inr (inl b)) =
+    let there = polled setup at before bytes line after b.file b.user says b.is_signed_on b.is_no_event in
+    (there.0 ∙ sym b.reply, there.1 ∙ sym b.state)
+same_file_line answered polled denied refused setup at before bytes line line' after after' says (inr (inr (inl b))) =
     let there = denied setup at before bytes line after b.file says b.is_denied in
     (there.0 ∙ sym b.reply, there.1 ∙ sym b.state)
-same_file_line answered denied refused setup at before bytes line line' after after' says (inr (inr b)) =
+same_file_line answered polled denied refused setup at before bytes line line' after after' says (inr (inr (inr b))) =
     let there = refused setup at before bytes line after b.place says b.refused in
     (there.0 ∙ sym b.bad, there.1 ∙ sym b.state)
 
 -- and so there is for a frame, since what is due is done in one order
-pub same_line : WhereAnswered → WhereDenied → WhereRefused → OneDueRun → OneLine
-same_line answered denied refused one setup at before (request bytes) line line' after after' a b = same_file_line answered denied refused setup at before bytes line line' after after' a b
-same_line answered denied refused one setup at before due_work line line' after after' a b =
+pub same_line : WhereAnswered → WherePolled → WhereDenied → WhereRefused → OneDueRun → OneLine
+same_line answered polled denied refused one setup at before (request bytes) line line' after after' a b = same_file_line answered polled denied refused setup at before bytes line line' after after' a b
+same_line answered polled denied refused one setup at before due_work line line' after after' a b =
     let same : a.events ≡ b.events = one setup before at a.events b.events a.is_run b.is_run in (
       a.count ∙ (ap (λ (events : List Event). due_line (length events)) same ∙ sym b.count),
       a.state ∙ (ap (λ (events : List Event). after_events setup before at events) same ∙ sym b.state),

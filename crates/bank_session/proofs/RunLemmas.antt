@@ -158,6 +158,7 @@ stopped_in_turn setup at before after count place book coming now seen ahead rea
 stopped_in_turn setup at before after count place book coming now seen ahead reads writes (stops.Frame other) standing few low low' h = absurd h
 stopped_in_turn setup at before after count place book coming now seen ahead reads writes stops.Usage standing few low low' h = absurd h
 stopped_in_turn setup at before after count place book coming now seen ahead reads writes (stops.Setup line) standing few low low' h = absurd h
+stopped_in_turn setup at before after count place book coming now seen ahead reads writes (stops.Letter fault) standing few low low' h = absurd h
 
 -- bytes behind the most frames
 over : (later : Option (List ℕ)) (full : Type 0) → full → IfSome later (λ rest. rest ≢ []) → IfSome later (λ rest. (rest ≢ []) × (BeginsNoFrame rest ⊎ full))
@@ -202,6 +203,7 @@ ended_behind setup at before after count place book coming ahead reads (Err stop
 ended_behind setup at before after count place book coming ahead reads (Err stops.WriteFailed) standing full low h = absurd h
 ended_behind setup at before after count place book coming ahead reads (Err stops.Usage) standing full low h = absurd h
 ended_behind setup at before after count place book coming ahead reads (Err (stops.Setup line)) standing full low h = absurd h
+ended_behind setup at before after count place book coming ahead reads (Err (stops.Letter fault)) standing full low h = absurd h
 
 -- nothing ahead makes no difference to what is to come
 nothing_ahead : (left : Option (List ℕ)) → Consumes left (prepend_known [] left) []

@@ -1,6 +1,5 @@
 -- The turns of a run make legal events, which leave the same state.
-use Rattle.std.proofs.Common.{◌≡◌, ℕ, ◌<◌, Bool, ◌&&◌, List, [], ◌∷◌, length, position, Option, None, Some, inl, inr, refl, sym, ap, ◌∙◌, subst}
-use Rattle.std.specs.Option.{option_map}
+use Rattle.std.proofs.Common.{◌≡◌, ℕ, Bool, false, ◌&&◌, List, [], ◌∷◌, length, position, Some, inl, inr, sym, ap, ◌∙◌, subst}
 use Rattle.ofx_types.specs.Calendar.{IsMoment}
 use Rattle.ofx_types.specs.declared.number.Moment.{Moment}
 use Rattle.ofx_types.specs.declared.number.UserId.{UserId}
@@ -11,6 +10,7 @@ use Rattle.bank_model.specs.declared.event.State.{State}
 use Rattle.bank_model.specs.declared.event.Event.{Event}
 use Rattle.bank_model.specs.declared.event.Event.TheVariants.{File}
 use Rattle.bank_model.specs.Rules.{opening_state, state_after, due, IsLegal}
+use Rattle.bank_model.specs.Polls.{is_poll}
 use Rattle.bank_model.specs.DueRun.{after_events, AreDue}
 use Rattle.std.specs.Str.{bytes_eq}
 use Rattle.bank_core.specs.Runs.{Happening, after_all, AreLegal}
@@ -18,33 +18,26 @@ use Rattle.ofx_file.specs.SoundFiles.{SpelledFilesAreSound}
 use Rattle.bank_session.specs.Frames.{IsLength, Content, request, due_work, Fits}
 use Rattle.bank_session.specs.Answers.{IsSignedOn, SaysOfFile, Says, Turn, AreTurns}
 use Rattle.bank_session.specs.BooksKept.{AreInYears}
-use Rattle.bank_session.proofs.DeskLemmas.{found_within}
+use Rattle.bank_session.proofs.DeskLemmas.{found_within, user_within}
 
 -- some legal events lead from one state to another
 abbrev IsReached : Setup → State → State → Type 0
 IsReached setup before after = (run : List Happening) × AreLegal setup before run × (after_all setup before run ≡ after)
 
-some_inside : {X : Type 0} (x y : X) → Some x ≡ Some y → x ≡ y
-some_inside x y e = cc
-
-user_within : (found : Option ℕ) (count : ℕ) (user : UserId) → ((place : ℕ) → found ≡ Some place → place < count) → option_map (λ (place : ℕ). record { 0 = place }) found ≡ Some user → user.0 < count
-user_within None count user within is = cc
-user_within (Some place) count user within is =
-    subst (λ (u : UserId). u.0 < count) (some_inside (record { 0 = place }) user is) (within place refl)
-
-signed_on_legal : SpelledFilesAreSound → (setup : Setup) (S : State) (at : Moment) (bytes : List ℕ) (file : RequestFile) (user : UserId) → IsLength (length bytes) → IsSignedOn setup bytes file user → IsLegal setup S at (File user file)
-signed_on_legal sound setup S at bytes file user fits signed =
+signed_on_legal : SpelledFilesAreSound → (setup : Setup) (S : State) (at : Moment) (bytes : List ℕ) (file : RequestFile) (user : UserId) → IsLength (length bytes) → IsSignedOn setup bytes file user → is_poll file ≡ false → IsLegal setup S at (File user file)
+signed_on_legal sound setup S at bytes file user fits signed event_is =
     let is_user : User → Bool = λ known. bytes_eq known.name file.user && bytes_eq known.pass file.pass in
-    (user_within (position is_user setup.users) (length setup.users) user (found_within is_user setup.users) signed.signed, sound bytes file signed.spelled fits)
+    (user_within (position is_user setup.users) (length setup.users) user (found_within is_user setup.users) signed.signed, sound bytes file signed.spelled fits, event_is)
 
 behind_file : (setup : Setup) (at : Moment) (before mid after : State) (bytes line : List ℕ) → SpelledFilesAreSound → IsLength (length bytes) → IsMoment at.0 → SaysOfFile setup at before bytes line mid → IsReached setup mid after → IsReached setup before after
 behind_file setup at before mid after bytes line sound fits moment (inl reply) (run, legal, is) = (
   record { at = at; event = File reply.user reply.file } ∷ run,
-  ((moment, signed_on_legal sound setup before at bytes reply.file reply.user fits reply.is_signed_on), subst (λ (S : State). AreLegal setup S run) reply.state legal),
+  ((moment, signed_on_legal sound setup before at bytes reply.file reply.user fits reply.is_signed_on reply.is_event), subst (λ (S : State). AreLegal setup S run) reply.state legal),
   ap (λ (S : State). after_all setup S run) (sym reply.state) ∙ is,
 )
-behind_file setup at before mid after bytes line sound fits moment (inr (inl denial)) reached = subst (λ (S : State). IsReached setup S after) denial.state reached
-behind_file setup at before mid after bytes line sound fits moment (inr (inr bad)) reached = subst (λ (S : State). IsReached setup S after) bad.state reached
+behind_file setup at before mid after bytes line sound fits moment (inr (inl poll)) reached = subst (λ (S : State). IsReached setup S after) poll.state reached
+behind_file setup at before mid after bytes line sound fits moment (inr (inr (inl denial))) reached = subst (λ (S : State). IsReached setup S after) denial.state reached
+behind_file setup at before mid after bytes line sound fits moment (inr (inr (inr bad))) reached = subst (λ (S : State). IsReached setup S after) bad.state reached
 
 -- what is due may be done
 abbrev pub DueIsLegal : Type 0

@@ -132,3 +132,4 @@ turn_stopped at moment size before after coming left held now shown shown' ahead
 turn_stopped at moment size before after coming left held now shown shown' ahead later reads reads' writes writes' (stops.Frame place) kept moments h = absurd h
 turn_stopped at moment size before after coming left held now shown shown' ahead later reads reads' writes writes' stops.Usage kept moments h = absurd h
 turn_stopped at moment size before after coming left held now shown shown' ahead later reads reads' writes writes' (stops.Setup line) kept moments h = absurd h
+turn_stopped at moment size before after coming left held now shown shown' ahead later reads reads' writes writes' (stops.Letter fault) kept moments h = absurd h

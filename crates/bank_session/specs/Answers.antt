@@ -1,5 +1,5 @@
 -- What a run writes for a frame.
-use Rattle.std.specs.Prelude.{◌≡◌, ℕ, List, [], ◌∷◌, ◌++◌, length, map, codes, Option, None, Some, All, ◌⊎◌}
+use Rattle.std.specs.Prelude.{◌≡◌, ℕ, true, false, List, [], ◌∷◌, ◌++◌, length, map, codes, Option, None, Some, All, ◌⊎◌}
 use Rattle.std.specs.List.{flat_map}
 use Rattle.std.specs.Fmt.{decimal}
 use Rattle.ofx_types.specs.FileForm.{SpellsFile, IsFaultOf}
@@ -14,6 +14,7 @@ use Rattle.bank_model.specs.declared.event.Event.{Event}
 use Rattle.bank_model.specs.declared.event.Event.TheVariants.{File}
 use Rattle.bank_model.specs.SetupLookups.{signed_on}
 use Rattle.bank_model.specs.Rules.{answer_to, state_after, denial}
+use Rattle.bank_model.specs.Polls.{is_poll, poll_reply}
 use Rattle.bank_model.specs.DueRun.{after_events, IsDueRun}
 use Rattle.ofx_types.specs.ReplyForm.{reply_text}
 use Rattle.ofx_ports.specs.Told.{Stays, Grows}
@@ -42,13 +43,23 @@ pub record IsRefused (bytes : List ℕ) (place : ℕ) : Type 0 where
   pub is_fault : IsFaultOf bytes fault
   pub has_place : fault_place fault ≡ Some place
 
--- A user's file is an event: its reply is written in a frame.
+-- A user's file that is no poll is an event: its reply is written in a frame.
 pub record Replies (setup : Setup) (at : Moment) (before : State) (bytes line : List ℕ) (after : State) : Type 0 where
   pub file : RequestFile
   pub user : UserId
   pub is_signed_on : IsSignedOn setup bytes file user
+  pub is_event : is_poll file ≡ false
   pub reply : line ≡ frame (answer_to setup before at (File user file))
   pub state : after ≡ state_after setup before at (File user file)
+
+-- A user's poll is told the newest tokens in a frame, and nothing changes, not even the business day.
+pub record Polls (setup : Setup) (at : Moment) (before : State) (bytes line : List ℕ) (after : State) : Type 0 where
+  pub file : RequestFile
+  pub user : UserId
+  pub is_signed_on : IsSignedOn setup bytes file user
+  pub is_no_event : is_poll file ≡ true
+  pub reply : line ≡ frame (reply_text (poll_reply setup before user at file))
+  pub state : after ≡ before
 
 -- A failed signon is answered by itself alone, and nothing changes.
 pub record Denies (setup : Setup) (at : Moment) (before : State) (bytes line : List ℕ) (after : State) : Type 0 where
@@ -71,7 +82,8 @@ pub record IsBad (before : State) (bytes line : List ℕ) (after : State) : Type
 -- what is written for the bytes of a file at a moment, and the state that it leaves
 abbrev pub SaysOfFile : Setup → Moment → State → List ℕ → List ℕ → State → Type 0
 SaysOfFile setup at before bytes line after =
-    Replies setup at before bytes line after ⊎ (Denies setup at before bytes line after ⊎ IsBad before bytes line after)
+    Replies setup at before bytes line after
+    ⊎ (Polls setup at before bytes line after ⊎ (Denies setup at before bytes line after ⊎ IsBad before bytes line after))
 
 -- `DUE`, a space and a number
 abbrev pub due_line : ℕ → List ℕ

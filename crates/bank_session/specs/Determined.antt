@@ -1,5 +1,5 @@
 -- What a run writes is determined by its setup and by the frames that it reads with their moments.
-use Rattle.std.specs.Prelude.{◌≡◌, ℕ, List, [], ◌∷◌, ◌++◌}
+use Rattle.std.specs.Prelude.{◌≡◌, ℕ, true, false, List, [], ◌∷◌, ◌++◌}
 use Rattle.std.specs.List.{flat_map, AllByRecursion}
 use Rattle.std.specs.Fmt.{decimal}
 use Rattle.ofx_types.specs.declared.number.Moment.{Moment}
@@ -9,6 +9,7 @@ use Rattle.bank_model.specs.declared.setup.Setup.{Setup}
 use Rattle.bank_model.specs.declared.event.State.{State}
 use Rattle.bank_model.specs.declared.event.Event.TheVariants.{File}
 use Rattle.bank_model.specs.Rules.{answer_to, state_after, denial}
+use Rattle.bank_model.specs.Polls.{is_poll, poll_reply}
 use Rattle.bank_model.specs.DueRun.{IsDueRun}
 use Rattle.bank_model.specs.declared.event.Event.{Event}
 use Rattle.bank_session.specs.Frames.{Content, frame, frame_of, Fits}
@@ -55,11 +56,17 @@ abbrev pub DeniedIsUnanswered : Type 0
 DeniedIsUnanswered = (setup : Setup) (bytes : List ℕ) (file file' : RequestFile) (user : UserId) →
     IsSignedOn setup bytes file user → IsDenied setup bytes file' → ⊥
 
--- Where a file is a user's its framed reply is written,
+-- Where a user's file is an event its framed reply is written,
 abbrev pub WhereAnswered : Type 0
 WhereAnswered = (setup : Setup) (at : Moment) (before : State) (bytes line : List ℕ) (after : State) (file : RequestFile) (user : UserId) →
-    SaysOfFile setup at before bytes line after → IsSignedOn setup bytes file user →
+    SaysOfFile setup at before bytes line after → IsSignedOn setup bytes file user → is_poll file ≡ false →
     (line ≡ frame (answer_to setup before at (File user file))) × (after ≡ state_after setup before at (File user file))
+
+-- where it is a poll the framed newest tokens,
+abbrev pub WherePolled : Type 0
+WherePolled = (setup : Setup) (at : Moment) (before : State) (bytes line : List ℕ) (after : State) (file : RequestFile) (user : UserId) →
+    SaysOfFile setup at before bytes line after → IsSignedOn setup bytes file user → is_poll file ≡ true →
+    (line ≡ frame (reply_text (poll_reply setup before user at file))) × (after ≡ before)
 
 -- where its signon fails the framed denial,
 abbrev pub WhereDenied : Type 0

@@ -50,3 +50,4 @@ DueEnds setup before after (Err stops.ReadFailed) = ⊥
 DueEnds setup before after (Err (stops.Frame place)) = ⊥
 DueEnds setup before after (Err stops.Usage) = ⊥
 DueEnds setup before after (Err (stops.Setup line)) = ⊥
+DueEnds setup before after (Err (stops.Letter fault)) = ⊥

@@ -15,3 +15,4 @@ EndOrStop coming place ahead left reads reads' (Err stops.NoMemory) = ⊥
 EndOrStop coming place ahead left reads reads' (Err stops.WriteFailed) = ⊥
 EndOrStop coming place ahead left reads reads' (Err stops.Usage) = ⊥
 EndOrStop coming place ahead left reads reads' (Err (stops.Setup line)) = ⊥
+EndOrStop coming place ahead left reads reads' (Err (stops.Letter fault)) = ⊥

@@ -1,16 +1,20 @@
 -- Exactly where a run ends with each status, and what is told of it, as far as nothing of the outside fails and memory is
 -- there.
-use Rattle.std.specs.Prelude.{◌≡◌, ◌≢◌, ℕ, ◌≤◌, List, [], ◌++◌, length, Option, Some, ◌⊎◌}
+use Rattle.std.specs.Prelude.{◌≡◌, ◌≢◌, ℕ, ◌≤◌, true, false, List, [], ◌++◌, length, Option, None, Some, ◌⊎◌}
 use Rattle.std.specs.List.{flat_map, AllByRecursion}
 use Rattle.ofx_ports.specs.Faults.{Rose}
 use Rattle.bank_model.specs.SetupForm.{SpellsSetup}
 use Rattle.bank_model.specs.SetupFault.{IsSetupFault}
 use Rattle.bank_model.specs.declared.setup.Setup.{Setup}
+use Rattle.bank_model.specs.Due.{has_number}
+use Rattle.bank_model.specs.Rules.{opening_state}
 use Rattle.bank_session.specs.Frames.{Content, frame_of, Fits, BeginsNoFrame}
 use Rattle.bank_session.specs.Outside.{Outside}
-use Rattle.bank_session.specs.Run.{EndsWith, DueEndsWith, told}
+use Rattle.bank_session.specs.Letters.{IsBody, HasNoBody, user_named}
+use Rattle.bank_session.specs.Run.{EndsWith, DueEndsWith, MailEndsWith, told}
 use Rattle.ofx_types.specs.declared.number.Moment.{Moment}
-use Rattle.ofx_types.specs.declared.told.Note.TheVariants.{Plain, Place}
+use Rattle.ofx_types.specs.declared.number.UserId.{UserId}
+use Rattle.ofx_types.specs.declared.told.Note.TheVariants.{Plain, Place, NoUser, Full}
 use Rattle.ofx_types.specs.declared.told.Told.{Told}
 
 -- A read or a write failed, or memory was refused.
@@ -77,3 +81,44 @@ pub record IsDueCommand (before after : Outside) (what : Told) : Type 0 where
   pub ends : DueEndsWith before after what
   pub refuses_setup : RefusesDueSetup before after what
   pub does_all : DoesAll before after what
+
+-- ---- the command `mail`
+
+-- The setup is spelled, and these are the bytes of the input.
+pub record Brings (before : Outside) (setup : Setup) (input : List ℕ) : Type 0 where
+  pub text : List ℕ
+  pub setup_is : before.setup_left ≡ Some text
+  pub spelled : SpellsSetup text setup
+  pub input_is : before.input_left ≡ Some input
+
+-- An input that is no body ends it with 4, at its first byte.
+abbrev pub RefusesBody : Outside → Outside → Told → Type 0
+RefusesBody before after what =
+    (setup : Setup) (input : List ℕ) → Brings before setup input → HasNoBody input → (what ≡ told 4 (Place 0)) ⊎ GaveUp before after what
+
+-- A body for nobody ends it with 10,
+abbrev pub RefusesUser : List ℕ → Outside → Outside → Told → Type 0
+RefusesUser name before after what =
+    (setup : Setup) (input body : List ℕ) → Brings before setup input → IsBody input body → user_named setup name ≡ None
+    → (what ≡ told 10 NoUser) ⊎ GaveUp before after what
+
+-- and so does one for a user of a bank that has no number left.
+abbrev pub RefusesFull : List ℕ → Outside → Outside → Told → Type 0
+RefusesFull name before after what =
+    (setup : Setup) (input body : List ℕ) (user : UserId) → Brings before setup input → IsBody input body
+    → user_named setup name ≡ Some user → has_number setup opening_state ≡ false → (what ≡ told 10 Full) ⊎ GaveUp before after what
+
+-- A body for a user, and a number that is left, end it with 0.
+abbrev pub WritesIt : List ℕ → Outside → Outside → Told → Type 0
+WritesIt name before after what =
+    (setup : Setup) (input body : List ℕ) (user : UserId) → Brings before setup input → IsBody input body
+    → user_named setup name ≡ Some user → has_number setup opening_state ≡ true → (what ≡ told 0 Plain) ⊎ GaveUp before after what
+
+-- The command `mail` ends so: what it read and wrote, and what is told exactly where.
+pub record IsMailCommand (name subject : List ℕ) (before after : Outside) (what : Told) : Type 0 where
+  pub ends : MailEndsWith name subject before after what
+  pub refuses_setup : RefusesSetup before after what
+  pub refuses_body : RefusesBody before after what
+  pub refuses_user : RefusesUser name before after what
+  pub refuses_full : RefusesFull name before after what
+  pub writes_it : WritesIt name before after what

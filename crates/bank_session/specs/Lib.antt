@@ -17,6 +17,8 @@ pub mod TurnResult
 pub mod Outside
 pub mod RunEnd
 pub mod DueEnd
+pub mod Letters
+pub mod MailEnd
 pub mod EndOrStop
 pub mod Run
 pub mod Exact

@@ -1,21 +1,30 @@
 -- A whole run: the words, the setup, the frames, and what people are told of its end.
-use Rattle.std.specs.Prelude.{◌≡◌, ℕ, Option, Result, Ok, Err, ◌⊎◌}
+use Rattle.std.specs.Prelude.{◌≡◌, ℕ, List, Option, Result, Ok, Err, ◌⊎◌}
 use Rattle.std.specs.Io.KnownBytes.{Keeps}
 use Rattle.ofx_ports.specs.Told.{Stays}
 use Rattle.ofx_types.specs.declared.number.Moment.{Moment}
 use Rattle.ofx_types.specs.declared.told.Note.{Note}
-use Rattle.ofx_types.specs.declared.told.Note.TheVariants.{Plain, Place}
+use Rattle.ofx_types.specs.declared.told.Note.TheVariants.{Plain, Place, NoUser, Full}
 use Rattle.ofx_types.specs.declared.told.Told.{Told}
 use Rattle.bank_model.specs.declared.setup.Setup.{Setup}
 use Rattle.bank_session.specs.Outside.{Outside}
 use Rattle.bank_session.specs.SetupRead.{IsSetupOf, StopsSetup}
 use Rattle.bank_session.specs.RunEnd.{RunEnds}
 use Rattle.bank_session.specs.DueEnd.{DueEnds}
+use Rattle.bank_session.specs.MailEnd.{MailEnds}
+use Rattle.bank_session.specs.declared.stop.LetterFault.{LetterFault}
+use Rattle.bank_session.specs.declared.stop.LetterFault.TheVariants as faults
 use Rattle.bank_session.specs.declared.stop.Stop.{Stop}
 use Rattle.bank_session.specs.declared.stop.Stop.TheVariants as stops
 
 abbrev pub told : ℕ → Note → Told
 told status note = record { status = record { 0 = status }; note = note }
+
+-- What is told of a letter that can't be written: an input that is no body is refused at its first byte.
+abbrev pub told_of_letter : LetterFault → Told
+told_of_letter faults.NoBody = told 4 (Place 0)
+told_of_letter faults.NoUser = told 10 NoUser
+told_of_letter faults.Full = told 10 Full
 
 -- What is told of each end: its status, the line of a setup's fault, and the place of what is no frame.
 abbrev pub told_of : Result (Unit {0}) Stop → Told
@@ -26,6 +35,7 @@ told_of (Err (stops.Frame place)) = told 4 (Place place)
 told_of (Err stops.ReadFailed) = told 5 Plain
 told_of (Err stops.WriteFailed) = told 6 Plain
 told_of (Err stops.NoMemory) = told 7 Plain
+told_of (Err (stops.Letter fault)) = told_of_letter fault
 
 -- A run that has no setup reads none of its input and writes nothing, and doesn't look at the clock.
 pub record EndsWithoutSetup (before after : Outside) (stop : Stop) : Type 0 where
@@ -65,3 +75,20 @@ pub record DueEndsWith (before after : Outside) (what : Told) : Type 0 where
   pub end : Result (Unit {0}) Stop
   pub told_is : what ≡ told_of end
   pub ends : DueEndsSo before after end
+
+-- The command `mail` has the setup that all bytes of its source spell, and writes a letter in a bank that opens.
+pub record MailEndsWithSetup (name subject : List ℕ) (before after : Outside) (end : Result (Unit {0}) Stop) : Type 0 where
+  pub setup : Setup
+  pub found : IsSetupOf before.setup_left setup
+  pub ends : MailEnds setup name subject before after end
+
+abbrev pub MailEndsSo : List ℕ → List ℕ → Outside → Outside → Result (Unit {0}) Stop → Type 0
+MailEndsSo name subject before after (Ok done) = MailEndsWithSetup name subject before after (Ok done)
+MailEndsSo name subject before after (Err stop) =
+    EndsWithoutSetup before after stop ⊎ MailEndsWithSetup name subject before after (Err stop)
+
+-- The command ends so, and this is told of it.
+pub record MailEndsWith (name subject : List ℕ) (before after : Outside) (what : Told) : Type 0 where
+  pub end : Result (Unit {0}) Stop
+  pub told_is : what ≡ told_of end
+  pub ends : MailEndsSo name subject before after end

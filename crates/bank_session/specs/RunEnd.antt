@@ -91,3 +91,4 @@ RunEnds setup at before after (Err stops.WriteFailed) = StoppedInLine setup at b
 RunEnds setup at before after (Err stops.NoMemory) = StoppedBetween setup at before after
 RunEnds setup at before after (Err stops.Usage) = ⊥
 RunEnds setup at before after (Err (stops.Setup line)) = ⊥
+RunEnds setup at before after (Err (stops.Letter fault)) = ⊥

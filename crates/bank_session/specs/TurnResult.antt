@@ -44,6 +44,7 @@ FrameResult at size before after ahead later held now writes writes' (Err stops.
 FrameResult at size before after ahead later held now writes writes' (Err (stops.Frame place)) = ⊥
 FrameResult at size before after ahead later held now writes writes' (Err stops.Usage) = ⊥
 FrameResult at size before after ahead later held now writes writes' (Err (stops.Setup line)) = ⊥
+FrameResult at size before after ahead later held now writes writes' (Err (stops.Letter fault)) = ⊥
 
 -- A frame of so many bytes was answered; or the input is at its end; or bytes that begin no frame are left; or the run
 -- stops.

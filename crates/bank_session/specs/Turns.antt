@@ -59,3 +59,4 @@ TurnStops at before coming ahead left held now shown shown' reads reads' writes 
 TurnStops at before coming ahead left held now shown shown' reads reads' writes writes' (stops.Frame place) = ⊥
 TurnStops at before coming ahead left held now shown shown' reads reads' writes writes' stops.Usage = ⊥
 TurnStops at before coming ahead left held now shown shown' reads reads' writes writes' (stops.Setup line) = ⊥
+TurnStops at before coming ahead left held now shown shown' reads reads' writes writes' (stops.Letter fault) = ⊥

@@ -2,6 +2,7 @@
 use Rattle.std.specs.Prelude.{◌≡◌, ℕ, List, [], ◌∷◌, codes, Option, None, Some}
 use Rattle.ofx_types.specs.DateForm.{IsDate}
 use Rattle.ofx_types.specs.declared.number.Moment.{Moment}
+use Rattle.bank_model.specs.Sound.{HasLength}
 
 -- `--at` and a date, or nothing: then each frame has the moment that the clock shows.
 abbrev pub IsMomentOption : List (List ℕ) → Option Moment → Type 0
@@ -20,7 +21,18 @@ pub record AreDueWords (words : List (List ℕ)) : Type 0 where
   pub setup : List ℕ
   pub spelled : words ≡ codes "due" ∷ setup ∷ codes "-" ∷ []
 
--- Words of neither command have no form.
+-- The words `mail`, the path of the setup, `-`, any word as the name of a user, and a subject of 1 to 64 bytes.
+pub record AreMailWords (words : List (List ℕ)) (name subject : List ℕ) : Type 0 where
+  pub setup : List ℕ
+  pub spelled : words ≡ codes "mail" ∷ setup ∷ codes "-" ∷ name ∷ subject ∷ []
+  pub subject_fits : HasLength 64 subject
+
+-- Words that ask for a letter, whoever it is for.
+abbrev pub AskForLetter : List (List ℕ) → Type 0
+AskForLetter words = (name : List ℕ) × (subject : List ℕ) × AreMailWords words name subject
+
+-- Words of no command have no form.
 pub record IsUsage (words : List (List ℕ)) : Type 0 where
   pub unanswered : (at : Option Moment) → AreWords words at → ⊥
   pub undue : AreDueWords words → ⊥
+  pub unmailed : AskForLetter words → ⊥

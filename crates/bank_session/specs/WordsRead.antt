@@ -4,10 +4,10 @@ use Rattle.std.specs.Option.{IfSome}
 use Rattle.ofx_types.specs.Calendar.{IsMoment}
 use Rattle.ofx_types.specs.DateForm.{IsDate}
 use Rattle.ofx_types.specs.declared.number.Moment.{Moment}
-use Rattle.bank_session.specs.Words.{AreWords, AreDueWords, IsUsage}
+use Rattle.bank_session.specs.Words.{AreWords, AreDueWords, AskForLetter, IsUsage}
 use Rattle.bank_session.specs.declared.words.AnswerWords.{AnswerWords}
 use Rattle.bank_session.specs.declared.words.Command.{Command}
-use Rattle.bank_session.specs.declared.words.Command.TheVariants.{Answer, Due}
+use Rattle.bank_session.specs.declared.words.Command.TheVariants.{Answer, Due, Mail}
 
 -- The moment of a run's frames lies in the years 1900 to 9999, where the words name one.
 abbrev pub IsLawful : Option Moment → Type 0
@@ -23,8 +23,16 @@ abbrev pub IsNamedBy : List ℕ → Option Moment → Type 0
 IsNamedBy date None = ⊥
 IsNamedBy date (Some at) = IsDate date at.0
 
+-- Words are those of one of the other commands, or of neither.
+abbrev pub ReadsOther : List (List ℕ) → Option Command → Type 0
+ReadsOther words None = (AreDueWords words → ⊥) × (AskForLetter words → ⊥)
+ReadsOther words (Some (Answer found)) = ⊥
+ReadsOther words (Some Due) = AreDueWords words
+ReadsOther words (Some Mail) = AskForLetter words
+
 -- Words are those of one command, or of none.
 abbrev pub ReadsCommand : List (List ℕ) → Option Command → Type 0
 ReadsCommand words None = IsUsage words
 ReadsCommand words (Some (Answer found)) = Reads (AreWords words) (Some found)
 ReadsCommand words (Some Due) = AreDueWords words
+ReadsCommand words (Some Mail) = AskForLetter words

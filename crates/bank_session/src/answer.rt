@@ -1,20 +1,23 @@
-//! The commands: `answer`, a stream of frames that are answered in order, and `due`, which does once what is due.
+//! The commands: `answer`, a stream of frames that are answered in order, `due`, which does once what is due, and `mail`,
+//! which writes a letter.
 
-ghost use Rattle.std.specs.Prelude.{◌≡◌, ◌↔◌, Option, Some, IsSome};
+ghost use Rattle.std.specs.Prelude.{◌≡◌, ◌↔◌, ℕ, List, Option, Some, IsSome};
 ghost use Rattle.ofx_types.specs.declared.number.Moment.{Moment as TheMoment};
 ghost use Rattle.ofx_types.specs.declared.told.Told.{Told as WhatIsTold};
-ghost use Rattle.bank_session.specs.Words.{AreWords, AreDueWords, IsUsage};
+ghost use Rattle.bank_session.specs.Words.{AreWords, AreDueWords, AreMailWords, IsUsage};
 ghost use Rattle.bank_session.specs.WordsRead.{IsLawful};
 ghost use Rattle.bank_session.specs.Outside.{outside};
 ghost use Rattle.bank_session.specs.Run as runs;
-ghost use Rattle.bank_session.specs.Run.{EndsSo, told_of};
-ghost use Rattle.bank_session.specs.Exact.{IsRun, IsDueCommand};
+ghost use Rattle.bank_session.specs.Run.{EndsSo, told_of, told_of_letter};
+ghost use Rattle.bank_session.specs.Exact.{IsRun, IsDueCommand, IsMailCommand};
 
 use crate::due::do_due_once;
+use crate::mail::send_letter;
 use crate::run::answer_frames as answer_input;
 use crate::setup_source::read_setup;
-use crate::stop::Stop;
+use crate::stop::{LetterFault, Stop};
 use crate::words::{Command, command_of};
+use bank_model::one_setup;
 use ofx_ports::{Clock, Keeper, Sink, Source};
 use ofx_types::{Moment, Note, Status, Text, Told};
 use std::alloc::Global;
@@ -50,6 +53,28 @@ fn end_told(end: Result<(), Stop>) -> Told
         Err(Stop::ReadFailed) => plain(5),
         Err(Stop::WriteFailed) => plain(6),
         Err(Stop::NoMemory) => plain(7),
+        Err(Stop::Letter(fault)) => letter_told(fault),
+    }
+}
+
+/// What is told of a letter that can't be written.
+fn letter_told(fault: LetterFault) -> Told
+    ensures { result ≡ told_of_letter fault }
+{
+    match fault {
+        LetterFault::NoBody => at_place(4, 0),
+        LetterFault::NoUser => noted(10, Note::NoUser),
+        LetterFault::Full => noted(10, Note::Full),
+    }
+}
+
+/// A status with its note.
+fn noted(status: u8, note: Note) -> Told
+    ensures { result ≡ runs.told status note }
+{
+    Told {
+        status: Status(status),
+        note,
     }
 }
 
@@ -57,23 +82,17 @@ fn end_told(end: Result<(), Stop>) -> Told
 fn plain(status: u8) -> Told
     ensures { result ≡ runs.told status Note.Plain }
 {
-    Told {
-        status: Status(status),
-        note: Note::Plain,
-    }
+    noted(status, Note::Plain)
 }
 
 /// A status, and a place or the number of a line.
 fn at_place(status: u8, place: u64) -> Told
     ensures { result ≡ runs.told status (Note.Place place) }
 {
-    Told {
-        status: Status(status),
-        note: Note::Place(place),
-    }
+    noted(status, Note::Place(place))
 }
 
-/// Answers a stream of frames, or does once what is due, and tells how the run ended.
+/// Answers a stream of frames, does once what is due, or writes a letter, and tells how the run ended.
 ///
 /// The words of the first are `answer`, the path of the setup, `-` for records that aren't kept, and perhaps `--at` with
 /// a date (OFX 1.6, "Dates, Times, and Time Zones"). The setup is read whole; then each frame of the input is answered
@@ -91,18 +110,29 @@ fn at_place(status: u8, place: u64) -> Told
 /// ("Recurring Transactions"), and transfers that wait are posted, or closed where there is no cover, on their day
 /// ("Intrabank Funds Transfer"). The line is `DUE` with the number of these events, which are at most 100,000.
 ///
+/// A poll of a user, which asks for nothing but newest tokens ("Data Synchronization"), is answered in its frame too, and
+/// changes nothing, not even the business day.
+///
 /// The words `due`, the path of the setup and `-` ask for the same once, in a bank that opens, at the moment that the
 /// clock shows then. The input isn't read.
 ///
+/// The words `mail`, the path of the setup, `-`, the name of a user and a subject of 1 to 64 bytes ask for a letter of the
+/// bank to this user ("Customer Service and E-Mail"), in a bank that opens. The input is its body, of 1 to 10,000 bytes
+/// without the white space at its ends. The clock is read once, behind all that may refuse, and the line is `MAIL` with
+/// the number of the letter's entry.
+///
 /// | Status | Note | Where |
 /// |---|---|---|
-/// | 0 | | the input was read to its end and every frame answered, or what was due is done |
+/// | 0 | | the input was read to its end and every frame answered, or what was due is done, or the letter is written |
 /// | 2 | | the words have another form; nothing was read |
 /// | 3 | the line of the fault, from 1 | the setup has no form or is past a limit; nothing was written |
 /// | 4 | the number of bytes of the frames answered | the input goes on with bytes that begin no frame, or behind 1,000,000 frames |
+/// | 4 | 0 | of `mail`: the input is no body, or has more than 262,144 bytes; nothing was written |
 /// | 5 | | a read of the setup or of the input failed; the frames before are answered |
 /// | 6 | | a write failed; a front of the text is written |
 /// | 7 | | memory was refused; the frames before are answered |
+/// | 10 | no user | of `mail`: no user of the setup has the name; nothing was written |
+/// | 10 | full | of `mail`: no number is left for an entry; nothing was written |
 pub fn answer_told<A: Source, B: Source, W: Sink, K: Keeper, C: Clock>(
     alloc: Global,
     words: &[Text],
@@ -127,13 +157,20 @@ pub fn answer_told<A: Source, B: Source, W: Sink, K: Keeper, C: Clock>(
         (outside (A.left setup.old) (A.faults setup.old) (B.left input.old) (B.faults input.old) (W.held out.old) (W.faults out.old) (C.told clock.old))
         (outside (A.left setup.new) (A.faults setup.new) (B.left input.new) (B.faults input.new) (W.held out.new) (W.faults out.new) (C.told clock.new)) result }
 
+    // The same of `mail`.
+    ensures mail { (name subject : List ℕ) → AreMailWords words.now name subject → IsMailCommand name subject
+        (outside (A.left setup.old) (A.faults setup.old) (B.left input.old) (B.faults input.old) (W.held out.old) (W.faults out.old) (C.told clock.old))
+        (outside (A.left setup.new) (A.faults setup.new) (B.left input.new) (B.faults input.new) (W.held out.new) (W.faults out.new) (C.told clock.new)) result }
+
     ensures keeper { keeper.new ≡ keeper.old }
     ensures clock { (at : TheMoment) → AreWords words.now (Some at) → clock.new ≡ clock.old }
 {
+    one_setup();
     match command_of(words) {
         None => plain(2),
         Some(Command::Answer(found)) => end_told(run(alloc, found.at, setup, input, out, clock)),
         Some(Command::Due) => end_told(do_due_once(alloc, setup, out, clock)),
+        Some(Command::Mail) => { end_told(send_letter(alloc, words, setup, input, out, clock)) }
     }
 }
 
@@ -157,6 +194,9 @@ pub fn answer_files<A: Source, B: Source, W: Sink, K: Keeper, C: Clock>(
     ensures due { AreDueWords words.now → (input.new ≡ input.old) × ((what : WhatIsTold) × (what.status ≡ result) × IsDueCommand
         (outside (A.left setup.old) (A.faults setup.old) (B.left input.old) (B.faults input.old) (W.held out.old) (W.faults out.old) (C.told clock.old))
         (outside (A.left setup.new) (A.faults setup.new) (B.left input.new) (B.faults input.new) (W.held out.new) (W.faults out.new) (C.told clock.new)) what) }
+    ensures mail { (name subject : List ℕ) → AreMailWords words.now name subject → (what : WhatIsTold) × (what.status ≡ result) × IsMailCommand name subject
+        (outside (A.left setup.old) (A.faults setup.old) (B.left input.old) (B.faults input.old) (W.held out.old) (W.faults out.old) (C.told clock.old))
+        (outside (A.left setup.new) (A.faults setup.new) (B.left input.new) (B.faults input.new) (W.held out.new) (W.faults out.new) (C.told clock.new)) what }
 
     ensures keeper { keeper.new ≡ keeper.old }
     ensures clock { (at : TheMoment) → AreWords words.now (Some at) → clock.new ≡ clock.old }

@@ -1,21 +1,25 @@
 //! A bank on one thread: its book, and its accounts at hand.
 
-ghost use Rattle.std.specs.Prelude.{◌≡◌, length, IfOk, OnErr, OnOk};
+ghost use Rattle.std.specs.Prelude.{◌≡◌, ◌<◌, ◌+◌, true, length, IfOk, OnErr, OnOk};
 ghost use Rattle.ofx_types.specs.Calendar.{IsMoment};
 ghost use Rattle.bank_model.specs.SetupForm.{IsWithinLimits};
 ghost use Rattle.bank_model.specs.Rules as rules;
 ghost use Rattle.bank_model.specs.Rules.{IsLegal, opening_state, state_after, answer_to};
+ghost use Rattle.bank_model.specs.Polls as polls;
 ghost use Rattle.ofx_types.specs.ReplyForm.{reply_text};
 ghost use Rattle.bank_session.specs.Frames.{IsLength, frame};
 ghost use Rattle.bank_session.specs.Answers.{SaysOfFile, DoesDue, bad_line, due_line};
 ghost use Rattle.bank_session.specs.DueSteps.{TakesNext, MadeRun, MadeFront};
+ghost use Rattle.bank_session.specs.Letters.{IsAddressed, CanWrite, WritesLetter, mail_line};
 
+use crate::addressee::user_of;
 use crate::judge::{Judgement, judge};
+use crate::stop::LetterFault;
 use bank_accounts::Held;
 use bank_core::{Book, denial};
 use bank_model::{Event, Setup};
 use ofx_file::{OfxPrinter, write_reply};
-use ofx_types::{Moment, OutOfMemory, RequestFile};
+use ofx_types::{Duplicate, Moment, OutOfMemory, RequestFile, Text, UserId};
 use ofx_values::print_number;
 use std::alloc::Global;
 use std::marker::Model;
@@ -56,7 +60,7 @@ impl Desk {
     }
 
     /// What is to be written for the bytes of a file, at most 262,144 of them, at that moment. Where they are a user's
-    /// the event has happened. Otherwise, and where memory is refused, nothing has.
+    /// and no poll the event has happened. Otherwise, and where memory is refused, nothing has.
     pub fn answer(
         &mut self,
         alloc: Global,
@@ -72,10 +76,29 @@ impl Desk {
         match judge(alloc, self.book.setup(), bytes)? {
             Judgement::Refused(place) => bad_file_line(alloc, place),
             Judgement::Denied(file) => denial_line(alloc, at, file),
+            Judgement::Polled(user, file) => self.poll_line(alloc, at, user, &file),
             Judgement::Answered(user, file) => {
                 self.reply_line(alloc, at, &Event::File(user, file))
             }
         }
+    }
+
+    /// The framed reply to a poll of a user, who is one of the setup's.
+    fn poll_line(
+        &self,
+        alloc: Global,
+        at: Moment,
+        user: UserId,
+        file: &RequestFile,
+    ) -> Result<Vec<u8>, OutOfMemory>
+        requires moment { IsMoment at.0 }
+        requires known { user.0 < length self.now.setup.users }
+        requires poll { polls.is_poll file.now ≡ true }
+        ensures { IfOk result (λ line. line.items
+            ≡ frame (reply_text (polls.poll_reply self.now.setup self.now.state user at file.now))) }
+    {
+        let reply = self.book.poll(alloc, user, file, at)?;
+        framed(alloc, &reply)
     }
 
     /// Makes the event happen, and frames its reply.
@@ -144,6 +167,39 @@ impl Desk {
         }
     }
 
+    /// The user of that name, and the number of the next entry. The user is looked for first. Takes no memory.
+    pub fn addressee(&self, name: &Text) -> Result<(UserId, u64), LetterFault>
+        ensures { IsAddressed self.now name.now result }
+    {
+        match user_of(self.book.setup(), name) {
+            None => Err(LetterFault::NoUser),
+            Some(user) => match self.book.next_number() {
+                Some(number) => Ok((user, number)),
+                None => Err(LetterFault::Full),
+            },
+        }
+    }
+
+    /// Writes a user a letter at that moment, as the entry of that number, and tells the number.
+    pub fn letter(
+        &mut self,
+        alloc: Global,
+        at: Moment,
+        to: (UserId, u64),
+        subject: &Text,
+        body: Text,
+    ) -> Result<Vec<u8>, OutOfMemory>
+        requires moment { IsMoment at.0 }
+        requires to { CanWrite self.old to subject.now body }
+        ensures setup { self.new.setup ≡ self.old.setup }
+        ensures line { IfOk result (λ line.
+            WritesLetter self.old.setup at self.old.state to.0 subject.now body line.items self.new.state) }
+    {
+        let event = Event::Letter(to.0, subject.copy()?, body);
+        self.happen(alloc, at, &event)?;
+        letter_line(alloc, to.1)
+    }
+
     /// Makes the event happen, which has no reply to hand out.
     fn happen(&mut self, alloc: Global, at: Moment, event: &Event) -> Result<(), OutOfMemory>
         requires moment { IsMoment at.0 }
@@ -182,6 +238,16 @@ fn due_work_line(alloc: Global, count: u64) -> Result<Vec<u8>, OutOfMemory>
 {
     let mut line = Vec::from_slice(alloc, b"DUE ")?;
     print_number(count, &mut line)?;
+    line.push(b'\n')?;
+    Ok(line)
+}
+
+/// The line that tells the number of a letter's entry.
+fn letter_line(alloc: Global, number: u64) -> Result<Vec<u8>, OutOfMemory>
+    ensures { IfOk result (λ line. line.items ≡ mail_line number) }
+{
+    let mut line = Vec::from_slice(alloc, b"MAIL ")?;
+    print_number(number, &mut line)?;
     line.push(b'\n')?;
     Ok(line)
 }

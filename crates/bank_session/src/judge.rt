@@ -1,4 +1,4 @@
-//! What the bytes of a file are to the bank: an event, a failed signon, or a file that isn't answered.
+//! What the bytes of a file are to the bank: an event, a poll, a failed signon, or a file that isn't answered.
 
 ghost use Rattle.std.specs.Prelude.{◌≡◌, length, IfOk};
 ghost use Rattle.ofx_types.specs.FileForm.{SpellsFile};
@@ -8,7 +8,7 @@ ghost use Rattle.bank_session.specs.Frames.{IsLength};
 ghost use Rattle.bank_session.specs.Answers.{fault_place};
 ghost use Rattle.bank_session.specs.Asked.{IsJudged};
 
-use bank_model::Setup;
+use bank_model::{Setup, is_poll};
 use ofx_file::read_request;
 use ofx_types::{FileFault, OutOfMemory, RequestFile, UserId};
 use std::alloc::Global;
@@ -16,8 +16,10 @@ use std::alloc::Global;
 /// What a file is to the bank.
 #[derive(Drop)]
 pub enum Judgement {
-    /// A file of this user.
+    /// A file of this user, which is an event.
     Answered(UserId, RequestFile),
+    /// A poll of this user.
+    Polled(UserId, RequestFile),
     /// A file whose signon failed.
     Denied(RequestFile),
     /// A file that isn't answered, and the place to tell.
@@ -49,8 +51,8 @@ fn place_of(fault: FileFault) -> Option<u64>
     }
 }
 
-/// What the request file that the bytes spell is to the bank: an event of the user who signs on, whatever it names and
-/// asks about.
+/// What the request file that the bytes spell is to the bank: a poll or an event of the user who signs on, whatever it
+/// names and asks about.
 fn judge_file(setup: &Setup, bytes: &[u8], file: RequestFile) -> Judgement
     requires within { IsWithinLimits setup.now }
     requires spelled { SpellsFile bytes.now file }
@@ -58,7 +60,13 @@ fn judge_file(setup: &Setup, bytes: &[u8], file: RequestFile) -> Judgement
     ensures { IsJudged setup.now bytes.now result }
 {
     match setup.signon(&file.user, &file.pass) {
-        Some(user) => Judgement::Answered(user, file),
+        Some(user) => {
+            if is_poll(&file) {
+                Judgement::Polled(user, file)
+            } else {
+                Judgement::Answered(user, file)
+            }
+        }
         None => Judgement::Denied(file),
     }
 }

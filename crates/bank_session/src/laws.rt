@@ -1,6 +1,6 @@
 //! What is written is determined, and the books are kept: laws over the definitions.
 
-ghost use Rattle.bank_session.specs.Determined.{OneSplitting, OneRefusal, RefusedIsUnanswered, RefusedIsUndenied, DeniedIsUnanswered, WhereAnswered, WhereDenied, WhereRefused, OnlyWhereRefused, OneDueRun, OneLine, OneOutput};
+ghost use Rattle.bank_session.specs.Determined.{OneSplitting, OneRefusal, RefusedIsUnanswered, RefusedIsUndenied, DeniedIsUnanswered, WhereAnswered, WherePolled, WhereDenied, WhereRefused, OnlyWhereRefused, OneDueRun, OneLine, OneOutput};
 ghost use Rattle.bank_session.specs.BooksKept.{RunsKeepTheBooks};
 
 use bank_core::{
@@ -31,10 +31,11 @@ pub fn one_signon()
     one_file();
 }
 
-/// The framed reply is written where a file is an event, the framed denial where its signon fails, and exactly where it
-/// is refused the line with its place.
+/// The framed reply is written where a file is an event, the framed newest tokens where it is a poll, the framed denial
+/// where its signon fails, and exactly where it is refused the line with its place.
 pub fn exact_lines()
     ensures answered { WhereAnswered }
+    ensures polled { WherePolled }
     ensures denied { WhereDenied }
     ensures refused { WhereRefused }
     ensures only { OnlyWhereRefused }

@@ -1,24 +1,28 @@
-//! Whole runs of the bank's server: frames of request files in, replies out; and the work that is due.
+//! Whole runs of the bank's server: frames of request files in, replies out; the work that is due; and letters to users.
 //!
-//! A run reads its words and its setup, then answers each frame of its input in turn, or does once what is due. The
+//! A run reads its words and its setup, then answers each frame of its input in turn, does once what is due, or writes a letter. The
 //! clauses of `answer_told` say what it wrote, for which frames and at which moments, why it ended, and what people are
 //! told of that.
 #![tactic(auto)]
 
+mod addressee;
 mod ahead;
 mod answer;
+mod body;
 mod desk;
 mod due;
 mod frame_head;
 mod frames;
 mod judge;
 mod laws;
+mod mail;
 mod moments;
 mod output;
 mod run;
 mod setup_source;
 mod stop;
 mod turn;
+mod whole;
 mod words;
 
 pub use answer::{answer_files, answer_told};

@@ -16,8 +16,21 @@ pub enum Stop {
     ReadFailed,
     /// A write failed.
     WriteFailed,
+    /// A letter can't be written.
+    Letter(LetterFault),
     /// Memory was refused.
     NoMemory,
+}
+
+/// Why a letter can't be written.
+#[derive(Clone, Copy, Debug, PartialEq, Eq)]
+pub enum LetterFault {
+    /// The input is no body of a letter.
+    NoBody,
+    /// No user has the name.
+    NoUser,
+    /// The bank has no number left for an entry.
+    Full,
 }
 
 impl From<OutOfMemory> for Stop {

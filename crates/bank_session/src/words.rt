@@ -1,11 +1,15 @@
 //! The words of the command lines that have a form.
 
 ghost use Rattle.std.specs.Prelude.{◌≡◌, ◌↔◌, IsTrue};
-ghost use Rattle.bank_session.specs.Words.{AreWords, AreDueWords, IsMomentOption};
-ghost use Rattle.bank_session.specs.WordsRead.{Reads, ReadsCommand, IsNamedBy};
+ghost use Rattle.bank_model.specs.Sound.{HasLength};
+ghost use Rattle.bank_session.specs.Words.{AreWords, AreDueWords, AskForLetter, IsMomentOption};
+ghost use Rattle.bank_session.specs.WordsRead.{Reads, ReadsCommand, ReadsOther, IsNamedBy};
 
 use ofx_types::{Moment, Text};
 use ofx_values::{one_moment, read_moment};
+
+/// The most bytes of a letter's subject.
+const MOST_SUBJECT: usize = 64;
 
 /// What the words of the command `answer` say to a run.
 #[derive(Clone, Copy, Debug, PartialEq, Eq)]
@@ -21,6 +25,8 @@ pub enum Command {
     Answer(AnswerWords),
     /// `due`: what is due, done once.
     Due,
+    /// `mail`: a letter to a user.
+    Mail,
 }
 
 fn is_word(word: &Text, expected: &[u8]) -> bool
@@ -83,18 +89,45 @@ fn are_due_words(words: &[Text]) -> bool
     }
 }
 
+/// Whether a word may be the subject of a letter.
+fn is_subject(word: &Text) -> bool
+    ensures { IsTrue result ↔ HasLength 64 word.now }
+{
+    let length = word.as_bytes().len();
+    0 < length && length <= MOST_SUBJECT
+}
+
+/// Whether the words are those of `mail`.
+fn are_mail_words(words: &[Text]) -> bool
+    ensures { IsTrue result ↔ AskForLetter words.now }
+{
+    match words {
+        [command, _, records, _, subject] => {
+            is_word(command, b"mail") && is_word(records, b"-") && is_subject(subject)
+        }
+        _ => false,
+    }
+}
+
+/// What the words ask for, where they don't ask for frames to be answered.
+fn other_command(words: &[Text]) -> Option<Command>
+    ensures { ReadsOther words.now result }
+{
+    if are_due_words(words) {
+        return Some(Command::Due);
+    }
+    if are_mail_words(words) {
+        return Some(Command::Mail);
+    }
+    None
+}
+
 /// What the words ask for. None where they have no form.
 pub fn command_of(words: &[Text]) -> Option<Command>
     ensures { ReadsCommand words.now result }
 {
     match answer_words(words) {
         Some(found) => Some(Command::Answer(found)),
-        None => {
-            if are_due_words(words) {
-                Some(Command::Due)
-            } else {
-                None
-            }
-        }
+        None => other_command(words),
     }
 }

@@ -10,7 +10,7 @@ use Rattle.std.specs.List.{AllByRecursion, flat_map, list_any}
 use Rattle.ofx_types.specs.declared.transfer.XferCode.TheVariants.{Cancelled}
 use Rattle.ofx_types.specs.declared.transfer.TransferRow.{TransferRow}
 use Rattle.ofx_types.specs.declared.transfer.Change.{Change}
-use Rattle.ofx_types.specs.declared.transfer.Change.TheVariants.{NewTransfer, SetTransfer, DropTransfer, NewModel, SetModel, DropModel}
+use Rattle.ofx_types.specs.declared.transfer.Change.TheVariants.{NewTransfer, SetTransfer, DropTransfer, NewModel, SetModel, DropModel, NewMail}
 use Rattle.bank_model.specs.declared.entry.Entry.{Entry}
 use Rattle.bank_model.specs.Ledger.{row_in, if_named, or_before, last_row, drops, is_dropped, with_code, row_of, posting_of, moved}
 use Rattle.bank_transfers.specs.Growth.{row_given, row_after}
@@ -73,6 +73,7 @@ changed_row id dropped last (DropTransfer gone) = dropped_row id gone dropped la
 changed_row id dropped last (NewModel row) = kept_row dropped last
 changed_row id dropped last (SetModel row pending) = kept_row dropped last
 changed_row id dropped last (DropModel gone pending) = kept_row dropped last
+changed_row id dropped last (NewMail mail) = kept_row dropped last
 
 pub row_of-push : (id : ℕ) (entries : List Entry) (entry : Entry) → row_of id (entries ++ entry ∷ []) ≡ row_after id (is_dropped id entries) (row_of id entries) entry.change
 unfolding row_of

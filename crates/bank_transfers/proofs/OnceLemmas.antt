@@ -8,7 +8,7 @@ use Rattle.std.specs.List.{AllByRecursion, IsDistinct}
 use Rattle.ofx_types.specs.declared.transfer.XferCode.TheVariants.{Cancelled}
 use Rattle.ofx_types.specs.declared.transfer.TransferRow.{TransferRow}
 use Rattle.ofx_types.specs.declared.transfer.Change.{Change}
-use Rattle.ofx_types.specs.declared.transfer.Change.TheVariants.{NewTransfer, SetTransfer, DropTransfer, NewModel, SetModel, DropModel}
+use Rattle.ofx_types.specs.declared.transfer.Change.TheVariants.{NewTransfer, SetTransfer, DropTransfer, NewModel, SetModel, DropModel, NewMail}
 use Rattle.bank_model.specs.declared.entry.Entry.{Entry}
 use Rattle.bank_model.specs.Ledger.{Posting, row_in, is_dropped, with_code, row_of, is_posted, posting_of, moved}
 use Rattle.bank_model.specs.Models.{is_waiting}
@@ -48,6 +48,7 @@ names id (DropTransfer gone) = eqb gone id
 names id (NewModel row) = false
 names id (SetModel row pending) = false
 names id (DropModel gone pending) = false
+names id (NewMail mail) = false
 
 other_id : (entries : List Entry) (named id : ℕ) → is_settled (row_of named entries) ≡ false → is_settled (row_of id entries) ≡ true → eqb named id ≡ false
 other_id entries named id unsettled settled = apart (eqb named id) (λ same. let no : false ≡ true = sym unsettled ∙ ap (λ n. is_settled (row_of n entries)) (eqb-true named id same) ∙ settled in cc)
@@ -63,6 +64,7 @@ unnamed entries (DropTransfer gone) waiting id settled = other_id entries gone i
 unnamed entries (NewModel row) lawful id settled = refl
 unnamed entries (SetModel row pending) lawful id settled = refl
 unnamed entries (DropModel gone pending) lawful id settled = refl
+unnamed entries (NewMail mail) lawful id settled = refl
 
 unnamed_kept : (id : ℕ) (dropped : Bool) (before : Option TransferRow) (change : Change) → names id change ≡ false → row_after id dropped before change ≡ before
 unnamed_kept id dropped before (NewTransfer row) other = ap (λ b. cond b (Some (cond dropped (with_code Cancelled row) row)) before) other
@@ -71,6 +73,7 @@ unnamed_kept id dropped before (DropTransfer gone) other = ap (λ b. cond b (opt
 unnamed_kept id dropped before (NewModel row) other = refl
 unnamed_kept id dropped before (SetModel row pending) other = refl
 unnamed_kept id dropped before (DropModel gone pending) other = refl
+unnamed_kept id dropped before (NewMail mail) other = refl
 
 settled_stays : (entries : List Entry) (entry : Entry) → IsLawful entries entry.change → (id : ℕ) → is_settled (row_of id entries) ≡ true → is_settled (row_of id (entries ++ entry ∷ [])) ≡ true
 settled_stays entries entry lawful id settled =
@@ -86,6 +89,7 @@ names_given id (DropTransfer gone) row is = cc
 names_given id (NewModel given) row is = cc
 names_given id (SetModel given pending) row is = cc
 names_given id (DropModel gone pending) row is = cc
+names_given id (NewMail mail) row is = cc
 
 posted_settled : (dropped : Bool) (before : Option TransferRow) (row : TransferRow) → is_posted row.code ≡ true → is_settled (row_given row.id dropped before row) ≡ true
 posted_settled dropped before row posted =
@@ -102,6 +106,7 @@ posting_settled dropped before (DropTransfer gone) row is posted = cc
 posting_settled dropped before (NewModel given) row is posted = cc
 posting_settled dropped before (SetModel given pending) row is posted = cc
 posting_settled dropped before (DropModel gone pending) row is posted = cc
+posting_settled dropped before (NewMail mail) row is posted = cc
 
 -- ---- no transfer posts twice
 

@@ -7,7 +7,7 @@ use Rattle.std.specs.List.{All, find}
 use Rattle.ofx_types.specs.declared.transfer.XferCode.TheVariants.{Cancelled}
 use Rattle.ofx_types.specs.declared.transfer.TransferRow.{TransferRow}
 use Rattle.ofx_types.specs.declared.transfer.Change.{Change}
-use Rattle.ofx_types.specs.declared.transfer.Change.TheVariants.{NewTransfer, SetTransfer, DropTransfer, NewModel, SetModel, DropModel}
+use Rattle.ofx_types.specs.declared.transfer.Change.TheVariants.{NewTransfer, SetTransfer, DropTransfer, NewModel, SetModel, DropModel, NewMail}
 use Rattle.bank_model.specs.declared.entry.Entry.{Entry}
 use Rattle.bank_model.specs.Ledger.{row_in, drops, is_dropped, with_code, row_of, is_posted, posting_of, moved}
 use Rattle.bank_model.specs.Models.{is_waiting, all_waiting}
@@ -50,6 +50,7 @@ given_row id entries (DropTransfer gone) row gives = dropped_row id gone entries
 given_row id entries (NewModel given) row gives = absurd gives
 given_row id entries (SetModel given pending) row gives = absurd gives
 given_row id entries (DropModel gone pending) row gives = absurd gives
+given_row id entries (NewMail mail) row gives = absurd gives
 
 cancelled_stays : (number : ℕ) (before : Option TransferRow) (row : TransferRow) → option_map (with_code Cancelled) before ≡ Some row → posting_of number (Some row) ≡ []
 cancelled_stays number None row is = cc
@@ -62,6 +63,7 @@ given_posting number entries (DropTransfer gone) row gives = cancelled_stays num
 given_posting number entries (NewModel given) row gives = absurd gives
 given_posting number entries (SetModel given pending) row gives = absurd gives
 given_posting number entries (DropModel gone pending) row gives = absurd gives
+given_posting number entries (NewMail mail) row gives = absurd gives
 
 -- ---- standing for one entry more
 
@@ -132,6 +134,7 @@ stands_still transfers entries entry stands none kept =
     unchanged id dropped before (NewModel row) none kept = refl
     unchanged id dropped before (SetModel row pending) none kept = refl
     unchanged id dropped before (DropModel gone pending) none kept = refl
+    unchanged id dropped before (NewMail mail) none kept = refl
 
 -- ---- what is found in transfers that stand for entries
 

@@ -9,7 +9,7 @@ use Rattle.std.specs.List.{AllByRecursion, flat_map}
 use Rattle.ofx_types.specs.declared.transfer.XferCode.TheVariants.{Cancelled}
 use Rattle.ofx_types.specs.declared.transfer.TransferRow.{TransferRow}
 use Rattle.ofx_types.specs.declared.transfer.Change.{Change}
-use Rattle.ofx_types.specs.declared.transfer.Change.TheVariants.{NewTransfer, SetTransfer, DropTransfer, NewModel, SetModel, DropModel}
+use Rattle.ofx_types.specs.declared.transfer.Change.TheVariants.{NewTransfer, SetTransfer, DropTransfer, NewModel, SetModel, DropModel, NewMail}
 use Rattle.bank_model.specs.declared.entry.Entry.{Entry}
 use Rattle.bank_model.specs.Ledger.{row_in, if_named, with_code, row_of}
 use Rattle.bank_model.specs.Models.{is_waiting, made_in, all_waiting}
@@ -74,6 +74,7 @@ made_swapped all more row each (DropTransfer id) = refl
 made_swapped all more row each (NewModel given) = refl
 made_swapped all more row each (SetModel given pending) = refl
 made_swapped all more row each (DropModel id pending) = refl
+made_swapped all more row each (NewMail mail) = refl
 
 all_swapped : (all more : List Entry) (row : TransferRow) → ((id : ℕ) → waiting_in (option_to_list (row_of id more)) ≡ swapped row (waiting_in (option_to_list (row_of id all)))) → (entries : List Entry) → waiting_made more entries ≡ swapped row (waiting_made all entries)
 all_swapped all more row each [] = refl
@@ -101,6 +102,7 @@ all_same all more P same (entry ∷ entries) such =
     one (NewModel row) is = refl
     one (SetModel row pending) is = refl
     one (DropModel id pending) is = refl
+    one (NewMail mail) is = refl
 
 waiting-push : (all entries : List Entry) (entry : Entry) → waiting_made all (entries ++ entry ∷ []) ≡ waiting_made all entries ++ waiting_in (made_in all entry.change)
 waiting-push all entries entry =
@@ -158,6 +160,7 @@ given_waits entries more (DropTransfer id) row rows gives =
 given_waits entries more (NewModel given) row rows gives = absurd gives
 given_waits entries more (SetModel given pending) row rows gives = absurd gives
 given_waits entries more (DropModel id pending) row rows gives = absurd gives
+given_waits entries more (NewMail mail) row rows gives = absurd gives
 
 pub waits_after : (entries : List Entry) (entry : Entry) (row : TransferRow) → ((id : ℕ) → row_of id (entries ++ entry ∷ []) ≡ cond (eqb row.id id) (Some row) (row_of id entries)) → GivesRow entries entry.change row → WaitsAfter (all_waiting entries) (all_waiting (entries ++ entry ∷ [])) row (row_of row.id entries)
 unfolding all_waiting
@@ -172,6 +175,7 @@ unmade all (DropTransfer id) none = refl
 unmade all (NewModel row) none = refl
 unmade all (SetModel row pending) none = refl
 unmade all (DropModel id pending) none = refl
+unmade all (NewMail mail) none = refl
 
 -- Where no row changes and no transfer is made, the same ones wait.
 pub waiting_stays : (entries : List Entry) (entry : Entry) → ((id : ℕ) → row_of id (entries ++ entry ∷ []) ≡ row_of id entries) → row_in entry.change ≡ None → all_waiting (entries ++ entry ∷ []) ≡ all_waiting entries

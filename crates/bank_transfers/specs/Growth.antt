@@ -4,7 +4,7 @@ use Rattle.std.specs.Option.{option_map}
 use Rattle.ofx_types.specs.declared.transfer.XferCode.TheVariants.{Cancelled}
 use Rattle.ofx_types.specs.declared.transfer.TransferRow.{TransferRow}
 use Rattle.ofx_types.specs.declared.transfer.Change.{Change}
-use Rattle.ofx_types.specs.declared.transfer.Change.TheVariants.{NewTransfer, SetTransfer, DropTransfer, NewModel, SetModel, DropModel}
+use Rattle.ofx_types.specs.declared.transfer.Change.TheVariants.{NewTransfer, SetTransfer, DropTransfer, NewModel, SetModel, DropModel, NewMail}
 use Rattle.bank_model.specs.Ledger.{with_code}
 
 -- A row that is given to a transfer is its row from now on. Where an entry before dropped the transfer, it stays
@@ -21,3 +21,4 @@ row_after id dropped before (DropTransfer gone) = if gone == id then option_map 
 row_after id dropped before (NewModel row) = before
 row_after id dropped before (SetModel row pending) = before
 row_after id dropped before (DropModel gone pending) = before
+row_after id dropped before (NewMail mail) = before

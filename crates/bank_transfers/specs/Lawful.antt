@@ -2,7 +2,7 @@
 use Rattle.std.specs.Prelude.{◌≡◌, true, ◌==◌, List, [], ◌∷◌, ◌++◌, None}
 use Rattle.std.specs.List.{IsDistinct}
 use Rattle.ofx_types.specs.declared.transfer.Change.{Change}
-use Rattle.ofx_types.specs.declared.transfer.Change.TheVariants.{NewTransfer, SetTransfer, DropTransfer, NewModel, SetModel, DropModel}
+use Rattle.ofx_types.specs.declared.transfer.Change.TheVariants.{NewTransfer, SetTransfer, DropTransfer, NewModel, SetModel, DropModel, NewMail}
 use Rattle.bank_model.specs.declared.entry.Entry.{Entry}
 use Rattle.bank_model.specs.Ledger.{Posting, row_of, moved}
 use Rattle.bank_transfers.specs.TransfersView.{waits}
@@ -15,6 +15,7 @@ IsLawful entries (DropTransfer id) = waits (row_of id entries) ≡ true
 IsLawful entries (NewModel row) = Unit {0}
 IsLawful entries (SetModel row pending) = Unit {0}
 IsLawful entries (DropModel id pending) = Unit {0}
+IsLawful entries (NewMail mail) = Unit {0}
 
 -- Each entry is lawful behind those before it.
 abbrev pub AreLawfulBehind : List Entry → List Entry → Type 0

@@ -5,7 +5,7 @@ use Rattle.std.specs.List.{find}
 use Rattle.ofx_types.specs.declared.transfer.TransferRow.{TransferRow}
 use Rattle.ofx_types.specs.declared.transfer.XferCode.TheVariants.{Cancelled}
 use Rattle.ofx_types.specs.declared.transfer.Change.{Change}
-use Rattle.ofx_types.specs.declared.transfer.Change.TheVariants.{NewTransfer, SetTransfer, DropTransfer, NewModel, SetModel, DropModel}
+use Rattle.ofx_types.specs.declared.transfer.Change.TheVariants.{NewTransfer, SetTransfer, DropTransfer, NewModel, SetModel, DropModel, NewMail}
 use Rattle.bank_model.specs.declared.entry.Entry.{Entry}
 use Rattle.bank_model.specs.Judging.{is_cancelled}
 use Rattle.bank_model.specs.Ledger.{Posting, row_of, is_dropped, with_code, moved}
@@ -51,6 +51,7 @@ GivesRow entries (DropTransfer id) row = option_map (with_code Cancelled) (row_o
 GivesRow entries (NewModel given) row = ⊥
 GivesRow entries (SetModel given pending) row = ⊥
 GivesRow entries (DropModel id pending) row = ⊥
+GivesRow entries (NewMail mail) row = ⊥
 
 -- An amount is at most 99,999,999,999.99 either way.
 abbrev pub IsWithinAmounts : TransferRow → Type 0

@@ -11,7 +11,11 @@ use Rattle.ofx_types.specs.RecurringForm.{freq_word, first_info}
 use Rattle.ofx_types.specs.DeedForm.{family_of, request_name, reply_name}
 use Rattle.ofx_types.specs.TransferText as text
 use Rattle.ofx_types.specs.DeedText as deeds
+use Rattle.ofx_types.specs.CommonText as common
+use Rattle.ofx_types.specs.PrintedMail as mails
 use Rattle.ofx_types.specs.declared.account.AcctName.{AcctName}
+use Rattle.ofx_types.specs.declared.mail.MailText.{MailText}
+use Rattle.ofx_types.specs.declared.mail.MailRow.{MailRow}
 use Rattle.ofx_types.specs.declared.number.Day.{Day}
 use Rattle.ofx_types.specs.declared.number.Moment.{Moment}
 use Rattle.ofx_types.specs.declared.recurring.Freq.{Freq}
@@ -21,11 +25,12 @@ use Rattle.ofx_types.specs.declared.recurring.ModelRow.{ModelRow}
 use Rattle.ofx_types.specs.declared.transfer.XferInfo.{XferInfo}
 use Rattle.ofx_types.specs.declared.transfer.Deed.{Deed}
 use Rattle.ofx_types.specs.declared.transfer.Deed.TheVariants.{Transfer, ModifyTransfer, CancelTransfer, Model, ModifyModel, CancelModel}
+use Rattle.ofx_types.specs.declared.transfer.Deed.TheVariants as kinds
 use Rattle.ofx_types.specs.declared.transfer.XferCode.{XferCode}
 use Rattle.ofx_types.specs.declared.transfer.XferCode.TheVariants.{Waiting, Posted, NoFunds, Cancelled}
 use Rattle.ofx_types.specs.declared.transfer.TransferRow.{TransferRow}
 use Rattle.ofx_types.specs.declared.transfer.Change.{Change}
-use Rattle.ofx_types.specs.declared.transfer.Change.TheVariants.{NewTransfer, SetTransfer, DropTransfer, NewModel, SetModel, DropModel}
+use Rattle.ofx_types.specs.declared.transfer.Change.TheVariants.{NewTransfer, SetTransfer, DropTransfer, NewModel, SetModel, DropModel, NewMail}
 use Rattle.ofx_types.specs.declared.transfer.Family.{Family}
 use Rattle.ofx_types.specs.declared.transfer.Family.TheVariants.{Intra, RecIntra, BankMail, Mail}
 use Rattle.ofx_types.specs.declared.transfer.DeedReply.{DeedReply}
@@ -33,6 +38,7 @@ use Rattle.ofx_tree.specs.PrintedForm.{IsElementName}
 use Rattle.ofx_tree.specs.Documents.{Documents, empty, leaf, branch, printed, AreLawful, IsLeaf, IsBranch}
 use Rattle.ofx_tree.proofs.Leaves.{amount_leaf, moment_leaf, number_leaf, flag_leaf}
 use Rattle.msg_bank.specs.AsDocuments.{account_documents}
+use Rattle.msg_bank.specs.MailDocuments.{mail_documents, mail_about, mail_reply_name}
 use Rattle.msg_bank.specs.DeedsAsDocuments.{due_document, info_documents, count_document, recur_documents, each_documents, asked_name, request_documents, deed_documents, processing_documents, model_document, set_documents, first_documents, model_documents, change_name, change_documents, change_document, deed_reply_documents, DeedsAreDocuments, DeedsAreLawful, DeedRepliesAreDocuments, DeedRepliesAreLawful}
 use Rattle.msg_bank.specs.Sound.{IsSoundId, IsSoundDay, IsSoundMoment, IsSoundInfo, IsSoundRecur, IsSoundDeed, IsSoundDeedRequest, IsSoundRow, IsSoundModelRow, IsSoundChange, IsSoundChangeByCode, IsSoundDeedReply}
 use Rattle.msg_bank.proofs.Lawful.{named, is_branch, text_leaf, currency_leaf, account_lawful, status_lawful}
@@ -83,6 +89,24 @@ inner_printed : (info : XferInfo) → sheet.aggregate (codes "INTRARQ") (printed
 unfolding deeds.each_text
 inner_printed info = rw (each_printed info) refl
 
+mail_printed : (user : List ℕ) (text : MailText) → sheet.aggregate (codes "MAIL") (printed (mail_documents user text)) ≡ mails.mail_text user text
+unfolding mails.mail_text
+mail_printed user text = rw append-nil refl
+
+mail_about_printed : (account : AcctName) (user : List ℕ) (text : MailText) →
+    printed (mail_about (Some account) user text) ≡ common.account_from account ++ mails.mail_text user text
+mail_about_printed account user text = rw (account_printed account, mail_printed user text, append-nil) refl
+
+bank_mail_printed : (account : AcctName) (text : MailText) →
+    sheet.aggregate (codes "BANKMAILRQ") (printed (mail_about (Some account) text.sender text)) ≡ mails.bank_mail_text account text
+unfolding mails.bank_mail_text
+bank_mail_printed account text = rw (mail_about_printed account text.sender text) refl
+
+plain_mail_printed : (text : MailText) →
+    sheet.aggregate (codes "MAILRQ") (printed (mail_about None text.sender text)) ≡ mails.plain_mail_text text
+unfolding mails.plain_mail_text
+plain_mail_printed text = rw (append-nil, mail_printed text.sender text) refl
+
 request_printed : (deed : Deed) → sheet.aggregate (asked_name deed) (printed (request_documents deed)) ≡ deeds.request_text deed
 unfolding deeds.request_text
 request_printed (Transfer info) = rw (each_printed info) refl
@@ -91,6 +115,8 @@ request_printed (CancelTransfer id) = rw append-nil refl
 request_printed (Model recur info) = rw (recur_printed recur, inner_printed info, append-nil) refl
 request_printed (ModifyModel id recur info pending) = rw (recur_printed recur, inner_printed info, append-nil) refl
 request_printed (CancelModel id pending) = rw append-nil refl
+request_printed (kinds.BankMail account mail) = bank_mail_printed account mail
+request_printed (kinds.Mail mail) = plain_mail_printed mail
 
 pub deeds_printed : DeedsAreDocuments
 unfolding deeds.deed_text
@@ -118,6 +144,12 @@ unfolding deeds.model_row_text
 model_row_printed row behind =
     rw (recur_printed row.recur, first_printed row, append_assoc, append_assoc (deeds.recur_text row.recur) (deeds.first_text row) (printed behind)) refl
 
+mail_row_printed : (about : Option AcctName) (row : MailRow) →
+    sheet.aggregate (mail_reply_name about) (printed (mail_about about row.user row.mail)) ≡ mails.mail_row_about about row
+unfolding mails.mail_row_about
+mail_row_printed None row = rw (append-nil, mail_printed row.user row.mail) refl
+mail_row_printed (Some account) row = rw (mail_about_printed account row.user row.mail) refl
+
 change_printed : (change : Change) → sheet.aggregate (change_name change) (printed (change_documents change)) ≡ deeds.change_text change
 unfolding deeds.change_text
 change_printed (NewTransfer row) =
@@ -127,6 +159,7 @@ change_printed (DropTransfer id) = rw append-nil refl
 change_printed (NewModel row) = rw (model_row_printed row empty, append-nil) refl
 change_printed (SetModel row pending) = rw (model_row_printed row _, append-nil) refl
 change_printed (DropModel id pending) = rw append-nil refl
+change_printed (NewMail row) = mail_row_printed row.about row
 
 maybe_change_printed : (change : Option Change) → printed (change_document change) ≡ deeds.maybe_change_text change
 unfolding deeds.maybe_change_text
@@ -211,13 +244,15 @@ each_in_lawful room info behind some i more =
 flag_lawful : (room : ℕ) (name : List ℕ) (flag : Bool) → IsElementName name → AreLawful room (leaf name (flag_word flag) empty)
 flag_lawful room name flag n = (flag_leaf name flag n, tt)
 
-request_branch : (deed : Deed) → IsBranch (asked_name deed)
+pub request_branch : (deed : Deed) → IsBranch (asked_name deed)
 request_branch (Transfer info) = is_branch (codes "INTRARQ") refl refl refl
 request_branch (ModifyTransfer id info) = is_branch (codes "INTRAMODRQ") refl refl refl
 request_branch (CancelTransfer id) = is_branch (codes "INTRACANRQ") refl refl refl
 request_branch (Model recur info) = is_branch (codes "RECINTRARQ") refl refl refl
 request_branch (ModifyModel id recur info pending) = is_branch (codes "RECINTRAMODRQ") refl refl refl
 request_branch (CancelModel id pending) = is_branch (codes "RECINTRACANRQ") refl refl refl
+request_branch (kinds.BankMail account mail) = is_branch (codes "BANKMAILRQ") refl refl refl
+request_branch (kinds.Mail mail) = is_branch (codes "MAILRQ") refl refl refl
 
 pub request_lawful : (room : ℕ) (deed : Deed) → 2 < room → IsSoundDeed deed → AreLawful room (request_documents deed)
 request_lawful room (Transfer info) some d = each_lawful room info (omega arith) d
@@ -234,6 +269,8 @@ request_lawful room (ModifyModel id recur info pending) some d =
     )
 request_lawful room (CancelModel id pending) some d =
     (id_leaf (codes "RECSRVRTID") id (named (codes "RECSRVRTID") refl refl) d, flag_lawful room (codes "CANPENDING") pending (named (codes "CANPENDING") refl refl))
+request_lawful room (kinds.BankMail account mail) some d = absurd d
+request_lawful room (kinds.Mail mail) some d = absurd d
 
 pub deed_lawful : (room : ℕ) (trnuid : List ℕ) (deed : Deed) → 3 < room → IsSoundDeedRequest trnuid deed → AreLawful room (deed_documents trnuid deed)
 deed_lawful room trnuid deed some d = (
@@ -241,7 +278,7 @@ deed_lawful room trnuid deed some d = (
   (request_branch deed, omega arith, request_lawful (room - 1) deed (omega arith) d.is_deed, tt),
 )
 
-transaction_branch : (family : Family) → IsBranch (request_name family)
+pub transaction_branch : (family : Family) → IsBranch (request_name family)
 transaction_branch Intra = is_branch (codes "INTRATRNRQ") refl refl refl
 transaction_branch RecIntra = is_branch (codes "RECINTRATRNRQ") refl refl refl
 transaction_branch BankMail = is_branch (codes "BANKMAILTRNRQ") refl refl refl
@@ -294,13 +331,18 @@ model_in_lawful room row behind some r more = (
       (is_branch (codes "INTRARS") refl refl refl, omega arith, first_lawful (room - 1) row (omega arith) r, more),
 )
 
-change_branch : (change : Change) → IsBranch (change_name change)
+mail_reply_branch : (about : Option AcctName) → IsBranch (mail_reply_name about)
+mail_reply_branch None = is_branch (codes "MAILRS") refl refl refl
+mail_reply_branch (Some account) = is_branch (codes "BANKMAILRS") refl refl refl
+
+pub change_branch : (change : Change) → IsBranch (change_name change)
 change_branch (NewTransfer row) = is_branch (codes "INTRARS") refl refl refl
 change_branch (SetTransfer row) = is_branch (codes "INTRAMODRS") refl refl refl
 change_branch (DropTransfer id) = is_branch (codes "INTRACANRS") refl refl refl
 change_branch (NewModel row) = is_branch (codes "RECINTRARS") refl refl refl
 change_branch (SetModel row pending) = is_branch (codes "RECINTRAMODRS") refl refl refl
 change_branch (DropModel id pending) = is_branch (codes "RECINTRACANRS") refl refl refl
+change_branch (NewMail row) = mail_reply_branch row.about
 
 pub change_lawful : (room : ℕ) (change : Change) → 2 < room → IsSoundChange change → AreLawful room (change_documents change)
 change_lawful room (NewTransfer row) some c = new_lawful room (nat_eq row.model 0) row (omega arith) c.0 c.1
@@ -312,6 +354,7 @@ change_lawful room (SetModel row pending) some c =
     (flag_lawful room (codes "MODPENDING") pending (named (codes "MODPENDING") refl refl))
 change_lawful room (DropModel id pending) some c =
     (id_leaf (codes "RECSRVRTID") id (named (codes "RECSRVRTID") refl refl) c, flag_lawful room (codes "CANPENDING") pending (named (codes "CANPENDING") refl refl))
+change_lawful room (NewMail row) some c = absurd c
 
 maybe_change_lawful : (room code : ℕ) (family : Family) (change : Option Change) → 3 < room → IsSoundChangeByCode code family change →
     AreLawful room (change_document change)
@@ -325,7 +368,7 @@ deed_reply_lawful room reply some r = (
   (is_branch (codes "STATUS") refl refl refl, omega arith, status_lawful (room - 1) reply.code r.is_code, maybe_change_lawful room reply.code reply.family reply.change some r.is_change),
 )
 
-answer_branch : (family : Family) → IsBranch (reply_name family)
+pub answer_branch : (family : Family) → IsBranch (reply_name family)
 answer_branch Intra = is_branch (codes "INTRATRNRS") refl refl refl
 answer_branch RecIntra = is_branch (codes "RECINTRATRNRS") refl refl refl
 answer_branch BankMail = is_branch (codes "BANKMAILTRNRS") refl refl refl

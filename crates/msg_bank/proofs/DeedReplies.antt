@@ -12,7 +12,7 @@ use Rattle.ofx_types.specs.DeedForm.{reply_name, replies_in, IsChange, IsChangeB
 use Rattle.ofx_types.specs.DeedReading.{family_told, change_of, change_by_code, deed_reply_of}
 use Rattle.ofx_types.specs.declared.fault.TreeFault.{TreeFault}
 use Rattle.ofx_types.specs.declared.transfer.Change.{Change}
-use Rattle.ofx_types.specs.declared.transfer.Change.TheVariants.{NewTransfer, SetTransfer, DropTransfer, NewModel, SetModel, DropModel}
+use Rattle.ofx_types.specs.declared.transfer.Change.TheVariants.{NewTransfer, SetTransfer, DropTransfer, NewModel, SetModel, DropModel, NewMail}
 use Rattle.ofx_types.specs.declared.transfer.Family.{Family}
 use Rattle.ofx_types.specs.declared.transfer.Family.TheVariants.{Intra, RecIntra, BankMail, Mail}
 use Rattle.ofx_types.specs.declared.transfer.DeedReply.{DeedReply}
@@ -100,6 +100,7 @@ change_again reply (DropModel id pending) r =
     let fourth : has_name (codes "RECINTRARS") reply ≡ false = rw r.0 refl in
     let fifth : has_name (codes "RECINTRAMODRS") reply ≡ false = rw r.0 refl in
     rw (first, second, third, fourth, fifth) (drop_model_again reply id pending r)
+change_again reply (NewMail row) r = absurd r
 
 change_within : (most : ℕ) (reply : Item) → IsWithin most reply → Stands most Any (change_of reply)
 unfolding change_of

@@ -1,30 +1,35 @@
 -- Sound answers to deeds read back as they were written, a changed transfer with model 0.
-use Rattle.std.proofs.Common.{◌≡◌, ◌≢◌, ℕ, inl, inr, Bool, true, false, not, ◌&&◌, nat_eq, filter, List, [], codes, Option, None, Some, ◌⊎◌, refl, ap, subst, ◌∙◌, arith}
+use Rattle.std.proofs.Common.{◌≡◌, ◌≢◌, ℕ, ◌≤◌, inl, inr, Bool, true, false, not, ◌&&◌, nat_eq, filter, List, [], codes, Option, None, Some, ◌⊎◌, refl, ap, subst, ◌∙◌, arith}
 use Rattle.std.proofs.lemmas.Grind.{common_steps}
 use Rattle.std.specs.Fmt.{decimal}
 use Rattle.std.specs.Option.{option_map}
-use Rattle.ofx_types.specs.FormWords.{has_name, is_absent, IsOnly, IsOnlyOf}
+use Rattle.std.specs.Str.{bytes_eq}
+use Rattle.ofx_types.specs.FormWords.{has_name, is_absent, IsOnly, IsOnlyOf, IsTextIn}
 use Rattle.ofx_types.specs.Nodes.{Item}
 use Rattle.ofx_types.specs.TagNames.{is_one_of}
+use Rattle.ofx_types.specs.ReplyGrammar.{IsStatus}
 use Rattle.ofx_types.specs.ReplyReading.{code_of, status_of}
 use Rattle.ofx_types.specs.TransferForm.{info_of, code_word, IsProcessing, IsRow}
 use Rattle.ofx_types.specs.RecurringForm.{first_info, IsModelRow}
 use Rattle.ofx_types.specs.DeedForm.{reply_name, replies_in, IsChange, IsChangeByCode}
+use Rattle.ofx_types.specs.declared.account.AcctName.{AcctName}
 use Rattle.ofx_types.specs.declared.number.Moment.{Moment}
 use Rattle.ofx_types.specs.declared.recurring.ModelRow.{ModelRow}
 use Rattle.ofx_types.specs.declared.transfer.XferCode.{XferCode}
 use Rattle.ofx_types.specs.declared.transfer.XferCode.TheVariants.{Cancelled}
 use Rattle.ofx_types.specs.declared.transfer.TransferRow.{TransferRow}
 use Rattle.ofx_types.specs.declared.transfer.Change.{Change}
-use Rattle.ofx_types.specs.declared.transfer.Change.TheVariants.{NewTransfer, SetTransfer, DropTransfer, NewModel, SetModel, DropModel}
+use Rattle.ofx_types.specs.declared.transfer.Change.TheVariants.{NewTransfer, SetTransfer, DropTransfer, NewModel, SetModel, DropModel, NewMail}
 use Rattle.ofx_types.specs.declared.transfer.Family.{Family}
 use Rattle.ofx_types.specs.declared.transfer.Family.TheVariants.{Intra, RecIntra}
-use Rattle.ofx_tree.specs.Documents.{leaf_item, branch_item, items_of}
-use Rattle.ofx_tree.proofs.FormLaws.{bind_to, one_again, text_in_found, moment_in_found}
+use Rattle.ofx_types.specs.declared.transfer.DeedReply.{DeedReply}
+use Rattle.ofx_tree.specs.Documents.{Documents, empty, branch, AreLawful, leaf_item, branch_item, items_of}
+use Rattle.ofx_tree.proofs.FormLaws.{bind_to, one_again, moment_in_found}
 use Rattle.ofx_tree.proofs.DocumentItems.{children_of_branch, named_of_branch, value_of_leaf}
-use Rattle.ofx_tree.proofs.Leaves.{text_of_leaf, moment_of_leaf}
+use Rattle.ofx_tree.proofs.Leaves.{moment_of_leaf}
+use Rattle.msg_bank.specs.MailDocuments.{mail_reply_name}
 use Rattle.msg_bank.specs.DeedsAsDocuments.{info_documents, recur_documents, processing_documents, set_documents, first_documents, change_name, change_documents, change_document, deed_reply_documents, DeedRepliesReadBack}
-use Rattle.msg_bank.specs.Sound.{IsSoundId, IsSoundMoment, IsSoundRow, IsSoundModelRow, IsSoundChange, family_of_change, IsSoundChangeByCode}
+use Rattle.msg_bank.specs.Sound.{IsTextWithin, IsSoundId, IsSoundMoment, IsSoundRow, IsSoundModelRow, IsSoundChange, family_of_change, IsSoundChangeByCode}
 use Rattle.msg_bank.specs.Laws.{deed_reply_names}
 use Rattle.msg_bank.specs.Wire.{without_model, wire_change, wire}
 use Rattle.msg_bank.proofs.Lawful.{named}
@@ -32,7 +37,7 @@ use Rattle.msg_bank.proofs.Statuses.{status_found}
 use Rattle.msg_bank.proofs.RepliesBack.{statuses_back}
 use Rattle.msg_bank.proofs.DeedReplies.{reply_again}
 use Rattle.msg_bank.proofs.DeedDocuments.{new_with, code_leaf, processing_lawful, new_lawful, set_lawful, first_lawful, change_lawful, deed_reply_lawful}
-use Rattle.msg_bank.proofs.DeedsBack.{is_id_of_leaf, is_flag_of_leaf, only_in_front, info_stands, recur_stands}
+use Rattle.msg_bank.proofs.DeedsBack.{is_id_of_leaf, is_flag_of_leaf, is_text_of_leaf, only_in_front, info_stands, recur_stands}
 
 -- ---- how far a transfer is
 
@@ -164,10 +169,11 @@ change_stands place index (DropModel id pending) c =
       is_id_of_leaf (codes "RECSRVRTID") id _ _ item (named (codes "RECSRVRTID") refl refl) c (named_of_branch place index 3 (codes "RECINTRACANRS") (codes "RECSRVRTID") inner lawful),
       is_flag_of_leaf (codes "CANPENDING") pending _ _ item (named (codes "CANPENDING") refl refl) (named_of_branch place index 3 (codes "RECINTRACANRS") (codes "CANPENDING") inner lawful),
     )
+change_stands place index (NewMail row) c = absurd c
 
 -- ---- the transaction
 
-abbrev reply_item : ℕ → ℕ → List ℕ → ℕ → Family → Option Change → Item
+abbrev pub reply_item : ℕ → ℕ → List ℕ → ℕ → Family → Option Change → Item
 reply_item place index trnuid code family change = branch_item place index (reply_name family) (deed_reply_documents trnuid code change)
 
 -- those with the name of a reply
@@ -192,12 +198,18 @@ only_reply place index trnuid code (SetModel row pending) c =
     (_, ap (replies_among RecIntra) (children_of_branch place index (codes "RECINTRATRNRS") (deed_reply_documents trnuid code (Some (SetModel row pending)))), change_stands _ _ (SetModel row pending) c)
 only_reply place index trnuid code (DropModel id pending) c =
     (_, ap (replies_among RecIntra) (children_of_branch place index (codes "RECINTRATRNRS") (deed_reply_documents trnuid code (Some (DropModel id pending)))), change_stands _ _ (DropModel id pending) c)
+only_reply place index trnuid code (NewMail row) c = absurd c
 
 change_by_code_stands : (place index : ℕ) (trnuid : List ℕ) (code : ℕ) (family : Family) (change : Option Change) → IsSoundChangeByCode code family change →
     IsChangeByCode code family (reply_item place index trnuid code family change) (option_map wire_change change)
 change_by_code_stands place index trnuid code family None c = c
 change_by_code_stands place index trnuid code family (Some change) c =
     (c.0, subst (Told place index trnuid code change) c.1 (only_reply place index trnuid code change c.2))
+
+other_mail_names : (name : List ℕ) → bytes_eq (codes "MAILRS") name ≡ false → bytes_eq (codes "BANKMAILRS") name ≡ false → (about : Option AcctName) (inner : Documents) (place index : ℕ) →
+    filter (λ item. has_name name item) (items_of place index (branch (mail_reply_name about) inner empty)) ≡ []
+other_mail_names name mail bank None inner place index = rw mail refl
+other_mail_names name mail bank (Some account) inner place index = rw bank refl
 
 -- no change has the name of the uid or of the status
 other_names : (change : Option Change) (place index : ℕ) →
@@ -210,23 +222,37 @@ other_names (Some (DropTransfer id)) place index = (refl, refl)
 other_names (Some (NewModel row)) place index = (refl, refl)
 other_names (Some (SetModel row pending)) place index = (refl, refl)
 other_names (Some (DropModel id pending)) place index = (refl, refl)
+other_names (Some (NewMail row)) place index = (other_mail_names (codes "TRNUID") refl refl row.about _ place index, other_mail_names (codes "STATUS") refl refl row.about _ place index)
 
 is_named : (family : Family) → (family ≡ Intra) ⊎ (family ≡ RecIntra) → is_one_of deed_reply_names (reply_name family) ≡ true
 is_named family (inl h) = rw h refl
 is_named family (inr h) = rw h refl
 
-pub deed_replies_back : DeedRepliesReadBack
+-- So the uid and the status of an answer stand in its transaction.
+pub trnuid_stands : (place index room : ℕ) (reply : DeedReply) → IsTextWithin 36 reply.trnuid →
+    AreLawful room (deed_reply_documents reply.trnuid reply.code reply.change) →
+    IsTextIn (codes "TRNUID") 36 (reply_item place index reply.trnuid reply.code reply.family reply.change) reply.trnuid
+trnuid_stands place index room reply t lawful =
+    let item = reply_item place index reply.trnuid reply.code reply.family reply.change in
+    let only = only_in_front (codes "TRNUID") item _ (change_document reply.change) _ _ (other_names reply.change _ _).0 (named_of_branch place index room (reply_name reply.family) (codes "TRNUID") (deed_reply_documents reply.trnuid reply.code reply.change) lawful) in
+    is_text_of_leaf (codes "TRNUID") 36 reply.trnuid _ _ item (named (codes "TRNUID") refl refl) t only
+
+pub status_stands : (place index room : ℕ) (reply : DeedReply) → reply.code ≤ 65535 →
+    AreLawful room (deed_reply_documents reply.trnuid reply.code reply.change) →
+    IsStatus (reply_item place index reply.trnuid reply.code reply.family reply.change) reply.code
 unfolding status_of
+status_stands place index room reply fits lawful =
+    let item = reply_item place index reply.trnuid reply.code reply.family reply.change in
+    let only = only_in_front (codes "STATUS") item _ (change_document reply.change) _ _ (other_names reply.change _ _).1 (named_of_branch place index room (reply_name reply.family) (codes "STATUS") (deed_reply_documents reply.trnuid reply.code reply.change) lawful) in
+    status_found item reply.code (bind_to _ code_of _ (one_again (codes "STATUS") item _ only) ∙ statuses_back _ _ reply.code fits)
+
+pub deed_replies_back : DeedRepliesReadBack
 deed_replies_back place index reply r =
-    let name = reply_name reply.family in
-    let inner = deed_reply_documents reply.trnuid reply.code reply.change in
     let item = reply_item place index reply.trnuid reply.code reply.family reply.change in
     let lawful = deed_reply_lawful 4 reply (omega arith) r in
-    let uid = only_in_front (codes "TRNUID") item _ (change_document reply.change) _ _ (other_names reply.change _ _).0 (named_of_branch place index 4 name (codes "TRNUID") inner lawful) in
-    let status = only_in_front (codes "STATUS") item _ (change_document reply.change) _ _ (other_names reply.change _ _).1 (named_of_branch place index 4 name (codes "STATUS") inner lawful) in
     reply_again item (wire reply) (is_named reply.family r.is_family) (record {
       is_named = refl;
-      has_trnuid = text_in_found (codes "TRNUID") 36 item reply.trnuid (text_of_leaf (codes "TRNUID") reply.trnuid 36 _ _ item lawful.0 r.is_uid.is_within uid);
-      has_status = status_found item reply.code (bind_to _ code_of _ (one_again (codes "STATUS") item _ status) ∙ statuses_back _ _ reply.code r.is_code);
+      has_trnuid = trnuid_stands place index 4 reply r.is_uid lawful;
+      has_status = status_stands place index 4 reply r.is_code lawful;
       is_change = change_by_code_stands place index reply.trnuid reply.code reply.family reply.change r.is_change;
     })

@@ -11,6 +11,7 @@ use Rattle.ofx_types.specs.DeedForm.{family_of, request_name, requests_in, IsDee
 use Rattle.ofx_types.specs.DeedReading.{family_asked, request_of, deed_of}
 use Rattle.ofx_types.specs.declared.transfer.Deed.{Deed}
 use Rattle.ofx_types.specs.declared.transfer.Deed.TheVariants.{Transfer, ModifyTransfer, CancelTransfer, Model, ModifyModel, CancelModel}
+use Rattle.ofx_types.specs.declared.transfer.Deed.TheVariants as deeds
 use Rattle.ofx_types.specs.declared.transfer.Family.{Family}
 use Rattle.ofx_types.specs.declared.transfer.Family.TheVariants.{Intra, RecIntra, BankMail, Mail}
 use Rattle.ofx_tree.specs.Placed.{Stands, Any, IsWithin}
@@ -100,6 +101,8 @@ request_again request (CancelModel id pending) r =
     let fourth : has_name (codes "RECINTRARQ") request ≡ false = rw r.0 refl in
     let fifth : has_name (codes "RECINTRAMODRQ") request ≡ false = rw r.0 refl in
     rw (first, second, third, fourth, fifth) (cancel_model_again request id pending r)
+request_again request (deeds.BankMail account mail) r = absurd r
+request_again request (deeds.Mail mail) r = absurd r
 
 request_within : (most : ℕ) (request : Item) → IsWithin most request → Stands most Any (request_of request)
 unfolding request_of
@@ -114,13 +117,15 @@ request_within most request h =
 -- ---- the transaction
 
 -- its name tells what the deed belongs to
-asked_again : (transaction : Item) (deed : Deed) → transaction.node.name ≡ request_name (family_of deed) → family_asked transaction ≡ family_of deed
-asked_again transaction (Transfer info) name = rw name refl
-asked_again transaction (ModifyTransfer id info) name = rw name refl
-asked_again transaction (CancelTransfer id) name = rw name refl
-asked_again transaction (Model recur info) name = rw name refl
-asked_again transaction (ModifyModel id recur info pending) name = rw name refl
-asked_again transaction (CancelModel id pending) name = rw name refl
+asked_again : (transaction request : Item) (deed : Deed) → IsDeedRequest request deed → transaction.node.name ≡ request_name (family_of deed) → family_asked transaction ≡ family_of deed
+asked_again transaction request (Transfer info) is name = rw name refl
+asked_again transaction request (ModifyTransfer id info) is name = rw name refl
+asked_again transaction request (CancelTransfer id) is name = rw name refl
+asked_again transaction request (Model recur info) is name = rw name refl
+asked_again transaction request (ModifyModel id recur info pending) is name = rw name refl
+asked_again transaction request (CancelModel id pending) is name = rw name refl
+asked_again transaction request (deeds.BankMail account mail) is name = absurd is
+asked_again transaction request (deeds.Mail mail) is name = absurd is
 
 pub deed_found : (transaction : Item) (trnuid : List ℕ) (deed : Deed) → is_named_one_of deed_names transaction ≡ true →
     deed_of transaction ≡ Ok (trnuid, deed) → IsDeed transaction trnuid deed
@@ -146,7 +151,7 @@ pub deed_again : (transaction : Item) (trnuid : List ℕ) (deed : Deed) → IsDe
 unfolding deed_of
 deed_again transaction trnuid deed d =
     let Only : Family → Type 0 = λ f. IsOnlyOf (requests_in f) transaction d.request in
-    let only = subst Only (sym (asked_again transaction deed d.is_named)) d.has_request in
+    let only = subst Only (sym (asked_again transaction d.request deed d.is_request d.is_named)) d.has_request in
     bind_to _ _ trnuid (trnuid_again transaction trnuid d.has_trnuid)
     ∙ bind_to _ _ d.request (one_of_again (requests_in (family_asked transaction)) transaction d.request only)
     ∙ bind_to _ _ deed (request_again d.request deed d.is_request)

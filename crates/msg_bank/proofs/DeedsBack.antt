@@ -1,14 +1,15 @@
 -- Sound deeds read back as they were written.
-use Rattle.std.proofs.Common.{◌≡◌, ℕ, suc, ◌+◌, ◌*◌, ◌/◌, ◌≤◌, ℤ, pos, negsuc, neg_ℤ, Bool, false, not, ◌&&◌, filter, List, [], ◌∷◌, length, codes, Option, None, Some, refl, sym, ap, ◌∙◌, arith}
+use Rattle.std.proofs.Common.{◌≡◌, ◌≢◌, ℕ, suc, ◌+◌, ◌*◌, ◌/◌, ◌≤◌, ℤ, pos, negsuc, neg_ℤ, Bool, false, not, ◌&&◌, filter, List, [], ◌∷◌, length, codes, Option, None, Some, refl, sym, ap, ◌∙◌, arith}
 use Rattle.std.proofs.lemmas.Int.{ints}
 use Rattle.std.proofs.lemmas.Fmt.{length-decimal-le}
 use Rattle.std.specs.Fmt.{decimal}
 use Rattle.std.specs.Prelude.{unwrap_or}
 use Rattle.std.specs.Str.{bytes_eq}
 use Rattle.ofx_types.specs.Calendar.{day_of, midnight}
-use Rattle.ofx_types.specs.FormWords.{flag_word, has_name, is_absent, named, IsOnly, IsOnlyOf, IsFlagIn, IsIdIn}
+use Rattle.ofx_types.specs.FormWords.{flag_word, has_name, is_absent, named, IsOnly, IsOnlyOf, IsTextIn, IsFlagIn, IsIdIn}
 use Rattle.ofx_types.specs.Nodes.{Item}
 use Rattle.ofx_types.specs.TagNames.{is_one_of}
+use Rattle.ofx_types.specs.RequestForm.{IsTrnUidOf}
 use Rattle.ofx_types.specs.TransferForm.{IsMaybeDue, IsXferInfo, HasXferInfo}
 use Rattle.ofx_types.specs.RecurringForm.{freq_word, IsRecur}
 use Rattle.ofx_types.specs.DeedForm.{family_of, request_name, requests_in, IsDeedRequest}
@@ -21,16 +22,17 @@ use Rattle.ofx_types.specs.declared.recurring.Recur.{Recur}
 use Rattle.ofx_types.specs.declared.transfer.XferInfo.{XferInfo}
 use Rattle.ofx_types.specs.declared.transfer.Deed.{Deed}
 use Rattle.ofx_types.specs.declared.transfer.Deed.TheVariants.{Transfer, ModifyTransfer, CancelTransfer, Model, ModifyModel, CancelModel}
+use Rattle.ofx_types.specs.declared.transfer.Deed.TheVariants as deeds
 use Rattle.ofx_types.specs.declared.transfer.Family.{Family}
 use Rattle.ofx_types.specs.declared.transfer.Family.TheVariants.{Intra, RecIntra}
 use Rattle.ofx_values.proofs.PrintedLemmas.{number_printed}
 use Rattle.ofx_tree.specs.PrintedForm.{IsElementName}
-use Rattle.ofx_tree.specs.Documents.{Documents, empty, branch, leaf_item, branch_item, items_of}
+use Rattle.ofx_tree.specs.Documents.{Documents, empty, branch, AreLawful, leaf_item, branch_item, items_of}
 use Rattle.ofx_tree.proofs.FormLaws.{text_in_found, flag_in_found, amount_in_found, moment_in_found, number_in_found}
 use Rattle.ofx_tree.proofs.DocumentItems.{children_of_branch, named_of_branch, value_of_leaf}
 use Rattle.ofx_tree.proofs.Leaves.{text_of_leaf, flag_of_leaf, amount_of_leaf, moment_of_leaf, number_of_leaf}
 use Rattle.msg_bank.specs.DeedsAsDocuments.{due_document, info_documents, recur_documents, each_documents, asked_name, request_documents, deed_documents, DeedsReadBack}
-use Rattle.msg_bank.specs.Sound.{IsSoundId, IsSoundInfo, IsSoundRecur, IsSoundDeed}
+use Rattle.msg_bank.specs.Sound.{IsTextWithin, IsSoundId, IsSoundInfo, IsSoundRecur, IsSoundDeed}
 use Rattle.msg_bank.specs.Steps.{info_with}
 use Rattle.msg_bank.proofs.Lawful as lawful
 use Rattle.msg_bank.proofs.StatementLaws.{account_found}
@@ -48,6 +50,12 @@ is_id_of_leaf name id place index parent named h only =
       has_text = text_in_found name 64 parent (decimal id) (text_of_leaf name (decimal id) 64 place index parent (id_leaf name id named h) short only);
       is_id = sym (ap (λ (read : Option ℕ). unwrap_or read 0) (number_printed 10 id (omega arith) (omega (arith, h)) (omega (arith, h))));
     }
+
+-- What is printed of a text is read as that text.
+pub is_text_of_leaf : (name : List ℕ) (most : ℕ) (text : List ℕ) (place index : ℕ) (parent : Item) → IsElementName name → IsTextWithin most text →
+    IsOnly name parent (leaf_item place index name text) → IsTextIn name most parent text
+is_text_of_leaf name most text place index parent named t only =
+    text_in_found name most parent text (text_of_leaf name text most place index parent (lawful.text_leaf name most text named t) t.is_within only)
 
 -- The only one of its name in front of documents that don't have the name.
 pub only_in_front : (name : List ℕ) (parent child : Item) (behind : Documents) (place index : ℕ) →
@@ -186,10 +194,12 @@ request_stands place index (CancelModel id pending) d =
       is_id_of_leaf (codes "RECSRVRTID") id _ _ item (lawful.named (codes "RECSRVRTID") refl refl) d (named_of_branch place index 3 (codes "RECINTRACANRQ") (codes "RECSRVRTID") inner sound),
       is_flag_of_leaf (codes "CANPENDING") pending _ _ item (lawful.named (codes "CANPENDING") refl refl) (named_of_branch place index 3 (codes "RECINTRACANRQ") (codes "CANPENDING") inner sound),
     )
+request_stands place index (deeds.BankMail account mail) d = absurd d
+request_stands place index (deeds.Mail mail) d = absurd d
 
 -- ---- the transaction
 
-abbrev deed_item : ℕ → ℕ → List ℕ → Deed → Item
+abbrev pub deed_item : ℕ → ℕ → List ℕ → Deed → Item
 deed_item place index trnuid deed = branch_item place index (request_name (family_of deed)) (deed_documents trnuid deed)
 
 -- those with the name of a request
@@ -210,6 +220,8 @@ only_request place index trnuid (ModifyModel id recur info pending) d =
     (_, ap (requests_among RecIntra) (children_of_branch place index (codes "RECINTRATRNRQ") (deed_documents trnuid (ModifyModel id recur info pending))), request_stands _ _ (ModifyModel id recur info pending) d)
 only_request place index trnuid (CancelModel id pending) d =
     (_, ap (requests_among RecIntra) (children_of_branch place index (codes "RECINTRATRNRQ") (deed_documents trnuid (CancelModel id pending))), request_stands _ _ (CancelModel id pending) d)
+only_request place index trnuid (deeds.BankMail account mail) d = absurd d
+only_request place index trnuid (deeds.Mail mail) d = absurd d
 
 -- no request has the name of the uid
 abbrev request_document : Deed → Documents
@@ -222,16 +234,24 @@ no_uid (CancelTransfer id) place index = refl
 no_uid (Model recur info) place index = refl
 no_uid (ModifyModel id recur info pending) place index = refl
 no_uid (CancelModel id pending) place index = refl
+no_uid (deeds.BankMail account mail) place index = refl
+no_uid (deeds.Mail mail) place index = refl
+
+-- So the uid of a deed stands in its transaction.
+pub own_trnuid_stands : (place index room : ℕ) (trnuid : List ℕ) (deed : Deed) → IsTextWithin 36 trnuid → trnuid ≢ codes "0" → AreLawful room (deed_documents trnuid deed) →
+    IsTrnUidOf (deed_item place index trnuid deed) trnuid
+own_trnuid_stands place index room trnuid deed t own sound =
+    let item = deed_item place index trnuid deed in
+    let only = only_in_front (codes "TRNUID") item _ (request_document deed) _ _ (no_uid deed _ _) (named_of_branch place index room (request_name (family_of deed)) (codes "TRNUID") (deed_documents trnuid deed) sound) in
+    record { text = is_text_of_leaf (codes "TRNUID") 36 trnuid _ _ item (lawful.named (codes "TRNUID") refl refl) t only; is_own = own }
 
 pub deeds_back : DeedsReadBack
 deeds_back place index trnuid deed d =
     let item = deed_item place index trnuid deed in
-    let sound = deed_lawful 4 trnuid deed (omega arith) d in
-    let only = only_in_front (codes "TRNUID") item _ (request_document deed) _ _ (no_uid deed _ _) (named_of_branch place index 4 (request_name (family_of deed)) (codes "TRNUID") (deed_documents trnuid deed) sound) in
     let request = only_request place index trnuid deed d.is_deed in
     deed_again item trnuid deed (record {
       is_named = refl;
-      has_trnuid = record { text = text_in_found (codes "TRNUID") 36 item trnuid (text_of_leaf (codes "TRNUID") trnuid 36 _ _ item sound.0 d.is_uid.is_within only); is_own = d.is_own };
+      has_trnuid = own_trnuid_stands place index 4 trnuid deed d.is_uid d.is_own (deed_lawful 4 trnuid deed (omega arith) d);
       request = request.0;
       has_request = request.1;
       is_request = request.2;

@@ -1,14 +1,14 @@
-mod Lawful
-mod PrintedDocuments
-mod RequestsBack
+pub mod Lawful
+pub mod PrintedDocuments
+pub mod RequestsBack
 mod RepliesBack
-mod Alone
+pub mod Alone
 mod Uids
-mod Joined
+pub mod Joined
 mod AccountLaws
-mod StatementLaws
-mod StatementPlaces
-mod Statuses
+pub mod StatementLaws
+pub mod StatementPlaces
+pub mod Statuses
 mod LineSteps
 mod Lists
 mod Replies
@@ -16,14 +16,14 @@ mod DueDays
 mod TransferParts
 mod RecurringParts
 mod Recurs
-mod Named
+pub mod Named
 mod TransferRequests
 mod ModelRequests
 mod Deeds
 mod TransferReplies
 mod ModelReplies
 mod DeedReplies
-mod DeedDocuments
-mod DeedsBack
-mod DeedRepliesBack
+pub mod DeedDocuments
+pub mod DeedsBack
+pub mod DeedRepliesBack
 mod DeedsAlone

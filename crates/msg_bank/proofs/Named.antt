@@ -32,6 +32,15 @@ first_of_two true b h other = refl
 first_of_two false true h other = cc
 first_of_two false false h other = cc
 
+second_of_two : (a b : Bool) → (a || (b || false)) ≡ true → a ≡ false → b ≡ true
+second_of_two true b h other = cc
+second_of_two false true h other = refl
+second_of_two false false h other = cc
+
+-- It is the second of two where it isn't the first.
+pub second_name : (name first second : List ℕ) → is_one_of (first ∷ second ∷ []) name ≡ true → bytes_eq name first ≡ false → name ≡ second
+second_name name first second one other = bytes_same name second (second_of_two (bytes_eq name first) (bytes_eq name second) one other)
+
 -- An aggregate that has one of two names has that of its family, which the second of them tells.
 pub name_of_family : (first second name : List ℕ) (name_of : Family → List ℕ) → name_of Intra ≡ first → name_of RecIntra ≡ second →
     is_one_of (first ∷ second ∷ []) name ≡ true → name ≡ name_of (if bytes_eq name second then RecIntra else Intra)

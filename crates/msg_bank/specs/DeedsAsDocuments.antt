@@ -16,14 +16,15 @@ use Rattle.ofx_types.specs.declared.recurring.Recur.{Recur}
 use Rattle.ofx_types.specs.declared.recurring.ModelRow.{ModelRow}
 use Rattle.ofx_types.specs.declared.transfer.XferInfo.{XferInfo}
 use Rattle.ofx_types.specs.declared.transfer.Deed.{Deed}
-use Rattle.ofx_types.specs.declared.transfer.Deed.TheVariants.{Transfer, ModifyTransfer, CancelTransfer, Model, ModifyModel, CancelModel}
+use Rattle.ofx_types.specs.declared.transfer.Deed.TheVariants.{Transfer, ModifyTransfer, CancelTransfer, Model, ModifyModel, CancelModel, BankMail, Mail}
 use Rattle.ofx_types.specs.declared.transfer.XferCode.{XferCode}
 use Rattle.ofx_types.specs.declared.transfer.TransferRow.{TransferRow}
 use Rattle.ofx_types.specs.declared.transfer.Change.{Change}
-use Rattle.ofx_types.specs.declared.transfer.Change.TheVariants.{NewTransfer, SetTransfer, DropTransfer, NewModel, SetModel, DropModel}
+use Rattle.ofx_types.specs.declared.transfer.Change.TheVariants.{NewTransfer, SetTransfer, DropTransfer, NewModel, SetModel, DropModel, NewMail}
 use Rattle.ofx_types.specs.declared.transfer.DeedReply.{DeedReply}
 use Rattle.ofx_tree.specs.Documents.{Documents, empty, leaf, branch, printed, AreLawful, branch_item}
 use Rattle.msg_bank.specs.AsDocuments.{account_documents, status_documents, IsReadAlone}
+use Rattle.msg_bank.specs.MailDocuments.{mail_about, mail_reply_name}
 use Rattle.msg_bank.specs.Sound.{IsSoundDeedRequest, IsSoundDeedReply}
 use Rattle.msg_bank.specs.Wire.{wire}
 
@@ -62,6 +63,8 @@ asked_name (CancelTransfer id) = codes "INTRACANRQ"
 asked_name (Model recur info) = codes "RECINTRARQ"
 asked_name (ModifyModel id recur info pending) = codes "RECINTRAMODRQ"
 asked_name (CancelModel id pending) = codes "RECINTRACANRQ"
+asked_name (BankMail account mail) = codes "BANKMAILRQ"
+asked_name (Mail mail) = codes "MAILRQ"
 
 abbrev pub request_documents : Deed → Documents
 request_documents (Transfer info) = each_documents info
@@ -75,8 +78,10 @@ request_documents (ModifyModel id recur info pending) =
     (branch (codes "INTRARQ") (each_documents info) (leaf (codes "MODPENDING") (flag_word pending) empty)))
 request_documents (CancelModel id pending) =
     leaf (codes "RECSRVRTID") (decimal id) (leaf (codes "CANPENDING") (flag_word pending) empty)
+request_documents (BankMail account mail) = mail_about (Some account) mail.sender mail
+request_documents (Mail mail) = mail_about None mail.sender mail
 
--- what stands in INTRATRNRQ and RECINTRATRNRQ
+-- what stands in INTRATRNRQ, RECINTRATRNRQ, BANKMAILTRNRQ and MAILTRNRQ
 abbrev pub deed_documents : List ℕ → Deed → Documents
 deed_documents trnuid deed = leaf (codes "TRNUID") trnuid (branch (asked_name deed) (request_documents deed) empty)
 
@@ -127,6 +132,7 @@ change_name (DropTransfer id) = codes "INTRACANRS"
 change_name (NewModel row) = codes "RECINTRARS"
 change_name (SetModel row pending) = codes "RECINTRAMODRS"
 change_name (DropModel id pending) = codes "RECINTRACANRS"
+change_name (NewMail row) = mail_reply_name row.about
 
 abbrev pub change_documents : Change → Documents
 change_documents (NewTransfer row) = new_documents row
@@ -136,19 +142,20 @@ change_documents (NewModel row) = model_documents row empty
 change_documents (SetModel row pending) = model_documents row (leaf (codes "MODPENDING") (flag_word pending) empty)
 change_documents (DropModel id pending) =
     leaf (codes "RECSRVRTID") (decimal id) (leaf (codes "CANPENDING") (flag_word pending) empty)
+change_documents (NewMail row) = mail_about row.about row.user row.mail
 
 abbrev pub change_document : Option Change → Documents
 change_document None = empty
 change_document (Some change) = branch (change_name change) (change_documents change) empty
 
--- what stands in INTRATRNRS and RECINTRATRNRS
+-- what stands in INTRATRNRS, RECINTRATRNRS, BANKMAILTRNRS and MAILTRNRS
 abbrev pub deed_reply_documents : List ℕ → ℕ → Option Change → Documents
 deed_reply_documents trnuid code change =
     leaf (codes "TRNUID") trnuid (branch (codes "STATUS") (status_documents code) (change_document change))
 
 -- ---- they read back
 
--- What is written of a deed are its documents.
+-- What is written of a deed, a mail too, are its documents.
 abbrev pub DeedsAreDocuments : Type 0
 DeedsAreDocuments =
     (trnuid : List ℕ) (deed : Deed) (behind : Documents)

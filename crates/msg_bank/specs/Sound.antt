@@ -19,12 +19,13 @@ use Rattle.ofx_types.specs.declared.reply.StatementBody.{StatementBody}
 use Rattle.ofx_types.specs.declared.transfer.XferInfo.{XferInfo}
 use Rattle.ofx_types.specs.declared.transfer.Deed.{Deed}
 use Rattle.ofx_types.specs.declared.transfer.Deed.TheVariants.{Transfer, ModifyTransfer, CancelTransfer, Model, ModifyModel, CancelModel}
+use Rattle.ofx_types.specs.declared.transfer.Deed.TheVariants as deeds
 use Rattle.ofx_types.specs.declared.transfer.XferCode.TheVariants.{Cancelled}
 use Rattle.ofx_types.specs.declared.transfer.TransferRow.{TransferRow}
 use Rattle.ofx_types.specs.declared.transfer.Change.{Change}
-use Rattle.ofx_types.specs.declared.transfer.Change.TheVariants.{NewTransfer, SetTransfer, DropTransfer, NewModel, SetModel, DropModel}
+use Rattle.ofx_types.specs.declared.transfer.Change.TheVariants.{NewTransfer, SetTransfer, DropTransfer, NewModel, SetModel, DropModel, NewMail}
 use Rattle.ofx_types.specs.declared.transfer.Family.{Family}
-use Rattle.ofx_types.specs.declared.transfer.Family.TheVariants.{Intra, RecIntra}
+use Rattle.ofx_types.specs.declared.transfer.Family.TheVariants.{Intra, RecIntra, BankMail, Mail}
 use Rattle.ofx_types.specs.declared.transfer.DeedReply.{DeedReply}
 
 -- a text of 1 byte up to the limit
@@ -104,6 +105,7 @@ pub record IsSoundInfo (info : XferInfo) : Type 0 where
 abbrev pub IsSoundRecur : Recur → Type 0
 IsSoundRecur recur = IfSome recur.count (λ (count : ℕ). (0 < count) × (count ≤ 999))
 
+-- A transfer or a recurring transfer. What mail is sound is said where it is read and written.
 abbrev pub IsSoundDeed : Deed → Type 0
 IsSoundDeed (Transfer info) = IsSoundInfo info
 IsSoundDeed (ModifyTransfer id info) = IsSoundId id × IsSoundInfo info
@@ -111,6 +113,8 @@ IsSoundDeed (CancelTransfer id) = IsSoundId id
 IsSoundDeed (Model recur info) = IsSoundRecur recur × IsSoundInfo info
 IsSoundDeed (ModifyModel id recur info pending) = IsSoundId id × IsSoundRecur recur × IsSoundInfo info
 IsSoundDeed (CancelModel id pending) = IsSoundId id
+IsSoundDeed (deeds.BankMail account mail) = ⊥
+IsSoundDeed (deeds.Mail mail) = ⊥
 
 -- As of every request, the TRNUID isn't `0`.
 pub record IsSoundDeedRequest (trnuid : List ℕ) (deed : Deed) : Type 0 where
@@ -138,6 +142,12 @@ IsSoundChange (DropTransfer id) = IsSoundId id
 IsSoundChange (NewModel row) = IsSoundModelRow row
 IsSoundChange (SetModel row pending) = IsSoundModelRow row
 IsSoundChange (DropModel id pending) = IsSoundId id
+IsSoundChange (NewMail row) = ⊥
+
+-- Mail about an account stands apart from other mail.
+abbrev pub mail_family : Option AcctName → Family
+mail_family None = Mail
+mail_family (Some account) = BankMail
 
 -- what a change belongs to
 abbrev pub family_of_change : Change → Family
@@ -147,6 +157,7 @@ family_of_change (DropTransfer id) = Intra
 family_of_change (NewModel row) = RecIntra
 family_of_change (SetModel row pending) = RecIntra
 family_of_change (DropModel id pending) = RecIntra
+family_of_change (NewMail row) = mail_family row.about
 
 -- A reply has a change exactly where its code is 0, and one of its own family.
 abbrev pub IsSoundChangeByCode : ℕ → Family → Option Change → Type 0

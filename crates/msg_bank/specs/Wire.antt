@@ -2,7 +2,7 @@
 use Rattle.std.specs.Option.{option_map}
 use Rattle.ofx_types.specs.declared.transfer.TransferRow.{TransferRow}
 use Rattle.ofx_types.specs.declared.transfer.Change.{Change}
-use Rattle.ofx_types.specs.declared.transfer.Change.TheVariants.{NewTransfer, SetTransfer, DropTransfer, NewModel, SetModel, DropModel}
+use Rattle.ofx_types.specs.declared.transfer.Change.TheVariants.{NewTransfer, SetTransfer, DropTransfer, NewModel, SetModel, DropModel, NewMail}
 use Rattle.ofx_types.specs.declared.transfer.DeedReply.{DeedReply}
 
 -- INTRAMODRS has no RECSRVRTID, so a changed row doesn't say which recurring transfer made it: its model is 0.
@@ -25,6 +25,7 @@ wire_change (DropTransfer id) = DropTransfer id
 wire_change (NewModel row) = NewModel row
 wire_change (SetModel row pending) = SetModel row pending
 wire_change (DropModel id pending) = DropModel id pending
+wire_change (NewMail row) = NewMail row
 
 -- The reply with the model of a changed row set to 0.
 abbrev pub wire : DeedReply → DeedReply

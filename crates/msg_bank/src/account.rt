@@ -4,6 +4,7 @@ ghost use Rattle.std.specs.Prelude.{◌≡◌, ◌++◌, OnOk, codes};
 ghost use Rattle.ofx_types.specs.AccountForm.{kind_word};
 ghost use Rattle.ofx_types.specs.FormWords.{Gives};
 ghost use Rattle.ofx_types.specs.RequestReading as reading;
+ghost use Rattle.ofx_types.specs.MailReading.{account_in};
 ghost use Rattle.ofx_types.specs.CommonText.{account_from};
 ghost use Rattle.ofx_types.specs.TransferText.{account_to};
 ghost use Rattle.ofx_types.specs.Sheet.{element, aggregate};
@@ -16,7 +17,20 @@ use std::alloc::Global;
 /// The most bytes of a bank's id and of an account's number.
 const MOST: u32 = 32;
 
-/// The account that an aggregate names.
+/// The account that a message is about (BANKACCTFROM), which stands once in it.
+///
+/// The first fault of its form, with its place; `OutOfMemory` where memory for its texts is refused.
+#[tactic(auto, unfolding(ofx_types::specs::MailReading::account_in))]
+pub fn read_account_in(alloc: Global, message: &Cursor<'_>) -> Result<AcctName, TreeFault>
+    ensures { Gives result (account_in message.now) }
+{
+    let bankacctfrom = message.one(b"BANKACCTFROM")?;
+    read_account(alloc, &bankacctfrom)
+}
+
+/// The account that an aggregate names: BANKID and ACCTID, each a text of at most 32 bytes, and ACCTTYPE.
+///
+/// The first fault of its form, with its place; `OutOfMemory` where memory for its texts is refused.
 #[tactic(auto, unfolding(ofx_types::specs::RequestReading::account_of))]
 pub(crate) fn read_account(alloc: Global, aggregate: &Cursor<'_>) -> Result<AcctName, TreeFault>
     ensures { Gives result (reading.account_of aggregate.now) }
@@ -46,9 +60,9 @@ fn kind_at(child: &Cursor<'_>) -> Result<AcctKind, TreeFault>
     Err(TreeFault::Value(child.place() as u64))
 }
 
-/// Writes the account that a statement is of, or from which a transfer takes its amount.
+/// Writes the account that a message is about, or from which a transfer takes its amount (BANKACCTFROM).
 #[tactic(auto, unfolding(ofx_types::specs::CommonText::account_from))]
-pub(crate) fn print_account(account: &AcctName, sheet: &mut Sheet) -> Result<(), OutOfMemory>
+pub fn print_account(account: &AcctName, sheet: &mut Sheet) -> Result<(), OutOfMemory>
     ensures { OnOk result (sheet.new ≡ sheet.old ++ account_from account.now) }
 {
     print_account_as(b"BANKACCTFROM", account, sheet)

@@ -4,5 +4,5 @@
 mod reply;
 mod request;
 
-pub use reply::{print_reply, read_reply};
-pub use request::{print_deed, read_deed};
+pub use reply::{print_reply, read_reply, reply_name};
+pub use request::{print_deed, read_deed, request_name};

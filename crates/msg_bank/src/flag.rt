@@ -7,8 +7,8 @@ ghost use Rattle.ofx_types.specs.Sheet.{element};
 use ofx_tree::Sheet;
 use ofx_types::OutOfMemory;
 
-/// Writes a flag by its letter.
-pub(crate) fn print_flag(name: &[u8], flag: bool, sheet: &mut Sheet) -> Result<(), OutOfMemory>
+/// Writes a flag by its letter, `Y` or `N`.
+pub fn print_flag(name: &[u8], flag: bool, sheet: &mut Sheet) -> Result<(), OutOfMemory>
     ensures { OnOk result (sheet.new ≡ sheet.old ++ element name.now (flag_word flag)) }
 {
     if flag {

@@ -70,7 +70,8 @@ pub fn statement_replies_read_back()
     ensures alone { StatementRepliesReadBackAlone }
 {}
 
-/// What is written of a sound deed are lawful documents, and reads back as that deed wherever it stands.
+/// What is written of a deed are its documents. Those of a sound transfer or recurring transfer are lawful, and read back as
+/// that deed wherever they stand.
 pub fn deeds_read_back()
     ensures written { DeedsAreDocuments }
     ensures lawful { DeedsAreLawful }
@@ -78,8 +79,9 @@ pub fn deeds_read_back()
     ensures alone { DeedsReadBackAlone }
 {}
 
-/// What is written of a sound answer to a deed are lawful documents, and reads back as that answer wherever it stands; a
-/// changed transfer reads back with model 0, since its reply doesn't say which recurring transfer made it.
+/// What is written of an answer to a deed are its documents. Those of a sound answer about a transfer or a recurring transfer
+/// are lawful, and read back as that answer wherever they stand; a changed transfer reads back with model 0, since its reply
+/// doesn't say which recurring transfer made it.
 pub fn deed_replies_read_back()
     ensures written { DeedRepliesAreDocuments }
     ensures lawful { DeedRepliesAreLawful }

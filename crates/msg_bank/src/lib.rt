@@ -1,5 +1,6 @@
 //! The bank's messages: requests of statements, transfers and recurring transfers, and their replies, read from a tape and
-//! written on a sheet (OFX 1.6, "Statement Download", "Intrabank Funds Transfer", "Recurring Transactions").
+//! written on a sheet (OFX 1.6, "Statement Download", "Intrabank Funds Transfer", "Recurring Transactions"), and the parts
+//! of them that messages of mail have too.
 //!
 //! What is read is the message that stands there, or the first fault of its form with that fault's place. What is
 //! written is the message's one printed form.
@@ -15,7 +16,9 @@ mod status;
 mod transfer;
 mod trnuid;
 
-pub use deed::{print_deed, print_reply, read_deed, read_reply};
+pub use account::{print_account, read_account_in};
+pub use deed::{print_deed, print_reply, read_deed, read_reply, reply_name, request_name};
+pub use flag::print_flag;
 pub use laws::{
     deed_faults_have_places, deed_replies_are_found, deed_replies_read_back,
     deed_reply_faults_have_places, deeds_are_found, deeds_read_back, statement_faults_have_places,
@@ -25,6 +28,4 @@ pub use laws::{
 };
 pub use statement::{print_statement, print_statement_reply, read_statement, read_statement_reply};
 pub use status::{print_status, read_status};
-
-#[cfg(test)]
-mod tests;
+pub use trnuid::{print_trnuid, read_own_trnuid, read_trnuid};

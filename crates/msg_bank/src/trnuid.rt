@@ -17,7 +17,9 @@ use std::alloc::Global;
 const MOST: u32 = 36;
 
 /// The uid of a request's wrapper, 1 to 36 bytes. `0` marks what the bank does by itself, and is a fault.
-pub(crate) fn read_own_trnuid(alloc: Global, wrapper: &Cursor<'_>) -> Result<TrnUid, TreeFault>
+///
+/// `Missing`, `Repeated` or `Value` with its place; `OutOfMemory` where memory to decode its entities is refused.
+pub fn read_own_trnuid(alloc: Global, wrapper: &Cursor<'_>) -> Result<TrnUid, TreeFault>
     ensures { Gives result (reading.trnuid_of wrapper.now) }
 {
     let child = wrapper.one(b"TRNUID")?;
@@ -25,9 +27,11 @@ pub(crate) fn read_own_trnuid(alloc: Global, wrapper: &Cursor<'_>) -> Result<Trn
     unless_zero(trnuid_at(alloc, child.value(), place)?, place)
 }
 
-/// The uid of a wrapper, 1 to 36 bytes.
+/// The uid of a reply's wrapper, 1 to 36 bytes.
+///
+/// `Missing`, `Repeated` or `Value` with its place; `OutOfMemory` where memory to decode its entities is refused.
 #[tactic(auto, unfolding(ofx_types::specs::FormWords::text_in, crate::specs::Steps::trnuid_at))]
-pub(crate) fn read_trnuid(alloc: Global, wrapper: &Cursor<'_>) -> Result<TrnUid, TreeFault>
+pub fn read_trnuid(alloc: Global, wrapper: &Cursor<'_>) -> Result<TrnUid, TreeFault>
     ensures { Gives result (text_in (codes "TRNUID") 36 wrapper.now) }
 {
     let child = wrapper.one(b"TRNUID")?;
@@ -70,7 +74,7 @@ fn unless_zero(uid: TrnUid, place: u64) -> Result<TrnUid, TreeFault>
 }
 
 /// Writes the uid of a wrapper.
-pub(crate) fn print_trnuid(trnuid: &TrnUid, sheet: &mut Sheet) -> Result<(), OutOfMemory>
+pub fn print_trnuid(trnuid: &TrnUid, sheet: &mut Sheet) -> Result<(), OutOfMemory>
     ensures { OnOk result (sheet.new ≡ sheet.old ++ element (codes "TRNUID") trnuid.now) }
 {
     sheet.element(b"TRNUID", trnuid.as_bytes())

@@ -1,9 +1,15 @@
-//! What holds of signons and the answers to them. The calls do nothing; each contract is a law.
+//! What holds of signons, mails and the answers to them. The calls do nothing; each contract is a law.
 
 ghost use Rattle.msg_mail.specs.SignonLaws.{SignonsAreFound, SignonFaultsHavePlaces, SignonRepliesAreFound, SignonReplyFaultsHavePlaces};
+ghost use Rattle.msg_mail.specs.MailLaws.{MailsAreFound, MailFaultsHavePlaces, MailRepliesAreFound, MailReplyFaultsHavePlaces};
+ghost use Rattle.msg_bank.specs.DeedsAsDocuments.{DeedsAreDocuments, DeedRepliesAreDocuments};
+ghost use Rattle.msg_mail.specs.MailsAsDocuments.{MailsAreLawful, MailsReadBack, MailsReadBackAlone, MailRepliesAreLawful, MailRepliesReadBack, MailRepliesReadBackAlone};
 ghost use Rattle.msg_mail.specs.AsDocuments.{SignonsAreDocuments, SignonsAreLawful, SignonsReadBack, SignonRepliesAreDocuments, SignonRepliesAreLawful, SignonRepliesReadBack};
 
-use msg_bank::{status_faults_have_places, statuses_are_found, statuses_read_back};
+use msg_bank::{
+    deed_replies_read_back, deeds_read_back, status_faults_have_places, statuses_are_found,
+    statuses_read_back,
+};
 
 /// A signon has its form exactly where it is read, and what is read is what stands there.
 pub fn signons_are_found()
@@ -45,4 +51,44 @@ pub fn signon_replies_read_back()
     ensures read { SignonRepliesReadBack }
 {
     statuses_read_back();
+}
+
+/// A mail has its form exactly where it is read, and what is read is what stands there.
+pub fn mails_are_found()
+    ensures { MailsAreFound }
+{}
+
+/// The first fault of a mail stands within its nodes.
+pub fn mail_faults_have_places()
+    ensures { MailFaultsHavePlaces }
+{}
+
+/// The answer to a mail has its form exactly where it is read, and what is read is what stands there.
+pub fn mail_replies_are_found()
+    ensures { MailRepliesAreFound }
+{}
+
+/// The first fault of the answer to a mail stands within its nodes.
+pub fn mail_reply_faults_have_places()
+    ensures { MailReplyFaultsHavePlaces }
+{}
+
+/// What is written of a sound mail are lawful documents, and reads back as that mail wherever it stands.
+pub fn mails_read_back()
+    ensures written { DeedsAreDocuments }
+    ensures lawful { MailsAreLawful }
+    ensures read { MailsReadBack }
+    ensures alone { MailsReadBackAlone }
+{
+    deeds_read_back();
+}
+
+/// What is written of a sound answer to a mail are lawful documents, and reads back as that answer wherever it stands.
+pub fn mail_replies_read_back()
+    ensures written { DeedRepliesAreDocuments }
+    ensures lawful { MailRepliesAreLawful }
+    ensures read { MailRepliesReadBack }
+    ensures alone { MailRepliesReadBackAlone }
+{
+    deed_replies_read_back();
 }

@@ -1,10 +1,17 @@
-pub mod BankSet
-pub mod RequestLaws
-pub mod FileLaws
-pub mod SoundDeeds
-pub mod Soundness
-pub mod AskLaws
-pub mod RequestPlaces
-pub mod TagPlaces
-pub mod Outcome
-pub mod JudgedLaws
+mod Names
+pub mod InSets
+mod RequestLaws
+mod ReplyLaws
+mod FormPlaces
+mod TagPlaces
+mod FileFaults
+mod Files
+mod Within
+mod SoundDeeds
+mod Soundness
+mod PrintableFiles
+mod Outcomes
+pub mod Texts
+mod Sets
+mod RequestsBack
+mod RepliesBack

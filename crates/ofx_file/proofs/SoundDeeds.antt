@@ -1,5 +1,6 @@
--- A deed that is read is within the bounds of a bank: its accounts, its amount, its due day, its id and its count.
-use Rattle.std.proofs.Common.{◌≡◌, ℕ, zero, suc, ◌<◌, ◌≤◌, ◌^◌, Bool, true, false, cond, ◌&&◌, nat_le, ℤ, pos, negsuc, unsigned_abs, List, length, Option, None, Some, codes, refl, ap, ◌∙◌, arith, rules}
+-- A deed that is read is within the bounds of a bank: its accounts, its amount, its due day, its id and its count, and the
+-- texts and the moment of a mail.
+use Rattle.std.proofs.Common.{◌≡◌, ◌≢◌, inl, inr, ℕ, zero, suc, ◌<◌, ◌≤◌, ◌^◌, Bool, true, false, cond, ◌&&◌, nat_le, ℤ, pos, negsuc, unsigned_abs, List, length, Option, None, Some, codes, refl, ap, ◌∙◌, arith, rules}
 use Rattle.std.proofs.lemmas.Bool.{and_parts, leb-true}
 use Rattle.std.proofs.lemmas.Int.{ints}
 use Rattle.std.proofs.lemmas.Str.Parse.{IsNumeralModel, numerals_by_value, digits_value_short}
@@ -20,17 +21,22 @@ use Rattle.ofx_types.specs.RequestForm.{IsAccount}
 use Rattle.ofx_types.specs.TransferForm.{IsMaybeDue, HasXferInfo}
 use Rattle.ofx_types.specs.RecurringForm.{IsMaybeCount, HasRecur, HasEachInfo}
 use Rattle.ofx_types.specs.DeedForm.{IsDeedRequest}
+use Rattle.ofx_types.specs.MailForm.{IsMailText, HasMail, IsMailRequest}
+use Rattle.ofx_types.specs.SyncForm.{IsTransaction, HasObject}
 use Rattle.ofx_types.specs.declared.account.AcctName.{AcctName}
 use Rattle.ofx_types.specs.declared.number.Day.{Day}
 use Rattle.ofx_types.specs.declared.recurring.Recur.{Recur}
 use Rattle.ofx_types.specs.declared.transfer.XferInfo.{XferInfo}
 use Rattle.ofx_types.specs.declared.transfer.Deed.{Deed}
-use Rattle.ofx_types.specs.declared.transfer.Deed.TheVariants.{Transfer, ModifyTransfer, CancelTransfer, Model, ModifyModel, CancelModel}
-use Rattle.bank_model.specs.Sound.{HasLength, IsSoundAccount, IsSoundInfo, IsSoundRecur, IsId, IsSoundDeed}
+use Rattle.ofx_types.specs.declared.transfer.Deed.TheVariants.{Transfer, ModifyTransfer, CancelTransfer, Model, ModifyModel, CancelModel, BankMail, Mail}
+use Rattle.ofx_types.specs.declared.mail.MailText.{MailText}
+use Rattle.ofx_types.specs.declared.sync.ObjectName.{ObjectName}
+use Rattle.ofx_types.specs.declared.sync.ObjectName.TheVariants as objects
+use Rattle.bank_model.specs.Sound.{HasLength, IsSoundAccount, IsSoundInfo, IsSoundRecur, IsId, IsSoundMail, IsSoundDeed, IsSoundObject}
 
 -- ---- accounts
 
-within : (name : List ℕ) (most : ℕ) (parent : Item) (text : List ℕ) → IsTextIn name most parent text → HasLength most text
+pub within : (name : List ℕ) (most : ℕ) (parent : Item) (text : List ℕ) → IsTextIn name most parent text → HasLength most text
 within name most parent text t = (t.stands.is_there, (faultless is_refused_in_text most text t.stands.is_faultless).0)
 
 pub sound_account : (aggregate : Item) (account : AcctName) → IsAccount aggregate account → IsSoundAccount account
@@ -104,7 +110,7 @@ sound_recur parent recur (recurrinst, only, is) = sound_count recurrinst recur.c
 
 -- ---- deeds
 
-sound_info : (parent : Item) (info : XferInfo) → HasXferInfo parent info → IsSoundInfo info
+pub sound_info : (parent : Item) (info : XferInfo) → HasXferInfo parent info → IsSoundInfo info
 sound_info parent info (xferinfo, only, i) = record {
   from = sound_account i.bankacctfrom info.from i.is_from;
   to = sound_account i.bankacctto info.to i.is_to;
@@ -115,7 +121,7 @@ sound_info parent info (xferinfo, only, i) = record {
 sound_each : (parent : Item) (info : XferInfo) → HasEachInfo parent info → IsSoundInfo info
 sound_each parent info (intrarq, only, has) = sound_info intrarq info has
 
-pub sound_deed : (request : Item) (deed : Deed) → IsDeedRequest request deed → IsSoundDeed deed
+sound_deed : (request : Item) (deed : Deed) → IsDeedRequest request deed → IsSoundDeed deed
 sound_deed request (Transfer info) (name, has) = sound_info request info has
 sound_deed request (ModifyTransfer id info) (name, has_id, has) = (sound_id (codes "SRVRTID") request id has_id, sound_info request info has)
 sound_deed request (CancelTransfer id) (name, has_id) = sound_id (codes "SRVRTID") request id has_id
@@ -123,3 +129,36 @@ sound_deed request (Model recur info) (name, has_recur, has) = (sound_recur requ
 sound_deed request (ModifyModel id recur info pending) (name, has_id, has_recur, has, has_flag) =
     (sound_id (codes "RECSRVRTID") request id has_id, sound_recur request recur has_recur, sound_each request info has)
 sound_deed request (CancelModel id pending) (name, has_id, has_flag) = sound_id (codes "RECSRVRTID") request id has_id
+sound_deed request (BankMail account mail) r = absurd r
+sound_deed request (Mail mail) r = absurd r
+
+-- ---- mails
+
+sound_text : (item : Item) (mail : MailText) → IsMailText item mail → IsSoundMail mail
+sound_text item mail m = record {
+  created = m.created.stands.is_moment;
+  sender = within (codes "FROM") 32 item mail.sender m.sender;
+  target = within (codes "TO") 32 item mail.target m.target;
+  subject = within (codes "SUBJECT") 64 item mail.subject m.subject;
+  body = within (codes "MSGBODY") 10000 item mail.body m.body;
+}
+
+sound_mail : (parent : Item) (mail : MailText) → HasMail parent mail → IsSoundMail mail
+sound_mail parent mail (item, only, is) = sound_text item mail is
+
+mail_deed : (transaction : Item) (deed : Deed) → IsMailRequest transaction deed → IsSoundDeed deed
+mail_deed transaction (BankMail account mail) (name, (request, only, (from, has, is), text)) = (sound_account from account is, sound_mail request mail text)
+mail_deed transaction (Mail mail) (name, (request, only, text)) = sound_mail request mail text
+mail_deed transaction deed r = absurd r
+
+-- ---- transactions and objects
+
+pub sound_transaction : (transaction : Item) (deed : List ℕ × Deed) → IsTransaction transaction deed → (deed.0 ≢ codes "0") × IsSoundDeed deed.1
+sound_transaction transaction deed (inl d) = (d.has_trnuid.is_own, sound_deed d.request deed.1 d.is_request)
+sound_transaction transaction deed (inr d) = (d.has_trnuid.is_own, mail_deed transaction deed.1 d.is_request)
+
+pub sound_object : (sync : Item) (object : ObjectName) → HasObject sync object → IsSoundObject object
+sound_object sync (objects.Intra account) (from, only, is) = sound_account from account is
+sound_object sync (objects.RecIntra account) (from, only, is) = sound_account from account is
+sound_object sync (objects.BankMail account) (from, only, is) = sound_account from account is
+sound_object sync objects.Mail h = tt

@@ -1,6 +1,12 @@
-pub mod ReplyParts
-pub mod RequestOutcome
-pub mod RequestSteps
-pub mod RequestLaws
+pub mod MessageSets
 pub mod FaultPlaces
+pub mod Outcome
+pub mod RequestOutcome
+pub mod ReplyOutcome
+pub mod RequestSteps
+pub mod ReplySteps
+pub mod FileParts
+pub mod Printable
+pub mod FileLaws
 pub mod SoundFiles
+pub mod Written

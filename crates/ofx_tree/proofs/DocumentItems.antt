@@ -5,7 +5,8 @@ use Rattle.ofx_types.specs.Sheet.{ended, start_line}
 use Rattle.ofx_types.specs.Sheet as sheet
 use Rattle.ofx_types.specs.TagForm.{nothing}
 use Rattle.ofx_types.specs.Nodes.{TagNode, Item, nodes_from, items_from}
-use Rattle.ofx_types.specs.FormWords.{has_name, is_absent}
+use Rattle.ofx_types.specs.TagNames.{is_one_of}
+use Rattle.ofx_types.specs.FormWords.{has_name, is_absent, named_one_of}
 use Rattle.ofx_tree.specs.Documents.{Documents, empty, leaf, branch, printed, AreLawful, tree_of, leaf_item, branch_item, items_of, BranchesHoldTheirDocuments, DocumentsAreFound, LeavesHaveTheirValues}
 use Rattle.ofx_tree.proofs.Items.{first_of}
 use Rattle.ofx_tree.proofs.Written.{value_of-written, written_black}
@@ -54,29 +55,37 @@ stands_as_named : (named absent : Bool) → absent ≡ false → (named && not a
 stands_as_named true absent h = rw h refl
 stands_as_named false absent h = refl
 
-abbrev found : List ℕ → List Item → List Item
-found name items = filter (λ item. has_name name item && not (is_absent item.node)) items
+abbrev found : (Item → Bool) → List Item → List Item
+found test items = filter (λ item. test item && not (is_absent item.node)) items
 
-abbrev of_name : List ℕ → List Item → List Item
-of_name name items = filter (λ item. has_name name item) items
+one_more : (test : Item → Bool) (item : Item) (items : List Item) → is_absent item.node ≡ false → found test items ≡ filter test items → found test (item ∷ items) ≡ filter test (item ∷ items)
+one_more test item items there again =
+    ap (λ (b : Bool). cond b (item ∷ found test items) (found test items)) (stands_as_named (test item) (is_absent item.node) there)
+    ∙ ap (λ (more : List Item). cond (test item) (item ∷ more) more) again
 
-one_more : (name : List ℕ) (item : Item) (items : List Item) → is_absent item.node ≡ false → found name items ≡ of_name name items → found name (item ∷ items) ≡ of_name name (item ∷ items)
-one_more name item items there again =
-    ap (λ (b : Bool). cond b (item ∷ found name items) (found name items)) (stands_as_named (has_name name item) (is_absent item.node) there)
-    ∙ ap (λ (more : List Item). cond (has_name name item) (item ∷ more) more) again
-
-items_stand : (place index room : ℕ) (name : List ℕ) (documents : Documents) → AreLawful room documents → found name (items_of place index documents) ≡ of_name name (items_of place index documents)
-items_stand place index room name empty lawful = refl
-items_stand place index room name (leaf other value behind) lawful =
+items_stand : (place index room : ℕ) (test : Item → Bool) (documents : Documents) → AreLawful room documents → found test (items_of place index documents) ≡ filter test (items_of place index documents)
+items_stand place index room test empty lawful = refl
+items_stand place index room test (leaf other value behind) lawful =
     let next = place + length (sheet.element other value) in
-    one_more name (leaf_item place index other value) (items_of next (index + 1) behind) (value_of_leaf place index other value lawful.0).1
-    (items_stand next (index + 1) room name behind lawful.1)
-items_stand place index room name (branch other inner behind) lawful =
+    one_more test (leaf_item place index other value) (items_of next (index + 1) behind) (value_of_leaf place index other value lawful.0).1
+    (items_stand next (index + 1) room test behind lawful.1)
+items_stand place index room test (branch other inner behind) lawful =
     let item = branch_item place index other inner in
     let next = place + length (sheet.aggregate other (printed inner)) in
-    one_more name item (items_of next item.node.after behind) refl (items_stand next item.node.after room name behind lawful.3)
+    one_more test item (items_of next item.node.after behind) refl (items_stand next item.node.after room test behind lawful.3)
 
 pub named_of_branch : DocumentsAreFound
 named_of_branch place index room own name inner lawful =
-    ap (found name) (children_of_branch place index own inner)
-    ∙ items_stand (place + length (start_line own)) (index + 1) room name inner lawful
+    ap (found (has_name name)) (children_of_branch place index own inner)
+    ∙ items_stand (place + length (start_line own)) (index + 1) room (has_name name) inner lawful
+
+abbrev has_one : List (List ℕ) → Item → Bool
+has_one names item = is_one_of names item.node.name
+
+-- the same of several names
+pub named_one_of_branch : (place index room : ℕ) (own : List ℕ) (names : List (List ℕ)) (inner : Documents) → AreLawful room inner
+    → named_one_of names (branch_item place index own inner)
+    ≡ filter (λ item. is_one_of names item.node.name) (items_of (place + length (start_line own)) (index + 1) inner)
+named_one_of_branch place index room own names inner lawful =
+    ap (found (has_one names)) (children_of_branch place index own inner)
+    ∙ items_stand (place + length (start_line own)) (index + 1) room (has_one names) inner lawful

@@ -13,7 +13,7 @@ use Rattle.ofx_types.specs.DateReading.{moment_at}
 use Rattle.ofx_types.specs.NumberReading.{number_at}
 use Rattle.ofx_types.specs.TagNames.{is_one_of}
 use Rattle.ofx_types.specs.Nodes.{TagNode, Item, children}
-use Rattle.ofx_types.specs.FormWords.{◌>>=◌, named, named_one_of, only_of, one, one_of, if_any, maybe, IsOnly, IsOnlyOf, IsNone, is_text_within, text_at, text_in, IsTextIn, flag_word, flag_at, flag_in, IsFlagIn, amount_or, amount_of, amount_in, IsAmountIn, moment_or, moment_of, moment_in, IsMomentIn, moment_if_any, maybe_moment_in, IsMaybeMomentIn, number_or, number_of, number_in, IsNumberIn, id_of, id_in, IsIdIn, id_if_any, maybe_id_in, IsMaybeIdIn}
+use Rattle.ofx_types.specs.FormWords.{◌>>=◌, named, named_one_of, only_of, one, one_of, if_any, maybe, IsOnly, IsOnlyOf, IsNone, is_text_within, text_at, text_in, IsTextIn, flag_word, flag_at, flag_in, IsFlagIn, flag_if_any, maybe_flag_in, IsMaybeFlagIn, amount_or, amount_of, amount_in, IsAmountIn, moment_or, moment_of, moment_in, IsMomentIn, moment_if_any, maybe_moment_in, IsMaybeMomentIn, number_or, number_of, number_in, IsNumberIn, id_of, id_in, IsIdIn, id_if_any, maybe_id_in, IsMaybeIdIn}
 use Rattle.ofx_types.specs.declared.fault.TreeFault.{TreeFault}
 use Rattle.ofx_types.specs.declared.number.Cents.{Cents}
 use Rattle.ofx_types.specs.declared.number.Moment.{Moment}
@@ -120,7 +120,7 @@ fits_again : (most : ℕ) (text : List ℕ) → 0 < length text → text_fault i
 fits_again most text there faultless =
     let some : nat_lt 0 (length text) ≡ true = grind (arith, common_steps) in rw (some, faultless) refl
 
-text_found : (most : ℕ) (node : TagNode) (text : List ℕ) → text_at most node ≡ Ok text → StandsFor most node.text text
+pub text_found : (most : ℕ) (node : TagNode) (text : List ℕ) → text_at most node ≡ Ok text → StandsFor most node.text text
 text_found most node text h =
     let read = ok_guarded (is_text_within most (value_of node.text)) (value_of node.text) text _ h in
     let P : List ℕ → Type 0 = λ t. StandsFor most node.text t in
@@ -131,7 +131,7 @@ text_chosen : (most place : ℕ) (value text : List ℕ) → text ≡ value → 
     cond (is_text_within most value) (Ok value) (Err e) ≡ Ok text
 text_chosen most place value text same fits e = rw (← same) (rw fits refl)
 
-text_again : (most : ℕ) (node : TagNode) (text : List ℕ) → StandsFor most node.text text → text_at most node ≡ Ok text
+pub text_again : (most : ℕ) (node : TagNode) (text : List ℕ) → StandsFor most node.text text → text_at most node ≡ Ok text
 text_again most node text s =
     text_chosen most node.place (value_of node.text) text s.value (fits_again most text s.is_there s.is_faultless) _
 
@@ -171,6 +171,27 @@ unfolding flag_in
 flag_in_again name parent flag f =
     bind_to (one name parent) (λ c. flag_at c.node) f.child (one_again name parent f.child f.is_only)
     ∙ rw f.stands (flag_again flag _)
+
+-- ---- flags that may stand once
+
+-- the flag that the child that stands says is that of the only one
+flag_of_only : (name : List ℕ) (parent child : Item) (flag : Bool) → IsOnly name parent child → flag_at child.node ≡ Ok flag → IsFlagIn name parent flag
+flag_of_only name parent child flag only h = record { child = child; is_only = only; stands = flag_chosen (value_of child.node.text) _ flag h }
+
+flag_or_none : (name : List ℕ) (parent : Item) (found : Option Item) (flag : Bool) → maybe name parent ≡ Ok found → flag_if_any found ≡ Ok flag → IsMaybeFlagIn name parent flag
+flag_or_none name parent None flag h i = inl (maybe_none name parent h, one_value (Ok flag) flag false refl (sym i))
+flag_or_none name parent (Some child) flag h i = inr (flag_of_only name parent child flag (maybe_some name parent child h) i)
+
+pub maybe_flag_in_found : (name : List ℕ) (parent : Item) (flag : Bool) → maybe_flag_in name parent ≡ Ok flag → IsMaybeFlagIn name parent flag
+unfolding maybe_flag_in
+maybe_flag_in_found name parent flag h =
+    let found = bind_ok (maybe name parent) flag_if_any flag h in flag_or_none name parent found.0 flag found.1 found.2
+
+pub maybe_flag_in_again : (name : List ℕ) (parent : Item) (flag : Bool) → IsMaybeFlagIn name parent flag → maybe_flag_in name parent ≡ Ok flag
+unfolding maybe_flag_in
+maybe_flag_in_again name parent flag (inl (none, absent)) = bind_to (maybe name parent) flag_if_any None (none_again name parent none) ∙ ap Ok (sym absent)
+maybe_flag_in_again name parent flag (inr f) =
+    bind_to (maybe name parent) flag_if_any (Some f.child) (some_again name parent f.child f.is_only) ∙ rw f.stands (flag_again flag _)
 
 -- ---- amounts
 

@@ -8,7 +8,7 @@ use Rattle.ofx_types.specs.Nodes.{TagNode, Item, items_from, children}
 use Rattle.ofx_types.specs.AmountReading.{amount_at}
 use Rattle.ofx_types.specs.DateReading.{moment_at}
 use Rattle.ofx_types.specs.NumberReading.{number_at}
-use Rattle.ofx_types.specs.FormWords.{◌>>=◌, named, named_one_of, only_of, one, one_of, if_any, maybe, is_text_within, text_at, text_in, flag_in, amount_or, amount_in, moment_or, moment_of, moment_in, moment_if_any, maybe_moment_in, number_or, number_in, id_in, id_if_any, maybe_id_in}
+use Rattle.ofx_types.specs.FormWords.{◌>>=◌, named, named_one_of, only_of, one, one_of, if_any, maybe, is_text_within, text_at, text_in, flag_at, flag_in, flag_if_any, maybe_flag_in, amount_or, amount_in, moment_or, moment_of, moment_in, moment_if_any, maybe_moment_in, number_or, number_in, id_in, id_if_any, maybe_id_in}
 use Rattle.ofx_types.specs.declared.fault.TreeFault.{TreeFault}
 use Rattle.ofx_tree.specs.Placed.{Stands, Any, AreWithin, IsWithin}
 use Rattle.ofx_tree.proofs.Chosen.{all_chosen, all_filtered}
@@ -73,11 +73,25 @@ text_within most name limit item h =
     bound most (IsWithin most) Any (one name item) _ (one_within most name item h)
     (λ child i. either most Any (is_text_within limit (value_of child.node.text)) _ _ tt i.place)
 
+flag_at_within : (most : ℕ) (item : Item) → IsWithin most item → Stands most Any (flag_at item.node)
+flag_at_within most item i =
+    either most Any (bytes_eq (value_of item.node.text) (codes "Y")) _ _ tt (either most Any (bytes_eq (value_of item.node.text) (codes "N")) _ _ tt i.place)
+
+flag_if_any_within : (most : ℕ) (found : Option Item) → IfSome found (IsWithin most) → Stands most Any (flag_if_any found)
+flag_if_any_within most None h = tt
+flag_if_any_within most (Some child) h = flag_at_within most child h
+
+pub maybe_flag_within : (most : ℕ) (name : List ℕ) (item : Item) → IsWithin most item → Stands most Any (maybe_flag_in name item)
+unfolding maybe_flag_in
+maybe_flag_within most name item h =
+    bound most (λ found. IfSome found (IsWithin most)) Any (maybe name item) flag_if_any (maybe_within most name item h)
+    (λ found i. flag_if_any_within most found i)
+
 pub flag_within : (most : ℕ) (name : List ℕ) (item : Item) → IsWithin most item → Stands most Any (flag_in name item)
 unfolding flag_in
 flag_within most name item h =
     bound most (IsWithin most) Any (one name item) _ (one_within most name item h)
-    (λ child i. either most Any (bytes_eq (value_of child.node.text) (codes "Y")) _ _ tt (either most Any (bytes_eq (value_of child.node.text) (codes "N")) _ _ tt i.place))
+    (λ child i. flag_at_within most child i)
 
 amount_or_within : (most place : ℕ) (o : Option ℤ) → place ≤ most → Stands most Any (amount_or place o)
 amount_or_within most place None h = h

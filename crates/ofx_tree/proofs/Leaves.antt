@@ -1,5 +1,5 @@
 -- Leaves that a form asks for: what is printed of a value is lawful, and reading it gives the value.
-use Rattle.std.proofs.Common.{◌≡◌, ℕ, ◌<◌, ◌≤◌, ◌^◌, Bool, true, false, List, [], ◌∷◌, length, reverse, position, None, Some, Ok, codes, refl, sym, ap, subst, ◌∙◌, arith, ℤ, unsigned_abs}
+use Rattle.std.proofs.Common.{◌≡◌, ℕ, ◌<◌, ◌≤◌, ◌^◌, inr, Bool, true, false, List, [], ◌∷◌, length, reverse, position, None, Some, Ok, codes, refl, sym, ap, subst, ◌∙◌, arith, ℤ, unsigned_abs}
 use Rattle.std.proofs.lemmas.Grind.{common_steps}
 use Rattle.std.proofs.lemmas.List.{reverse-append, reverse-reverse}
 use Rattle.std.proofs.lemmas.Fmt.{decimal_nonempty, length-decimal-le}
@@ -9,13 +9,13 @@ use Rattle.std.specs.Fmt.{decimal}
 use Rattle.std.specs.List.{list_any}
 use Rattle.ofx_types.specs.TextRules.{is_white, trim_start, trim_end, trimmed, is_refused_in_text, IsText}
 use Rattle.ofx_types.specs.TextOutcome.{text_fault}
-use Rattle.ofx_types.specs.ValueForm.{value_of}
+use Rattle.ofx_types.specs.ValueForm.{value_of, StandsFor}
 use Rattle.ofx_types.specs.Calendar.{IsMoment}
 use Rattle.ofx_types.specs.AmountForm.{IsAmount, amount_text}
 use Rattle.ofx_types.specs.DateForm.{IsDate, moment_text}
 use Rattle.ofx_types.specs.NumberReading.{number_at}
 use Rattle.ofx_types.specs.Nodes.{Item}
-use Rattle.ofx_types.specs.FormWords.{IsOnly, text_in, flag_word, flag_in, amount_in, IsMomentIn, moment_in, maybe_moment_in, number_in}
+use Rattle.ofx_types.specs.FormWords.{IsOnly, text_in, flag_word, flag_in, IsFlagIn, maybe_flag_in, amount_in, IsMomentIn, moment_in, maybe_moment_in, number_in}
 use Rattle.ofx_types.specs.declared.number.Cents.{Cents}
 use Rattle.ofx_types.specs.declared.number.Moment.{Moment}
 use Rattle.ofx_values.proofs.PrintedLemmas.{amount_printed, moment_printed, number_printed}
@@ -24,7 +24,7 @@ use Rattle.ofx_tape.proofs.Runs.{none_from_avoids}
 use Rattle.ofx_tree.specs.PrintedForm.{IsElementName, written}
 use Rattle.ofx_tree.specs.Documents.{empty, leaf, IsLeaf, AreLawful, leaf_item, branch_item}
 use Rattle.ofx_tree.proofs.DocumentItems.{named_of_branch}
-use Rattle.ofx_tree.proofs.FormLaws.{text_in_again, flag_in_again, amount_in_again, moment_in_again, maybe_moment_in_again, number_in_again}
+use Rattle.ofx_tree.proofs.FormLaws.{text_in_again, flag_in_again, maybe_flag_in_again, amount_in_again, moment_in_again, maybe_moment_in_again, number_in_again}
 use Rattle.ofx_tree.proofs.Plain.{IsPlain, IsPlain-append, amount_plain, amount_some, moment_plain, decimal_plain}
 use Rattle.ofx_tree.proofs.Written.{value_of-written}
 
@@ -100,27 +100,38 @@ no_fault : (most : ℕ) (text : List ℕ) → length text ≤ most → position 
 no_fault most text short clean =
     let within : nat_lt most (length text) ≡ false = grind (arith, common_steps) in rw (within, clean) refl
 
+pub stands_of_leaf : (name value : List ℕ) (most : ℕ) → IsLeaf name value → length value ≤ most → StandsFor most (written value) value
+stands_of_leaf name value most is short = record {
+  value = sym (leaf_value name value is);
+  is_there = is.is_there;
+  is_faultless = no_fault most value short is.is_text.is_clean;
+}
+
 pub text_of_leaf : (name value : List ℕ) (most place index : ℕ) (parent : Item) → IsLeaf name value → length value ≤ most
     → IsOnly name parent (leaf_item place index name value) → text_in name most parent ≡ Ok value
 text_of_leaf name value most place index parent is short only =
     text_in_again name most parent value (record {
       child = leaf_item place index name value;
       is_only = only;
-      stands = record {
-        value = sym (leaf_value name value is);
-        is_there = is.is_there;
-        is_faultless = no_fault most value short is.is_text.is_clean;
-      };
+      stands = stands_of_leaf name value most is short;
     })
+
+is_flag_of_leaf : (name : List ℕ) (flag : Bool) (place index : ℕ) (parent : Item) → IsElementName name
+    → IsOnly name parent (leaf_item place index name (flag_word flag)) → IsFlagIn name parent flag
+is_flag_of_leaf name flag place index parent named only = record {
+  child = leaf_item place index name (flag_word flag);
+  is_only = only;
+  stands = leaf_value name (flag_word flag) (flag_leaf name flag named);
+}
 
 pub flag_of_leaf : (name : List ℕ) (flag : Bool) (place index : ℕ) (parent : Item) → IsElementName name
     → IsOnly name parent (leaf_item place index name (flag_word flag)) → flag_in name parent ≡ Ok flag
-flag_of_leaf name flag place index parent named only =
-    flag_in_again name parent flag (record {
-      child = leaf_item place index name (flag_word flag);
-      is_only = only;
-      stands = leaf_value name (flag_word flag) (flag_leaf name flag named);
-    })
+flag_of_leaf name flag place index parent named only = flag_in_again name parent flag (is_flag_of_leaf name flag place index parent named only)
+
+pub maybe_flag_of_leaf : (name : List ℕ) (flag : Bool) (place index : ℕ) (parent : Item) → IsElementName name
+    → IsOnly name parent (leaf_item place index name (flag_word flag)) → maybe_flag_in name parent ≡ Ok flag
+maybe_flag_of_leaf name flag place index parent named only =
+    maybe_flag_in_again name parent flag (inr (is_flag_of_leaf name flag place index parent named only))
 
 pub amount_of_leaf : (name : List ℕ) (amount : Cents) (place index : ℕ) (parent : Item) → IsElementName name → unsigned_abs amount.0 ≤ 9999999999999
     → IsOnly name parent (leaf_item place index name (amount_text amount.0)) → amount_in name parent ≡ Ok amount

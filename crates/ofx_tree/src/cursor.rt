@@ -5,7 +5,7 @@ ghost use Rattle.std.specs.List.{list_all};
 ghost use Rattle.ofx_types.specs.TextRules.{is_white};
 ghost use Rattle.ofx_types.specs.TagNames.{is_one_of};
 ghost use Rattle.ofx_types.specs.Nodes.{children};
-ghost use Rattle.ofx_types.specs.FormWords.{one, one_of, maybe, is_absent, text_in, text_at, flag_in, flag_at, amount_in, amount_of, moment_in, moment_of, maybe_moment_in, number_in, number_of, id_in, maybe_id_in, Gives};
+ghost use Rattle.ofx_types.specs.FormWords.{one, one_of, maybe, is_absent, text_in, text_at, flag_in, flag_at, maybe_flag_in, amount_in, amount_of, moment_in, moment_of, maybe_moment_in, number_in, number_of, id_in, maybe_id_in, Gives};
 ghost use Rattle.ofx_types.specs.ValueForm.{value_of};
 ghost use Rattle.ofx_types.specs.Nodes.{IsRoot};
 ghost use Rattle.ofx_tree.specs.ItemView.{item_view};
@@ -158,6 +158,19 @@ impl<'t> Cursor<'t> {
         child.own_flag()
     }
 
+    /// The flag of the child of this name, which may stand once: `Y` or `N`. Where it doesn't stand the flag is `N`.
+    ///
+    /// The faults of `maybe`; `Value` at the child's place where its value is any other.
+    #[tactic(auto, unfolding(ofx_types::specs::FormWords::maybe_flag_in))]
+    pub fn maybe_flag(&self, name: &[u8]) -> Result<bool, TreeFault>
+        ensures { result ≡ maybe_flag_in name.now self.now }
+    {
+        match self.maybe(name)? {
+            Some(child) => child.own_flag(),
+            None => Ok(false),
+        }
+    }
+
     /// The amount of the child of this name, which stands once. It takes no memory.
     ///
     /// The faults of `one`; `Value` at the child's place where its value spells no amount.
@@ -241,14 +254,10 @@ impl<'t> Cursor<'t> {
         }
     }
 
-    /// Whether its value, trimmed and with its entities decoded, is just this text.
-    pub fn value_eq(&self, text: &[u8]) -> bool
-        ensures { result ≡ bytes_eq (value_of self.now.node.text) text.now }
-    {
-        value_eq(self.node.value, text)
-    }
-
-    fn own_text(&self, alloc: Global, most: u32) -> Result<Text, TreeFault>
+    /// The text that its own value stands for: 1 byte up to the limit, trimmed and with its entities decoded.
+    ///
+    /// `Value` at its place where the value is no such text; `OutOfMemory` where memory for it is refused.
+    pub fn own_text(&self, alloc: Global, most: u32) -> Result<Text, TreeFault>
         ensures { Gives result (text_at most self.now.node) }
     {
         match value_into(alloc, self.node.value, most) {
@@ -256,6 +265,13 @@ impl<'t> Cursor<'t> {
             Err(TextFault::OutOfMemory) => Err(TreeFault::OutOfMemory),
             _ => Err(TreeFault::Value(self.node.at as u64)),
         }
+    }
+
+    /// Whether its value, trimmed and with its entities decoded, is just this text.
+    pub fn value_eq(&self, text: &[u8]) -> bool
+        ensures { result ≡ bytes_eq (value_of self.now.node.text) text.now }
+    {
+        value_eq(self.node.value, text)
     }
 
     fn own_flag(&self) -> Result<bool, TreeFault>

@@ -8,9 +8,10 @@ use Rattle.ofx_types.specs.ReplyGrammar.{IsStatus}
 use Rattle.ofx_types.specs.TransferForm.{HasXferInfo, IsRow, transfer_requests, transfer_replies}
 use Rattle.ofx_types.specs.RecurringForm.{HasRecur, HasEachInfo, IsModelRow, model_requests, model_replies}
 use Rattle.ofx_types.specs.declared.transfer.Deed.{Deed}
+use Rattle.ofx_types.specs.declared.transfer.Deed.TheVariants as deeds
 use Rattle.ofx_types.specs.declared.transfer.Deed.TheVariants.{Transfer, ModifyTransfer, CancelTransfer, Model, ModifyModel, CancelModel}
 use Rattle.ofx_types.specs.declared.transfer.Change.{Change}
-use Rattle.ofx_types.specs.declared.transfer.Change.TheVariants.{NewTransfer, SetTransfer, DropTransfer, NewModel, SetModel, DropModel}
+use Rattle.ofx_types.specs.declared.transfer.Change.TheVariants.{NewTransfer, SetTransfer, DropTransfer, NewModel, SetModel, DropModel, NewMail}
 use Rattle.ofx_types.specs.declared.transfer.Family.{Family}
 use Rattle.ofx_types.specs.declared.transfer.Family.TheVariants.{Intra, RecIntra, BankMail, Mail}
 use Rattle.ofx_types.specs.declared.transfer.DeedReply.{DeedReply}
@@ -23,6 +24,8 @@ family_of (CancelTransfer id) = Intra
 family_of (Model recur info) = RecIntra
 family_of (ModifyModel id recur info pending) = RecIntra
 family_of (CancelModel id pending) = RecIntra
+family_of (deeds.BankMail account mail) = BankMail
+family_of (deeds.Mail mail) = Mail
 
 -- ---- requests
 
@@ -33,14 +36,14 @@ request_name RecIntra = codes "RECINTRATRNRQ"
 request_name BankMail = codes "BANKMAILTRNRQ"
 request_name Mail = codes "MAILTRNRQ"
 
--- the requests of which just one stands in it; those of mail have no form yet
+-- The requests of which just one stands in it. Those of mail have forms of their own.
 abbrev pub requests_in : Family → List (List ℕ)
 requests_in Intra = transfer_requests
 requests_in RecIntra = model_requests
 requests_in BankMail = []
 requests_in Mail = []
 
--- INTRARQ, INTRAMODRQ, INTRACANRQ, RECINTRARQ, RECINTRAMODRQ and RECINTRACANRQ
+-- INTRARQ, INTRAMODRQ, INTRACANRQ, RECINTRARQ, RECINTRAMODRQ and RECINTRACANRQ. A mail is none of them.
 abbrev pub IsDeedRequest : Item → Deed → Type 0
 IsDeedRequest request (Transfer info) = (request.node.name ≡ codes "INTRARQ") × HasXferInfo request info
 IsDeedRequest request (ModifyTransfer id info) =
@@ -54,6 +57,8 @@ IsDeedRequest request (ModifyModel id recur info pending) =
 IsDeedRequest request (CancelModel id pending) =
     (request.node.name ≡ codes "RECINTRACANRQ") × IsIdIn (codes "RECSRVRTID") request id
     × IsFlagIn (codes "CANPENDING") request pending
+IsDeedRequest request (deeds.BankMail account mail) = ⊥
+IsDeedRequest request (deeds.Mail mail) = ⊥
 
 -- INTRATRNRQ and RECINTRATRNRQ: a uid, and just one of the three requests of each.
 pub record IsDeed (transaction : Item) (trnuid : List ℕ) (deed : Deed) : Type 0 where
@@ -79,7 +84,7 @@ replies_in RecIntra = model_replies
 replies_in BankMail = []
 replies_in Mail = []
 
--- INTRARS, INTRAMODRS, INTRACANRS, RECINTRARS, RECINTRAMODRS and RECINTRACANRS
+-- INTRARS, INTRAMODRS, INTRACANRS, RECINTRARS, RECINTRAMODRS and RECINTRACANRS. A mail is told by none of them.
 abbrev pub IsChange : Item → Change → Type 0
 IsChange reply (NewTransfer row) =
     (reply.node.name ≡ codes "INTRARS") × IsRow reply row × IsMaybeIdIn (codes "RECSRVRTID") reply row.model
@@ -91,6 +96,7 @@ IsChange reply (SetModel row pending) =
 IsChange reply (DropModel id pending) =
     (reply.node.name ≡ codes "RECINTRACANRS") × IsIdIn (codes "RECSRVRTID") reply id
     × IsFlagIn (codes "CANPENDING") reply pending
+IsChange reply (NewMail row) = ⊥
 
 -- With code 0 just one of the replies stands. With any other code nothing more is looked at.
 abbrev pub IsChangeByCode : ℕ → Family → Item → Option Change → Type 0

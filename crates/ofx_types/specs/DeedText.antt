@@ -7,14 +7,15 @@ use Rattle.ofx_types.specs.CommonText.{status}
 use Rattle.ofx_types.specs.TransferForm.{info_of}
 use Rattle.ofx_types.specs.RecurringForm.{freq_word, first_info}
 use Rattle.ofx_types.specs.DeedForm.{family_of, request_name, reply_name}
+use Rattle.ofx_types.specs.PrintedMail.{bank_mail_text, plain_mail_text, mail_row_text}
 use Rattle.ofx_types.specs.TransferText.{info_text, id_text, processing_text, model_text}
 use Rattle.ofx_types.specs.declared.recurring.Recur.{Recur}
 use Rattle.ofx_types.specs.declared.recurring.ModelRow.{ModelRow}
 use Rattle.ofx_types.specs.declared.transfer.XferInfo.{XferInfo}
 use Rattle.ofx_types.specs.declared.transfer.Deed.{Deed}
-use Rattle.ofx_types.specs.declared.transfer.Deed.TheVariants.{Transfer, ModifyTransfer, CancelTransfer, Model, ModifyModel, CancelModel}
+use Rattle.ofx_types.specs.declared.transfer.Deed.TheVariants.{Transfer, ModifyTransfer, CancelTransfer, Model, ModifyModel, CancelModel, BankMail, Mail}
 use Rattle.ofx_types.specs.declared.transfer.Change.{Change}
-use Rattle.ofx_types.specs.declared.transfer.Change.TheVariants.{NewTransfer, SetTransfer, DropTransfer, NewModel, SetModel, DropModel}
+use Rattle.ofx_types.specs.declared.transfer.Change.TheVariants.{NewTransfer, SetTransfer, DropTransfer, NewModel, SetModel, DropModel, NewMail}
 use Rattle.ofx_types.specs.declared.transfer.DeedReply.{DeedReply}
 
 -- ---- how a transfer recurs
@@ -46,6 +47,8 @@ request_text (ModifyModel id recur info pending) = aggregate (codes "RECINTRAMOD
     (id_text (codes "RECSRVRTID") id ++ (recur_text recur ++ (each_text info ++ flag_text (codes "MODPENDING") pending)))
 request_text (CancelModel id pending) = aggregate (codes "RECINTRACANRQ")
     (id_text (codes "RECSRVRTID") id ++ flag_text (codes "CANPENDING") pending)
+request_text (BankMail account mail) = bank_mail_text account mail
+request_text (Mail mail) = plain_mail_text mail
 
 unfoldable pub deed_text : List ℕ → Deed → List ℕ
 deed_text trnuid deed = aggregate (request_name (family_of deed)) (element (codes "TRNUID") trnuid ++ request_text deed)
@@ -74,6 +77,7 @@ change_text (SetModel row pending) =
     aggregate (codes "RECINTRAMODRS") (model_row_text row ++ flag_text (codes "MODPENDING") pending)
 change_text (DropModel id pending) = aggregate (codes "RECINTRACANRS")
     (id_text (codes "RECSRVRTID") id ++ flag_text (codes "CANPENDING") pending)
+change_text (NewMail row) = mail_row_text row
 
 unfoldable pub maybe_change_text : Option Change → List ℕ
 maybe_change_text None = []

@@ -1,10 +1,10 @@
--- A whole request file as bytes, and why bytes are none.
-use Rattle.std.specs.Prelude.{◌≡◌, ℕ, ◌+◌, List, drop, Option, None, Some, Err}
+-- A whole request file and a whole reply file as bytes, and why bytes are none.
+use Rattle.std.specs.Prelude.{◌≡◌, ℕ, ◌+◌, List, drop, Option, None, Some, Result, Err}
 use Rattle.ofx_types.specs.HeaderForm.{SpellsHeader, header_fault}
 use Rattle.ofx_types.specs.TagFault.{tag_fault}
 use Rattle.ofx_types.specs.Nodes.{TagNode, Item, AreNodesOf, IsRoot}
-use Rattle.ofx_types.specs.MessageForm.{IsRequest}
-use Rattle.ofx_types.specs.MessageReading.{request_of}
+use Rattle.ofx_types.specs.MessageForm.{IsRequest, IsReply}
+use Rattle.ofx_types.specs.MessageReading.{request_of, reply_of}
 use Rattle.ofx_types.specs.declared.fault.HeaderFault.{HeaderFault}
 use Rattle.ofx_types.specs.declared.fault.HeaderFault.TheVariants as headers
 use Rattle.ofx_types.specs.declared.fault.TapeFault.{TapeFault}
@@ -14,6 +14,7 @@ use Rattle.ofx_types.specs.declared.fault.TreeFault.TheVariants as forms
 use Rattle.ofx_types.specs.declared.fault.FileFault.{FileFault}
 use Rattle.ofx_types.specs.declared.fault.FileFault.TheVariants.{Header, Syntax, Form, OutOfMemory}
 use Rattle.ofx_types.specs.declared.request.RequestFile.{RequestFile}
+use Rattle.ofx_types.specs.declared.reply.ReplyFile.{ReplyFile}
 
 -- The bytes begin with a header, and the body behind it, whose first byte has the number `size` of the bytes in front
 -- of it, has these nodes, of which the root is OFX.
@@ -29,6 +30,16 @@ pub record SpellsFile (bytes : List ℕ) (file : RequestFile) : Type 0 where
   pub header : SpellsHeader bytes file.version file.older file.newer size
   pub body : HasBody bytes size nodes ofx
   pub form : IsRequest ofx file.user file.pass file.asks
+
+-- The bytes spell a reply file. Its OLDFILEUID may be any.
+pub record SpellsReply (bytes : List ℕ) (reply : ReplyFile) : Type 0 where
+  pub size : ℕ
+  pub nodes : List TagNode
+  pub ofx : Item
+  pub older : Option (List ℕ)
+  pub header : SpellsHeader bytes reply.version older reply.newer size
+  pub body : HasBody bytes size nodes ofx
+  pub form : IsReply ofx reply.signon reply.moment reply.replies
 
 -- where a fault of the header stands
 abbrev pub header_place : HeaderFault → ℕ
@@ -73,7 +84,7 @@ pub record IsSyntaxFault (bytes : List ℕ) (at : ℕ) : Type 0 where
   pub at_is : at ≡ size + place
 
 -- behind a header and in tags without a fault, the first fault of the forms
-pub record IsFormFault (bytes : List ℕ) (at : ℕ) : Type 0 where
+pub record IsFormFault {P : Type 0} (parts_of : Item → Result P TreeFault) (bytes : List ℕ) (at : ℕ) : Type 0 where
   pub size : ℕ
   pub nodes : List TagNode
   pub ofx : Item
@@ -81,23 +92,49 @@ pub record IsFormFault (bytes : List ℕ) (at : ℕ) : Type 0 where
   pub place : ℕ
   pub header : HasHeader bytes size
   pub body : HasBody bytes size nodes ofx
-  pub is_fault : request_of ofx ≡ Err fault
+  pub is_fault : parts_of ofx ≡ Err fault
   pub has_place : form_place fault ≡ Some place
   pub at_is : at ≡ size + place
 
--- Why the bytes spell no request file: a kind and a place.
+-- Why the bytes spell no file whose parts are read so: a kind and a place.
+abbrev pub IsFaultIn : {P : Type 0} → (Item → Result P TreeFault) → List ℕ → FileFault → Type 0
+IsFaultIn parts_of bytes (Header at) = IsHeaderFault bytes at
+IsFaultIn parts_of bytes (Syntax at) = IsSyntaxFault bytes at
+IsFaultIn parts_of bytes (Form at) = IsFormFault parts_of bytes at
+IsFaultIn parts_of bytes OutOfMemory = ⊥
+
+-- Why the bytes spell no request file, and why they spell no reply file.
 abbrev pub IsFaultOf : List ℕ → FileFault → Type 0
-IsFaultOf bytes (Header at) = IsHeaderFault bytes at
-IsFaultOf bytes (Syntax at) = IsSyntaxFault bytes at
-IsFaultOf bytes (Form at) = IsFormFault bytes at
-IsFaultOf bytes OutOfMemory = ⊥
+IsFaultOf bytes fault = IsFaultIn request_of bytes fault
+
+abbrev pub IsReplyFaultOf : List ℕ → FileFault → Type 0
+IsReplyFaultOf bytes fault = IsFaultIn reply_of bytes fault
 
 -- No bytes spell two files, bytes that spell one have no fault, and no bytes have two faults.
+abbrev pub OneSpelled : {F : Type 0} → (List ℕ → F → Type 0) → Type 0
+OneSpelled {F} Spells = (bytes : List ℕ) (a b : F) → Spells bytes a → Spells bytes b → a ≡ b
+
+abbrev pub NothingSpelled : {F : Type 0} → (List ℕ → F → Type 0) → (List ℕ → FileFault → Type 0) → Type 0
+NothingSpelled {F} Spells IsFault = (bytes : List ℕ) (file : F) (fault : FileFault) → Spells bytes file → IsFault bytes fault → ⊥
+
+abbrev pub OneFaultOf : (List ℕ → FileFault → Type 0) → Type 0
+OneFaultOf IsFault = (bytes : List ℕ) (a b : FileFault) → IsFault bytes a → IsFault bytes b → a ≡ b
+
 abbrev pub OneFile : Type 0
-OneFile = (bytes : List ℕ) (a b : RequestFile) → SpellsFile bytes a → SpellsFile bytes b → a ≡ b
+OneFile = OneSpelled SpellsFile
 
 abbrev pub FaultsSpellNothing : Type 0
-FaultsSpellNothing = (bytes : List ℕ) (file : RequestFile) (fault : FileFault) → SpellsFile bytes file → IsFaultOf bytes fault → ⊥
+FaultsSpellNothing = NothingSpelled SpellsFile IsFaultOf
 
 abbrev pub OneFault : Type 0
-OneFault = (bytes : List ℕ) (a b : FileFault) → IsFaultOf bytes a → IsFaultOf bytes b → a ≡ b
+OneFault = OneFaultOf IsFaultOf
+
+-- Of replies the same.
+abbrev pub OneReply : Type 0
+OneReply = OneSpelled SpellsReply
+
+abbrev pub FaultsSpellNoReply : Type 0
+FaultsSpellNoReply = NothingSpelled SpellsReply IsReplyFaultOf
+
+abbrev pub OneReplyFault : Type 0
+OneReplyFault = OneFaultOf IsReplyFaultOf

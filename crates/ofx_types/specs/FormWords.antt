@@ -61,6 +61,10 @@ pub record IsFlagIn (name : List ℕ) (parent : Item) (flag : Bool) : Type 0 whe
   pub is_only : IsOnly name parent child
   pub stands : value_of child.node.text ≡ flag_word flag
 
+-- A flag that may stand once. Where it doesn't it is `N`.
+abbrev pub IsMaybeFlagIn : List ℕ → Item → Bool → Type 0
+IsMaybeFlagIn name parent flag = (IsNone name parent × (flag ≡ false)) ⊎ IsFlagIn name parent flag
+
 -- The parent has just one child of this name, and its value spells the amount.
 pub record IsAmountIn (name : List ℕ) (parent : Item) (amount : Cents) : Type 0 where
   pub child : Item
@@ -156,6 +160,14 @@ flag_at node =
 
 unfoldable pub flag_in : List ℕ → Item → Result Bool TreeFault
 flag_in name parent = one name parent >>= λ child. flag_at child.node
+
+-- the flag of a child that may stand once
+abbrev pub flag_if_any : Option Item → Result Bool TreeFault
+flag_if_any None = Ok false
+flag_if_any (Some child) = flag_at child.node
+
+unfoldable pub maybe_flag_in : List ℕ → Item → Result Bool TreeFault
+maybe_flag_in name parent = maybe name parent >>= flag_if_any
 
 -- the amount that a node's value spells
 abbrev pub amount_or : ℕ → Option ℤ → Result Cents TreeFault

@@ -5,6 +5,7 @@ use crate::duplicate::Duplicate;
 use crate::memory::OutOfMemory;
 use crate::number::{Cents, Moment};
 use crate::sequence::Sequence;
+use crate::sync::SyncReply;
 use crate::transfer::DeedReply;
 use crate::uid::{FileUid, TrnUid};
 
@@ -55,8 +56,10 @@ pub enum AskReply {
     /// The answer to a statement request (STMTTRNRS): its status code, and the statement exactly where the
     /// code is 0.
     Statement(TrnUid, u16, Option<StatementBody>),
-    /// The answer to a deed (INTRATRNRS, RECINTRATRNRS).
+    /// The answer to a deed (INTRATRNRS, RECINTRATRNRS, BANKMAILTRNRS, MAILTRNRS).
     One(DeedReply),
+    /// The answer to a synchronisation (INTRASYNCRS, RECINTRASYNCRS, BANKMAILSYNCRS, MAILSYNCRS).
+    Sync(SyncReply),
 }
 
 /// The answers of a file, in the order of its asks.
@@ -112,6 +115,7 @@ impl Duplicate for AskReply {
                 Ok(AskReply::Statement(trnuid.copy()?, *code, body.copy()?))
             }
             AskReply::One(reply) => Ok(AskReply::One(reply.copy()?)),
+            AskReply::Sync(reply) => Ok(AskReply::Sync(reply.copy()?)),
         }
     }
 }

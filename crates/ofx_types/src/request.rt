@@ -5,6 +5,7 @@ use crate::duplicate::Duplicate;
 use crate::memory::OutOfMemory;
 use crate::number::Moment;
 use crate::sequence::Sequence;
+use crate::sync::SyncAsk;
 use crate::text::Text;
 use crate::transfer::Deed;
 use crate::uid::{FileUid, TrnUid};
@@ -25,8 +26,10 @@ pub struct Period {
 pub enum Ask {
     /// A statement of an account (STMTTRNRQ), with the period of its list where one was given.
     Statement(TrnUid, AcctName, Option<Period>),
-    /// A deed under a uid of its own (INTRATRNRQ, RECINTRATRNRQ).
+    /// A deed under a uid of its own (INTRATRNRQ, RECINTRATRNRQ, BANKMAILTRNRQ, MAILTRNRQ).
     One(TrnUid, Deed),
+    /// A synchronisation of an object (INTRASYNCRQ, RECINTRASYNCRQ, BANKMAILSYNCRQ, MAILSYNCRQ).
+    Sync(SyncAsk),
 }
 
 /// The asks of a file, in the order in which they are answered.
@@ -56,6 +59,7 @@ impl Duplicate for Ask {
                 Ok(Ask::Statement(trnuid.copy()?, account.copy()?, *period))
             }
             Ask::One(trnuid, deed) => Ok(Ask::One(trnuid.copy()?, deed.copy()?)),
+            Ask::Sync(ask) => Ok(Ask::Sync(ask.copy()?)),
         }
     }
 }

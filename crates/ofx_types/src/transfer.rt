@@ -3,6 +3,7 @@
 
 use crate::account::AcctName;
 use crate::duplicate::Duplicate;
+use crate::mail::{MailRow, MailText};
 use crate::memory::OutOfMemory;
 use crate::number::{Cents, Day, Moment};
 use crate::recurring::{ModelRow, Recur};
@@ -38,6 +39,10 @@ pub enum Deed {
     /// The cancellation of the recurring transfer with this id, and whether the transfers that wait are cancelled
     /// too (RECINTRACANRQ, CANPENDING).
     CancelModel(u64, bool),
+    /// A mail about an account (BANKMAILRQ).
+    BankMail(AcctName, MailText),
+    /// A mail (MAILRQ).
+    Mail(MailText),
 }
 
 /// How far a transfer is (XFERPRCCODE).
@@ -90,6 +95,8 @@ pub enum Change {
     SetModel(ModelRow, bool),
     /// The recurring transfer with this id is cancelled. The flag tells whether the transfers that wait are too.
     DropModel(u64, bool),
+    /// A mail came in, or went out.
+    NewMail(MailRow),
 }
 
 /// The kinds of what is synchronised.
@@ -140,6 +147,8 @@ impl Duplicate for Deed {
                 Ok(Deed::ModifyModel(*id, *recur, info.copy()?, *pending))
             }
             Deed::CancelModel(id, pending) => Ok(Deed::CancelModel(*id, *pending)),
+            Deed::BankMail(account, mail) => Ok(Deed::BankMail(account.copy()?, mail.copy()?)),
+            Deed::Mail(mail) => Ok(Deed::Mail(mail.copy()?)),
         }
     }
 }
@@ -168,6 +177,7 @@ impl Duplicate for Change {
             Change::NewModel(row) => Ok(Change::NewModel(row.copy()?)),
             Change::SetModel(row, pending) => Ok(Change::SetModel(row.copy()?, *pending)),
             Change::DropModel(id, pending) => Ok(Change::DropModel(*id, *pending)),
+            Change::NewMail(row) => Ok(Change::NewMail(row.copy()?)),
         }
     }
 }

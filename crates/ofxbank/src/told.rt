@@ -7,15 +7,19 @@ use std::io;
 pub const HELP: &str = "\
 usage: ofxbank answer SETUP - [--at DATE]
        ofxbank due SETUP -
+       ofxbank mail SETUP - USER SUBJECT
 
 answer answers a stream of Open Financial Exchange 1.6 request files from the
 standard input, each in its frame, on the standard output. For the frame DUE it
 does what is due at the frame's moment: recurring transfers make their next
 transfers, and transfers that wait are posted on their day, or closed where
 there is no cover. due does the same once, at the moment that the clock shows.
+mail writes a letter of the bank to a user; its body is the standard input.
 
   SETUP      the file with the bank, its users and its accounts
   -          the records are kept in memory
+  USER       the name of a user
+  SUBJECT    1 to 64 bytes
   --at DATE  the moment of every frame, as a date of a file: YYYYMMDD or
              YYYYMMDDHHMMSS, perhaps with a zone, as 20240131120000[-5:EST];
              without it each frame has the moment that the clock shows
@@ -23,8 +27,8 @@ there is no cover. due does the same once, at the moment that the clock shows.
   --help     prints this
   --version  prints the version
 
-Status: 0 all done, 2 usage, 3 setup, 4 frame, 5 read failed,
-6 write failed, 7 no memory.
+Status: 0 all done, 2 usage, 3 setup, 4 frame or body, 5 read failed,
+6 write failed, 7 no memory, 10 no user or no number left.
 ";
 
 /// What `--version` prints.
@@ -56,6 +60,8 @@ fn tell_cause(rt: &impl Eprint, end: Told) -> io::Result<()> {
         (6, _) => rt.eprintln("write failed"),
         (7, _) => rt.eprintln("no memory"),
         (8, _) => rt.eprintln("keeper failed"),
+        (10, Note::NoUser) => rt.eprintln("no user"),
+        (10, Note::Full) => rt.eprintln("full"),
         _ => Ok(()),
     }
 }

@@ -163,7 +163,11 @@ pub(super) fn later(day: Day, at: Moment) -> Day
 
 /// The reply to a file, with the answers to its asks.
 #[tactic(auto, unfolding(bank_model::specs::Rules::reply_file))]
-fn reply_file(at: Moment, file: &RequestFile, replies: AskReplies) -> Result<ReplyFile, OutOfMemory>
+pub(super) fn reply_file(
+    at: Moment,
+    file: &RequestFile,
+    replies: AskReplies,
+) -> Result<ReplyFile, OutOfMemory>
     ensures { IfOk result (λ reply. reply ≡ rules.reply_file at file.now replies) }
 {
     Ok(ReplyFile {

@@ -1,34 +1,57 @@
 //! Which events may happen to the bank. Nothing here takes memory.
 
-ghost use Rattle.std.specs.Prelude.{◌≡◌, ◌↔◌, ◌<◌, ◌&&◌, IsTrue, length};
+ghost use Rattle.std.specs.Prelude.{◌≡◌, ◌↔◌, ◌<◌, ◌&&◌, IsTrue, true, false, length};
 ghost use Rattle.ofx_types.specs.Calendar.{IsMoment, IsDay};
 ghost use Rattle.bank_model.specs.Ledger.{row_of};
 ghost use Rattle.bank_model.specs.Models as models;
 ghost use Rattle.bank_model.specs.Due as rules;
+ghost use Rattle.bank_model.specs.Polls as polls;
 ghost use Rattle.bank_model.specs.Rules.{IsLegal, raised};
+ghost use Rattle.bank_model.specs.Sound.{IsSound, HasLength};
 
 use crate::book::Book;
 use crate::book::answer::later;
 use crate::book::due::last_day;
-use crate::sound::is_sound;
-use bank_model::{Event, Printer};
-use ofx_types::{Day, Moment, TransferRow, UserId, XferCode};
+use crate::sound::{MOST_BODY, MOST_SUBJECT, is_sound, is_text};
+use bank_model::{Event, Printer, is_poll};
+use ofx_types::{Day, Moment, RequestFile, Text, TransferRow, UserId, XferCode};
 
 impl<P: Printer> Book<P> {
     /// Whether the event may happen at that moment.
     ///
-    /// A file is of a user of the setup, and all its values are within their bounds. A transfer that is posted waits, and is
+    /// A file is of a user of the setup, all its values are within their bounds, and it is no poll. A transfer that is posted waits, and is
     /// due on or before the business day. A recurring transfer makes the transfer at just the next place of its series, for
-    /// a date at most the setup's LEAD days after the business day. For both a number is left. Takes no memory.
+    /// a date at most the setup's LEAD days after the business day. A letter is to a user of the setup, its subject has 1 to 64
+    /// bytes and its body 1 to 10,000. For all but a file a number is left. Takes no memory.
     pub fn legal(&self, event: &Event, at: Moment) -> bool
         requires { IsMoment at.0 }
         ensures { IsTrue result ↔ IsLegal self.now.setup self.now.state at event.now }
     {
         match event {
-            Event::File(user, file) => self.has_user(*user) && is_sound(file),
+            Event::File(user, file) => self.may_ask(*user, file),
             Event::Post(id) => self.may_post(*id, at),
             Event::Spawn(id, place) => self.may_spawn(*id, *place, at),
+            Event::Letter(user, subject, body) => self.may_write(*user, subject, body),
         }
+    }
+
+    /// Whether the file may be asked by that user: it is sound and no poll.
+    fn may_ask(&self, user: UserId, file: &RequestFile) -> bool
+        ensures { IsTrue result ↔ ((user.0 < length self.now.setup.users) × IsSound file.now
+            × (polls.is_poll file.now ≡ false)) }
+    {
+        self.has_user(user) && is_sound(file) && !is_poll(file)
+    }
+
+    /// Whether the bank may write a letter of this subject and this body to that user.
+    fn may_write(&self, user: UserId, subject: &Text, body: &Text) -> bool
+        ensures { IsTrue result ↔ ((user.0 < length self.now.setup.users) × HasLength 64 subject.now
+            × HasLength 10000 body.now × (rules.has_number self.now.setup self.now.state ≡ true)) }
+    {
+        self.has_user(user)
+            && is_text(subject, MOST_SUBJECT)
+            && is_text(body, MOST_BODY)
+            && self.has_number()
     }
 
     /// Whether the setup has that user.

@@ -1,6 +1,6 @@
 //! The accounts that an event names.
 
-ghost use Rattle.std.specs.Prelude.{◌≡◌, ◌↔◌, [], map, nat_le, position, Some, IfOk, OnOk, Contains};
+ghost use Rattle.std.specs.Prelude.{◌≡◌, ◌↔◌, ◌++◌, [], map, nat_le, position, Some, IfOk, OnOk, Contains};
 ghost use Rattle.std.specs.Option.{option_copied};
 ghost use Rattle.std.specs.List.{flat_map};
 ghost use Rattle.std.specs.List.Sorted.{IsStrictlyIncreasing};
@@ -12,7 +12,9 @@ ghost use Rattle.bank_core.specs.Naming.{inserted, with_any, with_all};
 
 use crate::book::Book;
 use bank_model::{Event, Printer, Setup};
-use ofx_types::{AcctId, AcctName, Ask, Deed, OutOfMemory, TransferRow};
+use ofx_types::{
+    AcctId, AcctName, Ask, Deed, ObjectName, OutOfMemory, SyncAsk, TransferRow, TrnUid,
+};
 use std::alloc::Global;
 
 impl<P: Printer> Book<P> {
@@ -36,6 +38,7 @@ impl<P: Printer> Book<P> {
             Event::File(_, file) => named_by_asks(alloc, &self.setup, file.asks.items()),
             Event::Post(id) => named_by_row(alloc, &self.setup, self.ledger.row(*id)),
             Event::Spawn(_, _) => Ok(Vec::new(alloc)),
+            Event::Letter(_, _, _) => Ok(Vec::new(alloc)),
         }
     }
 }
@@ -73,7 +76,51 @@ fn add_ask(accounts: &mut Vec<AcctId>, setup: &Setup, ask: &Ask) -> Result<(), O
     match ask {
         Ask::Statement(_, name, _) => add(accounts, setup, name),
         Ask::One(_, deed) => add_deed(accounts, setup, deed),
+        Ask::Sync(ask) => add_sync(accounts, setup, ask),
     }
+}
+
+/// Adds the accounts of a synchronisation.
+fn add_sync(accounts: &mut Vec<AcctId>, setup: &Setup, ask: &SyncAsk) -> Result<(), OutOfMemory>
+    requires within { IsWithinLimits setup.now }
+    ensures { OnOk result (accounts.new.items ≡ with_all accounts.old.items
+        (rules.named_by_object setup.now ask.now.object ++ flat_map (rules.named_by_pair setup.now) ask.now.deeds)) }
+{
+    add_object(accounts, setup, &ask.object)?;
+    add_deeds(accounts, setup, ask.deeds.items())?;
+    Ok(())
+}
+
+/// Adds the account of an object, where it has one.
+fn add_object(
+    accounts: &mut Vec<AcctId>,
+    setup: &Setup,
+    object: &ObjectName,
+) -> Result<(), OutOfMemory>
+    requires within { IsWithinLimits setup.now }
+    ensures { OnOk result (accounts.new.items ≡ with_all accounts.old.items (rules.named_by_object setup.now object.now)) }
+{
+    match object {
+        ObjectName::Intra(account) => add(accounts, setup, account),
+        ObjectName::RecIntra(account) => add(accounts, setup, account),
+        ObjectName::BankMail(account) => add(accounts, setup, account),
+        ObjectName::Mail => Ok(()),
+    }
+}
+
+fn add_deeds(
+    accounts: &mut Vec<AcctId>,
+    setup: &Setup,
+    deeds: &[(TrnUid, Deed)],
+) -> Result<(), OutOfMemory>
+    requires within { IsWithinLimits setup.now }
+    ensures { OnOk result (accounts.new.items
+        ≡ with_all accounts.old.items (flat_map (rules.named_by_pair setup.now) deeds.now)) }
+{
+    for deed in deeds {
+        add_deed(accounts, setup, &deed.1)?;
+    }
+    Ok(())
 }
 
 fn add_deed(accounts: &mut Vec<AcctId>, setup: &Setup, deed: &Deed) -> Result<(), OutOfMemory>
@@ -87,6 +134,8 @@ fn add_deed(accounts: &mut Vec<AcctId>, setup: &Setup, deed: &Deed) -> Result<()
         Deed::Model(_, info) => add_both(accounts, setup, &info.from, &info.to),
         Deed::ModifyModel(_, _, info, _) => add_both(accounts, setup, &info.from, &info.to),
         Deed::CancelModel(_, _) => Ok(()),
+        Deed::BankMail(account, _) => add(accounts, setup, account),
+        Deed::Mail(_) => Ok(()),
     }
 }
 

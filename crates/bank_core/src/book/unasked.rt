@@ -1,5 +1,5 @@
-//! Events that nobody asks for, before the book takes their step: the bank posts what is due, and recurring transfers make
-//! their next transfer.
+//! Events that nobody asks for, before the book takes their step: the bank posts what is due, recurring transfers make
+//! their next transfer, and the bank writes letters.
 
 ghost use Rattle.std.specs.Prelude.{◌≡◌, IfOk};
 ghost use Rattle.ofx_types.specs.Calendar.{IsMoment};
@@ -12,7 +12,7 @@ use crate::book::Book;
 use crate::prepared::{Prepared, ReplyBytes};
 use bank_accounts::Held;
 use bank_model::{Event, Printer};
-use ofx_types::{Moment, OutOfMemory, UserId};
+use ofx_types::{Moment, OutOfMemory, Text, UserId};
 use std::alloc::Global;
 
 /// The user of a draft that is no user's: it uses up no uid.
@@ -70,6 +70,34 @@ impl<P: Printer> Book<P> {
     {
         let mut draft = self.draft(alloc, held, (NOBODY, at))?;
         draft.spawn(&self.setup, &self.ledger, next.0, next.1)?;
+        let bytes = ReplyBytes::none(alloc);
+        Ok(Prepared::new(&self.setup, &self.ledger, event, draft, None, None, bytes))
+    }
+
+    /// Writes a user a letter from the bank.
+    pub(super) fn prepare_letter(
+        &self,
+        alloc: Global,
+        held: &Held,
+        event: &Event,
+        sent: (UserId, Moment),
+        subject: &Text,
+        body: &Text,
+    ) -> Result<Prepared, OutOfMemory>
+        requires event { event.now ≡ events.Letter sent.0 subject.now body.now }
+        requires moment { IsMoment sent.1.0 }
+        requires legal { IsLegal self.now.setup self.now.state sent.1 event.now }
+        requires balanced { AreBalanced self.now.setup self.now.state held.now }
+        ensures { IfOk result (λ prepared. prepared ≡ record {
+          setup = self.now.setup;
+          before = self.now.state;
+          event = event.now;
+          after = state_after self.now.setup self.now.state sent.1 event.now;
+          reply = answer_to self.now.setup self.now.state sent.1 event.now;
+        }) }
+    {
+        let mut draft = self.draft(alloc, held, (NOBODY, sent.1))?;
+        draft.letter(alloc, &self.setup, &self.ledger, sent.0, subject, body)?;
         let bytes = ReplyBytes::none(alloc);
         Ok(Prepared::new(&self.setup, &self.ledger, event, draft, None, None, bytes))
     }

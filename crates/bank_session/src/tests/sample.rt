@@ -1,9 +1,7 @@
-//! The sample's words, setup, requests and replies, byte for byte.
+//! The sample's setup, requests and replies, byte for byte.
 
 use std::alloc::{AllocError, Global};
 use std::test::Fail;
-
-pub const WORDS: [&str; 5] = ["answer", "setup", "-", "--at", "20240131120000"];
 
 pub const SETUP: &[u8; 158] = b"\
     OFXBANK 1\n\
@@ -116,75 +114,9 @@ const REPLY_BACK: &[u8; 420] = b"\r\n\
     </BANKMSGSRSV1>\r\n\
     </OFX>\r\n";
 
-/// The reply to the sample's request where its signon fails, in its frame.
-pub const DENIAL: &str = "\
-    FILE 306\n\
-    OFXHEADER:100\r\n\
-    DATA:OFXSGML\r\n\
-    VERSION:160\r\n\
-    SECURITY:NONE\r\n\
-    ENCODING:USASCII\r\n\
-    CHARSET:1252\r\n\
-    COMPRESSION:NONE\r\n\
-    OLDFILEUID:NONE\r\n\
-    NEWFILEUID:NONE\r\n\
-    \r\n\
-    <OFX>\r\n\
-    <SIGNONMSGSRSV1>\r\n\
-    <SONRS>\r\n\
-    <STATUS>\r\n\
-    <CODE>15500\r\n\
-    <SEVERITY>ERROR\r\n\
-    </STATUS>\r\n\
-    <DTSERVER>20240131120000\r\n\
-    <LANGUAGE>ENG\r\n\
-    </SONRS>\r\n\
-    </SIGNONMSGSRSV1>\r\n\
-    </OFX>\r\n";
-
-/// The reply to the sample's request where the account isn't the user's, in its frame.
-pub const FOREIGN: &str = "\
-    FILE 423\n\
-    OFXHEADER:100\r\n\
-    DATA:OFXSGML\r\n\
-    VERSION:160\r\n\
-    SECURITY:NONE\r\n\
-    ENCODING:USASCII\r\n\
-    CHARSET:1252\r\n\
-    COMPRESSION:NONE\r\n\
-    OLDFILEUID:NONE\r\n\
-    NEWFILEUID:NONE\r\n\
-    \r\n\
-    <OFX>\r\n\
-    <SIGNONMSGSRSV1>\r\n\
-    <SONRS>\r\n\
-    <STATUS>\r\n\
-    <CODE>0\r\n\
-    <SEVERITY>INFO\r\n\
-    </STATUS>\r\n\
-    <DTSERVER>20240131120000\r\n\
-    <LANGUAGE>ENG\r\n\
-    </SONRS>\r\n\
-    </SIGNONMSGSRSV1>\r\n\
-    <BANKMSGSRSV1>\r\n\
-    <STMTTRNRS>\r\n\
-    <TRNUID>s1\r\n\
-    <STATUS>\r\n\
-    <CODE>2003\r\n\
-    <SEVERITY>ERROR\r\n\
-    </STATUS>\r\n\
-    </STMTTRNRS>\r\n\
-    </BANKMSGSRSV1>\r\n\
-    </OFX>\r\n";
-
 /// The sample's request in its frame, once for each transaction's name. A name has two bytes.
 pub fn requests(alloc: Global, names: &[&[u8; 2]]) -> Result<Vec<u8>, AllocError> {
     joined(alloc, REQUEST_FRONT, names, REQUEST_BACK)
-}
-
-/// The sample's request with the first `old` in it turned into `new`, in its frame.
-pub fn changed_request(alloc: Global, old: &str, new: &str) -> Result<String, Fail> {
-    request_with(alloc, &[(old, new)])
 }
 
 /// The sample's request with the first of each text in it turned into the other, in its frame.

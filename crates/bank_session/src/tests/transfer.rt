@@ -61,20 +61,6 @@ pub const POSTED: (&str, &str) = (
     <STMTTRNRS>",
 );
 
-/// The answer to the transfer where the user has used up its TRNUID.
-pub const USED_UP: (&str, &str) = (
-    "<STMTTRNRS>",
-    "\
-    <INTRATRNRS>\r\n\
-    <TRNUID>t1\r\n\
-    <STATUS>\r\n\
-    <CODE>2019\r\n\
-    <SEVERITY>ERROR\r\n\
-    </STATUS>\r\n\
-    </INTRATRNRS>\r\n\
-    <STMTTRNRS>",
-);
-
 /// The transfer in the source's statement.
 pub const PAID: (&str, &str) = (
     "</BANKTRANLIST>",
@@ -88,21 +74,5 @@ pub const PAID: (&str, &str) = (
     </BANKTRANLIST>",
 );
 
-/// The transfer in the destination's statement.
-pub const RECEIVED: (&str, &str) = (
-    "</BANKTRANLIST>",
-    "\
-    <STMTTRN>\r\n\
-    <TRNTYPE>XFER\r\n\
-    <DTPOSTED>20240131120000\r\n\
-    <TRNAMT>10.00\r\n\
-    <FITID>1\r\n\
-    </STMTTRN>\r\n\
-    </BANKTRANLIST>",
-);
-
 /// The source's balance behind the transfer, which a statement tells twice.
 pub const SOURCE_BALANCE: (&str, &str) = ("<BALAMT>100.00", "<BALAMT>90.00");
-
-/// The destination's balance behind the transfer, in place of the sample's balance.
-pub const DESTINATION_BALANCE: (&str, &str) = ("<BALAMT>100.00", "<BALAMT>60.00");

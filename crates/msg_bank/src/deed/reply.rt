@@ -1,7 +1,7 @@
 //! What is answered to a deed (INTRATRNRS, RECINTRATRNRS), read and written.
 
 ghost use Rattle.std.specs.Prelude.{◌≡◌, ◌++◌, OnOk};
-ghost use Rattle.std.specs.Option.{ForSome};
+ghost use Rattle.std.specs.Option.{ForSome, IfSome};
 ghost use Rattle.ofx_types.specs.FormWords.{Gives, one_of};
 ghost use Rattle.ofx_types.specs.Printable.{HasChangeByCode, IsPrintableChange};
 ghost use Rattle.ofx_types.specs.DeedForm as forms;
@@ -9,6 +9,7 @@ ghost use Rattle.ofx_types.specs.DeedReading as reading;
 ghost use Rattle.ofx_types.specs.DeedReading.{deed_reply_of};
 ghost use Rattle.ofx_types.specs.DeedText as text;
 ghost use Rattle.ofx_types.specs.DeedText.{deed_reply_text};
+ghost use Rattle.msg_bank.specs.Deeds.{IsNoMail};
 
 use crate::recurring::{
     print_drop_model, print_new_model, print_set_model, read_drop_model, read_new_model,
@@ -99,13 +100,14 @@ fn read_change(alloc: Global, reply: &Cursor<'_>) -> Result<Change, TreeFault>
     read_drop_model(reply)
 }
 
-/// Writes the answer to a deed. It has a change exactly where its code is 0.
+/// Writes the answer to a deed. It has a change exactly where its code is 0, and the change is no mail.
 #[tactic(auto, unfolding(ofx_types::specs::DeedText::deed_reply_text), using(crate::proofs::Joined::joined))]
 pub fn print_reply(r: &DeedReply, out: &mut Sheet) -> Result<(), OutOfMemory>
-    requires { HasChangeByCode r.now.code r.now.change }
+    requires by_code { HasChangeByCode r.now.code r.now.change }
+    requires no_mail { IfSome r.now.change IsNoMail }
     ensures { OnOk result (out.new ≡ out.old ++ deed_reply_text r.now) }
 {
-    let name = name_of(r.family);
+    let name = reply_name(r.family);
     out.start(name)?;
     print_trnuid(&r.trnuid, out)?;
     print_status(r.code, out)?;
@@ -114,7 +116,7 @@ pub fn print_reply(r: &DeedReply, out: &mut Sheet) -> Result<(), OutOfMemory>
 }
 
 /// The name of the aggregate of an answer.
-fn name_of(family: Family) -> &'static [u8]
+pub fn reply_name(family: Family) -> &'static [u8]
     ensures { result.now ≡ forms.reply_name family }
 {
     match family {
@@ -128,7 +130,8 @@ fn name_of(family: Family) -> &'static [u8]
 /// Writes what was done, where something was.
 #[tactic(auto, unfolding(ofx_types::specs::DeedText::maybe_change_text))]
 fn print_maybe_change(change: &Option<Change>, sheet: &mut Sheet) -> Result<(), OutOfMemory>
-    requires { ForSome change.now IsPrintableChange }
+    requires printable { ForSome change.now IsPrintableChange }
+    requires no_mail { ForSome change.now IsNoMail }
     ensures { OnOk result (sheet.new ≡ sheet.old ++ text.maybe_change_text change.now) }
 {
     match change {
@@ -139,7 +142,8 @@ fn print_maybe_change(change: &Option<Change>, sheet: &mut Sheet) -> Result<(), 
 
 /// Writes what was done.
 fn print_change(change: &Change, sheet: &mut Sheet) -> Result<(), OutOfMemory>
-    requires { IsPrintableChange change.now }
+    requires printable { IsPrintableChange change.now }
+    requires no_mail { IsNoMail change.now }
     ensures { OnOk result (sheet.new ≡ sheet.old ++ text.change_text change.now) }
 {
     match change {
@@ -149,5 +153,6 @@ fn print_change(change: &Change, sheet: &mut Sheet) -> Result<(), OutOfMemory>
         Change::NewModel(row) => print_new_model(row, sheet),
         Change::SetModel(row, pending) => print_set_model(row, *pending, sheet),
         Change::DropModel(id, pending) => print_drop_model(*id, *pending, sheet),
+        Change::NewMail(_) => unreachable!(),
     }
 }

@@ -68,21 +68,21 @@ fn read_request(alloc: Global, request: &Cursor<'_>) -> Result<Deed, TreeFault>
     read_cancel_model(request)
 }
 
-/// Writes the request of a deed. Its due day, if it has one, lies in the years 1900 to 9999.
+/// Writes the request of a transfer or of a recurring one. Its due day, if it has one, lies in the years 1900 to 9999.
 #[tactic(auto, unfolding(ofx_types::specs::DeedText::deed_text), using(crate::proofs::Joined::joined))]
 pub fn print_deed(trnuid: &TrnUid, deed: &Deed, out: &mut Sheet) -> Result<(), OutOfMemory>
     requires { IsPrintableDeed deed.now }
     ensures { OnOk result (out.new ≡ out.old ++ deed_text trnuid.now deed.now) }
 {
-    let name = name_of(deed);
+    let name = request_name(deed);
     out.start(name)?;
     print_trnuid(trnuid, out)?;
     print_request(deed, out)?;
     out.end(name)
 }
 
-/// The name of the aggregate of a deed.
-fn name_of(deed: &Deed) -> &'static [u8]
+/// The name of the aggregate of a deed, a mail too.
+pub fn request_name(deed: &Deed) -> &'static [u8]
     ensures { result.now ≡ forms.request_name (forms.family_of deed.now) }
 {
     match deed {
@@ -90,6 +90,8 @@ fn name_of(deed: &Deed) -> &'static [u8]
         Deed::Model(_, _) | Deed::ModifyModel(_, _, _, _) | Deed::CancelModel(_, _) => {
             b"RECINTRATRNRQ"
         }
+        Deed::BankMail(_, _) => b"BANKMAILTRNRQ",
+        Deed::Mail(_) => b"MAILTRNRQ",
     }
 }
 
@@ -107,5 +109,6 @@ fn print_request(deed: &Deed, sheet: &mut Sheet) -> Result<(), OutOfMemory>
             print_modify_model(*id, *recur, info, *pending, sheet)
         }
         Deed::CancelModel(id, pending) => print_cancel_model(*id, *pending, sheet),
+        Deed::BankMail(_, _) | Deed::Mail(_) => unreachable!(),
     }
 }

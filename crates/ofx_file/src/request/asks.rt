@@ -1,96 +1,66 @@
-//! The message set of the bank (BANKMSGSRQV1): its requests in the order of the file.
+//! What a message set asks: its requests in the order of the file.
 
-ghost use Rattle.std.specs.Prelude.{◌≡◌, ◌++◌, IfErr, OnOk, option_to_list};
 ghost use Rattle.ofx_types.specs.Nodes.{children};
 ghost use Rattle.ofx_types.specs.FormWords.{Gives};
-ghost use Rattle.ofx_types.specs.TagNames.{is_one_of};
-ghost use Rattle.ofx_types.specs.MessageForm.{bank_names, unread_bank_names};
 ghost use Rattle.ofx_types.specs.MessageReading as reading;
-ghost use Rattle.ofx_file.specs.RequestSteps as steps;
+ghost use Rattle.ofx_types.specs.MessageReading.{ask_of};
+ghost use Rattle.ofx_file.specs.MessageSets as sets;
 
-use msg_bank::{read_deed, read_statement};
+use crate::messages::{MessageSet, is_request_name, is_transaction};
+use msg_bank::read_statement;
+use msg_sync::{put_form, read_sync, read_transaction};
 use ofx_tree::Cursor;
-use ofx_types::{Ask, Asks, OutOfMemory, TreeFault};
+use ofx_types::{Ask, Asks, TreeFault};
 use std::alloc::Global;
 
-/// The asks of the message set, where there is one.
-pub(crate) fn asks_in(alloc: Global, bank: Option<Cursor<'_>>) -> Result<Asks, TreeFault>
-    ensures { Gives result (reading.bank_asks_in bank.entry) }
+/// The asks of a message set, where it stands.
+pub(crate) fn asks_in(
+    alloc: Global,
+    set: MessageSet,
+    found: Option<Cursor<'_>>,
+) -> Result<Asks, TreeFault>
+    ensures { Gives result (reading.messages_in ask_of (sets.request_names set) found.entry) }
 {
-    match bank {
+    match found {
         None => Ok(Asks::new(alloc)),
-        Some(bank) => asks_of(alloc, &bank),
+        Some(found) => asks_of(alloc, set, &found),
     }
 }
 
-/// The asks of the message set.
-#[tactic(auto, using(crate::proofs::AskLaws::behind))]
-fn asks_of(alloc: Global, bank: &Cursor<'_>) -> Result<Asks, TreeFault>
-    ensures { Gives result (reading.bank_asks_of (children bank.now)) }
+/// The asks of a message set.
+#[tactic(auto, using(msg_sync::proofs::Behind::behind, crate::proofs::InSets::all_asks))]
+fn asks_of(alloc: Global, set: MessageSet, found: &Cursor<'_>) -> Result<Asks, TreeFault>
+    ensures { Gives result (reading.messages_of ask_of (sets.request_names set) (children found.now)) }
 {
     let mut asks = Asks::new(alloc);
-    for child in bank.children() {
-        put(ask_at(alloc, &child)?, &mut asks)?;
+    for child in found.children() {
+        put_form(ask_at(alloc, set, &child)?, &mut asks)?;
     }
     Ok(asks)
 }
 
-/// Puts an ask behind the others, where there is one.
-fn put(found: Option<Ask>, asks: &mut Asks) -> Result<(), TreeFault>
-    ensures ok { OnOk result (asks.new ≡ asks.old ++ option_to_list found) }
-    ensures err { IfErr result (λ fault. fault ≡ TreeFault.OutOfMemory) }
+/// The ask that a child of a message set is. Any child that is no request of the set is skipped.
+#[tactic(auto, unfolding(msg_sync::specs::Listing::form_at))]
+fn ask_at(alloc: Global, set: MessageSet, child: &Cursor<'_>) -> Result<Option<Ask>, TreeFault>
+    ensures { Gives result (sets.ask_at set child.now) }
 {
-    let Some(ask) = found else {
-        return Ok(());
-    };
-    match asks.push(ask) {
-        Ok(()) => Ok(()),
-        Err(OutOfMemory) => Err(TreeFault::OutOfMemory),
-    }
-}
-
-/// The ask that a child of the message set is. A request without a form is a fault, and any other child is skipped.
-#[tactic(auto, unfolding(crate::specs::RequestSteps::ask_at))]
-fn ask_at(alloc: Global, child: &Cursor<'_>) -> Result<Option<Ask>, TreeFault>
-    ensures { Gives result (steps.ask_at child.now) }
-{
-    if is_read(child.name()) {
-        return Ok(Some(bank_ask(alloc, child)?));
-    }
-    if is_unread(child.name()) {
-        return Err(TreeFault::Value(child.place() as u64));
+    if is_request_name(set, child.name()) {
+        return Ok(Some(read_ask(alloc, child)?));
     }
     Ok(None)
 }
 
-/// The ask that a request of a statement (STMTTRNRQ), a transfer (INTRATRNRQ) or a recurring transfer (RECINTRATRNRQ) is,
-/// by its name.
-#[tactic(auto, unfolding(ofx_types::specs::MessageReading::bank_ask_of))]
-fn bank_ask(alloc: Global, request: &Cursor<'_>) -> Result<Ask, TreeFault>
-    ensures { Gives result (reading.bank_ask_of request.now) }
+/// The ask that a request is, by its name: of a statement (STMTTRNRQ), of a deed, or a synchronisation.
+#[tactic(auto, unfolding(ofx_types::specs::MessageReading::ask_of))]
+fn read_ask(alloc: Global, request: &Cursor<'_>) -> Result<Ask, TreeFault>
+    ensures { Gives result (ask_of request.now) }
 {
     if request.name() == b"STMTTRNRQ".as_slice() {
         return read_statement(alloc, request);
     }
-    let (trnuid, deed) = read_deed(alloc, request)?;
-    Ok(Ask::One(trnuid, deed))
-}
-
-/// Whether a name is that of a request that has a form.
-fn is_read(name: &[u8]) -> bool
-    ensures { result ≡ is_one_of bank_names name.now }
-{
-    name == b"STMTTRNRQ".as_slice()
-        || name == b"INTRATRNRQ".as_slice()
-        || name == b"RECINTRATRNRQ".as_slice()
-}
-
-/// Whether a name is that of a request that has no form yet.
-fn is_unread(name: &[u8]) -> bool
-    ensures { result ≡ is_one_of unread_bank_names name.now }
-{
-    name == b"BANKMAILTRNRQ".as_slice()
-        || name == b"INTRASYNCRQ".as_slice()
-        || name == b"RECINTRASYNCRQ".as_slice()
-        || name == b"BANKMAILSYNCRQ".as_slice()
+    if is_transaction(request.name()) {
+        let (trnuid, deed) = read_transaction(alloc, request)?;
+        return Ok(Ask::One(trnuid, deed));
+    }
+    Ok(Ask::Sync(read_sync(alloc, request)?))
 }

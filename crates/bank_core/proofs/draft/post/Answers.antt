@@ -12,3 +12,7 @@ returns-in-Model-clause-ok c = λ entries entry holds number posts.
 pub returns-in-NoModel-clause-ok : goal.returns-in-NoModel-clause-ok
 returns-in-NoModel-clause-ok c = λ entries entry holds number posts.
     HoldsPostings-nothing c.args.postings.now entries entry holds (posts ∙ ap (λ (effect : Effect). posting_of entry.number (row_given_by effect)) c.in-NoModel.is)
+
+pub returns-in-Mail-clause-ok : goal.returns-in-Mail-clause-ok
+returns-in-Mail-clause-ok c = λ entries entry holds number posts.
+    HoldsPostings-nothing c.args.postings.now entries entry holds (posts ∙ ap (λ (effect : Effect). posting_of entry.number (row_given_by effect)) c.in-Mail.is)

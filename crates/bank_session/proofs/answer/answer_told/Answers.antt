@@ -1,6 +1,7 @@
 use Rattle.std.proofs.Common.{refl}
-use Rattle.bank_session.proofs.CommandWords.{commands_apart}
+use Rattle.bank_session.proofs.CommandWords.{commands_apart, answer_or_mail, due_or_mail}
 use Rattle.bank_session.proofs.ExactLemmas.{is_run, is_due_command, never_usage, due_never_usage}
+use Rattle.bank_session.proofs.MailLemmas.{is_mail_command, mail_never_usage}
 use Rattle.bank_session.proofs.answer.answer_told.Goals as goal
 
 pub returns-in-None-clause-run : goal.returns-in-None-clause-run
@@ -8,6 +9,9 @@ returns-in-None-clause-run g c at words = absurd (c.in-None.ensures.unanswered a
 
 pub returns-in-None-clause-due : goal.returns-in-None-clause-due
 returns-in-None-clause-due g c words = absurd (c.in-None.ensures.undue words)
+
+pub returns-in-None-clause-mail : goal.returns-in-None-clause-mail
+returns-in-None-clause-mail g c name subject words = absurd (c.in-None.ensures.unmailed (name, subject, words))
 
 pub returns-in-Some-Answer-clause-usage : goal.returns-in-Some-Answer-clause-usage
 returns-in-Some-Answer-clause-usage g c =
@@ -30,6 +34,11 @@ returns-in-Some-Answer-clause-due g c words =
     let read = rw c.in-Some-Answer.field-0-is at c.in-Some-Answer.ensures in
     absurd (commands_apart c.args.words.now c.in-Some-Answer.found.at read.0 words)
 
+pub returns-in-Some-Answer-clause-mail : goal.returns-in-Some-Answer-clause-mail
+returns-in-Some-Answer-clause-mail g c name subject words =
+    let read = rw c.in-Some-Answer.field-0-is at c.in-Some-Answer.ensures in
+    absurd (answer_or_mail c.args.words.now c.in-Some-Answer.found.at read.0 (name, subject, words))
+
 pub returns-in-Some-Due-clause-usage : goal.returns-in-Some-Due-clause-usage
 returns-in-Some-Due-clause-usage g c =
     let read = rw c.in-Some-Due.field-0-is at c.in-Some-Due.ensures in
@@ -51,3 +60,41 @@ pub returns-in-Some-Due-clause-clock : goal.returns-in-Some-Due-clause-clock
 returns-in-Some-Due-clause-clock g c at words =
     let read = rw c.in-Some-Due.field-0-is at c.in-Some-Due.ensures in
     absurd (commands_apart c.args.words.now _ words read)
+
+pub returns-in-Some-Due-clause-mail : goal.returns-in-Some-Due-clause-mail
+returns-in-Some-Due-clause-mail g c name subject words =
+    let read = rw c.in-Some-Due.field-0-is at c.in-Some-Due.ensures in
+    absurd (due_or_mail c.args.words.now read (name, subject, words))
+
+pub returns-in-Some-Mail-clause-usage : goal.returns-in-Some-Mail-clause-usage
+returns-in-Some-Mail-clause-usage g c =
+    let read = rw c.in-Some-Mail.field-0-is at c.in-Some-Mail.ensures in
+    let ends = c.send_letter.ensures read.0 read.1 read.2 in
+    (λ two. absurd (mail_never_usage read.0 read.1 _ _ c.send_letter.result c.end_told-in-Some-Mail.result c.end_told-in-Some-Mail.ensures ends two), λ usage. absurd (usage.unmailed read))
+
+pub returns-in-Some-Mail-clause-unread : goal.returns-in-Some-Mail-clause-unread
+returns-in-Some-Mail-clause-unread g c usage =
+    let read = rw c.in-Some-Mail.field-0-is at c.in-Some-Mail.ensures in
+    absurd (usage.unmailed read)
+
+pub returns-in-Some-Mail-clause-run : goal.returns-in-Some-Mail-clause-run
+returns-in-Some-Mail-clause-run g c at words =
+    let read = rw c.in-Some-Mail.field-0-is at c.in-Some-Mail.ensures in
+    absurd (answer_or_mail c.args.words.now at words read)
+
+pub returns-in-Some-Mail-clause-due : goal.returns-in-Some-Mail-clause-due
+returns-in-Some-Mail-clause-due g c words =
+    let read = rw c.in-Some-Mail.field-0-is at c.in-Some-Mail.ensures in
+    absurd (due_or_mail c.args.words.now words read)
+
+pub returns-in-Some-Mail-clause-mail : goal.returns-in-Some-Mail-clause-mail
+returns-in-Some-Mail-clause-mail g c name subject words =
+    is_mail_command c.one_setup.ensures name subject _ _ c.send_letter.result c.end_told-in-Some-Mail.result c.end_told-in-Some-Mail.ensures (c.send_letter.ensures name subject words)
+
+pub returns-in-Some-Mail-clause-clock : goal.returns-in-Some-Mail-clause-clock
+returns-in-Some-Mail-clause-clock g c at words =
+    let read = rw c.in-Some-Mail.field-0-is at c.in-Some-Mail.ensures in
+    absurd (answer_or_mail c.args.words.now _ words read)
+
+pub send_letter-requires : goal.send_letter-requires
+send_letter-requires g c = rw c.in-Some-Mail.field-0-is at c.in-Some-Mail.ensures

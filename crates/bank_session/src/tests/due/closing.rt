@@ -1,10 +1,10 @@
 //! A transfer that has no cover on its day, byte for byte.
 
-use crate::tests::sample::{SETUP, reply_with, request_with};
+use crate::tests::sample::{reply_with, request_with};
 use crate::tests::transfer::{PAID, POSTED, TRANSFER};
-use crate::tests::{ROOM, told_with};
-use ofx_ports::{MemClock, MemSink, MemSource};
-use ofx_types::{Moment, Status};
+use crate::tests::{joined, written_by_clock};
+use ofx_ports::MemClock;
+use ofx_types::Moment;
 use std::test::Fail;
 
 /// 31 January 2024 at 12:00:00, and five days later three times.
@@ -110,21 +110,15 @@ const LATER: (&str, &str) = ("20240131120000", "20240205120000");
 #[test]
 fn a_transfer_without_cover_is_closed(rt: HostRuntime) -> Result<(), Fail> {
     let alloc = rt.alloc();
-    let mut bytes = request_with(alloc, &ASKED)?;
-    bytes.push_str("DUE\n")?;
-    bytes.push_str(&request_with(alloc, &CANCELLED)?)?;
-    bytes.push_str("DUE\n")?;
-    let setup = MemSource::new(alloc, SETUP)?;
-    let input = MemSource::new(alloc, bytes.as_bytes())?;
-    let out = MemSink::new(alloc, ROOM)?;
+    let asked = request_with(alloc, &ASKED)?;
+    let cancelled = request_with(alloc, &CANCELLED)?;
     let mut clock = MemClock::new(alloc, &MOMENTS)?;
-    let words = ["answer", "setup", "-"];
-    let (told, written) = told_with(alloc, &words, setup, input, out, &mut clock)?;
-    let mut expected = reply_with(alloc, &ANSWERED)?;
-    expected.push_str("DUE 1\n")?;
-    expected.push_str(&reply_with(alloc, &REFUSED)?)?;
-    expected.push_str("DUE 0\n")?;
-    assert_eq!(rt; told.status, Status(0));
-    assert_eq!(rt; written.as_slice(), expected.as_bytes());
+    let written = written_by_clock(alloc, &[&asked, "DUE\n", &cancelled, "DUE\n"], &mut clock)?;
+    let answered = reply_with(alloc, &ANSWERED)?;
+    let refused = reply_with(alloc, &REFUSED)?;
+    assert_eq!(rt;
+        written,
+        joined(alloc, &[&answered, "DUE 1\n", &refused, "DUE 0\n"])?
+    );
     Ok(())
 }

@@ -1,4 +1,4 @@
-use Rattle.ofx_file.proofs.FileLaws.{faults_spell_nothing}
+use Rattle.ofx_file.proofs.Files.{faults_spell_nothing}
 use Rattle.ofx_file.proofs.laws.faults_spell_nothing.Goals as goal
 
 pub returns : goal.returns

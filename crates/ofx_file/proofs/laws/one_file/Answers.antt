@@ -1,4 +1,4 @@
-use Rattle.ofx_file.proofs.FileLaws.{one_file}
+use Rattle.ofx_file.proofs.Files.{one_file}
 use Rattle.ofx_file.proofs.laws.one_file.Goals as goal
 
 pub returns : goal.returns

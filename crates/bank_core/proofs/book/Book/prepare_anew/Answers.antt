@@ -1,4 +1,4 @@
-use Rattle.std.proofs.Common.{◌≡◌, None, sym, ap, ◌∙◌, subst}
+use Rattle.std.proofs.Common.{◌≡◌, ◌<◌, length, None, sym, ap, ◌∙◌, subst}
 use Rattle.ofx_types.specs.Printable.{IsPrintable}
 use Rattle.bank_model.specs.declared.event.Event.{Event}
 use Rattle.bank_model.specs.Rules.{raised, kept_for, reply_file, state_after, answer_to, named, IsLegal}
@@ -16,6 +16,12 @@ asks-requires-clause-sound g c =
     let is = c.in_ok-draft.ensures ∙ ap (λ (b : ReservedBook). started b.state c.args.sent.0 c.args.sent.1 c.args.held.now) (sym c.self.view_is) in
     subst (λ (d : DraftView). IsSoundState c.self.inside.setup (drafted c.self.inside.ledger.state d)) (sym is)
     (IsSoundState-started c.self.inside.setup c.self.inside.ledger.state c.args.sent.0 c.args.sent.1 c.args.held.now c.self.invariant.1 c.requires.moment)
+
+pub asks-requires-clause-known : goal.asks-requires-clause-known
+asks-requires-clause-known g c =
+    let legal = subst (λ (e : Event). IsLegal c.args.self.now.setup c.args.self.now.state c.args.sent.1 e) c.requires.event c.requires.legal in
+    let known = subst (λ (b : ReservedBook). c.args.sent.0.0 < length b.setup.users) (sym c.self.view_is) legal.0 in
+    subst (λ (d : DraftView). d.user.0 < length c.self.inside.setup.users) (sym c.in_ok-draft.ensures) known
 
 pub asks-requires-clause-named : goal.asks-requires-clause-named
 asks-requires-clause-named g c =

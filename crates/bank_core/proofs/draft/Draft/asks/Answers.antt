@@ -1,14 +1,17 @@
-use Rattle.std.proofs.Common.{◌≡◌, ap, ◌∙◌}
+use Rattle.std.proofs.Common.{◌≡◌, ◌<◌, length, sym, ap, ◌∙◌, subst}
 use Rattle.ofx_types.specs.declared.number.UserId.{UserId}
 use Rattle.ofx_types.specs.declared.number.Moment.{Moment}
-use Rattle.bank_model.specs.Rules.{AskAnswer, ask_answer}
+use Rattle.bank_model.specs.Rules.{AskAnswer, ask_answer, named_by}
 use Rattle.bank_core.specs.DraftView.{drafted}
-use Rattle.bank_core.proofs.AskAnswers.{AreHeld-ask, replies_more, after_more, sound_more_ask, same_file_more, replies_end, after_end}
+use Rattle.bank_core.proofs.AskAnswers.{AreHeld-one, replies_more, after_more, sound_more_ask, same_file_more, replies_end, after_end}
 use Rattle.bank_core.proofs.draft.Draft.asks.Goals as goal
 
 pub ask-requires-clause-named : goal.ask-requires-clause-named
 ask-requires-clause-named c =
-    AreHeld-ask c.args.setup.now c.args.self.now.accounts c.loop-ask.self.accounts c.args.asks.now c.loop-ask.ask-index c.ask-item.result c.requires.named c.loop-ask.invariant.file.numbers c.loop-ask-test.true c.ask-item.is
+    AreHeld-one (named_by c.args.setup.now) c.args.self.now.accounts c.loop-ask.self.accounts c.args.asks.now c.loop-ask.ask-index c.ask-item.result c.requires.named c.loop-ask.invariant.file.numbers c.loop-ask-test.true c.ask-item.is
+
+pub ask-requires-clause-known : goal.ask-requires-clause-known
+ask-requires-clause-known c = subst (λ (u : UserId). u.0 < length c.args.setup.now.users) (sym c.loop-ask.invariant.file.user) c.requires.known
 
 pub loop-ask-preserved : goal.loop-ask-preserved
 loop-ask-preserved c =

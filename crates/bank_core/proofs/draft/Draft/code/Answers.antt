@@ -1,4 +1,4 @@
-use Rattle.std.proofs.Common.{◌+◌, None, sym, length, ◌∙◌, arith}
+use Rattle.std.proofs.Common.{◌+◌, sym, length, ◌∙◌, arith}
 use Rattle.bank_core.specs.DraftView.{drafted}
 use Rattle.bank_core.proofs.DoneLemmas.{done_count}
 use Rattle.bank_core.proofs.DeedAnswers.{used_code-is, room_code-is, judged_code-is}
@@ -6,19 +6,19 @@ use Rattle.bank_core.proofs.draft.Draft.code.Goals as goal
 
 pub returns-then-is_used : goal.returns-then-is_used
 returns-then-is_used c =
-    sym (used_code-is c.args.setup.now (drafted c.args.ledger.now.state c.args.self.now) c.args.self.now.user None c.args.self.now.at c.args.trnuid.now c.args.deed.now
+    sym (used_code-is c.args.setup.now (drafted c.args.ledger.now.state c.args.self.now) c.args.self.now.user c.args.only c.args.self.now.at c.args.trnuid.now c.args.deed.now
     (sym c.is_used.ensures ∙ c.if-is_used.true))
 
 pub returns-in-0 : goal.returns-in-0
 returns-in-0 c =
     let none = sym c.judged.ensures ∙ c.in-0.is in
-    let count = done_count c.args.setup.now (drafted c.args.ledger.now.state c.args.self.now) c.args.self.now.user None c.args.self.now.at c.args.trnuid.now c.args.deed.now c.args.pending.now none c.requires.pending in
+    let count = done_count c.args.setup.now (drafted c.args.ledger.now.state c.args.self.now) c.args.self.now.user c.args.only c.args.self.now.at c.args.trnuid.now c.args.deed.now c.args.pending.now none c.requires.pending in
     c.room_code.ensures
-    ∙ sym (room_code-is c.args.setup.now (drafted c.args.ledger.now.state c.args.self.now) c.args.self.now.user None c.args.self.now.at c.args.trnuid.now c.args.deed.now (length c.args.pending.now + 1)
+    ∙ sym (room_code-is c.args.setup.now (drafted c.args.ledger.now.state c.args.self.now) c.args.self.now.user c.args.only c.args.self.now.at c.args.trnuid.now c.args.deed.now (length c.args.pending.now + 1)
     (sym c.is_used.ensures ∙ c.if-is_used.false) none count)
 
 pub returns-in_default : goal.returns-in_default
 returns-in_default c =
     c.judged.ensures
-    ∙ sym (judged_code-is c.args.setup.now (drafted c.args.ledger.now.state c.args.self.now) c.args.self.now.user None c.args.self.now.at c.args.trnuid.now c.args.deed.now
+    ∙ sym (judged_code-is c.args.setup.now (drafted c.args.ledger.now.state c.args.self.now) c.args.self.now.user c.args.only c.args.self.now.at c.args.trnuid.now c.args.deed.now
     (sym c.is_used.ensures ∙ c.if-is_used.false) (λ none. omega (arith, none)))

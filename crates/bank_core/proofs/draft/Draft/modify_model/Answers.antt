@@ -11,7 +11,7 @@ use Rattle.bank_core.proofs.draft.Draft.modify_model.Goals as goal
 
 pub change_pending-requires-clause-sound : goal.change_pending-requires-clause-sound
 change_pending-requires-clause-sound c =
-    let to = to_change c.args.setup.now (drafted c.args.ledger.now.state c.args.self.now) c.args.self.now.user None c.args.asked.0 c.args.asked.1 c.args.info.now c.args.asked.2 c.requires.judged in
+    let to = to_change c.args.setup.now (drafted c.args.ledger.now.state c.args.self.now) c.args.self.now.user c.requires.judged.0 c.args.asked.0 c.args.asked.1 c.args.info.now c.args.asked.2 c.requires.judged.1 in
     let own = own_set c.args.setup.now (drafted c.args.ledger.now.state c.args.self.now) c.args.trnuid.now c.args.asked.0 c.args.asked.1 c.args.info.now c.args.asked.2 to.row to.found in
     let has = subst (HasAdded c.args.setup.now c.args.ledger.now.state c.args.self.now c.change_model.new.self) own c.in_ok-told.ensures.added in
     let few = c.requires.few in
@@ -19,7 +19,7 @@ change_pending-requires-clause-sound c =
 
 pub change_pending-requires-clause-few : goal.change_pending-requires-clause-few
 change_pending-requires-clause-few c =
-    let to = to_change c.args.setup.now (drafted c.args.ledger.now.state c.args.self.now) c.args.self.now.user None c.args.asked.0 c.args.asked.1 c.args.info.now c.args.asked.2 c.requires.judged in
+    let to = to_change c.args.setup.now (drafted c.args.ledger.now.state c.args.self.now) c.args.self.now.user c.requires.judged.0 c.args.asked.0 c.args.asked.1 c.args.info.now c.args.asked.2 c.requires.judged.1 in
     let own = own_set c.args.setup.now (drafted c.args.ledger.now.state c.args.self.now) c.args.trnuid.now c.args.asked.0 c.args.asked.1 c.args.info.now c.args.asked.2 to.row to.found in
     let has = subst (HasAdded c.args.setup.now c.args.ledger.now.state c.args.self.now c.change_model.new.self) own c.in_ok-told.ensures.added in
     let mid = between c.args.setup.now c.args.ledger.now.state c.args.self.now c.change_model.new.self (set_entry c.args.setup.now (drafted c.args.ledger.now.state c.args.self.now) c.args.trnuid.now c.args.asked.1 c.args.info.now c.args.asked.2 to.row) (with_new_terms c.args.info.now) c.args.asked.2 c.args.asked.0 c.args.pending.now c.requires.sound tt c.requires.pending has in
@@ -32,7 +32,7 @@ change_pending-requires-clause-draft c = c.in_ok-told.ensures.added.draft
 
 pub change_pending-requires-clause-waiting : goal.change_pending-requires-clause-waiting
 change_pending-requires-clause-waiting c =
-    let to = to_change c.args.setup.now (drafted c.args.ledger.now.state c.args.self.now) c.args.self.now.user None c.args.asked.0 c.args.asked.1 c.args.info.now c.args.asked.2 c.requires.judged in
+    let to = to_change c.args.setup.now (drafted c.args.ledger.now.state c.args.self.now) c.args.self.now.user c.requires.judged.0 c.args.asked.0 c.args.asked.1 c.args.info.now c.args.asked.2 c.requires.judged.1 in
     let own = own_set c.args.setup.now (drafted c.args.ledger.now.state c.args.self.now) c.args.trnuid.now c.args.asked.0 c.args.asked.1 c.args.info.now c.args.asked.2 to.row to.found in
     let has = subst (HasAdded c.args.setup.now c.args.ledger.now.state c.args.self.now c.change_model.new.self) own c.in_ok-told.ensures.added in
     let mid = between c.args.setup.now c.args.ledger.now.state c.args.self.now c.change_model.new.self (set_entry c.args.setup.now (drafted c.args.ledger.now.state c.args.self.now) c.args.trnuid.now c.args.asked.1 c.args.info.now c.args.asked.2 to.row) (with_new_terms c.args.info.now) c.args.asked.2 c.args.asked.0 c.args.pending.now c.requires.sound tt c.requires.pending has in
@@ -40,23 +40,23 @@ change_pending-requires-clause-waiting c =
 
 pub change_pending-requires-clause-terms : goal.change_pending-requires-clause-terms
 change_pending-requires-clause-terms c =
-    let to = to_change c.args.setup.now (drafted c.args.ledger.now.state c.args.self.now) c.args.self.now.user None c.args.asked.0 c.args.asked.1 c.args.info.now c.args.asked.2 c.requires.judged in
+    let to = to_change c.args.setup.now (drafted c.args.ledger.now.state c.args.self.now) c.args.self.now.user c.requires.judged.0 c.args.asked.0 c.args.asked.1 c.args.info.now c.args.asked.2 c.requires.judged.1 in
     let own = own_set c.args.setup.now (drafted c.args.ledger.now.state c.args.self.now) c.args.trnuid.now c.args.asked.0 c.args.asked.1 c.args.info.now c.args.asked.2 to.row to.found in
     let has = subst (HasAdded c.args.setup.now c.args.ledger.now.state c.args.self.now c.change_model.new.self) own c.in_ok-told.ensures.added in
     terms_between c.args.setup.now c.args.ledger.now.state c.args.self.now c.change_model.new.self (set_entry c.args.setup.now (drafted c.args.ledger.now.state c.args.self.now) c.args.trnuid.now c.args.asked.1 c.args.info.now c.args.asked.2 to.row) c.args.asked.2 c.args.asked.0 c.args.pending.now c.args.info.now c.requires.sound tt c.requires.pending has to
 
 pub returns-clause-change : goal.returns-clause-change
 returns-clause-change c =
-    let to = to_change c.args.setup.now (drafted c.args.ledger.now.state c.args.self.now) c.args.self.now.user None c.args.asked.0 c.args.asked.1 c.args.info.now c.args.asked.2 c.requires.judged in
+    let to = to_change c.args.setup.now (drafted c.args.ledger.now.state c.args.self.now) c.args.self.now.user c.requires.judged.0 c.args.asked.0 c.args.asked.1 c.args.info.now c.args.asked.2 c.requires.judged.1 in
     let own = own_set c.args.setup.now (drafted c.args.ledger.now.state c.args.self.now) c.args.trnuid.now c.args.asked.0 c.args.asked.1 c.args.info.now c.args.asked.2 to.row to.found in
     let has = subst (HasAdded c.args.setup.now c.args.ledger.now.state c.args.self.now c.change_model.new.self) own c.in_ok-told.ensures.added in
-    ap first_change (set_model_entries c.args.setup.now (drafted c.args.ledger.now.state c.args.self.now) c.args.self.now.at c.args.trnuid.now c.args.asked.0 c.args.asked.1 c.args.info.now c.args.asked.2 to.row to.found) ∙ sym (ap first_change own) ∙ c.in_ok-told.ensures.change
+    ap first_change (set_model_entries c.args.setup.now (drafted c.args.ledger.now.state c.args.self.now) c.args.self.now.user c.args.self.now.at c.args.trnuid.now c.args.asked.0 c.args.asked.1 c.args.info.now c.args.asked.2 to.row to.found) ∙ sym (ap first_change own) ∙ c.in_ok-told.ensures.change
 
 pub returns-clause-added : goal.returns-clause-added
 returns-clause-added c =
-    let to = to_change c.args.setup.now (drafted c.args.ledger.now.state c.args.self.now) c.args.self.now.user None c.args.asked.0 c.args.asked.1 c.args.info.now c.args.asked.2 c.requires.judged in
+    let to = to_change c.args.setup.now (drafted c.args.ledger.now.state c.args.self.now) c.args.self.now.user c.requires.judged.0 c.args.asked.0 c.args.asked.1 c.args.info.now c.args.asked.2 c.requires.judged.1 in
     let own = own_set c.args.setup.now (drafted c.args.ledger.now.state c.args.self.now) c.args.trnuid.now c.args.asked.0 c.args.asked.1 c.args.info.now c.args.asked.2 to.row to.found in
     let has = subst (HasAdded c.args.setup.now c.args.ledger.now.state c.args.self.now c.change_model.new.self) own c.in_ok-told.ensures.added in
     let mid = between c.args.setup.now c.args.ledger.now.state c.args.self.now c.change_model.new.self (set_entry c.args.setup.now (drafted c.args.ledger.now.state c.args.self.now) c.args.trnuid.now c.args.asked.1 c.args.info.now c.args.asked.2 to.row) (with_new_terms c.args.info.now) c.args.asked.2 c.args.asked.0 c.args.pending.now c.requires.sound tt c.requires.pending has in
-    subst (HasAdded c.args.setup.now c.args.ledger.now.state c.args.self.now c.change_pending.new.self) (ap (λ (l : List Entry). (set_entry c.args.setup.now (drafted c.args.ledger.now.state c.args.self.now) c.args.trnuid.now c.args.asked.1 c.args.info.now c.args.asked.2 to.row) ∷ l) mid.behind ∙ sym (set_model_entries c.args.setup.now (drafted c.args.ledger.now.state c.args.self.now) c.args.self.now.at c.args.trnuid.now c.args.asked.0 c.args.asked.1 c.args.info.now c.args.asked.2 to.row to.found))
+    subst (HasAdded c.args.setup.now c.args.ledger.now.state c.args.self.now c.change_pending.new.self) (ap (λ (l : List Entry). (set_entry c.args.setup.now (drafted c.args.ledger.now.state c.args.self.now) c.args.trnuid.now c.args.asked.1 c.args.info.now c.args.asked.2 to.row) ∷ l) mid.behind ∙ sym (set_model_entries c.args.setup.now (drafted c.args.ledger.now.state c.args.self.now) c.args.self.now.user c.args.self.now.at c.args.trnuid.now c.args.asked.0 c.args.asked.1 c.args.info.now c.args.asked.2 to.row to.found))
     (added_trans c.args.setup.now c.args.ledger.now.state c.args.self.now c.change_model.new.self c.change_pending.new.self _ _ has c.in_ok-change_pending.ensures)

@@ -5,16 +5,16 @@ use Rattle.bank_core.proofs.DeedAnswers.{model_from, IsModelEntry-of, added_as}
 use Rattle.bank_core.proofs.draft.Draft.new_model.Goals as goal
 
 pub model_object_of-object-requires-clause-there : goal.model_object_of-object-requires-clause-there
-model_object_of-object-requires-clause-there c = model_from c.args.setup.now (drafted c.args.ledger.now.state c.args.self.now) c.args.self.now.user None c.args.recur c.args.info.now c.requires.judged
+model_object_of-object-requires-clause-there c = model_from c.args.setup.now (drafted c.args.ledger.now.state c.args.self.now) c.args.self.now.user c.requires.judged.0 c.args.recur c.args.info.now c.requires.judged.1
 
 pub enter-requires-clause-next : goal.enter-requires-clause-next
-enter-requires-clause-next c = (IsModelEntry-of c.args.setup.now (drafted c.args.ledger.now.state c.args.self.now) c.args.self.now.user None c.args.self.now.at c.args.trnuid.now c.args.recur c.args.info.now (c.count-number.result + 1) c.model_object_of-object.result c.in_ok-trnuid.trnuid c.in_ok-row.row c.in_ok-copy.field-0 c.requires.sound c.requires.deed c.requires.judged (ap (λ (n : ℕ). n + 1) c.count-number.ensures) c.model_object_of-object.ensures c.in_ok-trnuid.ensures (rw c.day.ensures at c.in_ok-row.ensures) c.in_ok-copy.ensures).next
+enter-requires-clause-next c = (IsModelEntry-of c.args.setup.now (drafted c.args.ledger.now.state c.args.self.now) c.args.self.now.user c.requires.judged.0 c.args.self.now.at c.args.trnuid.now c.args.recur c.args.info.now (c.count-number.result + 1) c.model_object_of-object.result c.in_ok-trnuid.trnuid c.in_ok-row.row c.in_ok-copy.field-0 c.requires.sound c.requires.deed c.requires.judged.1 (ap (λ (n : ℕ). n + 1) c.count-number.ensures) c.model_object_of-object.ensures c.in_ok-trnuid.ensures (rw c.day.ensures at c.in_ok-row.ensures) c.in_ok-copy.ensures).next
 
 pub returns-clause-change : goal.returns-clause-change
 returns-clause-change c =
-    (IsModelEntry-of c.args.setup.now (drafted c.args.ledger.now.state c.args.self.now) c.args.self.now.user None c.args.self.now.at c.args.trnuid.now c.args.recur c.args.info.now (c.count-number.result + 1) c.model_object_of-object.result c.in_ok-trnuid.trnuid c.in_ok-row.row c.in_ok-copy.field-0 c.requires.sound c.requires.deed c.requires.judged (ap (λ (n : ℕ). n + 1) c.count-number.ensures) c.model_object_of-object.ensures c.in_ok-trnuid.ensures (rw c.day.ensures at c.in_ok-row.ensures) c.in_ok-copy.ensures).first
+    (IsModelEntry-of c.args.setup.now (drafted c.args.ledger.now.state c.args.self.now) c.args.self.now.user c.requires.judged.0 c.args.self.now.at c.args.trnuid.now c.args.recur c.args.info.now (c.count-number.result + 1) c.model_object_of-object.result c.in_ok-trnuid.trnuid c.in_ok-row.row c.in_ok-copy.field-0 c.requires.sound c.requires.deed c.requires.judged.1 (ap (λ (n : ℕ). n + 1) c.count-number.ensures) c.model_object_of-object.ensures c.in_ok-trnuid.ensures (rw c.day.ensures at c.in_ok-row.ensures) c.in_ok-copy.ensures).first
     ∙ ap (λ (change : Change). Some change) (sym c.in_ok-told.ensures)
 
 pub returns-clause-added : goal.returns-clause-added
 returns-clause-added c =
-    added_as c.args.setup.now c.args.ledger.now.state c.args.self.now c.enter.new.self _ _ (IsModelEntry-of c.args.setup.now (drafted c.args.ledger.now.state c.args.self.now) c.args.self.now.user None c.args.self.now.at c.args.trnuid.now c.args.recur c.args.info.now (c.count-number.result + 1) c.model_object_of-object.result c.in_ok-trnuid.trnuid c.in_ok-row.row c.in_ok-copy.field-0 c.requires.sound c.requires.deed c.requires.judged (ap (λ (n : ℕ). n + 1) c.count-number.ensures) c.model_object_of-object.ensures c.in_ok-trnuid.ensures (rw c.day.ensures at c.in_ok-row.ensures) c.in_ok-copy.ensures).entries c.in_ok-enter.ensures.added
+    added_as c.args.setup.now c.args.ledger.now.state c.args.self.now c.enter.new.self _ _ (IsModelEntry-of c.args.setup.now (drafted c.args.ledger.now.state c.args.self.now) c.args.self.now.user c.requires.judged.0 c.args.self.now.at c.args.trnuid.now c.args.recur c.args.info.now (c.count-number.result + 1) c.model_object_of-object.result c.in_ok-trnuid.trnuid c.in_ok-row.row c.in_ok-copy.field-0 c.requires.sound c.requires.deed c.requires.judged.1 (ap (λ (n : ℕ). n + 1) c.count-number.ensures) c.model_object_of-object.ensures c.in_ok-trnuid.ensures (rw c.day.ensures at c.in_ok-row.ensures) c.in_ok-copy.ensures).entries c.in_ok-enter.ensures.added

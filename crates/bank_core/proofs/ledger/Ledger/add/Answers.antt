@@ -2,7 +2,8 @@ use Rattle.std.proofs.Common.{refl, sym, subst}
 use Rattle.bank_recur.proofs.StandsLemmas.{stands_kept}
 use Rattle.bank_core.specs.Effects.{Gives, IsKnown}
 use Rattle.bank_core.specs.BookView.{LedgerView}
-use Rattle.bank_core.proofs.WritingLemmas.{still_given, still_dropped, made_there, made_below}
+use Rattle.bank_core.proofs.WritingLemmas.{still_given, still_dropped, still_mail, made_there, made_below}
+use Rattle.bank_core.proofs.GivenLemmas.{mail_leaves}
 use Rattle.bank_core.proofs.ledger.Ledger.add.Goals as goal
 
 -- ---- a row of a transfer
@@ -61,3 +62,12 @@ invariant_of-self-in-NoModel c =
     let gives = subst (Gives c.self.inside.entries.items c.args.entry.change) c.in-NoModel.is before in
     rw c.push_reserved-in-NoModel.ensures.items
     (still_dropped c.self.inside.transfers c.self.inside.entries.items c.args.entry c.in-NoModel.id c.self.invariant.0 gives, c.cancel.ensures.stands c.self.inside.entries.items c.args.entry c.self.invariant.1 gives)
+
+-- ---- a mail
+
+pub invariant_of-self-in-Mail : goal.invariant_of-self-in-Mail
+invariant_of-self-in-Mail c =
+    let before = subst (λ (v : LedgerView). Gives v.state.entries c.args.entry.change c.args.effect) (sym c.self.view_is) c.requires.gives in
+    let gives = subst (Gives c.self.inside.entries.items c.args.entry.change) c.in-Mail.is before in
+    rw c.push_reserved-in-Mail.ensures.items
+    (still_mail c.self.inside.transfers c.self.inside.entries.items c.args.entry c.self.invariant.0 gives, stands_kept c.self.inside.models c.self.inside.entries.items c.args.entry c.self.invariant.1 (mail_leaves c.self.inside.entries.items c.args.entry.change gives))

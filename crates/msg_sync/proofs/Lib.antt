@@ -1,0 +1,11 @@
+pub mod Behind
+pub mod Deeds
+pub mod Forms
+mod Transactions
+mod Families
+mod Syncs
+mod SyncReplies
+mod SyncDocuments
+pub mod Skipped
+mod SyncsBack
+mod SyncRepliesBack

@@ -1,0 +1,160 @@
+-- What is written of transactions and of synchronisations are their documents, and those of sound ones are lawful.
+use Rattle.std.proofs.Common.{◌≡◌, ℕ, ◌-◌, ◌<◌, inl, inr, true, false, List, ◌++◌, codes, refl, sym, ap, ◌∙◌, append_assoc, arith}
+use Rattle.std.specs.List.{flat_map}
+use Rattle.ofx_types.specs.Sheet as sheet
+use Rattle.ofx_types.specs.FormWords.{flag_word}
+use Rattle.ofx_types.specs.DeedText.{deed_reply_text}
+use Rattle.ofx_types.specs.SyncForm.{object_family, sync_name, sync_reply_name}
+use Rattle.ofx_types.specs.PrintedSync.{object_text, kind_text, plain_text, transaction_text, sync_text, sync_reply_text}
+use Rattle.ofx_types.specs.declared.transfer.Family.{Family}
+use Rattle.ofx_types.specs.declared.transfer.Family.TheVariants as families
+use Rattle.ofx_types.specs.declared.sync.ObjectName.{ObjectName}
+use Rattle.ofx_types.specs.declared.sync.ObjectName.TheVariants.{Intra, RecIntra, BankMail, Mail}
+use Rattle.ofx_types.specs.declared.sync.SyncKind.{SyncKind}
+use Rattle.ofx_types.specs.declared.sync.SyncKind.TheVariants.{After, TokenOnly, Refresh}
+use Rattle.ofx_types.specs.declared.sync.SyncAsk.{SyncAsk}
+use Rattle.ofx_types.specs.declared.sync.SyncReply.{SyncReply}
+use Rattle.ofx_tree.specs.Documents.{Documents, leaf, printed, AreLawful, IsBranch}
+use Rattle.ofx_tree.proofs.Leaves.{flag_leaf}
+use Rattle.msg_bank.specs.DeedsAsDocuments.{DeedsAreDocuments, DeedsAreLawful, DeedRepliesAreLawful}
+use Rattle.msg_bank.proofs.Lawful.{named, is_branch, text_leaf, account_lawful}
+use Rattle.msg_bank.proofs.PrintedDocuments.{account_printed}
+use Rattle.msg_mail.specs.MailsAsDocuments.{MailsAreLawful, MailRepliesAreLawful}
+use Rattle.msg_sync.specs.Listing.{branches}
+use Rattle.msg_sync.specs.Sound.{IsSoundObject, IsSoundKind, IsSoundIn, IsSoundSync, IsSoundToldIn, IsSoundSyncReply}
+use Rattle.msg_sync.specs.AsDocuments.{deed_name, deed_inner, answer_name, answer_inner, TransactionsAreDocuments, TransactionsAreLawful, AnswersAreDocuments, AnswersAreLawful, kind_document, plain_documents, object_document, sync_inner, sync_reply_inner, SyncsAreDocuments, SyncsAreLawful, SyncRepliesAreDocuments, SyncRepliesAreLawful}
+use Rattle.msg_sync.proofs.Forms.{branches_printed, branches_lawful}
+
+-- ---- transactions
+
+pub transactions_printed : DeedsAreDocuments → TransactionsAreDocuments
+transactions_printed written deed behind = written deed.0 deed.1 behind
+
+pub transactions_lawful : DeedsAreLawful → MailsAreLawful → TransactionsAreLawful
+transactions_lawful bank mails room deed behind some (inl d) more = bank room deed.0 deed.1 behind some d more
+transactions_lawful bank mails room deed behind some (inr d) more = mails room deed.0 deed.1 behind (omega arith) d more
+
+pub answers_lawful : DeedRepliesAreLawful → MailRepliesAreLawful → AnswersAreLawful
+answers_lawful bank mails room reply behind some (inl r) more = bank room reply behind some r more
+answers_lawful bank mails room reply behind some (inr r) more = mails room reply behind (omega arith) r more
+
+-- ---- what is written
+
+kind_printed : (kind : SyncKind) (behind : Documents) → printed (kind_document kind behind) ≡ kind_text kind ++ printed behind
+unfolding kind_text
+kind_printed (After token) behind = refl
+kind_printed TokenOnly behind = refl
+kind_printed Refresh behind = refl
+
+no_images : List ℕ
+no_images = sheet.element (codes "INCIMAGES") (codes "N")
+
+no_html : List ℕ
+no_html = sheet.element (codes "USEHTML") (codes "N")
+
+plain_printed : (family : Family) (behind : Documents) → printed (plain_documents family behind) ≡ plain_text family ++ printed behind
+unfolding plain_text no_images no_html
+plain_printed families.Intra behind = refl
+plain_printed families.RecIntra behind = refl
+plain_printed families.BankMail behind = sym (append_assoc no_images no_html (printed behind))
+plain_printed families.Mail behind = sym (append_assoc no_images no_html (printed behind))
+
+object_printed : (object : ObjectName) (behind : Documents) → printed (object_document object behind) ≡ object_text object ++ printed behind
+unfolding object_text
+object_printed (Intra account) behind = ap (λ (text : List ℕ). text ++ printed behind) (account_printed account)
+object_printed (RecIntra account) behind = ap (λ (text : List ℕ). text ++ printed behind) (account_printed account)
+object_printed (BankMail account) behind = ap (λ (text : List ℕ). text ++ printed behind) (account_printed account)
+object_printed Mail behind = refl
+
+pub syncs_printed : TransactionsAreDocuments → SyncsAreDocuments
+unfolding sync_text
+syncs_printed transactions ask behind =
+    let family = object_family ask.object in
+    let deeds = branches deed_name deed_inner ask.deeds in
+    let name = sync_name family in
+    let reject = sheet.element (codes "REJECTIFMISSING") (flag_word ask.reject) in
+    let object = object_document ask.object deeds in
+    let plain = plain_documents family object in
+    let inner : printed (sync_inner ask)
+    ≡ kind_text ask.kind ++ (reject ++ (plain_text family ++ (object_text ask.object ++ flat_map transaction_text ask.deeds))) =
+    kind_printed ask.kind (leaf (codes "REJECTIFMISSING") (flag_word ask.reject) plain)
+    ∙ ap (λ (text : List ℕ). kind_text ask.kind ++ (reject ++ text))
+    (plain_printed family object
+    ∙ ap (λ (text : List ℕ). plain_text family ++ text)
+    (object_printed ask.object deeds
+    ∙ ap (λ (text : List ℕ). object_text ask.object ++ text) (branches_printed deed_name deed_inner transaction_text transactions ask.deeds))) in
+    ap (λ (text : List ℕ). sheet.aggregate name text ++ printed behind) inner
+
+pub sync_replies_printed : AnswersAreDocuments → SyncRepliesAreDocuments
+unfolding sync_reply_text
+sync_replies_printed answers reply behind =
+    let replies = branches answer_name answer_inner reply.replies in
+    let name = sync_reply_name (object_family reply.object) in
+    let token = sheet.element (codes "TOKEN") reply.token in
+    let lost = sheet.element (codes "LOSTSYNC") (flag_word reply.lost) in
+    let inner : printed (sync_reply_inner reply) ≡ token ++ (lost ++ (object_text reply.object ++ flat_map deed_reply_text reply.replies)) =
+    ap (λ (text : List ℕ). token ++ (lost ++ text))
+    (object_printed reply.object replies
+    ∙ ap (λ (text : List ℕ). object_text reply.object ++ text) (branches_printed answer_name answer_inner deed_reply_text answers reply.replies)) in
+    ap (λ (text : List ℕ). sheet.aggregate name text ++ printed behind) inner
+
+-- ---- they are lawful
+
+kind_lawful : (room : ℕ) (kind : SyncKind) (behind : Documents) → IsSoundKind kind → AreLawful room behind → AreLawful room (kind_document kind behind)
+kind_lawful room (After token) behind k more = (text_leaf (codes "TOKEN") 64 token (named (codes "TOKEN") refl refl) k, more)
+kind_lawful room TokenOnly behind k more = (flag_leaf (codes "TOKENONLY") true (named (codes "TOKENONLY") refl refl), more)
+kind_lawful room Refresh behind k more = (flag_leaf (codes "REFRESH") true (named (codes "REFRESH") refl refl), more)
+
+plain_lawful : (room : ℕ) (family : Family) (behind : Documents) → AreLawful room behind → AreLawful room (plain_documents family behind)
+plain_lawful room families.Intra behind more = more
+plain_lawful room families.RecIntra behind more = more
+plain_lawful room families.BankMail behind more =
+    (flag_leaf (codes "INCIMAGES") false (named (codes "INCIMAGES") refl refl), (flag_leaf (codes "USEHTML") false (named (codes "USEHTML") refl refl), more))
+plain_lawful room families.Mail behind more =
+    (flag_leaf (codes "INCIMAGES") false (named (codes "INCIMAGES") refl refl), (flag_leaf (codes "USEHTML") false (named (codes "USEHTML") refl refl), more))
+
+object_lawful : (room : ℕ) (object : ObjectName) (behind : Documents) → 0 < room → IsSoundObject object → AreLawful room behind →
+    AreLawful room (object_document object behind)
+object_lawful room (Intra account) behind some o more = (is_branch (codes "BANKACCTFROM") refl refl refl, some, account_lawful (room - 1) account o, more)
+object_lawful room (RecIntra account) behind some o more = (is_branch (codes "BANKACCTFROM") refl refl refl, some, account_lawful (room - 1) account o, more)
+object_lawful room (BankMail account) behind some o more = (is_branch (codes "BANKACCTFROM") refl refl refl, some, account_lawful (room - 1) account o, more)
+object_lawful room Mail behind some o more = more
+
+pub sync_lawful : TransactionsAreLawful → (room : ℕ) (ask : SyncAsk) → 4 < room → IsSoundSync ask → AreLawful room (sync_inner ask)
+sync_lawful transactions room ask some s =
+    let family = object_family ask.object in
+    let deeds = branches_lawful room (IsSoundIn family) deed_name deed_inner (λ deed behind sound more. transactions room deed behind some sound.0 more) ask.deeds s.deeds in
+    let object = object_document ask.object (branches deed_name deed_inner ask.deeds) in
+    let plain = plain_documents family object in
+    kind_lawful room ask.kind (leaf (codes "REJECTIFMISSING") (flag_word ask.reject) plain) s.kind (
+      flag_leaf (codes "REJECTIFMISSING") ask.reject (named (codes "REJECTIFMISSING") refl refl),
+      plain_lawful room family object (object_lawful room ask.object (branches deed_name deed_inner ask.deeds) (omega arith) s.object deeds),
+    )
+
+sync_branch : (family : Family) → IsBranch (sync_name family)
+sync_branch families.Intra = is_branch (codes "INTRASYNCRQ") refl refl refl
+sync_branch families.RecIntra = is_branch (codes "RECINTRASYNCRQ") refl refl refl
+sync_branch families.BankMail = is_branch (codes "BANKMAILSYNCRQ") refl refl refl
+sync_branch families.Mail = is_branch (codes "MAILSYNCRQ") refl refl refl
+
+pub syncs_lawful : TransactionsAreLawful → SyncsAreLawful
+syncs_lawful transactions room ask behind some s more =
+    (sync_branch (object_family ask.object), omega arith, sync_lawful transactions (room - 1) ask (omega arith) s, more)
+
+pub sync_reply_lawful : AnswersAreLawful → (room : ℕ) (reply : SyncReply) → 4 < room → IsSoundSyncReply reply → AreLawful room (sync_reply_inner reply)
+sync_reply_lawful answers room reply some s =
+    let family = object_family reply.object in
+    let replies = branches_lawful room (IsSoundToldIn family) answer_name answer_inner (λ answer behind sound more. answers room answer behind some sound.0 more) reply.replies s.replies in (
+      text_leaf (codes "TOKEN") 64 reply.token (named (codes "TOKEN") refl refl) s.token,
+      (flag_leaf (codes "LOSTSYNC") reply.lost (named (codes "LOSTSYNC") refl refl), object_lawful room reply.object (branches answer_name answer_inner reply.replies) (omega arith) s.object replies),
+    )
+
+sync_reply_branch : (family : Family) → IsBranch (sync_reply_name family)
+sync_reply_branch families.Intra = is_branch (codes "INTRASYNCRS") refl refl refl
+sync_reply_branch families.RecIntra = is_branch (codes "RECINTRASYNCRS") refl refl refl
+sync_reply_branch families.BankMail = is_branch (codes "BANKMAILSYNCRS") refl refl refl
+sync_reply_branch families.Mail = is_branch (codes "MAILSYNCRS") refl refl refl
+
+pub sync_replies_lawful : AnswersAreLawful → SyncRepliesAreLawful
+sync_replies_lawful answers room reply behind some s more =
+    (sync_reply_branch (object_family reply.object), omega arith, sync_reply_lawful answers (room - 1) reply (omega arith) s, more)

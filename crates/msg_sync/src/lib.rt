@@ -1,0 +1,27 @@
+//! Synchronisation: what a client asks to be told of an object's history, and what it is told, read from a tape and
+//! written on a sheet (OFX 1.6, "Data Synchronization").
+//!
+//! Here too stand the calls for a transaction of any kind, which a file may have alone or inside a synchronisation. What is
+//! read is the message that stands there, or the first fault of its form with that fault's place. What is written is the
+//! message's one printed form.
+#![tactic(auto)]
+
+mod laws;
+mod listing;
+mod object;
+mod reply;
+mod request;
+mod transaction;
+
+pub use laws::{
+    sync_faults_have_places, sync_replies_are_found, sync_replies_read_back,
+    sync_reply_faults_have_places, syncs_are_found, syncs_read_back,
+    transaction_faults_have_places, transaction_replies_are_found, transaction_replies_read_back,
+    transaction_reply_faults_have_places, transactions_are_found, transactions_read_back,
+};
+pub use listing::put_form;
+pub use reply::{print_sync_reply, read_sync_reply};
+pub use request::{print_sync, read_sync};
+pub use transaction::{
+    print_transaction, print_transaction_reply, read_transaction, read_transaction_reply,
+};

@@ -1,0 +1,53 @@
+//! What is synchronised: the object that a message names, read and written.
+
+ghost use Rattle.std.specs.Prelude.{◌≡◌, ◌++◌, OnOk};
+ghost use Rattle.ofx_types.specs.FormWords.{Gives};
+ghost use Rattle.ofx_types.specs.SyncForm.{object_family};
+ghost use Rattle.ofx_types.specs.SyncReading as reading;
+ghost use Rattle.ofx_types.specs.PrintedSync as text;
+
+use msg_bank::{print_account, read_account_in};
+use ofx_tree::{Cursor, Sheet};
+use ofx_types::{Family, ObjectName, OutOfMemory, TreeFault};
+use std::alloc::Global;
+
+/// The object of a family that a message names.
+pub(crate) fn read_object(
+    alloc: Global,
+    family: Family,
+    sync: &Cursor<'_>,
+) -> Result<ObjectName, TreeFault>
+    ensures { Gives result (reading.object_in family sync.now) }
+{
+    match family {
+        Family::Intra => Ok(ObjectName::Intra(read_account_in(alloc, sync)?)),
+        Family::RecIntra => Ok(ObjectName::RecIntra(read_account_in(alloc, sync)?)),
+        Family::BankMail => Ok(ObjectName::BankMail(read_account_in(alloc, sync)?)),
+        Family::Mail => Ok(ObjectName::Mail),
+    }
+}
+
+/// The family of an object.
+pub(crate) fn family_of(object: &ObjectName) -> Family
+    ensures { result ≡ object_family object.now }
+{
+    match object {
+        ObjectName::Intra(_) => Family::Intra,
+        ObjectName::RecIntra(_) => Family::RecIntra,
+        ObjectName::BankMail(_) => Family::BankMail,
+        ObjectName::Mail => Family::Mail,
+    }
+}
+
+/// Writes the account of an object, where it has one.
+#[tactic(auto, unfolding(ofx_types::specs::PrintedSync::object_text))]
+pub(crate) fn print_object(object: &ObjectName, sheet: &mut Sheet) -> Result<(), OutOfMemory>
+    ensures { OnOk result (sheet.new ≡ sheet.old ++ text.object_text object.now) }
+{
+    match object {
+        ObjectName::Intra(account) => print_account(account, sheet),
+        ObjectName::RecIntra(account) => print_account(account, sheet),
+        ObjectName::BankMail(account) => print_account(account, sheet),
+        ObjectName::Mail => Ok(()),
+    }
+}

@@ -1,0 +1,10 @@
+use Rattle.ofx_file.proofs.Files.{one_reply}
+use Rattle.ofx_file.proofs.laws.one_reply.Goals as goal
+
+pub returns : goal.returns
+returns c = one_reply (record {
+  headers = c.one_header.ensures;
+  header_faults = c.spelled_is_faultless.ensures;
+  tags = c.tags_are_unambiguous.ensures;
+  tag_faults = c.spelled_tags_have_no_fault.ensures;
+}) c.replies_are_found.ensures

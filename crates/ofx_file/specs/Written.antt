@@ -1,0 +1,75 @@
+-- Files that read back as they were written: their values are within the limits of their elements.
+use Rattle.std.specs.Prelude.{◌≡◌, true, ◌++◌, map}
+use Rattle.std.specs.Option.{IfSome}
+use Rattle.std.specs.List.{AllByRecursion}
+use Rattle.ofx_types.specs.TextRules.{IsFileUid}
+use Rattle.ofx_types.specs.HeaderForm.{is_version}
+use Rattle.ofx_types.specs.FileForm.{SpellsFile, SpellsReply}
+use Rattle.ofx_types.specs.PrintedFile.{file_text}
+use Rattle.ofx_types.specs.ReplyForm.{reply_text}
+use Rattle.ofx_types.specs.declared.number.Moment.{Moment}
+use Rattle.ofx_types.specs.declared.request.Ask.{Ask}
+use Rattle.ofx_types.specs.declared.request.Ask.TheVariants as asks
+use Rattle.ofx_types.specs.declared.request.RequestFile.{RequestFile}
+use Rattle.ofx_types.specs.declared.reply.AskReply.{AskReply}
+use Rattle.ofx_types.specs.declared.reply.AskReply.TheVariants as replies
+use Rattle.ofx_types.specs.declared.reply.ReplyFile.{ReplyFile}
+use Rattle.msg_bank.specs.Sound.{IsSoundStatement, IsSoundReply}
+use Rattle.msg_bank.specs.Wire.{wire}
+use Rattle.msg_mail.specs.AsDocuments.{IsSoundSignon, IsSoundSignonReply}
+use Rattle.msg_sync.specs.Sound.{IsSoundTransaction, IsSoundAnswer, IsSoundSync, IsSoundSyncReply, wire_sync}
+use Rattle.ofx_file.specs.declared.messages.MessageSet.TheVariants.{Bank, Mail}
+use Rattle.ofx_file.specs.MessageSets.{asks_in, replies_in}
+
+-- ---- requests
+
+abbrev pub IsSoundAsk : Ask → Type 0
+IsSoundAsk (asks.Statement trnuid account period) = IsSoundStatement trnuid account period
+IsSoundAsk (asks.One trnuid deed) = IsSoundTransaction (trnuid, deed)
+IsSoundAsk (asks.Sync ask) = IsSoundSync ask
+
+-- The user and the password have at least 1 byte, and what the bank is asked stands before mail.
+pub record IsSoundFile (file : RequestFile) (at : Moment) : Type 0 where
+  pub version : is_version file.version ≡ true
+  pub older : IfSome file.older IsFileUid
+  pub newer : IfSome file.newer IsFileUid
+  pub signon : IsSoundSignon file.user file.pass at
+  pub bank_first : file.asks ≡ asks_in Bank file.asks ++ asks_in Mail file.asks
+  pub asks : AllByRecursion IsSoundAsk file.asks
+
+-- What is written of a sound file spells that file.
+abbrev pub FilesReadBack : Type 0
+FilesReadBack = (file : RequestFile) (at : Moment) → IsSoundFile file at → SpellsFile (file_text file at) file
+
+-- ---- replies
+
+abbrev pub IsSoundAskReply : AskReply → Type 0
+IsSoundAskReply (replies.Statement trnuid code body) = IsSoundReply trnuid code body
+IsSoundAskReply (replies.One answer) = IsSoundAnswer answer
+IsSoundAskReply (replies.Sync answer) = IsSoundSyncReply answer
+
+pub record IsSoundReplyFile (reply : ReplyFile) : Type 0 where
+  pub version : is_version reply.version ≡ true
+  pub newer : IfSome reply.newer IsFileUid
+  pub signon : IsSoundSignonReply reply.signon reply.moment
+  pub bank_first : reply.replies ≡ replies_in Bank reply.replies ++ replies_in Mail reply.replies
+  pub replies : AllByRecursion IsSoundAskReply reply.replies
+
+-- What a reply still says once it is written: a changed transfer doesn't say which recurring transfer made it.
+abbrev pub wire_answer : AskReply → AskReply
+wire_answer (replies.Statement trnuid code body) = replies.Statement trnuid code body
+wire_answer (replies.One answer) = replies.One (wire answer)
+wire_answer (replies.Sync answer) = replies.Sync (wire_sync answer)
+
+abbrev pub wire_file : ReplyFile → ReplyFile
+wire_file reply = record {
+  version = reply.version;
+  newer = reply.newer;
+  signon = reply.signon;
+  moment = reply.moment;
+  replies = map wire_answer reply.replies;
+}
+
+-- What is written of a sound reply spells that reply, with the model of each changed transfer set to 0.
+abbrev pub RepliesReadBack : Type 0
+RepliesReadBack = (reply : ReplyFile) → IsSoundReplyFile reply → SpellsReply (reply_text reply) (wire_file reply)
