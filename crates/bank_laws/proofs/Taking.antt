@@ -1,0 +1,188 @@
+-- A store whose client takes the reply holds the rows up to the new token.
+use Rattle.std.proofs.Common.{◌≡◌, ℕ, ◌≤◌, inl, inr, Bool, true, false, cond, List, [], ◌++◌, map, filter, codes, Option, Some, refl, sym, ap, ◌∙◌, subst, arith}
+use Rattle.std.specs.Fmt.{decimal}
+use Rattle.std.specs.Prelude.{unwrap_or}
+use Rattle.std.proofs.lemmas.Bool.{true≢false}
+use Rattle.ofx_types.specs.SyncForm.{object_family}
+use Rattle.ofx_types.specs.declared.number.ObjectId.{ObjectId}
+use Rattle.ofx_types.specs.declared.number.UserId.{UserId}
+use Rattle.ofx_types.specs.declared.number.Moment.{Moment}
+use Rattle.ofx_types.specs.declared.transfer.DeedReply.{DeedReply}
+use Rattle.ofx_types.specs.declared.transfer.Family.{Family}
+use Rattle.ofx_types.specs.declared.sync.SyncKind.{SyncKind}
+use Rattle.ofx_types.specs.declared.sync.SyncKind.TheVariants.{After, Refresh}
+use Rattle.ofx_types.specs.declared.sync.SyncAsk.{SyncAsk}
+use Rattle.bank_model.specs.declared.entry.Entry.{Entry}
+use Rattle.bank_model.specs.declared.setup.Setup.{Setup}
+use Rattle.bank_model.specs.declared.event.State.{State}
+use Rattle.bank_model.specs.SetupForm.{IsWithinLimits}
+use Rattle.bank_model.specs.Objects.{object_named, history_of, newest}
+use Rattle.bank_model.specs.Sync.{token_of, is_lost, is_above, entries_above, told_as, told_entry, standing, history_told, rejection, deeds_or_rejection, SyncAnswer, sync_on, sync_answer}
+use Rattle.bank_model.specs.Sound.{IsSoundSync}
+use Rattle.bank_model.specs.Stores.{Row, Store, IsRight, is_up_to, rows_up_to, applied, with_rows, marked_lost, taken}
+use Rattle.bank_laws.specs.Histories.{AllFollow, IsInOrder}
+use Rattle.bank_laws.specs.Told.{wired_reply, wired, store_after, bank_after}
+use Rattle.bank_laws.proofs.Numbers.{history_of-append, newest_few, history_rises, split_rising, all_up_to_last}
+use Rattle.bank_laws.proofs.Events.{grows_unless}
+use Rattle.bank_laws.proofs.Lost.{token_low, answer_named, lost_refresh, reply_lost, refresh_kept}
+use Rattle.bank_laws.proofs.Tokens.{token_read, newest_read}
+use Rattle.bank_laws.proofs.Changes.{fold_entries, fold_entries-append, applied_wired, applied-append, applied_entries, applied_changes}
+use Rattle.bank_laws.proofs.Added.{AddsTold, sync_adds}
+use Rattle.bank_laws.proofs.Refreshing.{standing_is_all}
+
+-- ---- what a reply brings
+
+all_rows : (setup : Setup) (family : Family) (object : ObjectId) (entries : List Entry) → AllFollow setup [] entries → rows_up_to family object (newest object entries) entries ≡ fold_entries family [] (history_of object entries)
+unfolding rows_up_to newest
+all_rows setup family object entries all = ap (fold_entries family []) (all_up_to_last 0 (history_of object entries) (history_rises setup object [] entries all))
+
+-- Where what is told of the history makes all rows of the state before, the replies make those of the state behind it.
+brought : (setup : Setup) (S T : State) (family : Family) (object : ObjectId) (rows : List Row) (told replies : List DeedReply) → IsInOrder setup T → applied family rows told ≡ fold_entries family [] (history_of object S.entries) → AddsTold family object S.entries T.entries replies → applied family rows (map wired_reply (told ++ replies)) ≡ rows_up_to family object (newest object T.entries) T.entries
+brought setup S T family object rows told replies sound is adds =
+    applied_wired family rows (told ++ replies)
+    ∙ applied-append family rows told replies
+    ∙ ap (λ held. applied family held replies) is
+    ∙ adds.told (fold_entries family [] (history_of object S.entries))
+    ∙ sym (fold_entries-append family [] (history_of object S.entries) (history_of object adds.more))
+    ∙ ap (fold_entries family []) (sym (history_of-append object S.entries adds.more) ∙ ap (history_of object) (sym adds.entries))
+    ∙ sym (all_rows setup family object T.entries sound.follow)
+
+at_most : (n m : ℕ) → n ≡ m → n ≤ m
+at_most n m is = omega arith
+
+-- a store with the newest token, and the rows that belong to it
+right_new : (store : Store) (object : ObjectId) (entries : List Entry) (rows : List Row) (token : ℕ) (lost : Bool) → token ≡ newest object entries → (lost ≡ false → rows ≡ rows_up_to store.family object (newest object entries) entries) → IsRight (cond lost (marked_lost store) (with_rows store token rows)) object entries
+right_new store object entries rows token true is same = inl refl
+right_new store object entries rows token false is same =
+    inr (at_most token (newest object entries) is, same refl ∙ ap (λ (n : ℕ). rows_up_to store.family object n entries) (sym is))
+
+token_new : (setup : Setup) (S : State) (object : ObjectId) → IsWithinLimits setup → IsInOrder setup S → unwrap_or (token_of (decimal (newest object S.entries))) 0 ≡ newest object S.entries
+token_new setup S object within sound = ap (λ (o : Option ℕ). unwrap_or o 0) (newest_read setup S object within sound)
+
+-- the deeds of a synchronisation that names this object are done, or refused with all others
+abbrev behind : Setup → State → UserId → Moment → SyncAsk → ObjectId → State
+behind setup S user at ask object = (deeds_or_rejection setup S user at ask (rejection ask.reject (newest object S.entries) ask.kind)).after
+
+behind_order : (setup : Setup) (S : State) (user : UserId) (at : Moment) (ask : SyncAsk) (object : ObjectId) → IsInOrder setup S → IsInOrder setup (behind setup S user at ask object)
+behind_order setup S user at ask object sound = (grows_unless setup S user at ask (rejection ask.reject (newest object S.entries) ask.kind)).order sound
+
+adds_family : (setup : Setup) (S : State) (user : UserId) (at : Moment) (ask : SyncAsk) (object : ObjectId) (family : Family) → object_named setup user ask.object ≡ Some object → IsSoundSync ask → family ≡ object_family ask.object → AddsTold family object S.entries (behind setup S user at ask object).entries (deeds_or_rejection setup S user at ask (rejection ask.reject (newest object S.entries) ask.kind)).replies
+adds_family setup S user at ask object family named known is =
+    subst (λ (f : Family). AddsTold f object S.entries (behind setup S user at ask object).entries (deeds_or_rejection setup S user at ask (rejection ask.reject (newest object S.entries) ask.kind)).replies) (sym is)
+    (sync_adds setup S user at ask object (newest object S.entries) named known)
+
+-- ---- a client that names its token
+
+right_rows : (store : Store) (object : ObjectId) (entries : List Entry) → store.is_lost ≡ false → IsRight store object entries → store.rows ≡ rows_up_to store.family object store.token entries
+right_rows store object entries kept (inl lost) = absurd (true≢false (sym lost ∙ kept))
+right_rows store object entries kept (inr right) = right.1
+
+-- the rows up to a token, and the entries above it
+rows_behind : (setup : Setup) (family told : Family) (object : ObjectId) (token : ℕ) (entries : List Entry) (rows : List Row) → AllFollow setup [] entries → rows ≡ rows_up_to family object token entries → applied family rows (map (told_entry told) (filter (is_above token) (history_of object entries))) ≡ fold_entries family [] (history_of object entries)
+unfolding rows_up_to
+rows_behind setup family told object token entries rows all is =
+    applied_entries family told rows (filter (is_above token) (history_of object entries))
+    ∙ ap (λ held. fold_entries family held (filter (is_above token) (history_of object entries))) is
+    ∙ sym (fold_entries-append family [] (filter (is_up_to token) (history_of object entries)) (filter (is_above token) (history_of object entries)))
+    ∙ ap (fold_entries family []) (split_rising token 0 (history_of object entries) (history_rises setup object [] entries all))
+
+told_after : (window : ℕ) (object : ObjectId) (told : Family) (entries : List Entry) (kind : SyncKind) (text : List ℕ) (token : ℕ) → kind ≡ After text → token_of text ≡ Some token → is_lost window object entries kind ≡ false → history_told window object told entries kind ≡ map (told_entry told) (filter (is_above token) (history_of object entries))
+unfolding history_told
+told_after window object told entries kind text token is read kept =
+    ap (history_told window object told entries) is
+    ∙ ap (λ b. cond b [] (map (told_entry told) (entries_above (token_of text) (history_of object entries)))) (ap (is_lost window object entries) (sym is) ∙ kept)
+    ∙ ap (λ (t : Option ℕ). map (told_entry told) (entries_above t (history_of object entries))) read
+
+right_on : (setup : Setup) (S : State) (user : UserId) (at : Moment) (ask : SyncAsk) (object : ObjectId) (store : Store) (text : List ℕ) → IsWithinLimits setup → IsInOrder setup S → IsSoundSync ask → object_named setup user ask.object ≡ Some object → store.family ≡ object_family ask.object → ask.kind ≡ After text → token_of text ≡ Some store.token → store.is_lost ≡ false → IsRight store object S.entries → IsRight (taken store (After text) (wired (sync_on setup S user at ask (Some object)).reply)) object (sync_on setup S user at ask (Some object)).after.entries
+unfolding sync_on taken
+right_on setup S user at ask object store text within sound known named family kind read kept right =
+    let next : State = behind setup S user at ask object in
+    let order = behind_order setup S user at ask object sound in
+    right_new store object next.entries _ _ (is_lost setup.window object S.entries ask.kind)
+    (token_new setup next object within order)
+    (λ here. brought setup S next store.family object store.rows (history_told setup.window object (object_family ask.object) S.entries ask.kind) _ order
+    (ap (applied store.family store.rows) (told_after setup.window object (object_family ask.object) S.entries ask.kind text store.token kind read here)
+    ∙ rows_behind setup store.family (object_family ask.object) object store.token S.entries store.rows sound.follow (right_rows store object S.entries kept right))
+    (adds_family setup S user at ask object store.family named known family))
+
+pub right_by_token : (setup : Setup) (S : State) (user : UserId) (at : Moment) (ask : SyncAsk) (object : ObjectId) (store : Store) (text : List ℕ) → IsWithinLimits setup → IsInOrder setup S → IsSoundSync ask → object_named setup user ask.object ≡ Some object → store.family ≡ object_family ask.object → ask.kind ≡ After text → token_of text ≡ Some store.token → store.is_lost ≡ false → IsRight store object S.entries → IsRight (store_after setup S user at ask store) object (bank_after setup S user at ask).entries
+right_by_token setup S user at ask object store text within sound known named family kind read kept right =
+    subst (λ (k : SyncKind). IsRight (taken store k (wired (sync_answer setup S user at ask).reply)) object (sync_answer setup S user at ask).after.entries) (sym kind)
+    (subst (λ answer. IsRight (taken store (After text) (wired answer.reply)) object answer.after.entries) (sym (answer_named setup S user at ask object named))
+    (right_on setup S user at ask object store text within sound known named family kind read kept right))
+
+-- ---- the new token
+
+new_token : (store : Store) (rows : List Row) (token : ℕ) (lost : Bool) → (cond lost (marked_lost store) (with_rows store token rows)).is_lost ≡ false → (cond lost (marked_lost store) (with_rows store token rows)).token ≡ token
+new_token store rows token true kept = absurd (true≢false kept)
+new_token store rows token false kept = refl
+
+abbrev HasNewest : Setup → Store → SyncKind → ObjectId → SyncAnswer → Type 0
+HasNewest setup store kind object answer =
+    (taken store kind (wired answer.reply)).is_lost ≡ false → (taken store kind (wired answer.reply)).token ≡ newest object answer.after.entries
+
+token_on : (setup : Setup) (S : State) (user : UserId) (at : Moment) (ask : SyncAsk) (object : ObjectId) (store : Store) (text : List ℕ) → IsWithinLimits setup → IsInOrder setup S → HasNewest setup store (After text) object (sync_on setup S user at ask (Some object))
+unfolding sync_on taken
+token_on setup S user at ask object store text within sound kept =
+    new_token store _ _ (is_lost setup.window object S.entries ask.kind) kept
+    ∙ token_new setup (behind setup S user at ask object) object within (behind_order setup S user at ask object sound)
+
+pub token_by_token : (setup : Setup) (S : State) (user : UserId) (at : Moment) (ask : SyncAsk) (object : ObjectId) (store : Store) (text : List ℕ) → IsWithinLimits setup → IsInOrder setup S → object_named setup user ask.object ≡ Some object → ask.kind ≡ After text → (store_after setup S user at ask store).is_lost ≡ false → (store_after setup S user at ask store).token ≡ newest object (bank_after setup S user at ask).entries
+token_by_token setup S user at ask object store text within sound named kind =
+    subst (λ (k : SyncKind). HasNewest setup store k object (sync_answer setup S user at ask)) (sym kind)
+    (subst (HasNewest setup store (After text) object) (sym (answer_named setup S user at ask object named))
+    (token_on setup S user at ask object store text within sound))
+
+-- the digits of a store's token stand for it
+pub text_of_token : (setup : Setup) (S : State) (object : ObjectId) (store : Store) → IsWithinLimits setup → IsInOrder setup S → store.is_lost ≡ false → IsRight store object S.entries → token_of (decimal store.token) ≡ Some store.token
+text_of_token setup S object store within sound kept right =
+    let low = token_low store object S.entries kept right in
+    let few = newest_few setup object S.entries sound.follow in
+    let most = sound.few in
+    let limit = within.lines.entries_high in
+    token_read store.token (omega arith)
+
+-- ---- a client that asks for all
+
+told_refresh : (window : ℕ) (object : ObjectId) (told : Family) (entries : List Entry) (kind : SyncKind) → kind ≡ Refresh → history_told window object told entries kind ≡ map (told_as told (codes "0")) (standing object entries)
+unfolding history_told
+told_refresh window object told entries kind is = ap (history_told window object told entries) is
+
+refresh_on : (setup : Setup) (S : State) (user : UserId) (at : Moment) (ask : SyncAsk) (object : ObjectId) (store : Store) → IsWithinLimits setup → IsInOrder setup S → IsSoundSync ask → object_named setup user ask.object ≡ Some object → store.family ≡ object_family ask.object → ask.kind ≡ Refresh → IsRight (taken store Refresh (wired (sync_on setup S user at ask (Some object)).reply)) object (sync_on setup S user at ask (Some object)).after.entries
+unfolding sync_on taken
+refresh_on setup S user at ask object store within sound known named family kind =
+    let next : State = behind setup S user at ask object in
+    let order = behind_order setup S user at ask object sound in
+    right_new store object next.entries _ _ (is_lost setup.window object S.entries ask.kind)
+    (token_new setup next object within order)
+    (λ here. brought setup S next store.family object [] (history_told setup.window object (object_family ask.object) S.entries ask.kind) _ order
+    (ap (applied store.family []) (told_refresh setup.window object (object_family ask.object) S.entries ask.kind kind)
+    ∙ applied_changes store.family (object_family ask.object) (codes "0") [] (standing object S.entries)
+    ∙ standing_is_all setup store.family object S.entries sound.follow)
+    (adds_family setup S user at ask object store.family named known family))
+
+pub right_by_refresh : (setup : Setup) (S : State) (user : UserId) (at : Moment) (ask : SyncAsk) (object : ObjectId) (store : Store) → IsWithinLimits setup → IsInOrder setup S → IsSoundSync ask → object_named setup user ask.object ≡ Some object → store.family ≡ object_family ask.object → ask.kind ≡ Refresh → IsRight (store_after setup S user at ask store) object (bank_after setup S user at ask).entries
+right_by_refresh setup S user at ask object store within sound known named family kind =
+    subst (λ (k : SyncKind). IsRight (taken store k (wired (sync_answer setup S user at ask).reply)) object (sync_answer setup S user at ask).after.entries) (sym kind)
+    (subst (λ answer. IsRight (taken store Refresh (wired answer.reply)) object answer.after.entries) (sym (answer_named setup S user at ask object named))
+    (refresh_on setup S user at ask object store within sound known named family kind))
+
+pub kept_by_refresh : (setup : Setup) (S : State) (user : UserId) (at : Moment) (ask : SyncAsk) (object : ObjectId) (store : Store) → object_named setup user ask.object ≡ Some object → ask.kind ≡ Refresh → (store_after setup S user at ask store).is_lost ≡ false
+kept_by_refresh setup S user at ask object store named kind =
+    ap (λ (k : SyncKind). (taken store k (wired (sync_answer setup S user at ask).reply)).is_lost) kind
+    ∙ lost_refresh store (wired (sync_answer setup S user at ask).reply)
+    ∙ reply_lost setup S user at ask object named
+    ∙ ap (is_lost setup.window object S.entries) kind
+    ∙ refresh_kept setup.window object S.entries
+
+refreshed_token : (setup : Setup) (S : State) (user : UserId) (at : Moment) (ask : SyncAsk) (object : ObjectId) (store : Store) → IsWithinLimits setup → IsInOrder setup S → HasNewest setup store Refresh object (sync_on setup S user at ask (Some object))
+unfolding sync_on taken
+refreshed_token setup S user at ask object store within sound kept =
+    new_token store _ _ (is_lost setup.window object S.entries ask.kind) kept
+    ∙ token_new setup (behind setup S user at ask object) object within (behind_order setup S user at ask object sound)
+
+pub token_by_refresh : (setup : Setup) (S : State) (user : UserId) (at : Moment) (ask : SyncAsk) (object : ObjectId) (store : Store) → IsWithinLimits setup → IsInOrder setup S → object_named setup user ask.object ≡ Some object → ask.kind ≡ Refresh → (store_after setup S user at ask store).token ≡ newest object (bank_after setup S user at ask).entries
+token_by_refresh setup S user at ask object store within sound named kind =
+    (subst (λ (k : SyncKind). HasNewest setup store k object (sync_answer setup S user at ask)) (sym kind)
+    (subst (HasNewest setup store Refresh object) (sym (answer_named setup S user at ask object named))
+    (refreshed_token setup S user at ask object store within sound))) (kept_by_refresh setup S user at ask object store named kind)

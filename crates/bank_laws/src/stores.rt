@@ -1,0 +1,121 @@
+//! What clients keep of objects.
+
+ghost use Rattle.std.specs.Prelude.{◌≡◌, ℕ, nat_lt, true, false, List, Option, None, Some};
+ghost use Rattle.std.specs.Fmt.{decimal};
+ghost use Rattle.ofx_types.specs.SyncForm.{object_family};
+ghost use Rattle.ofx_types.specs.declared.number.Moment.{Moment};
+ghost use Rattle.ofx_types.specs.declared.number.ObjectId.{ObjectId};
+ghost use Rattle.ofx_types.specs.declared.number.UserId.{UserId};
+ghost use Rattle.ofx_types.specs.declared.request.Ask.{Ask};
+ghost use Rattle.ofx_types.specs.declared.transfer.Family.{Family};
+ghost use Rattle.ofx_types.specs.declared.sync.SyncAsk.{SyncAsk};
+ghost use Rattle.ofx_types.specs.declared.sync.SyncKind.{SyncKind};
+ghost use Rattle.ofx_types.specs.declared.sync.SyncKind.TheVariants.{After, TokenOnly, Refresh};
+ghost use Rattle.ofx_types.specs.declared.sync.SyncReply.{SyncReply};
+ghost use Rattle.bank_model.specs.declared.event.Event.{Event};
+ghost use Rattle.bank_model.specs.declared.event.State.{State};
+ghost use Rattle.bank_model.specs.declared.setup.Setup.{Setup};
+ghost use Rattle.bank_model.specs.SetupForm.{IsWithinLimits};
+ghost use Rattle.bank_model.specs.Objects.{object_named, newest, floor};
+ghost use Rattle.bank_model.specs.Sync.{token_of, sync_answer};
+ghost use Rattle.bank_model.specs.Stores.{Store, IsRight, marked_lost, rows_up_to, taken};
+ghost use Rattle.bank_model.specs.Rules.{IsLegal, state_after, ask_answers};
+ghost use Rattle.bank_model.specs.Sound.{IsSoundSync};
+ghost use Rattle.bank_laws.specs.Entered.{rows_entered};
+ghost use Rattle.bank_laws.specs.Histories.{IsInOrder, IsLater};
+ghost use Rattle.bank_laws.specs.Told.{empty_store, store_after, bank_after};
+
+/// A store with the token 0 and no rows is right at any time.
+pub fn empty_stores_are_right()
+    ensures { (setup : Setup) (S : State) (family : Family) (object : ObjectId) → IsInOrder setup S
+        → IsRight (empty_store family) object S.entries }
+{}
+
+/// A store that is right stays right whatever other clients and the bank itself do.
+pub fn stores_stay_right()
+    ensures later { (setup : Setup) (S T : State) (store : Store) (object : ObjectId) → IsInOrder setup S → IsInOrder setup T
+        → IsLater S T → IsRight store object S.entries → IsRight store object T.entries }
+    ensures event { (setup : Setup) (S : State) (at : Moment) (event : Event) (store : Store) (object : ObjectId)
+        → IsInOrder setup S → IsLegal setup S at event → IsRight store object S.entries
+        → IsRight store object (state_after setup S at event).entries }
+    ensures asks { (setup : Setup) (S : State) (user : UserId) (at : Moment) (asks : List Ask) (store : Store)
+        (object : ObjectId) → IsInOrder setup S → IsRight store object S.entries
+        → IsRight store object (ask_answers setup S user at asks).after.entries }
+{}
+
+/// Whoever asks for the token alone has the same store as before, and it is as right as it was.
+pub fn token_alone_leaves_stores()
+    ensures same { (store : Store) (reply : SyncReply) → taken store TokenOnly reply ≡ store }
+    ensures right { (setup : Setup) (S : State) (user : UserId) (at : Moment) (ask : SyncAsk) (object : ObjectId)
+        (store : Store) → IsInOrder setup S → ask.kind ≡ TokenOnly → IsRight store object S.entries
+        → IsRight (store_after setup S user at ask store) object (bank_after setup S user at ask).entries }
+{}
+
+/// Where all was asked for, or what came after a token, the store is marked lost exactly where the reply says so. A store that
+/// is right and isn't marked lost is told so exactly where its token is below the floor of its object. A store keeps its family.
+pub fn stores_are_lost_where_told()
+    ensures after { (store : Store) (text : List ℕ) (reply : SyncReply) → (taken store (After text) reply).is_lost ≡ reply.lost }
+    ensures refresh { (store : Store) (reply : SyncReply) → (taken store Refresh reply).is_lost ≡ reply.lost }
+    ensures floor { (setup : Setup) (S : State) (user : UserId) (at : Moment) (ask : SyncAsk) (object : ObjectId)
+        (store : Store) (text : List ℕ) → object_named setup user ask.object ≡ Some object → ask.kind ≡ After text
+        → token_of text ≡ Some store.token → store.is_lost ≡ false → IsRight store object S.entries
+        → (store_after setup S user at ask store).is_lost ≡ nat_lt store.token (floor setup.window object S.entries) }
+    ensures family { (store : Store) (kind : SyncKind) (reply : SyncReply) → (taken store kind reply).family ≡ store.family }
+{}
+
+/// A store that is right and isn't marked lost, whose client asks for what came after its token, is right behind the reply,
+/// and has the newest token unless it is marked lost. The text of its token, in decimal digits, stands for it.
+pub fn stores_are_right_by_token()
+    ensures text { (setup : Setup) (S : State) (object : ObjectId) (store : Store) → IsWithinLimits setup → IsInOrder setup S
+        → store.is_lost ≡ false → IsRight store object S.entries → token_of (decimal store.token) ≡ Some store.token }
+    ensures right { (setup : Setup) (S : State) (user : UserId) (at : Moment) (ask : SyncAsk) (object : ObjectId)
+        (store : Store) (text : List ℕ) → IsWithinLimits setup → IsInOrder setup S → IsSoundSync ask
+        → object_named setup user ask.object ≡ Some object → store.family ≡ object_family ask.object → ask.kind ≡ After text
+        → token_of text ≡ Some store.token → store.is_lost ≡ false → IsRight store object S.entries
+        → IsRight (store_after setup S user at ask store) object (bank_after setup S user at ask).entries }
+    ensures token { (setup : Setup) (S : State) (user : UserId) (at : Moment) (ask : SyncAsk) (object : ObjectId)
+        (store : Store) (text : List ℕ) → IsWithinLimits setup → IsInOrder setup S
+        → object_named setup user ask.object ≡ Some object → ask.kind ≡ After text
+        → (store_after setup S user at ask store).is_lost ≡ false
+        → (store_after setup S user at ask store).token ≡ newest object (bank_after setup S user at ask).entries }
+{}
+
+/// Any store whose client asks for all is right behind the reply, has the newest token, and isn't marked lost.
+pub fn stores_are_right_by_refresh()
+    ensures right { (setup : Setup) (S : State) (user : UserId) (at : Moment) (ask : SyncAsk) (object : ObjectId)
+        (store : Store) → IsWithinLimits setup → IsInOrder setup S → IsSoundSync ask
+        → object_named setup user ask.object ≡ Some object → store.family ≡ object_family ask.object → ask.kind ≡ Refresh
+        → IsRight (store_after setup S user at ask store) object (bank_after setup S user at ask).entries }
+    ensures token { (setup : Setup) (S : State) (user : UserId) (at : Moment) (ask : SyncAsk) (object : ObjectId)
+        (store : Store) → IsWithinLimits setup → IsInOrder setup S → object_named setup user ask.object ≡ Some object
+        → ask.kind ≡ Refresh
+        → (store_after setup S user at ask store).token ≡ newest object (bank_after setup S user at ask).entries }
+    ensures kept { (setup : Setup) (S : State) (user : UserId) (at : Moment) (ask : SyncAsk) (object : ObjectId)
+        (store : Store) → object_named setup user ask.object ≡ Some object → ask.kind ≡ Refresh
+        → (store_after setup S user at ask store).is_lost ≡ false }
+{}
+
+/// Whoever synchronises an account that isn't the user's is told to be lost, and nothing happens at the bank. The store is
+/// marked lost behind the reply, with its token and its rows as they were, or stays as it is where the token alone was
+/// asked for.
+pub fn strangers_are_told_that_they_are_lost()
+    ensures told { (setup : Setup) (S : State) (user : UserId) (at : Moment) (ask : SyncAsk)
+        → object_named setup user ask.object ≡ None → (sync_answer setup S user at ask).reply.lost ≡ true }
+    ensures bank { (setup : Setup) (S : State) (user : UserId) (at : Moment) (ask : SyncAsk)
+        → object_named setup user ask.object ≡ None → bank_after setup S user at ask ≡ S }
+    ensures after { (setup : Setup) (S : State) (user : UserId) (at : Moment) (ask : SyncAsk) (store : Store) (text : List ℕ)
+        → object_named setup user ask.object ≡ None → ask.kind ≡ After text
+        → store_after setup S user at ask store ≡ marked_lost store }
+    ensures refresh { (setup : Setup) (S : State) (user : UserId) (at : Moment) (ask : SyncAsk) (store : Store)
+        → object_named setup user ask.object ≡ None → ask.kind ≡ Refresh
+        → store_after setup S user at ask store ≡ marked_lost store }
+    ensures token { (setup : Setup) (S : State) (user : UserId) (at : Moment) (ask : SyncAsk) (store : Store)
+        → object_named setup user ask.object ≡ None → ask.kind ≡ TokenOnly → store_after setup S user at ask store ≡ store }
+{}
+
+/// The rows of an object up to a token are those that its entries say: each row as its last entry gave it, without those that
+/// were cancelled, and each mail.
+pub fn rows_are_those_of_the_entries()
+    ensures { (setup : Setup) (S : State) (family : Family) (object : ObjectId) (token : ℕ) → IsInOrder setup S
+        → rows_up_to family object token S.entries ≡ rows_entered family object token S.entries }
+{}

@@ -1,0 +1,120 @@
+-- What a deed adds may be told, and its first entry is of the deed's family.
+use Rattle.std.proofs.Common.{◌≡◌, ℕ, ◌+◌, ◌<◌, ◌≤◌, Bool, true, false, List, [], ◌∷◌, length, Option, None, Some, refl, sym, subst, arith}
+use Rattle.std.specs.List.{AllByRecursion}
+use Rattle.std.specs.Option.{IfSome}
+use Rattle.ofx_types.specs.Calendar.{IsMoment}
+use Rattle.ofx_types.specs.DeedForm.{family_of}
+use Rattle.ofx_types.specs.declared.number.AcctId.{AcctId}
+use Rattle.ofx_types.specs.declared.number.UserId.{UserId}
+use Rattle.ofx_types.specs.declared.number.Moment.{Moment}
+use Rattle.ofx_types.specs.declared.account.AcctName.{AcctName}
+use Rattle.ofx_types.specs.declared.mail.MailText.{MailText}
+use Rattle.ofx_types.specs.declared.transfer.TransferRow.{TransferRow}
+use Rattle.ofx_types.specs.declared.transfer.XferInfo.{XferInfo}
+use Rattle.ofx_types.specs.declared.transfer.Deed.{Deed}
+use Rattle.ofx_types.specs.declared.transfer.Deed.TheVariants.{Transfer, ModifyTransfer, CancelTransfer, Model, ModifyModel, CancelModel, BankMail, Mail}
+use Rattle.ofx_types.specs.declared.transfer.Change.{Change}
+use Rattle.ofx_types.specs.declared.transfer.Family.{Family}
+use Rattle.ofx_types.specs.declared.transfer.Family.TheVariants as families
+use Rattle.bank_model.specs.declared.entry.Entry.{Entry}
+use Rattle.bank_model.specs.declared.setup.Setup.{Setup}
+use Rattle.bank_model.specs.declared.event.State.{State}
+use Rattle.bank_model.specs.SetupForm.{IsWithinLimits}
+use Rattle.bank_model.specs.SetupLookups.{account_of}
+use Rattle.bank_model.specs.Ledger.{row_of}
+use Rattle.bank_model.specs.Models.{model_of, is_model_dropped, waiting_of}
+use Rattle.bank_model.specs.Deeds.{judged, done, object_of, entries_behind, mail_row}
+use Rattle.bank_model.specs.Sound as file
+use Rattle.bank_laws.proofs.Verdicts.{free_to_modify, free_to_cancel, free_model_to_modify, free_model_to_cancel, own_model, own_letter}
+use Rattle.bank_laws.proofs.Waiting.{IsHere, with_new_terms, dropping}
+use Rattle.bank_laws.proofs.Done.{along, modify_entries, cancel_entries, modify_model_entries, cancel_model_entries}
+use Rattle.msg_bank.specs.Sound.{IsTextWithin, IsSoundAccount, IsSoundInfo, family_of_change}
+use Rattle.msg_mail.specs.MailSound.{IsSoundMail, IsSoundMailRow}
+use Rattle.bank_replies.specs.Texts.{HasDeedTexts}
+use Rattle.bank_replies.specs.Telling.{IsToldChange, IsPlaceOf, IsToldEntry, IsTellable}
+use Rattle.bank_replies.proofs.Values.{account_sound, info_sound, mail_sound, zero_within}
+use Rattle.bank_replies.proofs.Words.{user_within}
+use Rattle.bank_replies.proofs.Found.{IsKnownRow, known_row, waiting_known, known_model}
+use Rattle.bank_replies.proofs.Places.{own_known, at_intra, at_recurring, at_letters}
+use Rattle.bank_replies.proofs.Rows.{new_row_told, changed_row_told, with_terms_told, new_model_told, changed_model_told}
+
+-- The entries of a deed: the first is of the family, and all may be told.
+pub record Begins (setup : Setup) (family : Family) (entries : List Entry) : Type 0 where
+  pub entry : Entry
+  pub rest : List Entry
+  pub are : entries ≡ entry ∷ rest
+  pub is_of : family_of_change entry.change ≡ family
+  pub first : IsToldEntry setup entry
+  pub more : AllByRecursion (IsToldEntry setup) rest
+
+begins : (setup : Setup) (family : Family) (entries : List Entry) (entry : Entry) (rest : List Entry) → entries ≡ entry ∷ rest → family_of_change entry.change ≡ family → IsTextWithin 36 entry.trnuid → IsToldChange entry.change → IsPlaceOf setup (family_of_change entry.change) entry.object.0 → AllByRecursion (IsToldEntry setup) rest → Begins setup family entries
+begins setup family entries entry rest are is uid change place more =
+    record { entry = entry; rest = rest; are = are; is_of = is; first = record { trnuid = uid; change = change; object = place }; more = more }
+
+-- ---- transfers that go along
+
+behind_told : (setup : Setup) (count : ℕ) (change : TransferRow → Change) (P : TransferRow → Type 0) (rows : List TransferRow) → IsWithinLimits setup → ((row : TransferRow) → P row → IsToldChange (change row) × (family_of_change (change row) ≡ families.Intra)) → AllByRecursion P rows → AllByRecursion (IsToldEntry setup) (entries_behind setup count change rows)
+unfolding entries_behind
+behind_told setup count change P [] within step all = tt
+behind_told setup count change P (row ∷ more) within step all =
+    let here = step row all.0 in (
+      record {
+        trnuid = zero_within 36 (omega arith);
+        change = here.0;
+        object = subst (λ (f : Family). IsPlaceOf setup f (object_of setup row.from).0) (sym here.1) (at_intra setup row.from within);
+      },
+      behind_told setup (count + 1) change P more within step all.1,
+    )
+
+along_told : (setup : Setup) (S : State) (change : TransferRow → Change) (also : Bool) (id : ℕ) → IsWithinLimits setup → IsTellable setup S → ((row : TransferRow) → IsKnownRow row × IsHere S.entries row → IsToldChange (change row) × (family_of_change (change row) ≡ families.Intra)) → AllByRecursion (IsToldEntry setup) (along setup S change also id)
+along_told setup S change true id within tellable step =
+    behind_told setup (length S.entries + 1) change _ (waiting_of id S.entries) within step (waiting_known setup id S.entries tellable.entries)
+along_told setup S change false id within tellable step = tt
+
+new_terms_told : (entries : List Entry) (info : XferInfo) → IsSoundInfo info → (row : TransferRow) → IsKnownRow row × IsHere entries row → IsToldChange (with_new_terms info row) × (family_of_change (with_new_terms info row) ≡ families.Intra)
+new_terms_told entries info sound row known = (with_terms_told info row sound known.0 known.1.1, refl)
+
+-- ---- any deed
+
+mail_told : (setup : Setup) (user : UserId) (about : Option AcctName) (mail : MailText) → IsWithinLimits setup → user.0 < length setup.users → IfSome about IsSoundAccount → IsSoundMail mail → IsSoundMailRow (mail_row setup user about mail)
+mail_told setup user about mail within known account sound = record { about = account; user = user_within setup user within known; mail = sound }
+
+few_ids : (setup : Setup) (count : ℕ) → IsWithinLimits setup → count + 1 ≤ setup.entries → count + 1 ≤ 9999999999
+few_ids setup count within few = let most = within.lines.entries_high in omega arith
+
+pub done_begins : (setup : Setup) (S : State) (user : UserId) (only : Option AcctId) (at : Moment) (trnuid : List ℕ) (deed : Deed) → IsWithinLimits setup → IsTellable setup S → IsMoment at.0 → user.0 < length setup.users → file.IsSoundDeed deed → HasDeedTexts deed → IsTextWithin 36 trnuid → judged setup S user only deed ≡ 0 → length S.entries + length (done setup S user at trnuid deed) ≤ setup.entries → Begins setup (family_of deed) (done setup S user at trnuid deed)
+unfolding judged done
+done_begins setup S user only at trnuid (Transfer info) within tellable moment known sound texts uid none few =
+    begins setup _ _ _ [] refl refl uid
+    (new_row_told (length S.entries + 1) at S.day info (few_ids setup (length S.entries) within few) moment tellable.day (info_sound info sound texts))
+    (at_intra setup info.from within) tt
+done_begins setup S user only at trnuid (ModifyTransfer id info) within tellable moment known sound texts uid none few =
+    let free = free_to_modify setup user only (row_of id S.entries) info S.day none in
+    begins setup _ _ _ [] (modify_entries setup S user at trnuid id info free.row free.is) refl uid
+    (changed_row_told S.day info free.row tellable.day (info_sound info sound.1 texts) (known_row setup id S.entries free.row tellable.entries free.is))
+    (at_intra setup free.row.from within) tt
+done_begins setup S user only at trnuid (CancelTransfer id) within tellable moment known sound texts uid none few =
+    let free = free_to_cancel setup user only (row_of id S.entries) none in
+    begins setup _ _ _ [] (cancel_entries setup S user at trnuid id free.row free.is) refl uid sound (at_intra setup free.row.from within) tt
+done_begins setup S user only at trnuid (Model recur info) within tellable moment known sound texts uid none few =
+    begins setup _ _ _ [] refl refl uid
+    (new_model_told (length S.entries + 1) S.day recur info (few_ids setup (length S.entries) within few) tellable.day sound.0 (info_sound info sound.1 texts))
+    (at_recurring setup (account_of setup info.from) (own_known setup user only (account_of setup info.from) (own_model setup user only info S.day none))) tt
+done_begins setup S user only at trnuid (ModifyModel id recur info also) within tellable moment known sound texts uid none few =
+    let free = free_model_to_modify setup user only (model_of id S.entries) (is_model_dropped id S.entries) info S.day none in
+    let terms = info_sound info sound.2 texts in
+    begins setup _ _ _ _ (modify_model_entries setup S user at trnuid id recur info also free.row free.is) refl uid
+    (changed_model_told S.day recur info free.row tellable.day sound.1 terms (known_model setup id S.entries free.row tellable.entries free.is))
+    (at_recurring setup (account_of setup free.row.from) (own_known setup user only (account_of setup free.row.from) free.own))
+    (along_told setup S (with_new_terms info) also id within tellable (new_terms_told S.entries info terms))
+done_begins setup S user only at trnuid (CancelModel id also) within tellable moment known sound texts uid none few =
+    let free = free_model_to_cancel setup user only (model_of id S.entries) (is_model_dropped id S.entries) none in
+    begins setup _ _ _ _ (cancel_model_entries setup S user at trnuid id also free.row free.is) refl uid sound
+    (at_recurring setup (account_of setup free.row.from) (own_known setup user only (account_of setup free.row.from) free.own))
+    (along_told setup S dropping also id within tellable (λ row here. (here.0.id, refl)))
+done_begins setup S user only at trnuid (BankMail about mail) within tellable moment known sound texts uid none few =
+    begins setup _ _ _ [] refl refl uid
+    (mail_told setup user (Some about) mail within known (account_sound about sound.0 texts.0) (mail_sound mail sound.1 texts.1))
+    (at_letters setup (account_of setup about) (own_known setup user only (account_of setup about) (own_letter setup user only about mail none))) tt
+done_begins setup S user only at trnuid (Mail mail) within tellable moment known sound texts uid none few =
+    begins setup _ _ _ [] refl refl uid (mail_told setup user None mail within known tt (mail_sound mail sound texts)) (omega arith) tt

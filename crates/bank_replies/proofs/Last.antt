@@ -1,0 +1,69 @@
+-- What passes a test stands behind what doesn't: that is seen by what each element says to the test alone.
+use Rattle.std.proofs.Common.{◌≡◌, Bool, true, false, not, cond, List, [], ◌∷◌, ◌++◌, filter, map, refl, sym, ap, ◌∙◌}
+use Rattle.std.specs.List.{list_all}
+use Rattle.std.proofs.lemmas.Bool.{and_parts, and_from, true≢false}
+use Rattle.std.proofs.lemmas.List.Folds.{list_all-map}
+
+-- what passes stands last
+abbrev pub IsLast : {X : Type 0} → (X → Bool) → List X → Type 0
+IsLast p xs = xs ≡ filter (λ x. not (p x)) xs ++ filter p xs
+
+filter_passes : {X : Type 0} (p : X → Bool) (xs : List X) → list_all p (filter p xs) ≡ true
+filter_passes p [] = refl
+filter_passes {X} p (x ∷ xs) = one (p x) refl (filter_passes p xs)
+  where
+    one : (b : Bool) → p x ≡ b → list_all p (filter p xs) ≡ true → list_all p (cond b (x ∷ filter p xs) (filter p xs)) ≡ true
+    one true here rest = and_from (p x) (list_all p (filter p xs)) here rest
+    one false here rest = rest
+
+all_kept : {X : Type 0} (p : X → Bool) (xs : List X) → list_all p xs ≡ true → filter p xs ≡ xs
+all_kept p [] all = refl
+all_kept {X} p (x ∷ xs) all =
+    let both = and_parts (p x) (list_all p xs) all in
+    ap (λ (b : Bool). cond b (x ∷ filter p xs) (filter p xs)) both.0 ∙ ap (λ (l : List X). x ∷ l) (all_kept p xs both.1)
+
+none_kept : {X : Type 0} (p : X → Bool) (xs : List X) → list_all p xs ≡ true → filter (λ x. not (p x)) xs ≡ []
+none_kept p [] all = refl
+none_kept {X} p (x ∷ xs) all =
+    let both = and_parts (p x) (list_all p xs) all in
+    ap (λ (b : Bool). cond (not b) (x ∷ filter (λ y. not (p y)) xs) (filter (λ y. not (p y)) xs)) both.0 ∙ none_kept p xs both.1
+
+all_last : {X : Type 0} (p : X → Bool) (xs : List X) → list_all p xs ≡ true → IsLast p xs
+all_last {X} p xs all = sym (ap (λ (l : List X). l ++ filter p xs) (none_kept p xs all) ∙ all_kept p xs all)
+
+fails_not : (b : Bool) → not b ≡ true → b ≡ true → ⊥
+fails_not b fails passes = true≢false (sym fails ∙ ap not passes)
+
+-- behind the first that passes all do
+all_behind : {X : Type 0} (p : X → Bool) (x : X) (xs front back : List X) → x ∷ xs ≡ front ++ back → list_all (λ y. not (p y)) front ≡ true → list_all p back ≡ true → p x ≡ true → list_all p xs ≡ true
+all_behind p x xs [] back is fail pass here = (and_parts (p x) (list_all p xs) (ap (list_all p) is ∙ pass)).1
+all_behind p x xs (y ∷ front) back is fail pass here =
+    let same : x ≡ y = cc in
+    let fails = and_parts (not (p y)) (list_all (λ z. not (p z)) front) fail in
+    absurd (fails_not (p y) fails.0 (sym (ap p same) ∙ here))
+
+said : {X : Type 0} (p : X → Bool) (xs : List X) → list_all p xs ≡ list_all (λ (b : Bool). b) (map p xs)
+said p xs = sym (list_all-map (λ (b : Bool). b) p xs)
+
+pub last_alike : {X Y : Type 0} (p : X → Bool) (q : Y → Bool) (xs : List X) (ys : List Y) → map p xs ≡ map q ys → IsLast p xs → IsLast q ys
+last_alike p q [] [] same last = refl
+last_alike p q [] (y ∷ ys) same last = absurd cc
+last_alike p q (x ∷ xs) [] same last = absurd cc
+last_alike {X} {Y} p q (x ∷ xs) (y ∷ ys) same last = one (p x) refl last (last_alike p q xs ys rest)
+  where
+    first : p x ≡ q y
+    first = cc
+
+    rest : map p xs ≡ map q ys
+    rest = cc
+
+    one : (b : Bool) → p x ≡ b → x ∷ xs ≡ cond (not b) (x ∷ filter (λ z. not (p z)) xs) (filter (λ z. not (p z)) xs) ++ cond b (x ∷ filter p xs) (filter p xs) → (IsLast p xs → IsLast q ys) → IsLast q (y ∷ ys)
+    one true here stands shorter =
+        let kept : list_all p (x ∷ filter p xs) ≡ true = and_from (p x) (list_all p (filter p xs)) here (filter_passes p xs) in
+        let behind : list_all p xs ≡ true = all_behind p x xs (filter (λ z. not (p z)) xs) (x ∷ filter p xs) stands (filter_passes (λ z. not (p z)) xs) kept here in
+        let others : list_all q ys ≡ true = said q ys ∙ ap (list_all (λ (b : Bool). b)) (sym rest) ∙ sym (said p xs) ∙ behind in
+        all_last q (y ∷ ys) (and_from (q y) (list_all q ys) (sym first ∙ here) others)
+    one false here stands shorter =
+        let behind : IsLast p xs = cc in
+        let no : q y ≡ false = sym first ∙ here in
+        rw no (ap (λ (l : List Y). y ∷ l) (shorter behind))

@@ -1,0 +1,114 @@
+-- Where the entries of deeds stand, and that objects of two families are two.
+use Rattle.std.proofs.Common.{◌≡◌, ℕ, zero, suc, ◌*◌, ◌<◌, ◌≤◌, Bool, true, false, cond, nat_lt, List, [], ◌∷◌, length, Option, None, Some, refl, sym, ap, subst, arith}
+use Rattle.std.specs.List.{slice_get, position_or_len}
+use Rattle.std.specs.Option.{option_map}
+use Rattle.std.proofs.lemmas.Bool.{and_parts, ltb-true}
+use Rattle.ofx_types.specs.AccountForm.{same_account}
+use Rattle.ofx_types.specs.SyncForm.{object_family}
+use Rattle.ofx_types.specs.declared.account.AcctName.{AcctName}
+use Rattle.ofx_types.specs.declared.number.AcctId.{AcctId}
+use Rattle.ofx_types.specs.declared.number.ObjectId.{ObjectId}
+use Rattle.ofx_types.specs.declared.number.UserId.{UserId}
+use Rattle.ofx_types.specs.declared.transfer.Family.{Family}
+use Rattle.ofx_types.specs.declared.transfer.Family.TheVariants as families
+use Rattle.ofx_types.specs.declared.sync.ObjectName.{ObjectName}
+use Rattle.ofx_types.specs.declared.sync.ObjectName.TheVariants as objects
+use Rattle.bank_model.specs.declared.setup.AccountLine.{AccountLine}
+use Rattle.bank_model.specs.declared.setup.Setup.{Setup}
+use Rattle.bank_model.specs.SetupForm.{IsWithinLimits}
+use Rattle.bank_model.specs.SetupLookups.{account_of, line_at, names_owner, is_owner, if_owned}
+use Rattle.bank_model.specs.Judging.{is_only, is_own_account}
+use Rattle.bank_model.specs.Deeds.{intra_of, recurring_of, letters_of, mail_object, object_of}
+use Rattle.bank_model.specs.Objects.{numbered, object_named}
+use Rattle.bank_replies.specs.Telling.{IsPlaceOf}
+
+-- ---- accounts that are a user's
+
+get_below : {X : Type 0} (xs : List X) (i : ℕ) (x : X) → slice_get xs i ≡ Some x → i < length xs
+get_below [] i x found = absurd cc
+get_below (y ∷ xs) zero x found = omega arith
+get_below (y ∷ xs) (suc i) x found = let less = get_below xs i x found in omega arith
+
+owned_below : (setup : Setup) (user : UserId) (account : AcctId) → is_owner setup user account ≡ true → account.0 < length setup.accounts
+owned_below setup user account owns = by_line (line_at setup account) refl owns
+  where
+    by_line : (line : Option AccountLine) → line_at setup account ≡ line → names_owner user line ≡ true → account.0 < length setup.accounts
+    by_line None is names = absurd cc
+    by_line (Some line) is names = get_below setup.accounts account.0 line is
+
+-- an account of the setup
+pub record IsKnown (setup : Setup) (found : Option AcctId) : Type 0 where
+  pub account : AcctId
+  pub is : found ≡ Some account
+  pub below : account.0 < length setup.accounts
+
+pub own_known : (setup : Setup) (user : UserId) (only found : Option AcctId) → is_own_account setup user only found ≡ true → IsKnown setup found
+own_known setup user only None own = absurd cc
+own_known setup user only (Some account) own = record {
+  account = account;
+  is = refl;
+  below = owned_below setup user account (and_parts (is_owner setup user account) (is_only only account) own).0;
+}
+
+-- ---- where entries stand
+
+pub at_intra : (setup : Setup) (name : AcctName) → IsWithinLimits setup → IsPlaceOf setup families.Intra (object_of setup name).0
+at_intra setup name within = by_place (nat_lt place (length setup.accounts)) refl
+  where
+    place : ℕ
+    place = position_or_len (λ (line : AccountLine). same_account line.name name) setup.accounts
+
+    by_place : (b : Bool) → nat_lt place (length setup.accounts) ≡ b → IsPlaceOf setup families.Intra (intra_of (option_map (λ (n : ℕ). record { 0 = n }) (cond b (Some place) None))).0
+    by_place true is = (place, ltb-true place (length setup.accounts) is, refl)
+    by_place false is = (0, within.lines.accounts_low, refl)
+
+pub at_recurring : (setup : Setup) (found : Option AcctId) → IsKnown setup found → IsPlaceOf setup families.RecIntra (recurring_of found).0
+at_recurring setup found known = subst (λ (f : Option AcctId). IsPlaceOf setup families.RecIntra (recurring_of f).0) (sym known.is) (known.account.0, known.below, refl)
+
+pub at_letters : (setup : Setup) (found : Option AcctId) → IsKnown setup found → IsPlaceOf setup families.BankMail (letters_of found).0
+at_letters setup found known = subst (λ (f : Option AcctId). IsPlaceOf setup families.BankMail (letters_of f).0) (sym known.is) (known.account.0, known.below, refl)
+
+-- ---- objects and families
+
+-- An object has one family.
+pub one_family : (setup : Setup) (one other : Family) (place : ℕ) → IsPlaceOf setup one place → IsPlaceOf setup other place → one ≡ other
+one_family setup families.Intra families.Intra place first second = refl
+one_family setup families.Intra families.RecIntra place first second = absurd (let a = first.2 in let b = second.2 in omega arith)
+one_family setup families.Intra families.BankMail place first second = absurd (let a = first.2 in let b = second.2 in omega arith)
+one_family setup families.Intra families.Mail place first second = absurd (let a = first.2 in let below = first.1 in omega arith)
+one_family setup families.RecIntra families.Intra place first second = absurd (let a = first.2 in let b = second.2 in omega arith)
+one_family setup families.RecIntra families.RecIntra place first second = refl
+one_family setup families.RecIntra families.BankMail place first second = absurd (let a = first.2 in let b = second.2 in omega arith)
+one_family setup families.RecIntra families.Mail place first second = absurd (let a = first.2 in let below = first.1 in omega arith)
+one_family setup families.BankMail families.Intra place first second = absurd (let a = first.2 in let b = second.2 in omega arith)
+one_family setup families.BankMail families.RecIntra place first second = absurd (let a = first.2 in let b = second.2 in omega arith)
+one_family setup families.BankMail families.BankMail place first second = refl
+one_family setup families.BankMail families.Mail place first second = absurd (let a = first.2 in let below = first.1 in omega arith)
+one_family setup families.Mail families.Intra place first second = absurd (let a = second.2 in let below = second.1 in omega arith)
+one_family setup families.Mail families.RecIntra place first second = absurd (let a = second.2 in let below = second.1 in omega arith)
+one_family setup families.Mail families.BankMail place first second = absurd (let a = second.2 in let below = second.1 in omega arith)
+one_family setup families.Mail families.Mail place first second = refl
+
+named_known : (setup : Setup) (user : UserId) (number : Option AcctId → ObjectId) (found : Option AcctId) (object : ObjectId) → numbered number (if_owned setup user found) ≡ Some object → (account : AcctId) × (account.0 < length setup.accounts) × (object ≡ number (Some account))
+named_known setup user number None object is = absurd cc
+named_known setup user number (Some account) object is = by_owner (is_owner setup user account) refl is
+  where
+    by_owner : (b : Bool) → is_owner setup user account ≡ b → numbered number (cond b (Some account) None) ≡ Some object → (known : AcctId) × (known.0 < length setup.accounts) × (object ≡ number (Some known))
+    by_owner true owns here = (account, owned_below setup user account owns, let same : object ≡ number (Some account) = cc in same)
+    by_owner false owns here = absurd cc
+
+-- An object that is named is one of the name's family.
+pub named_place : (setup : Setup) (user : UserId) (name : ObjectName) (object : ObjectId) → object_named setup user name ≡ Some object → IsPlaceOf setup (object_family name) object.0
+unfolding object_named
+named_place setup user (objects.Intra account) object is =
+    let known = named_known setup user intra_of (account_of setup account) object is in
+    (known.0.0, known.1, ap (λ (o : ObjectId). o.0) known.2)
+named_place setup user (objects.RecIntra account) object is =
+    let known = named_known setup user recurring_of (account_of setup account) object is in
+    (known.0.0, known.1, ap (λ (o : ObjectId). o.0) known.2)
+named_place setup user (objects.BankMail account) object is =
+    let known = named_known setup user letters_of (account_of setup account) object is in
+    (known.0.0, known.1, ap (λ (o : ObjectId). o.0) known.2)
+named_place setup user objects.Mail object is =
+    let same : mail_object setup user ≡ object = cc in
+    subst (λ (o : ObjectId). 3 * length setup.accounts ≤ o.0) same (omega arith)

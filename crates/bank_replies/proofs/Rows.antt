@@ -1,0 +1,122 @@
+-- The rows that deeds and the bank itself make may be told.
+use Rattle.std.proofs.Common.{◌≡◌, ◌≢◌, ℕ, Bool, true, false, cond, Some, refl, arith}
+use Rattle.ofx_types.specs.Calendar.{IsMoment, IsDay}
+use Rattle.ofx_types.specs.declared.number.Day.{Day}
+use Rattle.ofx_types.specs.declared.number.Moment.{Moment}
+use Rattle.ofx_types.specs.declared.transfer.XferCode.{XferCode}
+use Rattle.ofx_types.specs.declared.transfer.XferCode.TheVariants.{Waiting, Posted, NoFunds, Cancelled}
+use Rattle.ofx_types.specs.declared.transfer.XferInfo.{XferInfo}
+use Rattle.ofx_types.specs.declared.transfer.TransferRow.{TransferRow}
+use Rattle.ofx_types.specs.declared.recurring.Recur.{Recur}
+use Rattle.ofx_types.specs.declared.recurring.ModelRow.{ModelRow}
+use Rattle.bank_model.specs.Models.{is_waiting}
+use Rattle.bank_model.specs.Judging.{is_cancelled, is_due, due_day}
+use Rattle.bank_model.specs.Deeds.{new_row, changed_row, new_model, changed_model, with_terms}
+use Rattle.bank_model.specs.Due.{settled_row, spawned_row}
+use Rattle.bank_model.specs.Recurrence.{kth_date}
+use Rattle.bank_recur.proofs.SeriesDays.{few_places}
+use Rattle.msg_bank.specs.Sound.{IsSoundId, IsSoundInfo, IsSoundRecur, IsSoundModelRow}
+use Rattle.bank_replies.specs.Telling.{IsToldRow}
+use Rattle.bank_replies.proofs.Days.{due_is, midnight_is, stamp_is}
+use Rattle.bank_replies.proofs.Found.{IsKnownRow}
+
+-- ---- codes
+
+pub told_code : (code : XferCode) → is_cancelled code ≡ false → code ≢ Cancelled
+told_code Waiting stands = λ same. cc
+told_code Posted stands = λ same. cc
+told_code NoFunds stands = λ same. cc
+told_code Cancelled stands = cc
+
+waiting_told : (code : XferCode) → is_waiting code ≡ true → code ≢ Cancelled
+waiting_told Waiting waits = λ same. cc
+waiting_told Posted waits = cc
+waiting_told NoFunds waits = cc
+waiting_told Cancelled waits = cc
+
+new_told : (due : Bool) → cond due Posted Waiting ≢ Cancelled
+new_told true = λ same. cc
+new_told false = λ same. cc
+
+settled_told : (covered : Bool) → cond covered Posted NoFunds ≢ Cancelled
+settled_told true = λ same. cc
+settled_told false = λ same. cc
+
+-- ---- transfers
+
+pub new_row_told : (id : ℕ) (at : Moment) (day : Day) (info : XferInfo) → IsSoundId id → IsMoment at.0 → IsDay day.0 → IsSoundInfo info → IsToldRow (new_row id at day info)
+unfolding new_row
+new_row_told id at day info known moment business sound =
+    let due : IsDay (due_day info day).0 = due_is info.due day sound.due business in (
+      record {
+        id = known;
+        info = record { from = sound.from; to = sound.to; amount = sound.amount; due = due };
+        told = new_told (is_due info day);
+        stamp = stamp_is (is_due info day) at (due_day info day).0 moment due;
+      },
+      omega arith,
+    )
+
+pub changed_row_told : (day : Day) (info : XferInfo) (row : TransferRow) → IsDay day.0 → IsSoundInfo info → IsKnownRow row → IsToldRow (changed_row day info row)
+unfolding changed_row
+changed_row_told day info row business sound known =
+    let due : IsDay (due_day info day).0 = due_is info.due day sound.due business in (
+      record {
+        id = known.id;
+        info = record { from = known.info.from; to = sound.to; amount = sound.amount; due = due };
+        told = waiting_told Waiting refl;
+        stamp = midnight_is (due_day info day).0 due;
+      },
+      known.model,
+    )
+
+pub with_terms_told : (info : XferInfo) (row : TransferRow) → IsSoundInfo info → IsKnownRow row → is_waiting row.code ≡ true → IsToldRow (with_terms info row)
+unfolding with_terms
+with_terms_told info row sound known waits = (
+  record {
+    id = known.id;
+    info = record { from = known.info.from; to = sound.to; amount = sound.amount; due = known.info.due };
+    told = waiting_told row.code waits;
+    stamp = known.stamp;
+  },
+  known.model,
+)
+
+pub settled_told_row : (covered : Bool) (at : Moment) (row : TransferRow) → IsMoment at.0 → IsKnownRow row → IsToldRow (settled_row covered at row)
+unfolding settled_row
+settled_told_row covered at row moment known =
+    (record { id = known.id; info = known.info; told = settled_told covered; stamp = moment }, known.model)
+
+pub spawned_told : (id : ℕ) (date : Day) (row : ModelRow) → IsSoundId id → IsDay date.0 → IsSoundModelRow row → IsToldRow (spawned_row id date row)
+unfolding spawned_row
+spawned_told id date row known day sound = (
+  record {
+    id = known;
+    info = record { from = sound.info.from; to = sound.info.to; amount = sound.info.amount; due = day };
+    told = waiting_told Waiting refl;
+    stamp = midnight_is date.0 day;
+  },
+  sound.id,
+)
+
+-- the date of a transfer of a series
+pub date_is : (row : ModelRow) (place : ℕ) (date : Day) → IsSoundModelRow row → kth_date row.first row.recur.freq place ≡ Some date → IsDay date.0
+date_is row place date sound is = (few_places row.first date row.recur.freq place sound.info.due is).1
+
+-- ---- recurring transfers
+
+pub new_model_told : (id : ℕ) (day : Day) (recur : Recur) (info : XferInfo) → IsSoundId id → IsDay day.0 → IsSoundRecur recur → IsSoundInfo info → IsSoundModelRow (new_model id day recur info)
+unfolding new_model
+new_model_told id day recur info known business often sound = record {
+  id = known;
+  recur = often;
+  info = record { from = sound.from; to = sound.to; amount = sound.amount; due = due_is info.due day sound.due business };
+}
+
+pub changed_model_told : (day : Day) (recur : Recur) (info : XferInfo) (row : ModelRow) → IsDay day.0 → IsSoundRecur recur → IsSoundInfo info → IsSoundModelRow row → IsSoundModelRow (changed_model day recur info row)
+unfolding changed_model
+changed_model_told day recur info row business often sound known = record {
+  id = known.id;
+  recur = often;
+  info = record { from = known.info.from; to = sound.to; amount = sound.amount; due = due_is info.due day sound.due business };
+}

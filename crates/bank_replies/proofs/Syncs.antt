@@ -1,0 +1,185 @@
+-- The answers to synchronisations are sound, and the history may be told behind them.
+use Rattle.std.proofs.Common.{◌≡◌, ◌≢◌, ℕ, ◌≤◌, Bool, true, false, cond, List, [], ◌∷◌, map, codes, Option, None, Some, refl, sym, subst, arith}
+use Rattle.std.specs.List.{AllByRecursion}
+use Rattle.std.specs.Option.{IfSome}
+use Rattle.std.proofs.lemmas.Bool.{eqb-true}
+use Rattle.ofx_types.specs.SyncForm.{object_family}
+use Rattle.ofx_types.specs.declared.number.Moment.{Moment}
+use Rattle.ofx_types.specs.declared.number.ObjectId.{ObjectId}
+use Rattle.ofx_types.specs.declared.number.UserId.{UserId}
+use Rattle.ofx_types.specs.declared.transfer.TransferRow.{TransferRow}
+use Rattle.ofx_types.specs.declared.recurring.ModelRow.{ModelRow}
+use Rattle.ofx_types.specs.declared.transfer.Change.{Change}
+use Rattle.ofx_types.specs.declared.transfer.Change.TheVariants.{NewTransfer, SetTransfer, DropTransfer, NewModel, SetModel, DropModel, NewMail}
+use Rattle.ofx_types.specs.declared.transfer.Family.{Family}
+use Rattle.ofx_types.specs.declared.transfer.Family.TheVariants as families
+use Rattle.ofx_types.specs.declared.sync.SyncKind.{SyncKind}
+use Rattle.ofx_types.specs.declared.sync.SyncKind.TheVariants.{After, TokenOnly, Refresh}
+use Rattle.ofx_types.specs.declared.sync.SyncAsk.{SyncAsk}
+use Rattle.bank_model.specs.declared.entry.Entry.{Entry}
+use Rattle.bank_model.specs.declared.setup.Setup.{Setup}
+use Rattle.bank_model.specs.declared.event.State.{State}
+use Rattle.bank_model.specs.SetupForm.{IsWithinLimits}
+use Rattle.bank_model.specs.Ledger.{row_of}
+use Rattle.bank_model.specs.Models.{model_of, is_model_dropped}
+use Rattle.bank_model.specs.Judging.{is_cancelled}
+use Rattle.bank_model.specs.Objects.{account_about, object_named, belongs_to, history_of, newest}
+use Rattle.bank_model.specs.Sync.{token_of, is_lost, told_as, is_above, entries_above, told_entry, standing_transfer, standing_model, standing_in, standing, history_told, is_newest, unless_newest, rejection, deeds_or_rejection, sync_on, sync_answer}
+use Rattle.bank_model.specs.Sound as file
+use Rattle.bank_laws.proofs.Lists.{all_append}
+use Rattle.bank_laws.proofs.Numbers.{newest_few}
+use Rattle.msg_bank.specs.Sound.{IsTextWithin, family_of_change}
+use Rattle.msg_sync.specs.Sound.{IsSoundToldIn, IsSoundSyncReply}
+use Rattle.bank_replies.specs.Texts.{HasObjectTexts, HasPairTexts}
+use Rattle.bank_replies.specs.Telling.{IsToldChange, IsPlaceOf, IsToldEntry, IsTellable}
+use Rattle.bank_replies.proofs.Lists.{all_filter, all_map, all_flat}
+use Rattle.bank_replies.proofs.Values.{object_sound, zero_within}
+use Rattle.bank_replies.proofs.Words.{token_within}
+use Rattle.bank_replies.proofs.Found.{known_row, known_model}
+use Rattle.bank_replies.proofs.Places.{one_family, named_place}
+use Rattle.bank_replies.proofs.Rows.{told_code}
+use Rattle.bank_replies.proofs.Answers.{MayAsk, AreAnswered, told_sound, all_refused, deeds_sound}
+
+-- ---- the history of an object
+
+-- an entry of an object of this family
+abbrev IsToldIn : Family → Entry → Type 0
+IsToldIn family entry = IsTextWithin 36 entry.trnuid × IsToldChange entry.change × (family_of_change entry.change ≡ family)
+
+-- a change that is told of an object of this family
+abbrev IsChangeIn : Family → Change → Type 0
+IsChangeIn family change = IsToldChange change × (family_of_change change ≡ family)
+
+history_in : (setup : Setup) (user : UserId) (ask : SyncAsk) (object : ObjectId) (entries : List Entry) → object_named setup user ask.object ≡ Some object → AllByRecursion (IsToldEntry setup) entries → AllByRecursion (IsToldIn (object_family ask.object)) (history_of object entries)
+unfolding history_of
+history_in setup user ask object entries named all =
+    all_filter (IsToldEntry setup) (IsToldIn (object_family ask.object)) (belongs_to object) entries
+    (λ entry told here. (
+      told.trnuid,
+      told.change,
+      one_family setup (family_of_change entry.change) (object_family ask.object) entry.object.0 told.object
+          (subst (IsPlaceOf setup (object_family ask.object)) (sym (eqb-true entry.object.0 object.0 here)) (named_place setup user ask.object object named)),
+    ))
+    all
+
+above_in : (family : Family) (token : Option ℕ) (entries : List Entry) → AllByRecursion (IsToldIn family) entries → AllByRecursion (IsToldIn family) (entries_above token entries)
+above_in family None entries all = tt
+above_in family (Some token) entries all = all_filter (IsToldIn family) (IsToldIn family) (is_above token) entries (λ entry told here. told) all
+
+-- ---- what stands
+
+transfer_in : (setup : Setup) (id : ℕ) (family : Family) (entries : List Entry) (found : Option TransferRow) → row_of id entries ≡ found → AllByRecursion (IsToldEntry setup) entries → families.Intra ≡ family → AllByRecursion (IsChangeIn family) (standing_transfer found)
+transfer_in setup id family entries None is all same = tt
+transfer_in setup id family entries (Some row) is all same = by_code (is_cancelled row.code) refl
+  where
+    by_code : (gone : Bool) → is_cancelled row.code ≡ gone → AllByRecursion (IsChangeIn family) (cond gone [] (NewTransfer row ∷ []))
+    by_code true here = tt
+    by_code false here =
+        let known = known_row setup id entries row all is in
+        (((record { id = known.id; info = known.info; told = told_code row.code here; stamp = known.stamp }, known.model), same), tt)
+
+model_in : (setup : Setup) (id : ℕ) (family : Family) (entries : List Entry) (gone : Bool) (found : Option ModelRow) → model_of id entries ≡ found → AllByRecursion (IsToldEntry setup) entries → families.RecIntra ≡ family → AllByRecursion (IsChangeIn family) (standing_model gone found)
+model_in setup id family entries gone None is all same = tt
+model_in setup id family entries true (Some row) is all same = tt
+model_in setup id family entries false (Some row) is all same = ((known_model setup id entries row all is, same), tt)
+
+standing_is : (setup : Setup) (family : Family) (entries : List Entry) (change : Change) → AllByRecursion (IsToldEntry setup) entries → IsToldChange change → family_of_change change ≡ family → AllByRecursion (IsChangeIn family) (standing_in entries change)
+standing_is setup family entries (NewTransfer row) all told same = transfer_in setup row.id family entries (row_of row.id entries) refl all same
+standing_is setup family entries (SetTransfer row) all told same = tt
+standing_is setup family entries (DropTransfer id) all told same = tt
+standing_is setup family entries (NewModel row) all told same = model_in setup row.id family entries (is_model_dropped row.id entries) (model_of row.id entries) refl all same
+standing_is setup family entries (SetModel row also) all told same = tt
+standing_is setup family entries (DropModel id also) all told same = tt
+standing_is setup family entries (NewMail row) all told same = ((told, same), tt)
+
+standing_told : (setup : Setup) (family : Family) (object : ObjectId) (entries : List Entry) → AllByRecursion (IsToldEntry setup) entries → AllByRecursion (IsToldIn family) (history_of object entries) → AllByRecursion (IsChangeIn family) (standing object entries)
+unfolding standing
+standing_told setup family object entries all told =
+    all_flat (IsToldIn family) (IsChangeIn family) (λ (entry : Entry). standing_in entries entry.change) (history_of object entries) (λ entry here. standing_is setup family entries entry.change all here.1 here.2) told
+
+-- ---- the history that is told
+
+told_in : (setup : Setup) (family : Family) (object : ObjectId) (entries : List Entry) (kind : SyncKind) → AllByRecursion (IsToldEntry setup) entries → AllByRecursion (IsToldIn family) (history_of object entries) → AllByRecursion (IsSoundToldIn family) (history_told setup.window object family entries kind)
+unfolding history_told
+told_in setup family object entries (After text) all told = by_place (is_lost setup.window object entries (After text))
+  where
+    by_place : (lost : Bool) → AllByRecursion (IsSoundToldIn family) (cond lost [] (map (told_entry family) (entries_above (token_of text) (history_of object entries))))
+    by_place true = tt
+    by_place false =
+        all_map (IsToldIn family) (IsSoundToldIn family) (told_entry family) _ (λ entry here. (told_sound entry.trnuid family entry.change here.0 here.1 here.2, refl))
+        (above_in family (token_of text) (history_of object entries) told)
+told_in setup family object entries TokenOnly all told = tt
+told_in setup family object entries Refresh all told =
+    all_map (IsChangeIn family) (IsSoundToldIn family) (told_as family (codes "0")) (standing object entries)
+    (λ change here. (told_sound (codes "0") family change (zero_within 36 (omega arith)) here.0 here.1, refl))
+    (standing_told setup family object entries all told)
+
+-- ---- deeds that are refused
+
+abbrev IsRefusal : ℕ → Type 0
+IsRefusal code = (code ≢ 0) × (code ≤ 65535)
+
+missed : (kind : SyncKind) (number : ℕ) → IfSome (unless_newest number kind) IsRefusal
+missed (After text) number = by_token (is_newest number (token_of text))
+  where
+    by_token : (b : Bool) → IfSome (cond b None (Some 6502)) IsRefusal
+    by_token true = tt
+    by_token false = ((λ (none : 6502 ≡ 0). omega arith), omega arith)
+missed TokenOnly number = ((λ (none : 6500 ≡ 0). omega arith), omega arith)
+missed Refresh number = ((λ (none : 6500 ≡ 0). omega arith), omega arith)
+
+rejected : (reject : Bool) (number : ℕ) (kind : SyncKind) → IfSome (rejection reject number kind) IsRefusal
+rejected true number kind = missed kind number
+rejected false number kind = tt
+
+done_or_rejected : (setup : Setup) (S : State) (user : UserId) (at : Moment) (ask : SyncAsk) (code : Option ℕ) → IfSome code IsRefusal → MayAsk setup S user at → file.IsSoundSync ask → AllByRecursion HasPairTexts ask.deeds → AreAnswered setup (object_family ask.object) (deeds_or_rejection setup S user at ask code).replies (deeds_or_rejection setup S user at ask code).after
+unfolding deeds_or_rejection
+done_or_rejected setup S user at ask None refusal may sound texts =
+    deeds_sound setup S user (account_about setup user ask.object) at (object_family ask.object) ask.deeds may sound.deeds texts
+done_or_rejected setup S user at ask (Some code) refusal may sound texts =
+    record { sound = all_refused (object_family ask.object) code ask.deeds refusal.0 refusal.1 texts; tellable = may.tellable }
+
+-- ---- the answer
+
+pub token_few : (setup : Setup) (S : State) (object : ObjectId) → IsWithinLimits setup → IsTellable setup S → newest object S.entries ≤ 9999999999
+token_few setup S object within tellable =
+    let few = newest_few setup object S.entries tellable.order.follow in
+    let most = tellable.order.few in
+    let limit = within.lines.entries_high in
+    omega arith
+
+pub record IsSyncAnswered (setup : Setup) (S : State) (user : UserId) (at : Moment) (ask : SyncAsk) (found : Option ObjectId) : Type 0 where
+  pub sound : IsSoundSyncReply (sync_on setup S user at ask found).reply
+  pub tellable : IsTellable setup (sync_on setup S user at ask found).after
+
+sync_answered : (setup : Setup) (S : State) (user : UserId) (at : Moment) (ask : SyncAsk) (found : Option ObjectId) → object_named setup user ask.object ≡ found → MayAsk setup S user at → file.IsSoundSync ask → HasObjectTexts ask.object → AllByRecursion HasPairTexts ask.deeds → IsSyncAnswered setup S user at ask found
+unfolding sync_on
+sync_answered setup S user at ask None is may sound object texts = record {
+  sound = record {
+    object = object_sound ask.object sound.object object;
+    token = zero_within 64 (omega arith);
+    replies = all_refused (object_family ask.object) 2003 ask.deeds (λ (none : 2003 ≡ 0). omega arith) (omega arith) texts;
+  };
+  tellable = may.tellable;
+}
+sync_answered setup S user at ask (Some found) is may sound object texts =
+    let code : Option ℕ = rejection ask.reject (newest found S.entries) ask.kind in
+    let done = done_or_rejected setup S user at ask code (rejected ask.reject (newest found S.entries) ask.kind) may sound texts in
+    let told = history_in setup user ask found S.entries is may.tellable.entries in
+    record {
+      sound = record {
+        object = object_sound ask.object sound.object object;
+        token = token_within (newest found (deeds_or_rejection setup S user at ask code).after.entries) (token_few setup (deeds_or_rejection setup S user at ask code).after found may.within done.tellable);
+        replies = all_append (IsSoundToldIn (object_family ask.object)) (history_told setup.window found (object_family ask.object) S.entries ask.kind) (deeds_or_rejection setup S user at ask code).replies
+            (told_in setup (object_family ask.object) found S.entries ask.kind may.tellable.entries told) done.sound;
+      };
+      tellable = done.tellable;
+    }
+
+pub sync_sound : (setup : Setup) (S : State) (user : UserId) (at : Moment) (ask : SyncAsk) → MayAsk setup S user at → file.IsSoundSync ask → HasObjectTexts ask.object → AllByRecursion HasPairTexts ask.deeds → IsSoundSyncReply (sync_answer setup S user at ask).reply
+unfolding sync_answer
+sync_sound setup S user at ask may sound object texts = (sync_answered setup S user at ask (object_named setup user ask.object) refl may sound object texts).sound
+
+pub tellable_sync : (setup : Setup) (S : State) (user : UserId) (at : Moment) (ask : SyncAsk) → MayAsk setup S user at → file.IsSoundSync ask → HasObjectTexts ask.object → AllByRecursion HasPairTexts ask.deeds → IsTellable setup (sync_answer setup S user at ask).after
+unfolding sync_answer
+tellable_sync setup S user at ask may sound object texts = (sync_answered setup S user at ask (object_named setup user ask.object) refl may sound object texts).tellable

@@ -1,0 +1,64 @@
+-- Texts and values of a sound file are within the limits of their elements.
+use Rattle.std.proofs.Common.{ℕ, ◌≤◌, List, codes, refl, arith}
+use Rattle.ofx_types.specs.TextRules.{IsText, IsTrnUid}
+use Rattle.ofx_types.specs.declared.account.AcctName.{AcctName}
+use Rattle.ofx_types.specs.declared.mail.MailText.{MailText}
+use Rattle.ofx_types.specs.declared.transfer.XferInfo.{XferInfo}
+use Rattle.ofx_types.specs.declared.sync.ObjectName.{ObjectName}
+use Rattle.ofx_types.specs.declared.sync.ObjectName.TheVariants as objects
+use Rattle.bank_model.specs.Sound as file
+use Rattle.msg_bank.specs.Sound.{IsTextWithin, IsSoundAccount, IsSoundInfo}
+use Rattle.msg_mail.specs.MailSound.{IsSoundMail}
+use Rattle.msg_sync.specs.Sound.{IsSoundObject}
+use Rattle.bank_replies.specs.Texts.{HasAccountTexts, HasInfoTexts, HasMailTexts, HasObjectTexts}
+
+pub text_within : (most : ℕ) (text : List ℕ) → file.HasLength most text → IsText text → IsTextWithin most text
+text_within most text long is = record { is_text = is; is_there = long.0; is_within = long.1 }
+
+pub uid_within : (uid : List ℕ) → IsTrnUid uid → IsTextWithin 36 uid
+uid_within uid is = record { is_text = is.is_text; is_there = is.is_there; is_within = is.is_within }
+
+pub account_sound : (account : AcctName) → file.IsSoundAccount account → HasAccountTexts account → IsSoundAccount account
+account_sound account sound texts = record {
+  bank = text_within 32 account.bank sound.0 texts.0;
+  number = text_within 32 account.number sound.1 texts.1;
+}
+
+pub info_sound : (info : XferInfo) → file.IsSoundInfo info → HasInfoTexts info → IsSoundInfo info
+info_sound info sound texts = record {
+  from = account_sound info.from sound.from texts.0;
+  to = account_sound info.to sound.to texts.1;
+  amount = sound.amount;
+  due = sound.due;
+}
+
+pub mail_sound : (mail : MailText) → file.IsSoundMail mail → HasMailTexts mail → IsSoundMail mail
+mail_sound mail sound texts = record {
+  created = sound.created;
+  sender = text_within 32 mail.sender sound.sender texts.sender;
+  target = text_within 32 mail.target sound.target texts.target;
+  subject = text_within 64 mail.subject sound.subject texts.subject;
+  body = text_within 10000 mail.body sound.body texts.body;
+}
+
+pub object_sound : (object : ObjectName) → file.IsSoundObject object → HasObjectTexts object → IsSoundObject object
+object_sound (objects.Intra account) sound texts = account_sound account sound texts
+object_sound (objects.RecIntra account) sound texts = account_sound account sound texts
+object_sound (objects.BankMail account) sound texts = account_sound account sound texts
+object_sound objects.Mail sound texts = tt
+
+-- ---- the bank's own texts
+
+pub zero_within : (most : ℕ) → 1 ≤ most → IsTextWithin most (codes "0")
+zero_within most some = record {
+  is_text = record { is_trimmed = refl; is_clean = refl; is_short = omega arith };
+  is_there = omega arith;
+  is_within = omega arith;
+}
+
+pub bank_within : IsTextWithin 32 (codes "BANK")
+bank_within = record {
+  is_text = record { is_trimmed = refl; is_clean = refl; is_short = omega arith };
+  is_there = omega arith;
+  is_within = omega arith;
+}

@@ -1,0 +1,13 @@
+use Rattle.bank_model.specs.Rules.{opening_state}
+use Rattle.bank_core.specs.Runs.{after_all}
+use Rattle.bank_replies.proofs.SoundReplies.{poll_sound}
+use Rattle.bank_replies.proofs.Runs.{told_run, run_answer}
+use Rattle.bank_replies.proofs.replies.answers_are_replies.Goals as goal
+
+pub returns-clause-file : goal.returns-clause-file
+returns-clause-file c = λ setup run user at sent within legal texts moment known sound told.
+    run_answer setup run user at sent c.replies_read_back.ensures within legal texts moment known sound told
+
+pub returns-clause-poll : goal.returns-clause-poll
+returns-clause-poll c = λ setup run user at sent within legal texts moment sound told poll.
+    c.replies_read_back.ensures _ (poll_sound setup (after_all setup opening_state run) user at sent within (told_run setup run c.replies_read_back.ensures within legal texts) moment sound told poll)

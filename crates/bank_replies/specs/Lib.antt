@@ -1,0 +1,4 @@
+pub mod Texts
+pub mod Telling
+pub mod Replies
+pub mod Requests

@@ -1,0 +1,32 @@
+-- The replies of a bank, and that they read back.
+use Rattle.std.specs.Prelude.{ℕ, List}
+use Rattle.std.specs.List.{AllByRecursion}
+use Rattle.ofx_types.specs.FileForm.{SpellsReply}
+use Rattle.ofx_types.specs.ReplyForm.{reply_text}
+use Rattle.ofx_types.specs.declared.number.Moment.{Moment}
+use Rattle.ofx_types.specs.declared.number.UserId.{UserId}
+use Rattle.ofx_types.specs.declared.request.RequestFile.{RequestFile}
+use Rattle.ofx_types.specs.declared.reply.ReplyFile.{ReplyFile}
+use Rattle.bank_model.specs.declared.setup.Setup.{Setup}
+use Rattle.bank_model.specs.declared.event.State.{State}
+use Rattle.bank_model.specs.Rules.{raised, ask_answers, reply_file}
+use Rattle.bank_core.specs.Runs.{Happening}
+use Rattle.ofx_file.specs.Written.{wire_file}
+use Rattle.bank_replies.specs.Texts.{HasEventTexts}
+
+-- the reply to a file that is answered anew
+abbrev pub new_reply : Setup → State → UserId → Moment → RequestFile → ReplyFile
+new_reply setup S user at file = reply_file at file (ask_answers setup (raised S at) user at file.asks).replies
+
+-- What is printed of a reply spells that reply, with the model of each changed transfer set to 0, which the printed form
+-- doesn't tell.
+abbrev pub ReadsBack : ReplyFile → Type 0
+ReadsBack reply = SpellsReply (reply_text reply) (wire_file reply)
+
+-- The bytes are a printed reply.
+abbrev pub IsReply : List ℕ → Type 0
+IsReply bytes = (reply : ReplyFile) × SpellsReply bytes reply
+
+-- The texts of each event are texts.
+abbrev pub HaveTexts : List Happening → Type 0
+HaveTexts run = AllByRecursion (λ (happening : Happening). HasEventTexts happening.event) run

@@ -1,0 +1,66 @@
+//! The replies of a bank.
+
+ghost use Rattle.std.specs.Prelude.{◌≡◌, ◌<◌, length, List, true, None};
+ghost use Rattle.ofx_types.specs.Calendar.{IsMoment};
+ghost use Rattle.ofx_types.specs.ReplyForm.{reply_text};
+ghost use Rattle.ofx_types.specs.declared.number.Moment.{Moment};
+ghost use Rattle.ofx_types.specs.declared.number.UserId.{UserId};
+ghost use Rattle.ofx_types.specs.declared.request.RequestFile.{RequestFile};
+ghost use Rattle.bank_model.specs.declared.event.Event.TheVariants.{File};
+ghost use Rattle.bank_model.specs.declared.event.State.{State};
+ghost use Rattle.bank_model.specs.declared.setup.Setup.{Setup};
+ghost use Rattle.bank_model.specs.SetupForm.{IsWithinLimits};
+ghost use Rattle.bank_model.specs.Sound.{IsSound};
+ghost use Rattle.bank_model.specs.Polls.{is_poll, poll_reply};
+ghost use Rattle.bank_model.specs.Rules.{raised, opening_state, kept_for, answer_to, denial};
+ghost use Rattle.bank_core.specs.Runs.{Happening, after_all, AreLegal};
+ghost use Rattle.bank_core.specs.Standing.{IsSoundState};
+ghost use Rattle.bank_replies.specs.Texts.{HasTexts};
+ghost use Rattle.bank_replies.specs.Telling.{IsTellable};
+ghost use Rattle.bank_replies.specs.Replies.{new_reply, ReadsBack, IsReply, HaveTexts};
+
+use ofx_file::replies_read_back;
+
+/// A file whose name isn't kept is answered by its new reply, and this reads back. Each state that a bank comes to is sound
+/// and tellable.
+pub fn new_replies_read_back()
+    ensures answer { (setup : Setup) (S : State) (user : UserId) (at : Moment) (file : RequestFile)
+        → kept_for (raised S at) user file.newer ≡ None
+        → answer_to setup S at (File user file) ≡ reply_text (new_reply setup S user at file) }
+    ensures back { (setup : Setup) (S : State) (user : UserId) (at : Moment) (file : RequestFile) → IsWithinLimits setup
+        → IsSoundState setup S → IsTellable setup S → IsMoment at.0 → user.0 < length setup.users → IsSound file
+        → HasTexts file → ReadsBack (new_reply setup S user at file) }
+{
+    replies_read_back();
+}
+
+/// Whatever a bank answers to a user's file, after any events from its opening, is a printed reply: the new reply, or the
+/// kept bytes of an earlier one. The reply to a poll is one too.
+pub fn answers_are_replies()
+    ensures file { (setup : Setup) (run : List Happening) (user : UserId) (at : Moment) (file : RequestFile)
+        → IsWithinLimits setup → AreLegal setup opening_state run → HaveTexts run → IsMoment at.0
+        → user.0 < length setup.users → IsSound file → HasTexts file
+        → IsReply (answer_to setup (after_all setup opening_state run) at (File user file)) }
+    ensures poll { (setup : Setup) (run : List Happening) (user : UserId) (at : Moment) (file : RequestFile)
+        → IsWithinLimits setup → AreLegal setup opening_state run → HaveTexts run → IsMoment at.0
+        → IsSound file → HasTexts file → is_poll file ≡ true
+        → ReadsBack (poll_reply setup (after_all setup opening_state run) user at file) }
+{
+    replies_read_back();
+}
+
+/// The reply to a file whose signon failed reads back.
+pub fn denials_read_back()
+    ensures { (file : RequestFile) (at : Moment) → IsMoment at.0 → IsSound file → HasTexts file → ReadsBack (denial file at) }
+{
+    replies_read_back();
+}
+
+/// The reply to a poll reads back.
+pub fn polls_read_back()
+    ensures { (setup : Setup) (S : State) (user : UserId) (at : Moment) (file : RequestFile) → IsWithinLimits setup
+        → IsTellable setup S → IsMoment at.0 → IsSound file → HasTexts file → is_poll file ≡ true
+        → ReadsBack (poll_reply setup S user at file) }
+{
+    replies_read_back();
+}
