@@ -1,0 +1,6 @@
+pub mod Alike
+pub mod AtHand
+pub mod Exactness
+pub mod OneOpening
+pub mod RunLemmas
+pub mod Taking

@@ -1,0 +1,65 @@
+-- A bank that opens from its kept records, and why it doesn't.
+use Rattle.std.specs.Prelude.{◌≡◌, ℕ, ◌+◌, ◌<◌, List, ◌∷◌, ◌++◌, length, slice_index_or, Option, ⊤}
+use Rattle.std.specs.Option.{IfSome}
+use Rattle.ofx_types.specs.declared.number.Moment.{Moment}
+use Rattle.bank_model.specs.Rules.{opening_state, IsLegal}
+use Rattle.bank_model.specs.declared.setup.Setup.{Setup}
+use Rattle.bank_model.specs.declared.event.State.{State}
+use Rattle.bank_model.specs.declared.event.Event.{Event}
+use Rattle.bank_accounts.specs.AccountView.{AccountView}
+use Rattle.bank_core.specs.Balanced.{AreBalanced}
+use Rattle.event_codec.specs.Reading.{IsRecordFault, fault_place}
+use Rattle.event_codec.specs.Records.{Codes, Reopens}
+use Rattle.event_codec.specs.declared.fault.RecordFault.{RecordFault}
+use Rattle.bank_replay.specs.declared.fault.OpenFault.{OpenFault}
+use Rattle.bank_replay.specs.declared.fault.OpenFault.TheVariants.{Read, Record, Illegal, OutOfMemory}
+
+-- The bank stands for a list of records, each of which codes an event that is legal after those before it. Where the records
+-- are told it is that list.
+pub record Stands (setup : Setup) (told : Option (List (List ℕ))) (state : State) : Type 0 where
+  pub records : List (List ℕ)
+  pub are_told : IfSome told (λ all. all ≡ records)
+  pub reopens : Reopens setup opening_state records state
+
+-- There is one account for each account line. They are numbered from 0 in their order, and each has its balance of the
+-- state.
+pub record AreAccountsIn (setup : Setup) (state : State) (accounts : List AccountView) : Type 0 where
+  pub count : length accounts ≡ length setup.accounts
+  pub numbered : (k : ℕ) (d : AccountView) → k < length accounts → (slice_index_or accounts k d).number.0 ≡ k
+  pub balanced : AreBalanced setup state accounts
+
+-- Where the records are told, they begin with these, and this one is the next.
+abbrev pub BeginWith : Option (List (List ℕ)) → List (List ℕ) → List ℕ → Type 0
+BeginWith told before rec = IfSome told (λ all. (more : List (List ℕ)) × (all ≡ before ++ rec ∷ more))
+
+-- The record of this number is the first that codes no event: the ones before it bring the bank to a state.
+pub record HasNoForm (setup : Setup) (told : Option (List (List ℕ))) (number place : ℕ) : Type 0 where
+  pub before : List (List ℕ)
+  pub rec : List ℕ
+  pub state : State
+  pub cause : RecordFault
+  pub begin : BeginWith told before rec
+  pub reopens : Reopens setup opening_state before state
+  pub number_is : number ≡ length before + 1
+  pub is_cause : IsRecordFault rec cause
+  pub place_is : place ≡ fault_place cause
+
+-- The record of this number is the first whose event isn't legal in the state that those before it brought the bank to.
+pub record IsNotLegal (setup : Setup) (told : Option (List (List ℕ))) (number : ℕ) : Type 0 where
+  pub before : List (List ℕ)
+  pub rec : List ℕ
+  pub state : State
+  pub at : Moment
+  pub event : Event
+  pub begin : BeginWith told before rec
+  pub reopens : Reopens setup opening_state before state
+  pub number_is : number ≡ length before + 1
+  pub codes : Codes rec at event
+  pub illegal : IsLegal setup state at event → ⊥
+
+-- Why a bank doesn't open, but for a read that failed and for want of memory.
+abbrev pub HasCause : Setup → Option (List (List ℕ)) → OpenFault → Type 0
+HasCause setup told Read = ⊤
+HasCause setup told (Record number place) = HasNoForm setup told number place
+HasCause setup told (Illegal number) = IsNotLegal setup told number
+HasCause setup told OutOfMemory = ⊤

@@ -1,0 +1,16 @@
+//! A bank that opens from its kept records. Each record codes an event, which happens again where it is legal after those
+//! before it. The book and its accounts then stand for all records, or the first record that stops them is told.
+#![tactic(auto)]
+
+mod fault;
+mod laws;
+mod records;
+mod replay;
+#[cfg(test)]
+mod tests;
+
+pub use fault::OpenFault;
+pub use laws::{
+    causes_open_nothing, one_cause, one_opening, reopened_books_are_right, reopenings_are_runs,
+};
+pub use records::reopen;

@@ -1,0 +1,111 @@
+//! The records of a keeper, read in order into a book.
+
+ghost use Rattle.std.specs.Prelude.{◌≡◌, ℕ, ◌∷◌, ◌≤◌, ◌⊎◌, [], false, IsSome, IsSomeAnd, IfOk, IfErr, OnOk, IsErrAnd, IsErrOf, MatchResult};
+ghost use Rattle.ofx_ports.specs.Faults.{CountsFaults};
+ghost use Rattle.ofx_ports.specs.Told.{Stays};
+ghost use Rattle.bank_model.specs.declared.event.State.{State};
+ghost use Rattle.bank_model.specs.Rules.{opening_state};
+ghost use Rattle.bank_model.specs.SetupForm.{IsWithinLimits};
+ghost use Rattle.event_codec.specs.Records.{Reopens};
+ghost use Rattle.bank_replay.specs.Opening.{Stands, AreAccountsIn, HasNoForm, IsNotLegal, HasCause};
+ghost use Rattle.bank_replay.specs.Replay.{IsKept, IsNotTaken, IsOfTheOutside};
+
+use crate::fault::OpenFault;
+use crate::laws::{causes_open_nothing, one_cause, one_opening};
+use crate::replay::Replay;
+use bank_accounts::Account;
+use bank_core::Book;
+use bank_model::{Printer, Setup};
+use event_codec::reopening_goes_on;
+use ofx_ports::Keeper;
+use std::alloc::Global;
+
+/// Opens the bank of that setup from the records that are kept: the book and its accounts stand for them.
+///
+/// - `Read` only where the keeper's count of faults rose in this call.
+/// - `Record(n, at)`: record n, from 1, is the first that codes no event, with the place of its first fault.
+/// - `Illegal(n)`: record n is the first whose event isn't legal after those before it.
+/// - `OutOfMemory`.
+pub fn reopen<K: Keeper, P: Printer>(
+    alloc: Global,
+    keeper: &mut K,
+    setup: Setup,
+    printer: P,
+) -> Result<(Book<P>, Vec<Account>), OpenFault>
+    requires settled { K.unsettled keeper.old ≡ false }
+    requires within { IsWithinLimits setup }
+    ensures setup { IfOk result (λ opened. opened.0.setup ≡ setup) }
+    ensures stands { IfOk result (λ opened. Stands setup (K.records keeper.old) opened.0.state) }
+    ensures accounts { IfOk result (λ opened. AreAccountsIn setup opened.0.state opened.1.items) }
+    ensures cause { IfErr result (HasCause setup (K.records keeper.old)) }
+
+    // Where the records are told they decide the answer, unless a read fails or memory is refused.
+    ensures opens { (state : State) → IsSomeAnd (K.records keeper.old) (λ all. Reopens setup opening_state all state)
+        → MatchResult result (λ opened. opened.0.state ≡ state) IsOfTheOutside }
+    ensures formless { (number place : ℕ) → IsSome (K.records keeper.old) → HasNoForm setup (K.records keeper.old) number place
+        → IsErrAnd result (λ fault. (fault ≡ OpenFault.Record number place) ⊎ IsOfTheOutside fault) }
+    ensures illegal { (number : ℕ) → IsSome (K.records keeper.old) → IsNotLegal setup (K.records keeper.old) number
+        → IsErrAnd result (λ fault. (fault ≡ OpenFault.Illegal number) ⊎ IsOfTheOutside fault) }
+
+    ensures list { Stays (K.records keeper.old) (K.records keeper.new) }
+    ensures settled { K.unsettled keeper.new ≡ false }
+    ensures size { K.size keeper.new ≡ K.size keeper.old }
+    ensures faults { CountsFaults (K.faults keeper.old) (K.faults keeper.new) (IsErrOf result OpenFault.Read) }
+{
+    one_opening();
+    one_cause();
+    causes_open_nothing();
+    take_all(alloc, keeper, setup, printer)
+}
+
+/// Lets the events of all records happen, from the first one on.
+fn take_all<K: Keeper, P: Printer>(
+    alloc: Global,
+    keeper: &mut K,
+    setup: Setup,
+    printer: P,
+) -> Result<(Book<P>, Vec<Account>), OpenFault>
+    requires settled { K.unsettled keeper.old ≡ false }
+    requires within { IsWithinLimits setup }
+    ensures setup { IfOk result (λ opened. opened.0.setup ≡ setup) }
+    ensures stands { IfOk result (λ opened. Stands setup (K.records keeper.old) opened.0.state) }
+    ensures accounts { IfOk result (λ opened. AreAccountsIn setup opened.0.state opened.1.items) }
+    ensures cause { IfErr result (HasCause setup (K.records keeper.old)) }
+    ensures list { Stays (K.records keeper.old) (K.records keeper.new) }
+    ensures settled { K.unsettled keeper.new ≡ false }
+    ensures size { K.size keeper.new ≡ K.size keeper.old }
+    ensures faults { CountsFaults (K.faults keeper.old) (K.faults keeper.new) (IsErrOf result OpenFault.Read) }
+{
+    reopening_goes_on();
+    let mut bank = Replay::begin(alloc, setup, printer)?;
+    let mut rec = Vec::new(alloc);
+    for before in 0..keeper.len() {
+        take_kept(alloc, keeper, &mut bank, before + 1, &mut rec)?;
+    }
+    Ok(bank.into_parts(alloc)?)
+}
+
+/// Fetches the record of this number into `rec`, and lets its event happen.
+fn take_kept<K: Keeper, P: Printer>(
+    alloc: Global,
+    keeper: &mut K,
+    bank: &mut Replay<P>,
+    number: u64,
+    rec: &mut Vec<u8>,
+) -> Result<(), OpenFault>
+    requires settled { K.unsettled keeper.old ≡ false }
+    requires first { 1 ≤ number }
+    requires last { number ≤ K.size keeper.old }
+    ensures setup { bank.new.setup ≡ bank.old.setup }
+    ensures kept { OnOk result (IsKept (K.records keeper.old) number rec.new.items) }
+    ensures taken { OnOk result (Reopens bank.old.setup bank.old.state (rec.new.items ∷ []) bank.new.state) }
+    ensures refused { IfErr result (λ fault. IsOfTheOutside fault
+        ⊎ (IsKept (K.records keeper.old) number rec.new.items × IsNotTaken bank.old.setup bank.old.state number rec.new.items fault)) }
+    ensures list { Stays (K.records keeper.old) (K.records keeper.new) }
+    ensures settled { K.unsettled keeper.new ≡ false }
+    ensures size { K.size keeper.new ≡ K.size keeper.old }
+    ensures faults { CountsFaults (K.faults keeper.old) (K.faults keeper.new) (IsErrOf result OpenFault.Read) }
+{
+    keeper.fetch(number, rec)?;
+    bank.take(alloc, number, rec)
+}

@@ -1,0 +1,12 @@
+pub mod Loops
+pub mod Steps
+pub mod NumberLaws
+pub mod BoundedLaws
+pub mod TextLaws
+pub mod PartLaws
+pub mod DeedLaws
+pub mod SyncLaws
+pub mod AskOrder
+pub mod AskLaws
+pub mod RecordLaws
+pub mod EventLaws

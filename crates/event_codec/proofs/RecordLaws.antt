@@ -1,0 +1,282 @@
+-- Whole records: what is read is coded so, and what is coded so is read.
+use Rattle.std.proofs.Common.{◌≡◌, ℕ, ◌^◌, ◌<◌, ◌≤◌, Bool, true, false, cond, nat_eq, leb, ◌&&◌, ◌||◌, List, [], ◌∷◌, ◌++◌, length, drop, Result, Ok, Err, refl, sym, ap, subst, ◌∙◌, ◌⊎◌, inl, inr, arith}
+use Rattle.std.proofs.lemmas.Bool.{eqb-true, eqb-false, eq-eqb, leb-true, le-leb}
+use Rattle.std.proofs.lemmas.List.{append-nil, drop_all}
+use Rattle.ofx_types.specs.Calendar.{IsMoment}
+use Rattle.ofx_types.specs.declared.number.Moment.{Moment}
+use Rattle.ofx_types.specs.declared.number.UserId.{UserId}
+use Rattle.ofx_types.specs.declared.request.RequestFile.{RequestFile}
+use Rattle.bank_model.specs.Sound.{IsVersion, IsSound}
+use Rattle.bank_model.specs.declared.event.Event.{Event}
+use Rattle.bank_model.specs.declared.event.Event.TheVariants.{File, Post, Spawn, Letter}
+use Rattle.event_codec.specs.declared.fault.RecordFault.{RecordFault}
+use Rattle.event_codec.specs.declared.fault.RecordFault.TheVariants as faults
+use Rattle.event_codec.specs.Coding.{u8_bytes, u16_bytes, u32_bytes, u64_bytes, i64_bytes, text_bytes, file_uid_bytes, asks_bytes, file_bytes, kind_of_event, event_bytes, coded}
+use Rattle.event_codec.specs.Texts.{HasKeptTexts}
+use Rattle.event_codec.specs.Records.{IsWithinBounds, IsTyped, IsKeepable, Codes}
+use Rattle.event_codec.specs.Reading.{version_at, file_event_at, post_at, spawn_at, letter_at, event_of, kind_at, behind_version, placed, record_read, kept}
+use Rattle.event_codec.specs.AskList.{AreAsks}
+use Rattle.event_codec.specs.Standing.{IsBytes, StandsAt, IsField}
+use Rattle.event_codec.proofs.Steps.{bind_ok, ok_is, pass_ok, fork, joined, apart, step}
+use Rattle.event_codec.proofs.NumberLaws.{u8_field}
+use Rattle.event_codec.proofs.BoundedLaws.{both, u16_field, u32_field, id_field, moment_field}
+use Rattle.event_codec.proofs.TextLaws.{file_uid_field}
+use Rattle.event_codec.proofs.PartLaws.{text64, text10000}
+use Rattle.event_codec.proofs.AskLaws.{asks_field}
+
+-- ---- the version of a file
+
+either : (a b : Bool) → (a || b) ≡ true → (a ≡ true) ⊎ (b ≡ true)
+either true b h = inl refl
+either false b h = inr h
+
+abbrev is_version : ℕ → Bool
+is_version n = nat_eq n 102 || nat_eq n 103 || nat_eq n 151 || nat_eq n 160
+
+version_is : (n : ℕ) → is_version n ≡ true → IsVersion n
+version_is n h =
+    elim (either (nat_eq n 102 || nat_eq n 103 || nat_eq n 151) (nat_eq n 160) h) [
+      | inl a ↦ elim (either (nat_eq n 102 || nat_eq n 103) (nat_eq n 151) a) [
+        | inl b ↦ elim (either (nat_eq n 102) (nat_eq n 103) b) [
+          | inl c ↦ inl (eqb-true _ _ c)
+          | inr c ↦ inr (inl (eqb-true _ _ c))
+        ]
+        | inr b ↦ inr (inr (inl (eqb-true _ _ b)))
+      ]
+      | inr a ↦ inr (inr (inr (eqb-true _ _ a)))
+    ]
+
+is_version-true : (n : ℕ) → IsVersion n → is_version n ≡ true
+is_version-true n (inl h) = ap is_version h
+is_version-true n (inr (inl h)) = ap is_version h
+is_version-true n (inr (inr (inl h))) = ap is_version h
+is_version-true n (inr (inr (inr h))) = ap is_version h
+
+version_small : (n : ℕ) → IsVersion n → n < 2 ^ 16
+version_small n (inl h) = omega arith
+version_small n (inr (inl h)) = omega arith
+version_small n (inr (inr (inl h))) = omega arith
+version_small n (inr (inr (inr h))) = omega arith
+
+version_field : IsField version_at u16_bytes IsVersion
+unfolding version_at
+version_field = record {
+  stands = λ rec at found bytes le e.
+      let s = step u16_field rec at _ found bytes le e in
+      let g = pass_ok (is_version s.value) at (Ok (s.value, s.next)) found s.rest in
+      subst (λ (f : ℕ × ℕ). StandsAt rec at (u16_bytes f.0) f.1 × IsVersion f.0) (ok_is (s.value, s.next) found g.1) (s.stands, version_is s.value g.0);
+  again = λ rec at n next le p fits. rw (u16_field.again rec at n next le p (version_small n fits), is_version-true n fits) refl;
+}
+
+-- ---- events of each kind
+
+pub record EventStands (kind : ℕ) (rec : List ℕ) (at : ℕ) (found : Event × ℕ) : Type 0 where
+  pub stands : StandsAt rec at (event_bytes found.0) found.1
+  pub keepable : IsKeepable found.0
+  pub nameless : found.0 ≡ kept found.0
+  pub is_kind : kind_of_event found.0 ≡ kind
+
+file_stands : (rec : List ℕ) (at : ℕ) (found : Event × ℕ) → IsBytes rec → at ≤ length rec → file_event_at rec at ≡ Ok found → EventStands 1 rec at found
+unfolding file_event_at event_bytes file_bytes
+file_stands rec at found bytes le e =
+    let user = step u32_field rec at _ found bytes le e in
+    let version = step version_field rec user.next _ found bytes user.stands.within user.rest in
+    let older = step file_uid_field rec version.next _ found bytes version.stands.within version.rest in
+    let newer = step file_uid_field rec older.next _ found bytes older.stands.within older.rest in
+    let asks = step asks_field rec newer.next _ found bytes newer.stands.within newer.rest in
+    let file : RequestFile = record { version = version.value; older = older.value; newer = newer.value; user = []; pass = []; asks = asks.value } in
+    let by : UserId = record { 0 = user.value } in
+    let made : Event × ℕ = (File by file, asks.next) in
+    let sound : IsSound file = record { version = version.fits; few = asks.fits.few; bank_first = asks.fits.bank_first; asks = asks.fits.sound } in
+    let texts : HasKeptTexts file = record { older = older.fits; newer = newer.fits; asks = asks.fits.texts } in
+    let whole : EventStands 1 rec at made = record {
+      stands = joined user.stands (joined (joined (joined version.stands older.stands) newer.stands) asks.stands);
+      keepable = (user.fits, sound, texts);
+      nameless = refl;
+      is_kind = refl;
+    } in
+    subst (EventStands 1 rec at) {x = made} (ok_is made found asks.rest) whole
+
+post_stands : (rec : List ℕ) (at : ℕ) (found : Event × ℕ) → IsBytes rec → at ≤ length rec → post_at rec at ≡ Ok found → EventStands 2 rec at found
+unfolding post_at event_bytes
+post_stands rec at found bytes le e =
+    let id = step id_field rec at _ found bytes le e in
+    let made : Event × ℕ = (Post id.value, id.next) in
+    subst (EventStands 2 rec at) {x = made} (ok_is made found id.rest) (record { stands = id.stands; keepable = id.fits; nameless = refl; is_kind = refl })
+
+spawn_stands : (rec : List ℕ) (at : ℕ) (found : Event × ℕ) → IsBytes rec → at ≤ length rec → spawn_at rec at ≡ Ok found → EventStands 3 rec at found
+unfolding spawn_at event_bytes
+spawn_stands rec at found bytes le e =
+    let model = step id_field rec at _ found bytes le e in
+    let place = step u32_field rec model.next _ found bytes model.stands.within model.rest in
+    let made : Event × ℕ = (Spawn model.value place.value, place.next) in
+    subst (EventStands 3 rec at) {x = made} (ok_is made found place.rest) (record { stands = joined model.stands place.stands; keepable = (model.fits, place.fits); nameless = refl; is_kind = refl })
+
+letter_stands : (rec : List ℕ) (at : ℕ) (found : Event × ℕ) → IsBytes rec → at ≤ length rec → letter_at rec at ≡ Ok found → EventStands 4 rec at found
+unfolding letter_at event_bytes
+letter_stands rec at found bytes le e =
+    let user = step u32_field rec at _ found bytes le e in
+    let subject = step text64 rec user.next _ found bytes user.stands.within user.rest in
+    let body = step text10000 rec subject.next _ found bytes subject.stands.within subject.rest in
+    let by : UserId = record { 0 = user.value } in
+    let made : Event × ℕ = (Letter by subject.value body.value, body.next) in
+    let whole : EventStands 4 rec at made = record {
+      stands = joined (joined user.stands subject.stands) body.stands;
+      keepable = (user.fits, (subject.fits.1, subject.fits.0), (body.fits.1, body.fits.0));
+      nameless = refl;
+      is_kind = refl;
+    } in
+    subst (EventStands 4 rec at) {x = made} (ok_is made found body.rest) whole
+
+numbered : (kind k : ℕ) (rec : List ℕ) (at : ℕ) (found : Event × ℕ) → kind ≡ k → EventStands k rec at found → EventStands kind rec at found
+numbered kind k rec at found h d = record { stands = d.stands; keepable = d.keepable; nameless = d.nameless; is_kind = d.is_kind ∙ sym h }
+
+other : (kind k : ℕ) → nat_eq kind k ≡ false → kind ≡ k → ⊥
+other kind k h same = eqb-false kind k h same
+
+event_stands : (kind : ℕ) (rec : List ℕ) (at : ℕ) (found : Event × ℕ) → IsBytes rec → at ≤ length rec → 1 ≤ kind → kind ≤ 4 → event_of kind rec at ≡ Ok found → EventStands kind rec at found
+unfolding event_of
+event_stands kind rec at found bytes le low high e =
+    fork (nat_eq kind 1) e (λ h e. numbered kind 1 rec at found (eqb-true _ _ h) (file_stands rec at found bytes le e)) (λ not1 e.
+    fork (nat_eq kind 2) e (λ h e. numbered kind 2 rec at found (eqb-true _ _ h) (post_stands rec at found bytes le e)) (λ not2 e.
+    fork (nat_eq kind 3) e (λ h e. numbered kind 3 rec at found (eqb-true _ _ h) (spawn_stands rec at found bytes le e)) (λ not3 e.
+    let is4 : kind ≡ 4 = omega (arith, other kind 1 not1, other kind 2 not2, other kind 3 not3) in
+    numbered kind 4 rec at found is4 (letter_stands rec at found bytes le e))))
+
+pub event_again : (rec : List ℕ) (at : ℕ) (event : Event) (next : ℕ) → at ≤ length rec → StandsAt rec at (event_bytes event) next → IsKeepable event → event_of (kind_of_event event) rec at ≡ Ok (kept event, next)
+unfolding event_of event_bytes file_bytes file_event_at post_at spawn_at letter_at
+event_again rec at (File user file) next le p fits =
+    let u = apart rec at (u32_bytes user.0) (u16_bytes file.version ++ file_uid_bytes file.older ++ file_uid_bytes file.newer ++ asks_bytes file.asks) next le p in
+    let a = apart rec u.mid (u16_bytes file.version ++ file_uid_bytes file.older ++ file_uid_bytes file.newer) (asks_bytes file.asks) next u.first.within u.second in
+    let n = apart rec u.mid (u16_bytes file.version ++ file_uid_bytes file.older) (file_uid_bytes file.newer) a.mid u.first.within a.first in
+    let o = apart rec u.mid (u16_bytes file.version) (file_uid_bytes file.older) n.mid u.first.within n.first in
+    let asks : AreAsks file.asks = record { few = fits.1.few; bank_first = fits.1.bank_first; sound = fits.1.asks; texts = fits.2.asks } in
+    rw (
+      u32_field.again rec at user.0 u.mid le u.first fits.0,
+      version_field.again rec u.mid file.version o.mid u.first.within o.first fits.1.version,
+      file_uid_field.again rec o.mid file.older n.mid o.first.within o.second fits.2.older,
+      file_uid_field.again rec n.mid file.newer a.mid n.first.within n.second fits.2.newer,
+      asks_field.again rec a.mid file.asks next a.first.within a.second asks,
+    ) refl
+event_again rec at (Post id) next le p fits = rw (id_field.again rec at id next le p fits) refl
+event_again rec at (Spawn model place) next le p fits =
+    let a = apart rec at (u64_bytes model) (u32_bytes place) next le p in
+    rw (id_field.again rec at model a.mid le a.first fits.0, u32_field.again rec a.mid place next a.first.within a.second fits.1) refl
+event_again rec at (Letter user subject body) next le p fits =
+    let b = apart rec at (u32_bytes user.0 ++ text_bytes subject) (text_bytes body) next le p in
+    let s = apart rec at (u32_bytes user.0) (text_bytes subject) b.mid le b.first in
+    rw (
+      u32_field.again rec at user.0 s.mid le s.first fits.0,
+      text64.again rec s.mid subject b.mid s.first.within s.second (fits.1.1, fits.1.0),
+      text10000.again rec b.mid body next b.first.within b.second (fits.2.1, fits.2.0),
+    ) refl
+
+-- ---- what stands behind the version
+
+kind_field : IsField kind_at u8_bytes (λ kind. (1 ≤ kind) × (kind ≤ 4))
+unfolding kind_at
+kind_field = record {
+  stands = λ rec at found bytes le e.
+      let s = step u8_field rec at _ found bytes le e in
+      let g = pass_ok (leb 1 s.value && leb s.value 4) at (Ok (s.value, s.next)) found s.rest in
+      let b = both (leb 1 s.value) (leb s.value 4) g.0 in
+      let low : 1 ≤ s.value = leb-true _ _ b.0 in
+      let high : s.value ≤ 4 = leb-true _ _ b.1 in
+      subst (λ (f : ℕ × ℕ). StandsAt rec at (u8_bytes f.0) f.1 × ((1 ≤ f.0) × (f.0 ≤ 4))) (ok_is (s.value, s.next) found g.1) (s.stands, (low, high));
+  again = λ rec at n next le p fits.
+      let low : leb 1 n ≡ true = le-leb _ _ fits.0 in
+      let high : leb n 4 ≡ true = le-leb _ _ fits.1 in
+      rw (u8_field.again rec at n next le p (omega (arith, fits.1)), low, high) refl;
+}
+
+-- what a record holds behind its version
+pub record Holds (rec : List ℕ) (found : Event × Moment) : Type 0 where
+  pub stands : StandsAt rec 1 (kind_of_event found.0 ∷ i64_bytes found.1.0 ++ event_bytes found.0) (length rec)
+  pub moment : IsMoment found.1.0
+  pub keepable : IsKeepable found.0
+  pub nameless : found.0 ≡ kept found.0
+
+behind_holds : (rec : List ℕ) (found : Event × Moment) → IsBytes rec → 1 ≤ length rec → behind_version rec ≡ Ok found → Holds rec found
+unfolding behind_version
+behind_holds rec found bytes le e =
+    let kind = step kind_field rec 1 _ found bytes le e in
+    let at = step moment_field rec kind.next _ found bytes kind.stands.within kind.rest in
+    let b = bind_ok (event_of kind.value rec at.next) (λ event. cond (nat_eq event.1 (length rec)) (Ok (event.0, at.value)) (Err event.1)) found at.rest in
+    let event = event_stands kind.value rec at.next b.0 bytes at.stands.within kind.fits.0 kind.fits.1 b.1 in
+    let g = pass_ok (nat_eq b.0.1 (length rec)) b.0.1 (Ok (b.0.0, at.value)) found b.2 in
+    let at_end : b.0.1 ≡ length rec = eqb-true _ _ g.0 in
+    let made : Event × Moment = (b.0.0, at.value) in
+    let head : StandsAt rec 1 (kind_of_event b.0.0 ∷ []) kind.next = subst (λ (k : ℕ). StandsAt rec 1 (k ∷ []) kind.next) (sym event.is_kind) kind.stands in
+    let tail : StandsAt rec at.next (event_bytes b.0.0) (length rec) = subst (StandsAt rec at.next (event_bytes b.0.0)) at_end event.stands in
+    let whole : Holds rec made = record { stands = joined (joined head at.stands) tail; moment = at.fits; keepable = event.keepable; nameless = event.nameless } in
+    subst (Holds rec) {x = made} (ok_is made found g.1) whole
+
+kind_within : (event : Event) → (1 ≤ kind_of_event event) × (kind_of_event event ≤ 4)
+kind_within (File user file) = (omega arith, omega arith)
+kind_within (Post id) = (omega arith, omega arith)
+kind_within (Spawn model place) = (omega arith, omega arith)
+kind_within (Letter user subject body) = (omega arith, omega arith)
+
+behind_again : (rec : List ℕ) (at : Moment) (event : Event) → 1 ≤ length rec → StandsAt rec 1 (kind_of_event event ∷ i64_bytes at.0 ++ event_bytes event) (length rec) → IsMoment at.0 → IsKeepable event → behind_version rec ≡ Ok (kept event, at)
+unfolding behind_version
+behind_again rec at event le p moment keepable =
+    let e = apart rec 1 (kind_of_event event ∷ i64_bytes at.0) (event_bytes event) (length rec) le p in
+    let m = apart rec 1 (kind_of_event event ∷ []) (i64_bytes at.0) e.mid le e.first in
+    let at_end : nat_eq (length rec) (length rec) ≡ true = eq-eqb _ _ refl in
+    rw (
+      kind_field.again rec 1 (kind_of_event event) m.mid le m.first (kind_within event),
+      moment_field.again rec m.mid at e.mid m.first.within m.second moment,
+      event_again rec e.mid event (length rec) e.first.within e.second keepable,
+      at_end,
+    ) refl
+
+-- ---- whole records
+
+passed : {A : Type 0} (b : Bool) (fault : RecordFault) (r : Result A RecordFault) (y : A) → cond b r (Err fault) ≡ Ok y → (b ≡ true) × (r ≡ Ok y)
+passed true fault r y e = (refl, e)
+passed false fault r y e = absurd cc
+
+unplaced : {A : Type 0} (r : Result A ℕ) (y : A) → placed r ≡ Ok y → r ≡ Ok y
+unplaced (Ok x) y e = cc
+unplaced (Err place) y e = absurd cc
+
+-- nothing stands behind the end
+end_is : (rec : List ℕ) → drop (length rec) rec ≡ []
+end_is rec = drop_all (length rec) rec (omega arith)
+
+within_of : (event : Event) → IsKeepable event → IsWithinBounds event
+within_of (File user file) k = k.1
+within_of (Post id) k = k
+within_of (Spawn model place) k = k.0
+within_of (Letter user subject body) k = (k.1.1, k.2.1)
+
+typed_of : (event : Event) → IsKeepable event → IsTyped event
+typed_of (File user file) k = (k.0, k.2)
+typed_of (Post id) k = tt
+typed_of (Spawn model place) k = k.1
+typed_of (Letter user subject body) k = (k.0, k.1.0, k.2.0)
+
+keepable_of : (event : Event) → IsWithinBounds event → IsTyped event → IsKeepable event
+keepable_of (File user file) within typed = (typed.0, within, typed.1)
+keepable_of (Post id) within typed = within
+keepable_of (Spawn model place) within typed = (within, typed)
+keepable_of (Letter user subject body) within typed = (typed.0, (typed.1, within.0), (typed.2, within.1))
+
+pub record_codes : (rec : List ℕ) (found : Event × Moment) → IsBytes rec → record_read rec ≡ Ok found → Codes rec found.1 found.0 × (found.0 ≡ kept found.0)
+unfolding record_read coded
+record_codes [] found bytes e = absurd cc
+record_codes (version ∷ rest) found bytes e =
+    let g = passed (nat_eq version 1) (faults.Version version) (placed (behind_version (version ∷ rest))) found e in
+    let one : version ≡ 1 = eqb-true _ _ g.0 in
+    let h = behind_holds (version ∷ rest) found bytes (omega arith) (unplaced _ found g.1) in
+    let tail : rest ≡ kind_of_event found.0 ∷ i64_bytes found.1.0 ++ event_bytes found.0 = h.stands.parts ∙ ap (λ (t : List ℕ). (kind_of_event found.0 ∷ i64_bytes found.1.0 ++ event_bytes found.0) ++ t) (end_is (version ∷ rest)) ∙ append-nil _ in
+    (record { moment = h.moment; within = within_of found.0 h.keepable; typed = typed_of found.0 h.keepable; spelled = ap (λ (v : ℕ). v ∷ rest) one ∙ ap (λ (t : List ℕ). 1 ∷ t) tail }, h.nameless)
+
+pub record_again : (rec : List ℕ) (at : Moment) (event : Event) → Codes rec at event → record_read rec ≡ Ok (kept event, at)
+unfolding record_read coded
+record_again rec at event codes =
+    let behind : List ℕ = kind_of_event event ∷ i64_bytes at.0 ++ event_bytes event in
+    let whole : List ℕ = 1 ∷ behind in
+    let p : StandsAt whole 1 behind (length whole) = record { parts = sym (append-nil behind) ∙ ap (λ (t : List ℕ). behind ++ t) (sym (end_is whole)); within = omega arith } in
+    let read : record_read whole ≡ Ok (kept event, at) = ap placed (behind_again whole at event (omega arith) p codes.moment (keepable_of event codes.within codes.typed)) in
+    ap record_read codes.spelled ∙ read

@@ -1,0 +1,11 @@
+use Rattle.std.proofs.Common.{◌≡◌, ◌++◌, length, take}
+use Rattle.std.specs.List.{flat_map, AllByRecursion}
+use Rattle.event_codec.specs.Coding.{u16_bytes, pair_bytes}
+use Rattle.event_codec.specs.Texts.{HasPairTexts}
+use Rattle.event_codec.proofs.sync.put_pairs.Given as goal
+
+abbrev pub invariant-loop-pair : goal.invariant-loop-pair
+invariant-loop-pair l = record {
+  bytes : l.out.items ≡ (l.fn.out.items ++ u16_bytes (length l.pairs)) ++ flat_map pair_bytes (take l.pair-index l.pairs);
+  typed : AllByRecursion HasPairTexts (take l.pair-index l.pairs);
+}
