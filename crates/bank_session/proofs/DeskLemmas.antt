@@ -26,14 +26,14 @@ use Rattle.bank_model.specs.declared.event.Event.{Event}
 use Rattle.bank_model.specs.declared.event.Event.TheVariants.{File, Post, Spawn, Letter}
 use Rattle.bank_model.specs.SetupLookups.{account_of}
 use Rattle.bank_model.specs.Ledger.{row_of}
-use Rattle.bank_model.specs.Rules.{named, named_by, named_by_deed, named_by_pair, named_by_object, named_by_row, opening_state, denial}
+use Rattle.bank_model.specs.Rules.{named, named_by, named_by_deed, named_by_pair, named_by_object, named_by_row, denial}
 use Rattle.ofx_types.specs.Calendar.{IsMoment}
 use Rattle.ofx_types.specs.Printable.{IsPrintable}
 use Rattle.ofx_types.specs.declared.number.Moment.{Moment}
 use Rattle.bank_accounts.specs.AccountView.{AccountView}
 use Rattle.bank_accounts.specs.HeldAccounts.{AreHeld, IsHeld, NumbersRise, HaveSameNumbers}
 use Rattle.bank_core.specs.Balanced.{AreBalanced}
-use Rattle.bank_core.specs.Opened.{AreOpened}
+use Rattle.bank_replay.specs.Opening.{AreAccountsIn}
 use Rattle.bank_session.specs.Desk.{HasAccounts}
 
 -- a place that is found is one of the list's
@@ -152,8 +152,8 @@ numbers_rise accounts places k more =
     omega (arith, first, second)
 
 -- the accounts of a bank that opens are all at hand
-pub opened_held : (setup : Setup) (accounts : List AccountView) → AreOpened setup accounts → HasAccounts setup opening_state accounts
-opened_held setup accounts opened = record {
+pub opened_held : (setup : Setup) (state : State) (accounts : List AccountView) → AreAccountsIn setup state accounts → HasAccounts setup state accounts
+opened_held setup state accounts opened = record {
   all = λ number h. at_place accounts (record { number = number; balance = record { 0 = pos 0 } }) (omega (arith, h, opened.count)) opened.numbered;
   balanced = opened.balanced;
 }

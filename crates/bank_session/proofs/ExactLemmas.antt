@@ -4,8 +4,6 @@ use Rattle.std.specs.List.{flat_map}
 use Rattle.std.specs.Io.KnownBytes.{Consumes, IsAtEnd, prepend_known}
 use Rattle.std.proofs.lemmas.List.{append_cancel_left, take_at}
 use Rattle.ofx_types.specs.declared.number.Moment.{Moment}
-use Rattle.bank_model.specs.SetupForm.{SpellsSetup}
-use Rattle.bank_model.specs.SetupFault.{IsSetupFault}
 use Rattle.bank_model.specs.declared.setup.Setup.{Setup}
 use Rattle.bank_model.specs.declared.event.State.{State}
 use Rattle.bank_session.specs.Frames.{Content, request, due_work, IsLength, frame, frame_head, frame_of, Fits, BeginsNoFrame}
@@ -13,14 +11,15 @@ use Rattle.bank_session.specs.Answers.{Turn, AreTurns, read_in}
 use Rattle.bank_session.specs.Determined.{AllFit, OneSplit, goes_on, falls_short, contents_of}
 use Rattle.bank_session.specs.RunEnd.{Taken, Finished, StoppedAtFrame}
 use Rattle.bank_session.specs.Outside.{Outside}
-use Rattle.bank_session.specs.Run.{EndsSo, DueEndsSo, told_of, told}
+use Rattle.bank_session.specs.Run.{EndsWithBank, EndsSo, told_of, told}
 use Rattle.ofx_types.specs.declared.told.Told.{Told}
 use Rattle.ofx_types.specs.declared.told.Note.TheVariants.{Place}
-use Rattle.bank_session.specs.SetupRead.{IsSetupOf, IsNoSetup}
-use Rattle.bank_session.specs.Exact.{RefusesSetup, Gives, AnswersAll, RefusesFrame, IsRun, RefusesDueSetup, DoesAll, IsDueCommand}
+use Rattle.bank_session.specs.Exact.{GaveUp, RefusesSetup, RefusesRecord, RefusesIllegal, Gives, AnswersAll, RefusesFrame, IsRun}
 use Rattle.bank_session.specs.declared.stop.Stop.{Stop}
 use Rattle.bank_session.specs.declared.stop.Stop.TheVariants as stops
 use Rattle.bank_session.proofs.Agreement.{heads_agree, kinds_apart}
+use Rattle.bank_session.specs.OneBank.{OneBank}
+use Rattle.bank_session.proofs.Unopened.{OneSetup, Unopened, unopened, unopened_setup, unopened_record, unopened_illegal, unopened_otherwise, opens_or_gave_up, or_gave_up, wider, unspelled_setup, IsBankOf, record_refused, illegal_refused}
 
 -- two files in frames in front of the same bytes are one
 one_frame : (a b x y : List ℕ) → IsLength (length a) → IsLength (length b) → frame a ++ x ≡ frame b ++ y → (a ≡ b) × (x ≡ y)
@@ -77,9 +76,9 @@ begun : (bytes : List ℕ) (content : Content) (rest tail : List ℕ) → Begins
 begun bytes content rest tail none fits e = none content (rest ++ tail) fits (e ∙ append_assoc (frame_of content) rest tail)
 
 -- how the turns of a run split an input that is told
-split_taken : (setup : Setup) (before after : Outside) (ahead : List ℕ) (turns : List Turn) (state : State) (contents : List Content) (rest : List ℕ) → Gives before contents rest → Taken setup before after turns state ahead →
+split_taken : (setup : Setup) (start : State) (before after : Outside) (ahead : List ℕ) (turns : List Turn) (state : State) (contents : List Content) (rest : List ℕ) → Gives before contents rest → Taken setup start before after turns state ahead →
     (tail : List ℕ) × (prepend_known ahead after.input_left ≡ Some tail) × OneSplit contents (contents_of turns) rest tail
-split_taken setup before after ahead turns state contents rest gives taken =
+split_taken setup start before after ahead turns state contents rest gives taken =
     let P : Option (List ℕ) → Type 0 = λ left. Consumes left (prepend_known ahead after.input_left) (read_in turns) in
     let behind = left_told (flat_map frame_of contents ++ rest) (read_in turns) (prepend_known ahead after.input_left) (subst P gives.input_is taken.read) in
     (behind.0, behind.1, one_split contents (contents_of turns) rest behind.0 gives.fit (turns_fit setup _ state turns taken.are_turns) (behind.2 ∙ ap (λ (l : List ℕ). l ++ behind.0) (contents_read turns)))
@@ -121,175 +120,131 @@ stuck_split contents turns rest tail fits fits' few few' (falls_short (m ∷ ms)
     absurd (omega (arith, few', full, ap length same, length-append contents (m ∷ ms), contents_counted turns))
 
 -- what stands behind the frames of a run that stopped at a frame
-more_left : (setup : Setup) (at : Option Moment) (before after : Outside) (place : ℕ) (stopped : StoppedAtFrame setup at before after place) (tail : List ℕ) → prepend_known stopped.ahead after.input_left ≡ Some tail → (tail ≢ []) × (BeginsNoFrame tail ⊎ (length stopped.turns ≡ 1000000))
-more_left setup at before after place stopped tail e =
+more_left : (setup : Setup) (start : State) (at : Option Moment) (before after : Outside) (place : ℕ) (stopped : StoppedAtFrame setup start at before after place) (tail : List ℕ) → prepend_known stopped.ahead after.input_left ≡ Some tail → (tail ≢ []) × (BeginsNoFrame tail ⊎ (length stopped.turns ≡ 1000000))
+more_left setup start at before after place stopped tail e =
     let P : Option (List ℕ) → Type 0 = λ coming. IfSome coming (λ rest. (rest ≢ []) × (BeginsNoFrame rest ⊎ (length stopped.turns ≡ 1000000))) in
     subst P e stopped.more
 
-no_more : (setup : Setup) (at : Option Moment) (before after : Outside) (place : ℕ) (contents : List Content) → Gives before contents [] → StoppedAtFrame setup at before after place → ⊥
-no_more setup at before after place contents gives stopped =
-    let split = split_taken setup before after stopped.ahead stopped.turns stopped.state contents [] gives stopped.taken in
-    let more = more_left setup at before after place stopped split.0 split.1 in
+no_more : (setup : Setup) (start : State) (at : Option Moment) (before after : Outside) (place : ℕ) (contents : List Content) → Gives before contents [] → StoppedAtFrame setup start at before after place → ⊥
+no_more setup start at before after place contents gives stopped =
+    let split = split_taken setup start before after stopped.ahead stopped.turns stopped.state contents [] gives stopped.taken in
+    let more = more_left setup start at before after place stopped split.0 split.1 in
     no_more_split contents stopped.turns split.0 gives.fit gives.few split.2 more.0 more.1
 
 -- a run that stops at a frame does so behind the contents of the input
-at_place : (setup : Setup) (at : Option Moment) (before after : Outside) (place : ℕ) (contents : List Content) (rest : List ℕ) → Gives before contents rest → (BeginsNoFrame rest ⊎ (length contents ≡ 1000000)) → StoppedAtFrame setup at before after place → place ≡ length (flat_map frame_of contents)
-at_place setup at before after place contents rest gives stuck stopped =
-    let split = split_taken setup before after stopped.ahead stopped.turns stopped.state contents rest gives stopped.taken in
-    let more = more_left setup at before after place stopped split.0 split.1 in
+at_place : (setup : Setup) (start : State) (at : Option Moment) (before after : Outside) (place : ℕ) (contents : List Content) (rest : List ℕ) → Gives before contents rest → (BeginsNoFrame rest ⊎ (length contents ≡ 1000000)) → StoppedAtFrame setup start at before after place → place ≡ length (flat_map frame_of contents)
+at_place setup start at before after place contents rest gives stuck stopped =
+    let split = split_taken setup start before after stopped.ahead stopped.turns stopped.state contents rest gives stopped.taken in
+    let more = more_left setup start at before after place stopped split.0 split.1 in
     let same : contents ≡ contents_of stopped.turns =
     stuck_split contents stopped.turns rest split.0 gives.fit (turns_fit setup _ stopped.state stopped.turns stopped.taken.are_turns) gives.few stopped.taken.few split.2 stuck more.1 in
     stopped.place_is ∙ ap length (contents_read stopped.turns ∙ ap (λ (l : List Content). flat_map frame_of l) (sym same))
 
-no_end : (setup : Setup) (at : Option Moment) (before after : Outside) (contents : List Content) (rest : List ℕ) → Gives before contents rest → rest ≢ [] → (BeginsNoFrame rest ⊎ (length contents ≡ 1000000)) → Finished setup at before after → ⊥
-no_end setup at before after contents rest gives some stuck finished =
-    let split = split_taken setup before after finished.ahead finished.turns finished.state contents rest gives finished.taken in
+no_end : (setup : Setup) (start : State) (at : Option Moment) (before after : Outside) (contents : List Content) (rest : List ℕ) → Gives before contents rest → rest ≢ [] → (BeginsNoFrame rest ⊎ (length contents ≡ 1000000)) → Finished setup start at before after → ⊥
+no_end setup start at before after contents rest gives some stuck finished =
+    let split = split_taken setup start before after finished.ahead finished.turns finished.state contents rest gives finished.taken in
     no_end_split contents finished.turns rest split.0 (turns_fit setup _ finished.state finished.turns finished.taken.are_turns) finished.taken.few split.2 some stuck (subst IsAtEnd split.1 finished.at_end)
 
--- a told setup that is spelled isn't refused
-spelled_setup : (before : Outside) (contents : List Content) (rest : List ℕ) (line : ℕ) → Gives before contents rest → IsNoSetup before.setup_left line → ⊥
-spelled_setup before contents rest line gives refused =
-    let P : Option (List ℕ) → Type 0 = λ left. IsNoSetup left line in (subst P gives.setup_is refused).0 gives.setup gives.spelled
+-- ---- a run over frames
 
--- and one that isn't is no run's
-pub unspelled_setup : (before : Outside) (text : List ℕ) (setup : Setup) → before.setup_left ≡ Some text → ((other : Setup) → SpellsSetup text other → ⊥) → IsSetupOf before.setup_left setup → ⊥
-unspelled_setup before text setup told none found =
-    let P : Option (List ℕ) → Type 0 = λ left. IsSetupOf left setup in none setup (subst P told found)
+-- how a run ends that has a bank
+bank_answers : (at : Option Moment) (before after : Outside) (end : Result (Unit {0}) Stop) → EndsWithBank at before after end → AnswersAll before after (told_of end)
+bank_answers at before after (Ok done) h = λ contents gives. inl refl
+bank_answers at before after (Err (stops.Frame place)) h = λ contents gives. absurd (no_more h.setup h.start at before after place contents gives h.ends)
+bank_answers at before after (Err stops.ReadFailed) h = λ contents gives. inr (inl (refl, inr h.ends.1))
+bank_answers at before after (Err stops.WriteFailed) h = λ contents gives. inr (inr (inl (refl, h.ends.1)))
+bank_answers at before after (Err stops.KeeperFailed) h = λ contents gives. inr (inr (inr (inl (refl, h.ends.1))))
+bank_answers at before after (Err stops.NoMemory) h = λ contents gives. inr (inr (inr (inr refl)))
+bank_answers at before after (Err stops.Usage) h = absurd h.ends
+bank_answers at before after (Err (stops.Setup line)) h = absurd h.ends
+bank_answers at before after (Err (stops.Records fault)) h = absurd h.ends
+bank_answers at before after (Err (stops.Letter fault)) h = absurd h.ends
 
--- the line of its fault is told
-pub fault_told : (before : Outside) (text : List ℕ) (line : ℕ) → before.setup_left ≡ Some text → IsNoSetup before.setup_left line → IsSetupFault text line
-fault_told before text line told refused =
-    let P : Option (List ℕ) → Type 0 = λ left. IsNoSetup left line in (subst P told refused).1
+bank_refuses : (at : Option Moment) (before after : Outside) (end : Result (Unit {0}) Stop) → EndsWithBank at before after end → RefusesFrame before after (told_of end)
+bank_refuses at before after (Ok done) h = λ contents rest gives some stuck. absurd (no_end h.setup h.start at before after contents rest gives some stuck h.ends)
+bank_refuses at before after (Err (stops.Frame place)) h =
+    λ contents rest gives some stuck. inl (ap (λ (k : ℕ). told 4 (Place k)) (at_place h.setup h.start at before after place contents rest gives stuck h.ends))
+bank_refuses at before after (Err stops.ReadFailed) h = λ contents rest gives some stuck. inr (inl (refl, inr h.ends.1))
+bank_refuses at before after (Err stops.WriteFailed) h = λ contents rest gives some stuck. inr (inr (inl (refl, h.ends.1)))
+bank_refuses at before after (Err stops.KeeperFailed) h = λ contents rest gives some stuck. inr (inr (inr (inl (refl, h.ends.1))))
+bank_refuses at before after (Err stops.NoMemory) h = λ contents rest gives some stuck. inr (inr (inr (inr refl)))
+bank_refuses at before after (Err stops.Usage) h = absurd h.ends
+bank_refuses at before after (Err (stops.Setup line)) h = absurd h.ends
+bank_refuses at before after (Err (stops.Records fault)) h = absurd h.ends
+bank_refuses at before after (Err (stops.Letter fault)) h = absurd h.ends
 
--- frames and nothing behind them end a run with 0
-pub answers_all : (at : Option Moment) (before after : Outside) (end : Result (Unit {0}) Stop) → EndsSo at before after end → AnswersAll before after (told_of end)
-answers_all at before after (Ok done) ends = λ contents gives. inl refl
-answers_all at before after (Err (stops.Letter fault)) (inl h) = absurd h.cause
-answers_all at before after (Err stops.Usage) (inl h) = absurd h.cause
-answers_all at before after (Err (stops.Letter fault)) (inr h) = absurd h.ends
-answers_all at before after (Err stops.Usage) (inr h) = absurd h.ends
-answers_all at before after (Err (stops.Setup line)) (inl h) = λ contents gives. absurd (spelled_setup before contents [] line gives h.cause)
-answers_all at before after (Err (stops.Setup line)) (inr h) = absurd h.ends
-answers_all at before after (Err (stops.Frame place)) (inl h) = absurd h.cause
-answers_all at before after (Err (stops.Frame place)) (inr h) = λ contents gives. absurd (no_more h.setup at before after place contents gives h.ends)
-answers_all at before after (Err stops.ReadFailed) (inl h) = λ contents gives. inr (inl (refl, inl h.cause))
-answers_all at before after (Err stops.ReadFailed) (inr h) = λ contents gives. inr (inl (refl, inr h.ends.1))
-answers_all at before after (Err stops.WriteFailed) (inl h) = absurd h.cause
-answers_all at before after (Err stops.WriteFailed) (inr h) = λ contents gives. inr (inr (inl (refl, h.ends.1)))
-answers_all at before after (Err stops.NoMemory) ends = λ contents gives. inr (inr (inr refl))
+bank_otherwise : (at : Option Moment) (before after : Outside) (end : Result (Unit {0}) Stop) → EndsWithBank at before after end → (told_of end).status.0 ≡ 2 → ⊥
+bank_otherwise at before after (Ok done) h two = absurd (omega (arith, two))
+bank_otherwise at before after (Err (stops.Frame place)) h two = absurd (omega (arith, two))
+bank_otherwise at before after (Err stops.ReadFailed) h two = absurd (omega (arith, two))
+bank_otherwise at before after (Err stops.WriteFailed) h two = absurd (omega (arith, two))
+bank_otherwise at before after (Err stops.KeeperFailed) h two = absurd (omega (arith, two))
+bank_otherwise at before after (Err stops.NoMemory) h two = absurd (omega (arith, two))
+bank_otherwise at before after (Err stops.Usage) h two = h.ends
+bank_otherwise at before after (Err (stops.Setup line)) h two = h.ends
+bank_otherwise at before after (Err (stops.Records fault)) h two = h.ends
+bank_otherwise at before after (Err (stops.Letter fault)) h two = h.ends
 
--- bytes behind the frames end it with 4, and their place is told
-pub refuses_frame : (at : Option Moment) (before after : Outside) (end : Result (Unit {0}) Stop) → EndsSo at before after end → RefusesFrame before after (told_of end)
-refuses_frame at before after (Ok done) h = λ contents rest gives some stuck. absurd (no_end h.setup at before after contents rest gives some stuck h.ends)
-refuses_frame at before after (Err (stops.Letter fault)) (inl h) = absurd h.cause
-refuses_frame at before after (Err stops.Usage) (inl h) = absurd h.cause
-refuses_frame at before after (Err (stops.Letter fault)) (inr h) = absurd h.ends
-refuses_frame at before after (Err stops.Usage) (inr h) = absurd h.ends
-refuses_frame at before after (Err (stops.Setup line)) (inl h) = λ contents rest gives some stuck. absurd (spelled_setup before contents rest line gives h.cause)
-refuses_frame at before after (Err (stops.Setup line)) (inr h) = absurd h.ends
-refuses_frame at before after (Err (stops.Frame place)) (inl h) = absurd h.cause
-refuses_frame at before after (Err (stops.Frame place)) (inr h) = λ contents rest gives some stuck. inl (ap (λ (k : ℕ). told 4 (Place k)) (at_place h.setup at before after place contents rest gives stuck h.ends))
-refuses_frame at before after (Err stops.ReadFailed) (inl h) = λ contents rest gives some stuck. inr (inl (refl, inl h.cause))
-refuses_frame at before after (Err stops.ReadFailed) (inr h) = λ contents rest gives some stuck. inr (inl (refl, inr h.ends.1))
-refuses_frame at before after (Err stops.WriteFailed) (inl h) = absurd h.cause
-refuses_frame at before after (Err stops.WriteFailed) (inr h) = λ contents rest gives some stuck. inr (inr (inl (refl, h.ends.1)))
-refuses_frame at before after (Err stops.NoMemory) ends = λ contents rest gives some stuck. inr (inr (inr refl))
+-- what a run comes to: it has no bank, or ends with the one that it has
+data Comes (at : Option Moment) (before after : Outside) (what : Told) : Type 0 where
+  without : Unopened before after what → Comes at before after what
+  with_bank : (setup : Setup) (start : State) → IsBankOf before setup start → AnswersAll before after what → RefusesFrame before after what → (what.status.0 ≡ 2 → ⊥) → Comes at before after what
 
--- a setup that isn't spelled ends it with 3, and its line is told
-pub refuses_setup : (at : Option Moment) (before after : Outside) (end : Result (Unit {0}) Stop) → EndsSo at before after end → RefusesSetup before after (told_of end)
-refuses_setup at before after (Ok done) h = λ text told none. absurd (unspelled_setup before text h.setup told none h.found)
-refuses_setup at before after (Err (stops.Letter fault)) (inl h) = absurd h.cause
-refuses_setup at before after (Err stops.Usage) (inl h) = absurd h.cause
-refuses_setup at before after (Err (stops.Setup line)) (inl h) = λ text told none. inl (line, fault_told before text line told h.cause, refl)
-refuses_setup at before after (Err (stops.Frame place)) (inl h) = absurd h.cause
-refuses_setup at before after (Err stops.ReadFailed) (inl h) = λ text told none. inr (inl (refl, inl h.cause))
-refuses_setup at before after (Err stops.WriteFailed) (inl h) = absurd h.cause
-refuses_setup at before after (Err stops.NoMemory) (inl h) = λ text told none. inr (inr (inr refl))
-refuses_setup at before after (Err stop) (inr h) = λ text told none. absurd (unspelled_setup before text h.setup told none h.found)
+with_its_bank : (at : Option Moment) (before after : Outside) (end : Result (Unit {0}) Stop) → EndsWithBank at before after end → Comes at before after (told_of end)
+with_its_bank at before after end h =
+    with_bank h.setup h.start (record { found = h.found; stands = h.stands }) (bank_answers at before after end h) (bank_refuses at before after end h) (bank_otherwise at before after end h)
+
+comes : (at : Option Moment) (before after : Outside) (end : Result (Unit {0}) Stop) → EndsSo at before after end → Comes at before after (told_of end)
+comes at before after (Ok done) h = with_its_bank at before after (Ok done) h
+comes at before after (Err stop) (inl h) = without (unopened before after stop h)
+comes at before after (Err stop) (inr h) = with_its_bank at before after (Err stop) h
+
+told_comes : (at : Option Moment) (before after : Outside) (end : Result (Unit {0}) Stop) (what : Told) → what ≡ told_of end → EndsSo at before after end → Comes at before after what
+told_comes at before after end what e ends = subst (Comes at before after) (sym e) (comes at before after end ends)
+
+refuses_setup : (at : Option Moment) (before after : Outside) (what : Told) → Comes at before after what → RefusesSetup before after what
+refuses_setup at before after what (without how) text left none = or_gave_up before after what _ (unopened_setup before after what how text left none)
+refuses_setup at before after what (with_bank setup start bank answers refuses never) text left none = absurd (unspelled_setup before text setup left none bank.found)
+
+refuses_record : OneSetup → OneBank → (at : Option Moment) (before after : Outside) (what : Told) → Comes at before after what → RefusesRecord GaveUp before after what
+refuses_record one opening at before after what (without how) setup records number place has unformed =
+    or_gave_up before after what _ (unopened_record one opening before after what how setup records number place has unformed)
+refuses_record one opening at before after what (with_bank found start bank answers refuses never) setup records number place has unformed =
+    absurd (record_refused one opening before setup found start records number place has unformed bank)
+
+refuses_illegal : OneSetup → OneBank → (at : Option Moment) (before after : Outside) (what : Told) → Comes at before after what → RefusesIllegal GaveUp before after what
+refuses_illegal one opening at before after what (without how) setup records number has illegal =
+    or_gave_up before after what _ (unopened_illegal one opening before after what how setup records number has illegal)
+refuses_illegal one opening at before after what (with_bank found start bank answers refuses never) setup records number has illegal =
+    absurd (illegal_refused one opening before setup found start records number has illegal bank)
+
+refuses_frame : OneSetup → OneBank → (at : Option Moment) (before after : Outside) (what : Told) → Comes at before after what → RefusesFrame before after what
+refuses_frame one opening at before after what (without how) contents rest gives some stuck =
+    inr (wider before after what (opens_or_gave_up one opening before after what gives.setup gives.start gives.opens how))
+refuses_frame one opening at before after what (with_bank setup start bank answers refuses never) contents rest gives some stuck = refuses contents rest gives some stuck
+
+answers_all : OneSetup → OneBank → (at : Option Moment) (before after : Outside) (what : Told) → Comes at before after what → AnswersAll before after what
+answers_all one opening at before after what (without how) contents gives =
+    inr (wider before after what (opens_or_gave_up one opening before after what gives.setup gives.start gives.opens how))
+answers_all one opening at before after what (with_bank setup start bank answers refuses never) contents gives = answers contents gives
 
 -- what a run comes to, by its end
-pub is_run : (at : Option Moment) (before after : Outside) (end : Result (Unit {0}) Stop) (what : Told) → what ≡ told_of end → EndsSo at before after end → IsRun at before after what
-is_run at before after end what e ends = record {
-  ends = record { end = end; told_is = e; ends = ends };
-  refuses_setup = subst (RefusesSetup before after) (sym e) (refuses_setup at before after end ends);
-  refuses_frame = subst (RefusesFrame before after) (sym e) (refuses_frame at before after end ends);
-  answers_all = subst (AnswersAll before after) (sym e) (answers_all at before after end ends);
-}
+pub is_run : OneSetup → OneBank → (at : Option Moment) (before after : Outside) (end : Result (Unit {0}) Stop) (what : Told) → what ≡ told_of end → EndsSo at before after end → IsRun at before after what
+is_run one opening at before after end what e ends =
+    let how = told_comes at before after end what e ends in
+    record {
+      ends = record { end = end; told_is = e; ends = ends };
+      refuses_setup = refuses_setup at before after what how;
+      refuses_record = refuses_record one opening at before after what how;
+      refuses_illegal = refuses_illegal one opening at before after what how;
+      refuses_frame = refuses_frame one opening at before after what how;
+      answers_all = answers_all one opening at before after what how;
+    }
 
--- ---- the command `due`
-
-pub no_setup_spelled : (before : Outside) (text : List ℕ) (setup : Setup) (line : ℕ) → before.setup_left ≡ Some text → SpellsSetup text setup → IsNoSetup before.setup_left line → ⊥
-no_setup_spelled before text setup line told spelled refused =
-    let P : Option (List ℕ) → Type 0 = λ left. IsNoSetup left line in (subst P told refused).0 setup spelled
-
--- a setup that is spelled ends the command with 0
-does_all : (before after : Outside) (end : Result (Unit {0}) Stop) → DueEndsSo before after end → DoesAll before after (told_of end)
-does_all before after (Ok done) ends = λ text setup told spelled. inl refl
-does_all before after (Err (stops.Letter fault)) (inl h) = absurd h.cause
-does_all before after (Err stops.Usage) (inl h) = absurd h.cause
-does_all before after (Err (stops.Letter fault)) (inr h) = absurd h.ends
-does_all before after (Err stops.Usage) (inr h) = absurd h.ends
-does_all before after (Err (stops.Setup line)) (inl h) = λ text setup told spelled. absurd (no_setup_spelled before text setup line told spelled h.cause)
-does_all before after (Err (stops.Setup line)) (inr h) = absurd h.ends
-does_all before after (Err (stops.Frame place)) (inl h) = absurd h.cause
-does_all before after (Err (stops.Frame place)) (inr h) = absurd h.ends
-does_all before after (Err stops.ReadFailed) (inl h) = λ text setup told spelled. inr (inl (refl, h.cause))
-does_all before after (Err stops.ReadFailed) (inr h) = absurd h.ends
-does_all before after (Err stops.WriteFailed) (inl h) = absurd h.cause
-does_all before after (Err stops.WriteFailed) (inr h) = λ text setup told spelled. inr (inr (inl (refl, h.ends.1)))
-does_all before after (Err stops.NoMemory) ends = λ text setup told spelled. inr (inr (inr refl))
-
--- and one that isn't with 3 and its line
-refuses_due_setup : (before after : Outside) (end : Result (Unit {0}) Stop) → DueEndsSo before after end → RefusesDueSetup before after (told_of end)
-refuses_due_setup before after (Ok done) h = λ text told none. absurd (unspelled_setup before text h.setup told none h.found)
-refuses_due_setup before after (Err (stops.Letter fault)) (inl h) = absurd h.cause
-refuses_due_setup before after (Err stops.Usage) (inl h) = absurd h.cause
-refuses_due_setup before after (Err (stops.Setup line)) (inl h) = λ text told none. inl (line, fault_told before text line told h.cause, refl)
-refuses_due_setup before after (Err (stops.Frame place)) (inl h) = absurd h.cause
-refuses_due_setup before after (Err stops.ReadFailed) (inl h) = λ text told none. inr (inl (refl, h.cause))
-refuses_due_setup before after (Err stops.WriteFailed) (inl h) = absurd h.cause
-refuses_due_setup before after (Err stops.NoMemory) (inl h) = λ text told none. inr (inr (inr refl))
-refuses_due_setup before after (Err stop) (inr h) = λ text told none. absurd (unspelled_setup before text h.setup told none h.found)
-
--- what the command comes to, by its end
-pub is_due_command : (before after : Outside) (end : Result (Unit {0}) Stop) (what : Told) → what ≡ told_of end → DueEndsSo before after end → IsDueCommand before after what
-is_due_command before after end what e ends = record {
-  ends = record { end = end; told_is = e; ends = ends };
-  refuses_setup = subst (RefusesDueSetup before after) (sym e) (refuses_due_setup before after end ends);
-  does_all = subst (DoesAll before after) (sym e) (does_all before after end ends);
-}
-
--- ---- no run ends as words without a form do
-
-of_end : (end : Result (Unit {0}) Stop) (what : Told) → what ≡ told_of end → what.status.0 ≡ 2 → (told_of end).status.0 ≡ 2
-of_end end what e two = ap (λ (t : Told). t.status.0) (sym e) ∙ two
-
-ends_otherwise : (at : Option Moment) (before after : Outside) (end : Result (Unit {0}) Stop) → EndsSo at before after end → (told_of end).status.0 ≡ 2 → ⊥
-ends_otherwise at before after (Ok done) ends two = absurd (omega (arith, two))
-ends_otherwise at before after (Err (stops.Letter fault)) (inl h) two = h.cause
-ends_otherwise at before after (Err stops.Usage) (inl h) two = h.cause
-ends_otherwise at before after (Err (stops.Letter fault)) (inr h) two = h.ends
-ends_otherwise at before after (Err stops.Usage) (inr h) two = h.ends
-ends_otherwise at before after (Err (stops.Setup line)) ends two = absurd (omega (arith, two))
-ends_otherwise at before after (Err (stops.Frame place)) ends two = absurd (omega (arith, two))
-ends_otherwise at before after (Err stops.ReadFailed) ends two = absurd (omega (arith, two))
-ends_otherwise at before after (Err stops.WriteFailed) ends two = absurd (omega (arith, two))
-ends_otherwise at before after (Err stops.NoMemory) ends two = absurd (omega (arith, two))
+-- no run ends as words without a form do
+never_two : (at : Option Moment) (before after : Outside) (what : Told) → Comes at before after what → what.status.0 ≡ 2 → ⊥
+never_two at before after what (without how) two = unopened_otherwise before after what how two
+never_two at before after what (with_bank setup start bank answers refuses never) two = never two
 
 pub never_usage : (at : Option Moment) (before after : Outside) (end : Result (Unit {0}) Stop) (what : Told) → what ≡ told_of end → EndsSo at before after end → what.status.0 ≡ 2 → ⊥
-never_usage at before after end what e ends two = ends_otherwise at before after end ends (of_end end what e two)
-
-due_ends_otherwise : (before after : Outside) (end : Result (Unit {0}) Stop) → DueEndsSo before after end → (told_of end).status.0 ≡ 2 → ⊥
-due_ends_otherwise before after (Ok done) ends two = absurd (omega (arith, two))
-due_ends_otherwise before after (Err (stops.Letter fault)) (inl h) two = h.cause
-due_ends_otherwise before after (Err stops.Usage) (inl h) two = h.cause
-due_ends_otherwise before after (Err (stops.Letter fault)) (inr h) two = h.ends
-due_ends_otherwise before after (Err stops.Usage) (inr h) two = h.ends
-due_ends_otherwise before after (Err (stops.Setup line)) ends two = absurd (omega (arith, two))
-due_ends_otherwise before after (Err (stops.Frame place)) ends two = absurd (omega (arith, two))
-due_ends_otherwise before after (Err stops.ReadFailed) ends two = absurd (omega (arith, two))
-due_ends_otherwise before after (Err stops.WriteFailed) ends two = absurd (omega (arith, two))
-due_ends_otherwise before after (Err stops.NoMemory) ends two = absurd (omega (arith, two))
-
-pub due_never_usage : (before after : Outside) (end : Result (Unit {0}) Stop) (what : Told) → what ≡ told_of end → DueEndsSo before after end → what.status.0 ≡ 2 → ⊥
-due_never_usage before after end what e ends two = due_ends_otherwise before after end ends (of_end end what e two)
+never_usage at before after end what e ends two = never_two at before after what (told_comes at before after end what e ends) two

@@ -1,3 +1,5 @@
+pub mod ToldLemmas
+pub mod Bounds
 pub mod Standing
 pub mod Lengths
 pub mod HeadLines
@@ -9,10 +11,15 @@ pub mod SetupSource
 pub mod Writing
 pub mod CommandWords
 pub mod DeskLemmas
-pub mod DueLemmas
+pub mod FileAnswers
+pub mod DueEvents
 pub mod TurnLemmas
 pub mod RunLemmas
+pub mod OpeningLemmas
+pub mod Stopping
+pub mod Unopened
 pub mod ExactLemmas
+pub mod DueCommand
 pub mod MailLemmas
 pub mod LineLemmas
 pub mod TurnEvents

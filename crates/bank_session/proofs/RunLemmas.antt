@@ -1,57 +1,97 @@
 -- How the turns of a run join.
-use Rattle.std.proofs.Common.{◌≡◌, ◌≢◌, ℕ, ◌<◌, ◌≤◌, ◌+◌, List, [], ◌∷◌, ◌++◌, length, Option, None, Some, IfSome, Result, Ok, Err, ◌⊎◌, inl, inr, arith, refl, sym, ap, ◌∙◌, subst, length-append}
+use Rattle.std.proofs.Common.{◌≡◌, ◌≢◌, ℕ, ◌<◌, ◌≤◌, ◌+◌, List, [], ◌∷◌, ◌++◌, length, Option, None, Some, IfSome, Result, Ok, Err, ◌⊎◌, inl, inr, arith, refl, sym, ap, ◌∙◌, subst, length-append, append-nil}
 use Rattle.std.specs.Io.KnownBytes.{Keeps, Consumes, IsAtEnd, prepend_known}
-use Rattle.std.proofs.KnownBytes.{Appends-nil, Appends-trans, Consumes-trans, Consumes-kept, Appends-kept}
+use Rattle.std.proofs.KnownBytes.{Appends-nil, Appends-trans, Consumes-trans, Consumes-kept, Appends-kept, Keeps-refl}
 use Rattle.std.proofs.lemmas.List.{flat_map_more}
 use Rattle.ofx_ports.specs.Faults.{Rose}
 use Rattle.ofx_types.specs.declared.number.Moment.{Moment}
-use Rattle.bank_model.specs.Rules.{opening_state}
 use Rattle.bank_model.specs.declared.setup.Setup.{Setup}
 use Rattle.bank_model.specs.declared.event.State.{State}
 use Rattle.bank_core.specs.BookView.{BookView}
 use Rattle.bank_session.specs.Frames.{Content, request, due_work, frame_head, frame_of, Fits, BeginsNoFrame}
-use Rattle.bank_session.specs.Answers.{Says, Turn, AreTurns, read_in, written_in}
+use Rattle.bank_session.specs.Answers.{Says, Turn, AreTurns, read_in, written_in, records_in, AreMoments, KeptInVain, KeptBeforeRefusal}
 use Rattle.bank_session.specs.Coming.{IsNoFrame}
-use Rattle.bank_session.specs.Outside.{Outside, outside}
-use Rattle.bank_session.specs.Turns.{TurnMade, NoTurn, TurnStops}
+use Rattle.bank_session.specs.Outside.{Outside}
+use Rattle.bank_session.specs.Turns.{Around, around, FrameAnswered, FrameStops}
+use Rattle.bank_session.specs.TurnResult.{TurnMade, NoTurn, TurnStops}
 use Rattle.bank_session.specs.RunEnd.{Taken, Finished, StoppedBetween, StoppedAtFrame, RunEnds}
-use Rattle.bank_session.specs.SetupRead.{IsSetupOf}
-use Rattle.bank_session.specs.DueEnd.{DueEnds}
-use Rattle.bank_session.specs.Run.{EndsSo, DueEndsSo}
 use Rattle.bank_session.specs.EndOrStop.{EndOrStop}
 use Rattle.bank_session.specs.declared.stop.Stop.{Stop}
 use Rattle.bank_session.specs.declared.stop.Stop.TheVariants as stops
 use Rattle.bank_session.proofs.Standing.{Standing}
 use Rattle.bank_session.proofs.Agreement.{head_is_short}
-use Rattle.bank_session.proofs.MomentLemmas.{no_moments, more_moments, kept_moments, stays_self, one_more_moment}
+use Rattle.bank_session.proofs.ToldLemmas.{stays_self, grows_nothing, grows_on, grows_kept}
+use Rattle.bank_session.proofs.MomentLemmas.{no_moments, more_moments, kept_moments, one_more_moment}
+
+-- what a run finds around it, and what is around it while some bytes are ahead
+abbrev pub found_in : Outside → Around
+found_in out = around out.input_left out.input_faults out.held out.out_faults out.records out.keeper_faults out.shown
+
+abbrev pub left_in : List ℕ → Outside → Around
+left_in ahead out = around (prepend_known ahead out.input_left) out.input_faults out.held out.out_faults out.records out.keeper_faults out.shown
 
 -- a turn behind the turns so far
-one_more : (setup : Setup) (before mid after : State) (turns : List Turn) (turn : Turn) → AreTurns setup before turns mid → Fits turn.content → Says setup turn.at mid turn.content turn.line after → AreTurns setup before (turns ++ turn ∷ []) after
-one_more setup before mid after [] turn same fits says = (after, fits, subst (λ (s : State). Says setup turn.at s turn.content turn.line after) same says, refl)
+one_more : (setup : Setup) (before mid after : State) (turns : List Turn) (turn : Turn) → AreTurns setup before turns mid → Fits turn.content → Says setup turn.at mid turn.content turn.line turn.records after → AreTurns setup before (turns ++ turn ∷ []) after
+one_more setup before mid after [] turn same fits says = (after, fits, subst (λ (s : State). Says setup turn.at s turn.content turn.line turn.records after) same says, refl)
 one_more setup before mid after (first ∷ turns) turn (next, there, said, rest) fits says = (next, there, said, one_more setup next mid after turns turn rest fits says)
 
--- what was read and written with one more turn
+-- what was read, written and kept with one more turn
 read_more : (turns : List Turn) (turn : Turn) → read_in turns ++ frame_of turn.content ≡ read_in (turns ++ turn ∷ [])
 read_more turns turn = flat_map_more (λ (t : Turn). frame_of t.content) [] turns turn
 
 written_more : (turns : List Turn) (turn : Turn) → written_in turns ++ turn.line ≡ written_in (turns ++ turn ∷ [])
 written_more turns turn = flat_map_more (λ (t : Turn). t.line) [] turns turn
 
+records_more : (turns : List Turn) (turn : Turn) → records_in turns ++ turn.records ≡ records_in (turns ++ turn ∷ [])
+records_more turns turn = flat_map_more (λ (t : Turn). t.records) [] turns turn
+
+-- what holds of a bank's setup holds of the run's
+of_run : (own setup : Setup) (P : Setup → Type 0) → own ≡ setup → P own → P setup
+of_run own setup P same known = subst P same known
+
+-- no turn is taken yet
+pub stands_first : (at : Option Moment) (book : BookView) (left : Option (List ℕ)) (reads : ℕ) (held : Option (List ℕ)) (writes : ℕ) (records : Option (List (List ℕ))) (keeps : ℕ) (shown : Option (List Moment)) →
+    Standing book.setup book.state at (around left reads held writes records keeps shown) 0 0 book (around (prepend_known [] left) reads held writes records keeps shown)
+stands_first at book left reads held writes records keeps shown = record {
+  turns = [];
+  counted = refl;
+  place_is = refl;
+  own = refl;
+  are_turns = refl;
+  read = nothing_ahead left;
+  kept = grows_nothing records records (stays_self records);
+  written = Appends-nil held;
+  moments = no_moments at shown shown (stays_self shown);
+  reads = omega arith;
+  writes = omega arith;
+  keeps = omega arith;
+}
+  where
+    nothing_ahead : (left : Option (List ℕ)) → Consumes left (prepend_known [] left) []
+    nothing_ahead None = tt
+    nothing_ahead (Some xs) = refl
+
 -- one turn more is taken
-pub next_turn : (setup : Setup) (at : Option Moment) (left held : Option (List ℕ)) (shown : Option (List Moment)) (count place : ℕ) (book after : BookView) (coming later now then : Option (List ℕ)) (seen seen' : Option (List Moment)) (size : ℕ) →
-    Standing setup at left held shown count place book coming now seen → TurnMade at book after coming later now then seen seen' size → Standing setup at left held shown (count + 1) (place + size) after later then seen'
-next_turn setup at left held shown count place book after coming later now then seen seen' size standing made =
-    let turn : Turn = record { content = made.content; at = made.moment; line = made.line } in
-    let says : Says setup made.moment book.state made.content made.line after.state = subst (λ (s : Setup). Says s made.moment book.state made.content made.line after.state) standing.own made.says in
+pub next_turn : (setup : Setup) (start : State) (at : Option Moment) (found now then : Around) (count place : ℕ) (book after : BookView) (size : ℕ) →
+    Standing setup start at found count place book now → TurnMade at book after now then size → now.reads ≤ then.reads → now.writes ≤ then.writes → now.keeps ≤ then.keeps →
+    Standing setup start at found (count + 1) (place + size) after then
+next_turn setup start at found now then count place book after size standing made reads writes keeps =
+    let it : FrameAnswered made.moment size book after now then = made.happened in
+    let turn : Turn = record { content = it.content; at = made.moment; line = it.line; records = it.says.0 } in
+    let says : Says setup made.moment book.state it.content it.line it.says.0 after.state = subst (λ (s : Setup). Says s made.moment book.state it.content it.line it.says.0 after.state) standing.own it.says.1 in
     record {
       turns = standing.turns ++ turn ∷ [];
       counted = omega (arith, standing.counted, length-append standing.turns (turn ∷ []));
-      place_is = omega (arith, standing.place_is, made.size_is, ap length (read_more standing.turns turn), length-append (read_in standing.turns) (frame_of made.content));
-      own = made.setup ∙ standing.own;
-      are_turns = one_more setup opening_state book.state after.state standing.turns turn standing.are_turns made.fits says;
-      read = rw (sym (read_more standing.turns turn)) (Consumes-trans left coming later _ _ standing.read made.read);
-      written = rw (sym (written_more standing.turns turn)) (Appends-trans held now then _ _ standing.written made.written);
-      moments = rw (sym (one_more_moment standing.turns turn)) (more_moments at shown seen seen' _ _ standing.moments made.moments);
+      place_is = omega (arith, standing.place_is, it.size_is, ap length (read_more standing.turns turn), length-append (read_in standing.turns) (frame_of it.content));
+      own = it.setup ∙ standing.own;
+      are_turns = one_more setup start book.state after.state standing.turns turn standing.are_turns it.fits says;
+      read = rw (sym (read_more standing.turns turn)) (Consumes-trans found.coming now.coming then.coming _ _ standing.read it.read);
+      kept = rw (sym (records_more standing.turns turn)) (grows_on found.records now.records then.records _ _ standing.kept it.says.2);
+      written = rw (sym (written_more standing.turns turn)) (Appends-trans found.held now.held then.held _ _ standing.written it.written);
+      moments = rw (sym (one_more_moment standing.turns turn)) (more_moments at found.shown now.shown then.shown _ _ standing.moments made.moments);
+      reads = omega (arith, standing.reads, reads);
+      writes = omega (arith, standing.writes, writes);
+      keeps = omega (arith, standing.keeps, keeps);
     }
 
 content_is_small : (content : Content) → Fits content → length (frame_of content) ≤ 262156
@@ -59,17 +99,18 @@ content_is_small (request file) fits = omega (arith, fits, head_is_short (length
 content_is_small due_work fits = omega arith
 
 -- a frame has at most 262,156 bytes
-pub frame_is_small : (at : Option Moment) (book after : BookView) (coming later now then : Option (List ℕ)) (seen seen' : Option (List Moment)) (size : ℕ) → TurnMade at book after coming later now then seen seen' size → size ≤ 262156
-frame_is_small at book after coming later now then seen seen' size made =
-    omega (arith, made.size_is, content_is_small made.content made.fits)
+pub frame_is_small : (at : Option Moment) (book after : BookView) (now then : Around) (size : ℕ) → TurnMade at book after now then size → size ≤ 262156
+frame_is_small at book after now then size made =
+    let it : FrameAnswered made.moment size book after now then = made.happened in
+    omega (arith, it.size_is, content_is_small it.content it.fits)
 
 -- the turns of a run that stands, with what is still to come
-taken_of : (setup : Setup) (at : Option Moment) (before after : Outside) (count place : ℕ) (book : BookView) (coming now : Option (List ℕ)) (seen : Option (List Moment)) (ahead : List ℕ) →
-    (standing : Standing setup at before.input_left before.held before.shown count place book coming now seen) → count ≤ 1000000 → Keeps coming (prepend_known ahead after.input_left) → Taken setup before after standing.turns book.state ahead
-taken_of setup at before after count place book coming now seen ahead standing few kept = record {
+taken_of : (setup : Setup) (start : State) (at : Option Moment) (before after : Outside) (count place : ℕ) (book : BookView) (now : Around) (ahead : List ℕ) →
+    (standing : Standing setup start at (found_in before) count place book now) → count ≤ 1000000 → Keeps now.coming (prepend_known ahead after.input_left) → Taken setup start before after standing.turns book.state ahead
+taken_of setup start at before after count place book now ahead standing few kept = record {
   are_turns = standing.are_turns;
   few = omega (arith, standing.counted);
-  read = Consumes-kept before.input_left coming (prepend_known ahead after.input_left) _ standing.read kept;
+  read = Consumes-kept before.input_left now.coming (prepend_known ahead after.input_left) _ standing.read kept;
 }
 
 -- what is refused as a frame is more
@@ -83,82 +124,127 @@ rose_since before mid now low (inl h) = inl (omega (arith, low, h))
 rose_since before mid now low (inr h) = inr h
 
 -- where no frame comes it stops at the place behind the frames so far
-pub stopped_at_frame : (setup : Setup) (at : Option Moment) (before after : Outside) (count place : ℕ) (book : BookView) (coming now : Option (List ℕ)) (seen : Option (List Moment)) (ahead : List ℕ) →
-    Standing setup at before.input_left before.held before.shown count place book coming now seen → count ≤ 1000000 → NoTurn coming (prepend_known ahead after.input_left) now after.held seen after.shown → IfSome (prepend_known ahead after.input_left) IsNoFrame → StoppedAtFrame setup at before after place
-stopped_at_frame setup at before after count place book coming now seen ahead standing few none no_frame = record {
+pub stopped_at_frame : (setup : Setup) (start : State) (at : Option Moment) (before after : Outside) (count place : ℕ) (book : BookView) (now : Around) (ahead : List ℕ) →
+    Standing setup start at (found_in before) count place book now → count ≤ 1000000 → NoTurn now (left_in ahead after) → IfSome (prepend_known ahead after.input_left) IsNoFrame → StoppedAtFrame setup start at before after place
+stopped_at_frame setup start at before after count place book now ahead standing few none no_frame = record {
   turns = standing.turns;
   state = book.state;
   ahead = ahead;
-  taken = taken_of setup at before after count place book coming now seen ahead standing few none.kept;
+  taken = taken_of setup start at before after count place book now ahead standing few none.unread;
   more = stuck (prepend_known ahead after.input_left) _ no_frame;
   place_is = standing.place_is;
-  written = Appends-kept before.held now after.held _ standing.written none.unwritten;
-  moments = kept_moments at before.shown seen after.shown _ standing.moments none.unseen;
+  kept = grows_kept before.records now.records after.records _ standing.kept none.unkept;
+  written = Appends-kept before.held now.held after.held _ standing.written none.unwritten;
+  moments = kept_moments at before.shown now.shown after.shown _ standing.moments none.unseen;
 }
 
 -- a run that finds nothing more has answered every frame
-pub finished : (setup : Setup) (at : Option Moment) (before after : Outside) (count place : ℕ) (book : BookView) (coming now : Option (List ℕ)) (seen : Option (List Moment)) (ahead : List ℕ) →
-    Standing setup at before.input_left before.held before.shown count place book coming now seen → count ≤ 1000000 → NoTurn coming (prepend_known ahead after.input_left) now after.held seen after.shown → IsAtEnd (prepend_known ahead after.input_left) → Finished setup at before after
-finished setup at before after count place book coming now seen ahead standing few none at_end = record {
+pub finished : (setup : Setup) (start : State) (at : Option Moment) (before after : Outside) (count place : ℕ) (book : BookView) (now : Around) (ahead : List ℕ) →
+    Standing setup start at (found_in before) count place book now → count ≤ 1000000 → NoTurn now (left_in ahead after) → IsAtEnd (prepend_known ahead after.input_left) → Finished setup start at before after
+finished setup start at before after count place book now ahead standing few none at_end = record {
   turns = standing.turns;
   state = book.state;
   ahead = ahead;
-  taken = taken_of setup at before after count place book coming now seen ahead standing few none.kept;
+  taken = taken_of setup start at before after count place book now ahead standing few none.unread;
   at_end = at_end;
-  written = Appends-kept before.held now after.held _ standing.written none.unwritten;
-  moments = kept_moments at before.shown seen after.shown _ standing.moments none.unseen;
+  kept = grows_kept before.records now.records after.records _ standing.kept none.unkept;
+  written = Appends-kept before.held now.held after.held _ standing.written none.unwritten;
+  moments = kept_moments at before.shown now.shown after.shown _ standing.moments none.unseen;
 }
 
--- where a turn fails the run stops
-pub stopped_in_turn : (setup : Setup) (at : Option Moment) (before after : Outside) (count place : ℕ) (book : BookView) (coming now : Option (List ℕ)) (seen : Option (List Moment)) (ahead : List ℕ) (reads writes : ℕ) (stop : Stop) →
-    Standing setup at before.input_left before.held before.shown count place book coming now seen → count < 1000000 → before.input_faults ≤ reads → before.out_faults ≤ writes →
-    TurnStops at book coming ahead after.input_left now after.held seen after.shown reads after.input_faults writes after.out_faults stop → RunEnds setup at before after (Err stop)
-stopped_in_turn setup at before after count place book coming now seen ahead reads writes stops.ReadFailed standing few low low' h = (
+-- where a frame isn't answered whole the run stops
+stopped_in_frame : (setup : Setup) (start : State) (at : Option Moment) (before after : Outside) (count place : ℕ) (book : BookView) (now : Around) (ahead : List ℕ) (moment : Moment) (stop : Stop) →
+    Standing setup start at (found_in before) count place book now → count < 1000000 → AreMoments at now.shown after.shown (moment ∷ []) → FrameStops moment book now (left_in ahead after) stop → RunEnds setup start at before after (Err stop)
+stopped_in_frame setup start at before after count place book now ahead moment stops.WriteFailed standing few moments h = (
   record {
     turns = standing.turns;
     state = book.state;
     ahead = ahead;
-    taken = taken_of setup at before after count place book coming now seen ahead standing (omega (arith, few)) h.0.kept;
-    no_frame = inl h.1.0;
-    written = Appends-kept before.held now after.held _ standing.written h.0.unwritten;
-    moments = kept_moments at before.shown seen after.shown _ standing.moments h.0.unseen;
+    taken = taken_of setup start at before after count place book now ahead standing (omega (arith, few)) h.0.stays.unread;
+    content = h.0.content;
+    moment = moment;
+    line = h.0.line;
+    records = h.0.says.0;
+    next = h.0.after.state;
+    count = h.0.count;
+    room = omega (arith, few, standing.counted);
+    fits = h.0.stays.fits;
+    begins = h.0.stays.begins;
+    says = of_run book.setup setup (λ (s : Setup). Says s moment book.state h.0.content h.0.line h.0.says.0 h.0.after.state) standing.own h.0.says.1;
+    kept = grows_on before.records now.records after.records _ _ standing.kept h.0.says.2;
+    written = Appends-trans before.held now.held after.held _ _ standing.written h.0.written;
+    moments = more_moments at before.shown now.shown after.shown _ _ standing.moments moments;
   },
-  rose_since before.input_faults reads after.input_faults low h.1.1,
+  rose_since before.out_faults now.writes after.out_faults standing.writes h.1,
 )
-stopped_in_turn setup at before after count place book coming now seen ahead reads writes stops.NoMemory standing few low low' h = record {
+stopped_in_frame setup start at before after count place book now ahead moment stops.KeeperFailed standing few moments h = (
+  record {
+    turns = standing.turns;
+    state = book.state;
+    ahead = ahead;
+    taken = taken_of setup start at before after count place book now ahead standing (omega (arith, few)) h.0.stays.unread;
+    content = h.0.content;
+    moment = moment;
+    records = h.0.keeps.0;
+    room = omega (arith, few, standing.counted);
+    fits = h.0.stays.fits;
+    begins = h.0.stays.begins;
+    work = of_run book.setup setup (λ (s : Setup). KeptInVain s moment book.state h.0.content h.0.keeps.0) standing.own h.0.keeps.1;
+    kept = grows_on before.records now.records after.records _ _ standing.kept h.0.keeps.2;
+    written = Appends-kept before.held now.held after.held _ standing.written h.0.unwritten;
+    moments = more_moments at before.shown now.shown after.shown _ _ standing.moments moments;
+  },
+  rose_since before.keeper_faults now.keeps after.keeper_faults standing.keeps h.1,
+)
+stopped_in_frame setup start at before after count place book now ahead moment stops.NoMemory standing few moments h = record {
   turns = standing.turns;
   state = book.state;
   ahead = ahead;
-  taken = taken_of setup at before after count place book coming now seen ahead standing (omega (arith, few)) h.kept;
-  written = Appends-kept before.held now after.held _ standing.written h.unwritten;
-  next = h.moment ∷ [];
+  taken = taken_of setup start at before after count place book now ahead standing (omega (arith, few)) h.stays.unread;
+  written = Appends-kept before.held now.held after.held _ standing.written h.unwritten;
+  next = moment ∷ [];
   few = omega arith;
-  moments = more_moments at before.shown seen after.shown _ _ standing.moments h.moments;
+  moments = more_moments at before.shown now.shown after.shown _ _ standing.moments moments;
+  records = h.keeps.0;
+  refused = inr (record {
+    content = h.content;
+    moment = moment;
+    fits = h.stays.fits;
+    begins = h.stays.begins;
+    at = refl;
+    work = of_run book.setup setup (λ (s : Setup). KeptBeforeRefusal s moment book.state h.content h.keeps.0) standing.own h.keeps.1;
+  });
+  kept = grows_on before.records now.records after.records _ _ standing.kept h.keeps.2;
 }
-stopped_in_turn setup at before after count place book coming now seen ahead reads writes stops.WriteFailed standing few low low' h = (
+stopped_in_frame setup start at before after count place book now ahead moment stops.ReadFailed standing few moments h = absurd h
+stopped_in_frame setup start at before after count place book now ahead moment stops.Usage standing few moments h = absurd h
+stopped_in_frame setup start at before after count place book now ahead moment (stops.Setup line) standing few moments h = absurd h
+stopped_in_frame setup start at before after count place book now ahead moment (stops.Frame other) standing few moments h = absurd h
+stopped_in_frame setup start at before after count place book now ahead moment (stops.Records fault) standing few moments h = absurd h
+stopped_in_frame setup start at before after count place book now ahead moment (stops.Letter fault) standing few moments h = absurd h
+
+-- where a read fails it stops before a frame
+stopped_in_read : (setup : Setup) (start : State) (at : Option Moment) (before after : Outside) (count place : ℕ) (book : BookView) (now : Around) (ahead : List ℕ) →
+    Standing setup start at (found_in before) count place book now → count < 1000000 → TurnStops at book now (left_in ahead after) ahead stops.ReadFailed → RunEnds setup start at before after (Err stops.ReadFailed)
+stopped_in_read setup start at before after count place book now ahead standing few h = (
   record {
     turns = standing.turns;
     state = book.state;
     ahead = ahead;
-    taken = taken_of setup at before after count place book coming now seen ahead standing (omega (arith, few)) h.0.kept;
-    content = h.0.content;
-    moment = h.0.moment;
-    line = h.0.line;
-    next = h.0.next.state;
-    count = h.0.count;
-    room = omega (arith, few, standing.counted);
-    fits = h.0.fits;
-    begins = h.0.begins;
-    says = subst (λ (s : Setup). Says s h.0.moment book.state h.0.content h.0.line h.0.next.state) standing.own h.0.says;
-    written = Appends-trans before.held now after.held _ _ standing.written h.0.written;
-    moments = more_moments at before.shown seen after.shown _ _ standing.moments h.0.moments;
+    taken = taken_of setup start at before after count place book now ahead standing (omega (arith, few)) h.0.unread;
+    no_frame = inl h.1.0;
+    kept = grows_kept before.records now.records after.records _ standing.kept h.0.unkept;
+    written = Appends-kept before.held now.held after.held _ standing.written h.0.unwritten;
+    moments = kept_moments at before.shown now.shown after.shown _ standing.moments h.0.unseen;
   },
-  rose_since before.out_faults writes after.out_faults low' h.1,
+  rose_since before.input_faults now.reads after.input_faults standing.reads h.1.1,
 )
-stopped_in_turn setup at before after count place book coming now seen ahead reads writes (stops.Frame other) standing few low low' h = absurd h
-stopped_in_turn setup at before after count place book coming now seen ahead reads writes stops.Usage standing few low low' h = absurd h
-stopped_in_turn setup at before after count place book coming now seen ahead reads writes (stops.Setup line) standing few low low' h = absurd h
-stopped_in_turn setup at before after count place book coming now seen ahead reads writes (stops.Letter fault) standing few low low' h = absurd h
+
+-- where a turn fails the run stops
+pub stopped_in_turn : (setup : Setup) (start : State) (at : Option Moment) (before after : Outside) (count place : ℕ) (book : BookView) (now : Around) (ahead : List ℕ) (stop : Stop) →
+    Standing setup start at (found_in before) count place book now → count < 1000000 → TurnStops at book now (left_in ahead after) ahead stop → RunEnds setup start at before after (Err stop)
+stopped_in_turn setup start at before after count place book now ahead stops.ReadFailed standing few h = stopped_in_read setup start at before after count place book now ahead standing few h
+stopped_in_turn setup start at before after count place book now ahead stop standing few h = stopped_in_frame setup start at before after count place book now ahead h.moment stop standing few h.moments h.happened
 
 -- bytes behind the most frames
 over : (later : Option (List ℕ)) (full : Type 0) → full → IfSome later (λ rest. rest ≢ []) → IfSome later (λ rest. (rest ≢ []) × (BeginsNoFrame rest ⊎ full))
@@ -166,62 +252,64 @@ over None full is_full h = tt
 over (Some rest) full is_full h = (h, inr is_full)
 
 -- behind the last frame that a run answers the input ends, or the run stops
-pub ended_behind : (setup : Setup) (at : Option Moment) (before after : Outside) (count place : ℕ) (book : BookView) (coming : Option (List ℕ)) (ahead : List ℕ) (reads : ℕ) (end : Result (Unit {0}) Stop) →
-    Standing setup at before.input_left before.held before.shown count place book coming after.held after.shown → count ≡ 1000000 → before.input_faults ≤ reads → EndOrStop coming place ahead after.input_left reads after.input_faults end → RunEnds setup at before after end
-ended_behind setup at before after count place book coming ahead reads (Ok done) standing full low h = record {
+pub ended_behind : (setup : Setup) (start : State) (at : Option Moment) (before after : Outside) (count place : ℕ) (book : BookView) (coming : Option (List ℕ)) (reads : ℕ) (ahead : List ℕ) (end : Result (Unit {0}) Stop) →
+    Standing setup start at (found_in before) count place book (around coming reads after.held after.out_faults after.records after.keeper_faults after.shown) → count ≡ 1000000 → EndOrStop coming place ahead after.input_left reads after.input_faults end → RunEnds setup start at before after end
+ended_behind setup start at before after count place book coming reads ahead (Ok done) standing full h = record {
   turns = standing.turns;
   state = book.state;
   ahead = ahead;
-  taken = taken_of setup at before after count place book coming _ _ ahead standing (omega (arith, full)) h.0;
+  taken = taken_of setup start at before after count place book _ ahead standing (omega (arith, full)) h.0;
   at_end = h.1;
+  kept = standing.kept;
   written = standing.written;
   moments = standing.moments;
 }
-ended_behind setup at before after count place book coming ahead reads (Err (stops.Frame at_place)) standing full low h = record {
+ended_behind setup start at before after count place book coming reads ahead (Err (stops.Frame at_place)) standing full h = record {
   turns = standing.turns;
   state = book.state;
   ahead = ahead;
-  taken = taken_of setup at before after count place book coming _ _ ahead standing (omega (arith, full)) h.1;
+  taken = taken_of setup start at before after count place book _ ahead standing (omega (arith, full)) h.1;
   more = over (prepend_known ahead after.input_left) _ (standing.counted ∙ full) h.2;
   place_is = h.0 ∙ standing.place_is;
+  kept = standing.kept;
   written = standing.written;
   moments = standing.moments;
 }
-ended_behind setup at before after count place book coming ahead reads (Err stops.ReadFailed) standing full low h = (
+ended_behind setup start at before after count place book coming reads ahead (Err stops.ReadFailed) standing full h = (
   record {
     turns = standing.turns;
     state = book.state;
     ahead = ahead;
-    taken = taken_of setup at before after count place book coming _ _ ahead standing (omega (arith, full)) h.0;
+    taken = taken_of setup start at before after count place book _ ahead standing (omega (arith, full)) h.0;
     no_frame = inr (standing.counted ∙ full);
+    kept = standing.kept;
     written = standing.written;
     moments = standing.moments;
   },
-  rose_since before.input_faults reads after.input_faults low h.1,
+  rose_since before.input_faults reads after.input_faults standing.reads h.1,
 )
-ended_behind setup at before after count place book coming ahead reads (Err stops.NoMemory) standing full low h = absurd h
-ended_behind setup at before after count place book coming ahead reads (Err stops.WriteFailed) standing full low h = absurd h
-ended_behind setup at before after count place book coming ahead reads (Err stops.Usage) standing full low h = absurd h
-ended_behind setup at before after count place book coming ahead reads (Err (stops.Setup line)) standing full low h = absurd h
-ended_behind setup at before after count place book coming ahead reads (Err (stops.Letter fault)) standing full low h = absurd h
-
--- nothing ahead makes no difference to what is to come
-nothing_ahead : (left : Option (List ℕ)) → Consumes left (prepend_known [] left) []
-nothing_ahead None = tt
-nothing_ahead (Some xs) = refl
+ended_behind setup start at before after count place book coming reads ahead (Err stops.NoMemory) standing full h = absurd h
+ended_behind setup start at before after count place book coming reads ahead (Err stops.WriteFailed) standing full h = absurd h
+ended_behind setup start at before after count place book coming reads ahead (Err stops.KeeperFailed) standing full h = absurd h
+ended_behind setup start at before after count place book coming reads ahead (Err stops.Usage) standing full h = absurd h
+ended_behind setup start at before after count place book coming reads ahead (Err (stops.Setup line)) standing full h = absurd h
+ended_behind setup start at before after count place book coming reads ahead (Err (stops.Records fault)) standing full h = absurd h
+ended_behind setup start at before after count place book coming reads ahead (Err (stops.Letter fault)) standing full h = absurd h
 
 -- a run that stops before its first frame has taken no turn
-pub stopped_at_once : (setup : Setup) (at : Option Moment) (setup_left setup_left' : Option (List ℕ)) (setup_faults setup_faults' : ℕ) (left : Option (List ℕ)) (reads : ℕ) (held : Option (List ℕ)) (writes : ℕ) (shown : Option (List Moment)) →
-    StoppedBetween setup at (outside setup_left setup_faults left reads held writes shown) (outside setup_left' setup_faults' left reads held writes shown)
-stopped_at_once setup at setup_left setup_left' setup_faults setup_faults' left reads held writes shown = record {
-  turns = [];
-  state = opening_state;
+pub stopped_at_once : (at : Option Moment) (book : BookView) (before after : Outside) → Standing book.setup book.state at (found_in before) 0 0 book (left_in [] after) → StoppedBetween book.setup book.state at before after
+stopped_at_once at book before after standing = record {
+  turns = standing.turns;
+  state = book.state;
   ahead = [];
-  taken = record { are_turns = refl; few = omega arith; read = nothing_ahead left };
-  written = Appends-nil held;
+  taken = taken_of book.setup book.state at before after 0 0 book _ [] standing (omega arith) (Keeps-refl _);
+  written = standing.written;
   next = [];
   few = omega arith;
-  moments = no_moments at shown shown (stays_self shown);
+  moments = rw append-nil standing.moments;
+  records = [];
+  refused = inl refl;
+  kept = rw append-nil standing.kept;
 }
 
 -- a frame that is ahead is more
@@ -229,13 +317,3 @@ pub frame_is_more : (ahead : List ℕ) (left : Option (List ℕ)) → 0 < length
 frame_is_more ahead None some = tt
 frame_is_more [] (Some xs) some = absurd (omega (arith, some))
 frame_is_more (x ∷ ahead) (Some xs) some = λ e. cc
-
--- a run that had its setup ends as its frames do
-pub ends_with_setup : (at : Option Moment) (before after : Outside) (setup : Setup) (end : Result (Unit {0}) Stop) → IsSetupOf before.setup_left setup → RunEnds setup at before after end → EndsSo at before after end
-ends_with_setup at before after setup (Ok done) found ends = record { setup = setup; found = found; ends = ends }
-ends_with_setup at before after setup (Err stop) found ends = inr (record { setup = setup; found = found; ends = ends })
-
--- and so does the command `due`
-pub due_with_setup : (before after : Outside) (setup : Setup) (end : Result (Unit {0}) Stop) → IsSetupOf before.setup_left setup → DueEnds setup before after end → DueEndsSo before after end
-due_with_setup before after setup (Ok done) found ends = record { setup = setup; found = found; ends = ends }
-due_with_setup before after setup (Err stop) found ends = inr (record { setup = setup; found = found; ends = ends })

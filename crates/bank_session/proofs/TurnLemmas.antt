@@ -1,20 +1,24 @@
 -- How the steps of a turn join.
-use Rattle.std.proofs.Common.{◌≡◌, ℕ, ◌<◌, ◌+◌, ◌-◌, ◌^◌, List, [], ◌∷◌, ◌++◌, length, ◌≤◌, length-append, drop, Option, None, Some, IfSome, Err, arith, refl, sym, ap, ◌∙◌, append_assoc, length-drop}
+use Rattle.std.proofs.Common.{◌≡◌, ℕ, ◌<◌, ◌+◌, ◌-◌, ◌^◌, List, [], ◌∷◌, ◌++◌, length, ◌≤◌, length-append, drop, Option, None, Some, IfSome, arith, refl, sym, ap, ◌∙◌, append_assoc, length-drop}
 use Rattle.std.specs.Io.KnownBytes.{Keeps, Consumes, prepend_known}
 use Rattle.std.proofs.KnownBytes.{prepend_known-read}
 use Rattle.std.proofs.lemmas.List.{drop-drop, take-append-drop, length-take-le}
+use Rattle.ofx_ports.specs.Faults.{Rose}
 use Rattle.ofx_types.specs.declared.number.Moment.{Moment}
 use Rattle.bank_core.specs.BookView.{BookView}
-use Rattle.bank_session.specs.Frames.{IsLength, length_line, frame, frame_head, frame_of, Fits}
+use Rattle.bank_session.specs.Frames.{Content, IsLength, length_line, frame, frame_head, frame_of, Fits}
 use Rattle.bank_session.specs.Answers.{AreMoments}
 use Rattle.bank_session.specs.Coming.{HoldsFile, HoldsFrame, file_in, content_in, size_of}
-use Rattle.bank_session.specs.Turns.{TurnMade, TurnStops}
-use Rattle.bank_session.specs.TurnResult.{FrameWritten, FrameResult}
+use Rattle.bank_session.specs.Stopping.{stop_of}
+use Rattle.bank_session.specs.Turns.{Around, HasNoLine, FrameStays, FrameStops}
+use Rattle.bank_session.specs.TurnResult.{TurnStops}
 use Rattle.bank_session.specs.declared.frame_head.FrameSize.{FrameSize}
 use Rattle.bank_session.specs.declared.frames.Frame.{Frame}
 use Rattle.bank_session.specs.declared.frames.Frame.TheVariants.{File, Due}
 use Rattle.bank_session.specs.declared.stop.Stop.{Stop}
 use Rattle.bank_session.specs.declared.stop.Stop.TheVariants as stops
+use Rattle.bank_session.specs.declared.undone.Undone.{Undone}
+use Rattle.bank_session.specs.declared.undone.Undone.TheVariants.{NoMemory, NotKept}
 use Rattle.bank_session.proofs.Agreement.{head_is_short, parted, parted_due}
 
 -- the file in a frame that is ahead
@@ -84,52 +88,33 @@ pub frame_consumed : (coming left : Option (List ℕ)) (ahead later bytes : List
 frame_consumed coming left ahead later bytes kept e = (prepend_known-read coming left ahead later bytes ⊥ kept e (λ h. absurd h)).0
 
 -- what is ahead begins what is to come
-begins_coming : (left : Option (List ℕ)) (ahead later bytes tail : List ℕ) → later ≡ ahead → ahead ≡ bytes ++ tail → IfSome (prepend_known later left) (λ rest. (more : List ℕ) × (rest ≡ bytes ++ more))
-begins_coming None ahead later bytes tail same e = tt
-begins_coming (Some xs) ahead later bytes tail same e = (tail ++ xs, ap (λ (l : List ℕ). l ++ xs) (same ∙ e) ∙ append_assoc bytes tail xs)
+begins_coming : (left : Option (List ℕ)) (ahead bytes tail : List ℕ) → ahead ≡ bytes ++ tail → IfSome (prepend_known ahead left) (λ rest. (more : List ℕ) × (rest ≡ bytes ++ more))
+begins_coming None ahead bytes tail e = tt
+begins_coming (Some xs) ahead bytes tail e = (tail ++ xs, ap (λ (l : List ℕ). l ++ xs) e ∙ append_assoc bytes tail xs)
 
-still_coming : (coming left : Option (List ℕ)) (ahead later : List ℕ) → Keeps coming (prepend_known ahead left) → later ≡ ahead → Keeps coming (prepend_known later left)
-still_coming coming left ahead later kept same = rw same kept
-
--- a frame that was answered makes the turn
-pub turn_made : (at : Option Moment) (moment : Moment) (size : ℕ) (before after : BookView) (coming left held now : Option (List ℕ)) (shown shown' : Option (List Moment)) (ahead later : List ℕ) → Keeps coming (prepend_known ahead left) → AreMoments at shown shown' (moment ∷ []) →
-    FrameWritten moment size before after ahead later held now → TurnMade at before after coming (prepend_known later left) held now shown shown' size
-turn_made at moment size before after coming left held now shown shown' ahead later kept moments written = record {
-  content = written.content;
-  moment = moment;
-  line = written.line;
-  fits = written.fits;
-  says = written.says;
-  setup = written.setup;
-  read = frame_consumed coming left ahead later (frame_of written.content) kept written.read;
-  size_is = written.size_is;
-  written = written.written;
-  moments = moments;
+-- a frame that isn't used up
+pub stays_there : (found left : Around) (rest : Option (List ℕ)) (ahead : List ℕ) (frame : Frame) → HoldsFrame ahead frame → Keeps found.coming (prepend_known ahead rest) → left.coming ≡ prepend_known ahead rest → FrameStays (content_in ahead frame) found left
+stays_there found left rest ahead frame holds kept same = record {
+  fits = content_fits ahead frame holds;
+  unread = rw same kept;
+  begins = rw same (begins_coming rest ahead (frame_of (content_in ahead frame)) _ (content_ahead ahead frame holds));
 }
 
--- a frame that wasn't stops the run
-pub turn_stopped : (at : Option Moment) (moment : Moment) (size : ℕ) (before after : BookView) (coming left held now : Option (List ℕ)) (shown shown' : Option (List Moment)) (ahead later : List ℕ) (reads reads' writes writes' : ℕ) (stop : Stop) → Keeps coming (prepend_known ahead left) → AreMoments at shown shown' (moment ∷ []) →
-    FrameResult moment size before after ahead later held now writes writes' (Err stop) → TurnStops at before coming later left held now shown shown' reads reads' writes writes' stop
-turn_stopped at moment size before after coming left held now shown shown' ahead later reads reads' writes writes' stops.WriteFailed kept moments h = (
-  record {
-    content = h.0.content;
-    moment = moment;
-    line = h.0.line;
-    next = after;
-    count = h.0.count;
-    fits = h.0.fits;
-    says = h.0.says;
-    kept = still_coming coming left ahead later kept h.0.kept;
-    begins = begins_coming left ahead later (frame_of h.0.content) h.0.tail h.0.kept h.0.begins;
-    written = h.0.written;
-    moments = moments;
-  },
-  h.1,
-)
-turn_stopped at moment size before after coming left held now shown shown' ahead later reads reads' writes writes' stops.NoMemory kept moments h =
-    record { moment = moment; kept = still_coming coming left ahead later kept h.0; unwritten = h.1; moments = moments }
-turn_stopped at moment size before after coming left held now shown shown' ahead later reads reads' writes writes' stops.ReadFailed kept moments h = absurd h
-turn_stopped at moment size before after coming left held now shown shown' ahead later reads reads' writes writes' (stops.Frame place) kept moments h = absurd h
-turn_stopped at moment size before after coming left held now shown shown' ahead later reads reads' writes writes' stops.Usage kept moments h = absurd h
-turn_stopped at moment size before after coming left held now shown shown' ahead later reads reads' writes writes' (stops.Setup line) kept moments h = absurd h
-turn_stopped at moment size before after coming left held now shown shown' ahead later reads reads' writes writes' (stops.Letter fault) kept moments h = absurd h
+-- a frame without a line stops the run
+pub frame_undone : (at : Moment) (before : BookView) (undone : Undone) (content : Content) (found left : Around) → FrameStays content found left → HasNoLine at before content found.records left.records undone → Keeps found.held left.held → (undone ≡ NotKept → Rose found.keeps left.keeps) → FrameStops at before found left (stop_of undone)
+frame_undone at before NoMemory content found left stays none unwritten rose =
+    record { content = content; stays = stays; keeps = none; unwritten = unwritten }
+frame_undone at before NotKept content found left stays none unwritten rose =
+    (record { content = content; stays = stays; keeps = none; unwritten = unwritten }, rose refl)
+
+-- a frame that stops the run does so at its moment
+pub turn_stopped : (at : Option Moment) (moment : Moment) (before : BookView) (found left : Around) (ahead : List ℕ) (stop : Stop) → AreMoments at found.shown left.shown (moment ∷ []) → FrameStops moment before found left stop → TurnStops at before found left ahead stop
+turn_stopped at moment before found left ahead stops.ReadFailed moments stopped = absurd stopped
+turn_stopped at moment before found left ahead stops.WriteFailed moments stopped = record { moment = moment; moments = moments; happened = stopped }
+turn_stopped at moment before found left ahead stops.KeeperFailed moments stopped = record { moment = moment; moments = moments; happened = stopped }
+turn_stopped at moment before found left ahead stops.NoMemory moments stopped = record { moment = moment; moments = moments; happened = stopped }
+turn_stopped at moment before found left ahead stops.Usage moments stopped = absurd stopped
+turn_stopped at moment before found left ahead (stops.Setup line) moments stopped = absurd stopped
+turn_stopped at moment before found left ahead (stops.Frame place) moments stopped = absurd stopped
+turn_stopped at moment before found left ahead (stops.Records fault) moments stopped = absurd stopped
+turn_stopped at moment before found left ahead (stops.Letter fault) moments stopped = absurd stopped

@@ -12,9 +12,10 @@ use Rattle.bank_model.specs.Rules.{answer_to, state_after, denial}
 use Rattle.bank_model.specs.Polls.{is_poll, poll_reply}
 use Rattle.bank_model.specs.DueRun.{IsDueRun}
 use Rattle.bank_model.specs.declared.event.Event.{Event}
+use Rattle.event_codec.specs.Coding.{coded}
 use Rattle.bank_session.specs.Frames.{Content, frame, frame_of, Fits}
 use Rattle.ofx_types.specs.ReplyForm.{reply_text}
-use Rattle.bank_session.specs.Answers.{Says, SaysOfFile, IsSignedOn, IsDenied, IsRefused, bad_line, Turn, AreTurns, written_in, moments_in}
+use Rattle.bank_session.specs.Answers.{Says, SaysOfFile, IsSignedOn, IsDenied, IsRefused, bad_line, Turn, AreTurns, written_in, records_in, moments_in}
 
 -- each file within its limit
 abbrev pub AllFit : List Content → Type 0
@@ -34,10 +35,11 @@ abbrev pub OneDueRun : Type 0
 OneDueRun = (setup : Setup) (before : State) (at : Moment) (events events' : List Event) →
     IsDueRun setup before at events → IsDueRun setup before at events' → events ≡ events'
 
--- For a frame at a moment there is one line, and one state behind it.
+-- For a frame at a moment there is one line, one list of records, and one state behind it.
 abbrev pub OneLine : Type 0
-OneLine = (setup : Setup) (at : Moment) (before : State) (content : Content) (line line' : List ℕ) (after after' : State) →
-    Says setup at before content line after → Says setup at before content line' after' → (line ≡ line') × (after ≡ after')
+OneLine = (setup : Setup) (at : Moment) (before : State) (content : Content) (line line' : List ℕ) (records records' : List (List ℕ)) (after after' : State) →
+    Says setup at before content line records after → Says setup at before content line' records' after' →
+    (line ≡ line') × (records ≡ records') × (after ≡ after')
 
 -- A file that isn't answered has one place to tell,
 abbrev pub OneRefusal : Type 0
@@ -58,39 +60,39 @@ DeniedIsUnanswered = (setup : Setup) (bytes : List ℕ) (file file' : RequestFil
 
 -- Where a user's file is an event its framed reply is written,
 abbrev pub WhereAnswered : Type 0
-WhereAnswered = (setup : Setup) (at : Moment) (before : State) (bytes line : List ℕ) (after : State) (file : RequestFile) (user : UserId) →
-    SaysOfFile setup at before bytes line after → IsSignedOn setup bytes file user → is_poll file ≡ false →
-    (line ≡ frame (answer_to setup before at (File user file))) × (after ≡ state_after setup before at (File user file))
+WhereAnswered = (setup : Setup) (at : Moment) (before : State) (bytes line : List ℕ) (records : List (List ℕ)) (after : State) (file : RequestFile) (user : UserId) →
+    SaysOfFile setup at before bytes line records after → IsSignedOn setup bytes file user → is_poll file ≡ false →
+    (line ≡ frame (answer_to setup before at (File user file))) × (records ≡ coded at (File user file) ∷ []) × (after ≡ state_after setup before at (File user file))
 
 -- where it is a poll the framed newest tokens,
 abbrev pub WherePolled : Type 0
-WherePolled = (setup : Setup) (at : Moment) (before : State) (bytes line : List ℕ) (after : State) (file : RequestFile) (user : UserId) →
-    SaysOfFile setup at before bytes line after → IsSignedOn setup bytes file user → is_poll file ≡ true →
-    (line ≡ frame (reply_text (poll_reply setup before user at file))) × (after ≡ before)
+WherePolled = (setup : Setup) (at : Moment) (before : State) (bytes line : List ℕ) (records : List (List ℕ)) (after : State) (file : RequestFile) (user : UserId) →
+    SaysOfFile setup at before bytes line records after → IsSignedOn setup bytes file user → is_poll file ≡ true →
+    (line ≡ frame (reply_text (poll_reply setup before user at file))) × (records ≡ []) × (after ≡ before)
 
 -- where its signon fails the framed denial,
 abbrev pub WhereDenied : Type 0
-WhereDenied = (setup : Setup) (at : Moment) (before : State) (bytes line : List ℕ) (after : State) (file : RequestFile) →
-    SaysOfFile setup at before bytes line after → IsDenied setup bytes file →
-    (line ≡ frame (reply_text (denial file at))) × (after ≡ before)
+WhereDenied = (setup : Setup) (at : Moment) (before : State) (bytes line : List ℕ) (records : List (List ℕ)) (after : State) (file : RequestFile) →
+    SaysOfFile setup at before bytes line records after → IsDenied setup bytes file →
+    (line ≡ frame (reply_text (denial file at))) × (records ≡ []) × (after ≡ before)
 
 -- where it is refused the line with just this place,
 abbrev pub WhereRefused : Type 0
-WhereRefused = (setup : Setup) (at : Moment) (before : State) (bytes line : List ℕ) (after : State) (place : ℕ) →
-    SaysOfFile setup at before bytes line after → IsRefused bytes place → (line ≡ bad_line place) × (after ≡ before)
+WhereRefused = (setup : Setup) (at : Moment) (before : State) (bytes line : List ℕ) (records : List (List ℕ)) (after : State) (place : ℕ) →
+    SaysOfFile setup at before bytes line records after → IsRefused bytes place → (line ≡ bad_line place) × (records ≡ []) × (after ≡ before)
 
 -- and such a line is written only where it is refused, at a place that is printed so.
 abbrev pub OnlyWhereRefused : Type 0
-OnlyWhereRefused = (setup : Setup) (at : Moment) (before : State) (bytes : List ℕ) (after : State) (printed : ℕ) →
-    SaysOfFile setup at before bytes (bad_line printed) after → (place : ℕ) × IsRefused bytes place × (decimal place ≡ decimal printed)
+OnlyWhereRefused = (setup : Setup) (at : Moment) (before : State) (bytes : List ℕ) (records : List (List ℕ)) (after : State) (printed : ℕ) →
+    SaysOfFile setup at before bytes (bad_line printed) records after → (place : ℕ) × IsRefused bytes place × (decimal place ≡ decimal printed)
 
 -- what the frames of turns hold
 abbrev pub contents_of : List Turn → List Content
 contents_of [] = []
 contents_of (turn ∷ turns) = turn.content ∷ contents_of turns
 
--- Turns over the same frames at the same moments write the same bytes.
+-- Turns over the same frames at the same moments write the same bytes, and keep the same records.
 abbrev pub OneOutput : Type 0
 OneOutput = (setup : Setup) (before : State) (turns turns' : List Turn) (after after' : State) →
     AreTurns setup before turns after → AreTurns setup before turns' after' → contents_of turns ≡ contents_of turns' → moments_in turns ≡ moments_in turns'
-    → (written_in turns ≡ written_in turns') × (after ≡ after')
+    → (written_in turns ≡ written_in turns') × (records_in turns ≡ records_in turns') × (after ≡ after')

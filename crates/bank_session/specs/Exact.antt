@@ -8,20 +8,24 @@ use Rattle.bank_model.specs.SetupFault.{IsSetupFault}
 use Rattle.bank_model.specs.declared.setup.Setup.{Setup}
 use Rattle.bank_model.specs.Due.{has_number}
 use Rattle.bank_model.specs.Rules.{opening_state}
+use Rattle.bank_model.specs.declared.event.State.{State}
+use Rattle.bank_replay.specs.Opening.{HasNoForm, IsNotLegal}
+use Rattle.event_codec.specs.Records.{Reopens}
 use Rattle.bank_session.specs.Frames.{Content, frame_of, Fits, BeginsNoFrame}
 use Rattle.bank_session.specs.Outside.{Outside}
 use Rattle.bank_session.specs.Letters.{IsBody, HasNoBody, user_named}
 use Rattle.bank_session.specs.Run.{EndsWith, DueEndsWith, MailEndsWith, told}
 use Rattle.ofx_types.specs.declared.number.Moment.{Moment}
 use Rattle.ofx_types.specs.declared.number.UserId.{UserId}
-use Rattle.ofx_types.specs.declared.told.Note.TheVariants.{Plain, Place, NoUser, Full}
+use Rattle.ofx_types.specs.declared.told.Note.TheVariants.{Plain, Place, Record, Illegal, NoUser, Full}
 use Rattle.ofx_types.specs.declared.told.Told.{Told}
 
--- A read or a write failed, or memory was refused.
+-- A read or a write or a call of the keeper failed, or memory was refused.
 abbrev pub GaveUp : Outside → Outside → Told → Type 0
 GaveUp before after what =
     ((what ≡ told 5 Plain) × (Rose before.setup_faults after.setup_faults ⊎ Rose before.input_faults after.input_faults))
-    ⊎ (((what ≡ told 6 Plain) × Rose before.out_faults after.out_faults) ⊎ (what ≡ told 7 Plain))
+    ⊎ (((what ≡ told 6 Plain) × Rose before.out_faults after.out_faults)
+    ⊎ (((what ≡ told 8 Plain) × Rose before.keeper_faults after.keeper_faults) ⊎ (what ≡ told 7 Plain)))
 
 -- Bytes that spell no setup end a run with 3, and the line of their fault is told.
 abbrev pub RefusesSetup : Outside → Outside → Told → Type 0
@@ -29,12 +33,36 @@ RefusesSetup before after what =
     (text : List ℕ) → before.setup_left ≡ Some text → ((setup : Setup) → SpellsSetup text setup → ⊥)
     → ((line : ℕ) × IsSetupFault text line × (what ≡ told 3 (Place line))) ⊎ GaveUp before after what
 
--- The setup is spelled, and the input begins with the frames of these contents, each within its limit.
-pub record Gives (before : Outside) (contents : List Content) (rest : List ℕ) : Type 0 where
+-- The setup is spelled, and these are the records.
+pub record HasRecords (before : Outside) (setup : Setup) (records : List (List ℕ)) : Type 0 where
   pub text : List ℕ
-  pub setup : Setup
   pub setup_is : before.setup_left ≡ Some text
   pub spelled : SpellsSetup text setup
+  pub records_are : before.records ≡ Some records
+
+-- The first record that codes no event ends a run with 9, and its number and the place of its fault are told.
+abbrev pub RefusesRecord : (Outside → Outside → Told → Type 0) → Outside → Outside → Told → Type 0
+RefusesRecord Gave before after what =
+    (setup : Setup) (records : List (List ℕ)) (number place : ℕ) → HasRecords before setup records
+    → HasNoForm setup (Some records) number place → (what ≡ told 9 (Record number place)) ⊎ Gave before after what
+
+-- So does the first one whose event isn't legal after those before it, and its number is told.
+abbrev pub RefusesIllegal : (Outside → Outside → Told → Type 0) → Outside → Outside → Told → Type 0
+RefusesIllegal Gave before after what =
+    (setup : Setup) (records : List (List ℕ)) (number : ℕ) → HasRecords before setup records
+    → IsNotLegal setup (Some records) number → (what ≡ told 9 (Illegal number)) ⊎ Gave before after what
+
+-- The setup is spelled, and the bank comes to this state by the records.
+pub record Opens (before : Outside) (setup : Setup) (start : State) : Type 0 where
+  pub records : List (List ℕ)
+  pub has : HasRecords before setup records
+  pub reopens : Reopens setup opening_state records start
+
+-- The bank opens, and the input begins with the frames of these contents, each within its limit.
+pub record Gives (before : Outside) (contents : List Content) (rest : List ℕ) : Type 0 where
+  pub setup : Setup
+  pub start : State
+  pub opens : Opens before setup start
   pub input_is : before.input_left ≡ Some (flat_map frame_of contents ++ rest)
   pub fit : AllByRecursion Fits contents
   pub few : length contents ≤ 1000000
@@ -54,16 +82,19 @@ RefusesFrame before after what =
 pub record IsRun (at : Option Moment) (before after : Outside) (what : Told) : Type 0 where
   pub ends : EndsWith at before after what
   pub refuses_setup : RefusesSetup before after what
+  pub refuses_record : RefusesRecord GaveUp before after what
+  pub refuses_illegal : RefusesIllegal GaveUp before after what
   pub refuses_frame : RefusesFrame before after what
   pub answers_all : AnswersAll before after what
 
 -- ---- the command `due`
 
--- A read of the setup or a write failed, or memory was refused.
+-- A read of the setup or a write or a call of the keeper failed, or memory was refused.
 abbrev pub GaveUpDue : Outside → Outside → Told → Type 0
 GaveUpDue before after what =
     ((what ≡ told 5 Plain) × Rose before.setup_faults after.setup_faults)
-    ⊎ (((what ≡ told 6 Plain) × Rose before.out_faults after.out_faults) ⊎ (what ≡ told 7 Plain))
+    ⊎ (((what ≡ told 6 Plain) × Rose before.out_faults after.out_faults)
+    ⊎ (((what ≡ told 8 Plain) × Rose before.keeper_faults after.keeper_faults) ⊎ (what ≡ told 7 Plain)))
 
 -- Bytes that spell no setup end it with 3, and the line of their fault is told.
 abbrev pub RefusesDueSetup : Outside → Outside → Told → Type 0
@@ -71,53 +102,55 @@ RefusesDueSetup before after what =
     (text : List ℕ) → before.setup_left ≡ Some text → ((setup : Setup) → SpellsSetup text setup → ⊥)
     → ((line : ℕ) × IsSetupFault text line × (what ≡ told 3 (Place line))) ⊎ GaveUpDue before after what
 
--- A setup that is spelled ends it with 0.
+-- A bank that opens ends it with 0.
 abbrev pub DoesAll : Outside → Outside → Told → Type 0
 DoesAll before after what =
-    (text : List ℕ) (setup : Setup) → before.setup_left ≡ Some text → SpellsSetup text setup → (what ≡ told 0 Plain) ⊎ GaveUpDue before after what
+    (setup : Setup) (start : State) → Opens before setup start → (what ≡ told 0 Plain) ⊎ GaveUpDue before after what
 
 -- The command `due` ends so: what it read and wrote, and what is told exactly where.
 pub record IsDueCommand (before after : Outside) (what : Told) : Type 0 where
   pub ends : DueEndsWith before after what
   pub refuses_setup : RefusesDueSetup before after what
+  pub refuses_record : RefusesRecord GaveUpDue before after what
+  pub refuses_illegal : RefusesIllegal GaveUpDue before after what
   pub does_all : DoesAll before after what
 
 -- ---- the command `mail`
 
--- The setup is spelled, and these are the bytes of the input.
-pub record Brings (before : Outside) (setup : Setup) (input : List ℕ) : Type 0 where
-  pub text : List ℕ
-  pub setup_is : before.setup_left ≡ Some text
-  pub spelled : SpellsSetup text setup
+-- The bank opens, and these are the bytes of the input.
+pub record Brings (before : Outside) (setup : Setup) (start : State) (input : List ℕ) : Type 0 where
+  pub opens : Opens before setup start
   pub input_is : before.input_left ≡ Some input
 
 -- An input that is no body ends it with 4, at its first byte.
 abbrev pub RefusesBody : Outside → Outside → Told → Type 0
 RefusesBody before after what =
-    (setup : Setup) (input : List ℕ) → Brings before setup input → HasNoBody input → (what ≡ told 4 (Place 0)) ⊎ GaveUp before after what
+    (setup : Setup) (start : State) (input : List ℕ) → Brings before setup start input → HasNoBody input → (what ≡ told 4 (Place 0)) ⊎ GaveUp before after what
 
 -- A body for nobody ends it with 10,
 abbrev pub RefusesUser : List ℕ → Outside → Outside → Told → Type 0
 RefusesUser name before after what =
-    (setup : Setup) (input body : List ℕ) → Brings before setup input → IsBody input body → user_named setup name ≡ None
+    (setup : Setup) (start : State) (input body : List ℕ) → Brings before setup start input → IsBody input body → user_named setup name ≡ None
     → (what ≡ told 10 NoUser) ⊎ GaveUp before after what
 
 -- and so does one for a user of a bank that has no number left.
 abbrev pub RefusesFull : List ℕ → Outside → Outside → Told → Type 0
 RefusesFull name before after what =
-    (setup : Setup) (input body : List ℕ) (user : UserId) → Brings before setup input → IsBody input body
-    → user_named setup name ≡ Some user → has_number setup opening_state ≡ false → (what ≡ told 10 Full) ⊎ GaveUp before after what
+    (setup : Setup) (start : State) (input body : List ℕ) (user : UserId) → Brings before setup start input → IsBody input body
+    → user_named setup name ≡ Some user → has_number setup start ≡ false → (what ≡ told 10 Full) ⊎ GaveUp before after what
 
 -- A body for a user, and a number that is left, end it with 0.
 abbrev pub WritesIt : List ℕ → Outside → Outside → Told → Type 0
 WritesIt name before after what =
-    (setup : Setup) (input body : List ℕ) (user : UserId) → Brings before setup input → IsBody input body
-    → user_named setup name ≡ Some user → has_number setup opening_state ≡ true → (what ≡ told 0 Plain) ⊎ GaveUp before after what
+    (setup : Setup) (start : State) (input body : List ℕ) (user : UserId) → Brings before setup start input → IsBody input body
+    → user_named setup name ≡ Some user → has_number setup start ≡ true → (what ≡ told 0 Plain) ⊎ GaveUp before after what
 
 -- The command `mail` ends so: what it read and wrote, and what is told exactly where.
 pub record IsMailCommand (name subject : List ℕ) (before after : Outside) (what : Told) : Type 0 where
   pub ends : MailEndsWith name subject before after what
   pub refuses_setup : RefusesSetup before after what
+  pub refuses_record : RefusesRecord GaveUp before after what
+  pub refuses_illegal : RefusesIllegal GaveUp before after what
   pub refuses_body : RefusesBody before after what
   pub refuses_user : RefusesUser name before after what
   pub refuses_full : RefusesFull name before after what

@@ -14,6 +14,7 @@ use Rattle.bank_model.specs.declared.setup.User.{User}
 use Rattle.bank_model.specs.declared.event.State.{State}
 use Rattle.bank_model.specs.declared.event.Event.TheVariants.{Letter}
 use Rattle.bank_core.specs.BookView.{BookView}
+use Rattle.event_codec.specs.Records.{Codes}
 use Rattle.bank_session.specs.declared.stop.LetterFault.{LetterFault}
 use Rattle.bank_session.specs.declared.stop.LetterFault.TheVariants as faults
 use Rattle.bank_session.specs.declared.stop.Stop.{Stop}
@@ -49,9 +50,11 @@ ReadsBody input (Err (stops.Letter faults.Full)) = ⊥
 ReadsBody input (Err stops.NoMemory) = Unit {0}
 ReadsBody input (Err stops.ReadFailed) = ⊥
 ReadsBody input (Err stops.WriteFailed) = ⊥
+ReadsBody input (Err stops.KeeperFailed) = ⊥
 ReadsBody input (Err (stops.Frame place)) = ⊥
 ReadsBody input (Err stops.Usage) = ⊥
 ReadsBody input (Err (stops.Setup line)) = ⊥
+ReadsBody input (Err (stops.Records fault)) = ⊥
 
 -- ---- the user, and the number of the entry
 
@@ -90,8 +93,9 @@ pub record CanWrite (bank : BookView) (to : UserId × ℕ) (subject body : List 
 abbrev pub mail_line : ℕ → List ℕ
 mail_line n = codes "MAIL " ++ decimal n ++ 10 ∷ []
 
--- A letter is an event of the bank, and the line tells the number of its entry.
-pub record WritesLetter (setup : Setup) (at : Moment) (before : State) (user : UserId) (subject body line : List ℕ) (after : State) : Type 0 where
+-- A letter is an event of the bank with its record, and the line tells the number of its entry.
+pub record WritesLetter (setup : Setup) (at : Moment) (before : State) (user : UserId) (subject body line rec : List ℕ) (after : State) : Type 0 where
   pub legal : IsLegal setup before at (Letter user subject body)
+  pub codes : Codes rec at (Letter user subject body)
   pub told : line ≡ mail_line (letter_entry setup before user at subject body).number
   pub state : after ≡ state_after setup before at (Letter user subject body)

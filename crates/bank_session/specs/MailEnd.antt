@@ -1,13 +1,14 @@
--- The command `mail`: one letter in a bank that opens, and why it ended.
+-- The command `mail`: one letter in a bank that stands in a state, and why it ended.
 use Rattle.std.specs.Prelude.{◌≡◌, ℕ, ◌≤◌, List, [], ◌∷◌, length, take, Option, Some, Result, Ok, Err, ◌⊎◌}
 use Rattle.std.specs.Io.KnownBytes.{Keeps, Appends, IsAtEnd}
 use Rattle.ofx_ports.specs.Faults.{Rose}
 use Rattle.ofx_ports.specs.Told.{Stays, Grows}
 use Rattle.ofx_types.specs.declared.number.UserId.{UserId}
 use Rattle.ofx_types.specs.declared.number.Moment.{Moment}
-use Rattle.bank_model.specs.Rules.{opening_state}
-use Rattle.bank_model.specs.declared.setup.Setup.{Setup}
+use Rattle.bank_model.specs.Rules.{IsLegal}
 use Rattle.bank_model.specs.declared.event.State.{State}
+use Rattle.bank_model.specs.declared.event.Event.TheVariants.{Letter}
+use Rattle.event_codec.specs.Records.{Codes}
 use Rattle.bank_core.specs.BookView.{BookView}
 use Rattle.bank_session.specs.Outside.{Outside}
 use Rattle.bank_session.specs.Letters.{IsBodyOf, IsNoBody, user_named, CauseOf, WritesLetter}
@@ -17,38 +18,56 @@ use Rattle.bank_session.specs.declared.stop.Stop.TheVariants as stops
 
 -- ---- with the body
 
--- The clock gave one answer, the letter to the user of this name is written at that moment, and so is its line.
+-- The clock gave one answer, the letter to the user of this name is written at that moment and kept, and its line is written.
 pub record LetterDone (bank : BookView) (name subject body : List ℕ) (before after : Outside) : Type 0 where
   pub user : UserId
   pub moment : Moment
   pub line : List ℕ
+  pub rec : List ℕ
   pub state : State
   pub named : user_named bank.setup name ≡ Some user
-  pub writes : WritesLetter bank.setup moment bank.state user subject body line state
+  pub writes : WritesLetter bank.setup moment bank.state user subject body line rec state
+  pub kept : Grows before.records after.records (rec ∷ [])
   pub written : Appends before.held after.held line
   pub moments : Grows before.shown after.shown (moment ∷ [])
 
--- A write failed, and a front of the line is written.
+-- A write failed. The letter is kept, and a front of the line is written.
 pub record LetterBroke (bank : BookView) (name subject body : List ℕ) (before after : Outside) : Type 0 where
   pub user : UserId
   pub moment : Moment
   pub line : List ℕ
+  pub rec : List ℕ
   pub state : State
   pub count : ℕ
   pub named : user_named bank.setup name ≡ Some user
-  pub writes : WritesLetter bank.setup moment bank.state user subject body line state
+  pub writes : WritesLetter bank.setup moment bank.state user subject body line rec state
+  pub kept : Grows before.records after.records (rec ∷ [])
   pub written : Appends before.held after.held (take count line)
   pub moments : Grows before.shown after.shown (moment ∷ [])
 
--- Memory was refused. Nothing is written, and the clock gave at most one answer.
+-- The append of the letter's record failed. Nothing is written, and the record is kept only if it has landed.
+pub record LetterUnkept (bank : BookView) (name subject body : List ℕ) (before after : Outside) : Type 0 where
+  pub user : UserId
+  pub moment : Moment
+  pub rec : List ℕ
+  pub named : user_named bank.setup name ≡ Some user
+  pub legal : IsLegal bank.setup bank.state moment (Letter user subject body)
+  pub codes : Codes rec moment (Letter user subject body)
+  pub kept : Stays before.records after.records ⊎ Grows before.records after.records (rec ∷ [])
+  pub unwritten : Keeps before.held after.held
+  pub moments : Grows before.shown after.shown (moment ∷ [])
+
+-- Memory was refused. Nothing is written or kept, and the clock gave at most one answer.
 pub record LetterUndone (before after : Outside) : Type 0 where
+  pub unkept : Stays before.records after.records
   pub unwritten : Keeps before.held after.held
   pub next : List Moment
   pub few : length next ≤ 1
   pub moments : Grows before.shown after.shown next
 
--- Nothing is written, and the clock wasn't read.
+-- Nothing is written or kept, and the clock wasn't read.
 pub record LeftAlone (before after : Outside) : Type 0 where
+  pub unkept : Stays before.records after.records
   pub unwritten : Keeps before.held after.held
   pub unseen : Stays before.shown after.shown
 
@@ -58,11 +77,14 @@ LetterEnds bank name subject body before after (Ok done) = LetterDone bank name 
 LetterEnds bank name subject body before after (Err (stops.Letter fault)) = CauseOf bank name fault × LeftAlone before after
 LetterEnds bank name subject body before after (Err stops.WriteFailed) =
     LetterBroke bank name subject body before after × Rose before.out_faults after.out_faults
+LetterEnds bank name subject body before after (Err stops.KeeperFailed) =
+    LetterUnkept bank name subject body before after × Rose before.keeper_faults after.keeper_faults
 LetterEnds bank name subject body before after (Err stops.NoMemory) = LetterUndone before after
 LetterEnds bank name subject body before after (Err stops.ReadFailed) = ⊥
 LetterEnds bank name subject body before after (Err (stops.Frame place)) = ⊥
 LetterEnds bank name subject body before after (Err stops.Usage) = ⊥
 LetterEnds bank name subject body before after (Err (stops.Setup line)) = ⊥
+LetterEnds bank name subject body before after (Err (stops.Records fault)) = ⊥
 
 -- ---- without a body
 
@@ -74,9 +96,11 @@ StopsReading left before now (stops.Letter faults.Full) = ⊥
 StopsReading left before now stops.ReadFailed = Rose before now
 StopsReading left before now stops.NoMemory = Unit {0}
 StopsReading left before now stops.WriteFailed = ⊥
+StopsReading left before now stops.KeeperFailed = ⊥
 StopsReading left before now (stops.Frame place) = ⊥
 StopsReading left before now stops.Usage = ⊥
 StopsReading left before now (stops.Setup line) = ⊥
+StopsReading left before now (stops.Records fault) = ⊥
 
 -- Nothing is written then, and the clock wasn't read.
 pub record EndsWithoutBody (before after : Outside) (stop : Stop) : Type 0 where
@@ -85,19 +109,15 @@ pub record EndsWithoutBody (before after : Outside) (stop : Stop) : Type 0 where
 
 -- ---- the command
 
--- a bank of that setup that opens
-abbrev pub opened : Setup → BookView
-opened setup = record { setup = setup; state = opening_state }
-
 -- The letter has the body that all bytes of the input are, and the input is at its end.
-pub record EndsWithBody (setup : Setup) (name subject : List ℕ) (before after : Outside) (end : Result (Unit {0}) Stop) : Type 0 where
+pub record EndsWithBody (bank : BookView) (name subject : List ℕ) (before after : Outside) (end : Result (Unit {0}) Stop) : Type 0 where
   pub body : List ℕ
   pub is_body : IsBodyOf before.input_left body
   pub at_end : IsAtEnd after.input_left
-  pub ends : LetterEnds (opened setup) name subject body before after end
+  pub ends : LetterEnds bank name subject body before after end
 
--- What stands at each end of the command that has its setup.
-abbrev pub MailEnds : Setup → List ℕ → List ℕ → Outside → Outside → Result (Unit {0}) Stop → Type 0
-MailEnds setup name subject before after (Ok done) = EndsWithBody setup name subject before after (Ok done)
-MailEnds setup name subject before after (Err stop) =
-    EndsWithoutBody before after stop ⊎ EndsWithBody setup name subject before after (Err stop)
+-- What stands at each end of the command in a bank that stands in a state.
+abbrev pub MailEnds : BookView → List ℕ → List ℕ → Outside → Outside → Result (Unit {0}) Stop → Type 0
+MailEnds bank name subject before after (Ok done) = EndsWithBody bank name subject before after (Ok done)
+MailEnds bank name subject before after (Err stop) =
+    EndsWithoutBody before after stop ⊎ EndsWithBody bank name subject before after (Err stop)

@@ -2,8 +2,8 @@
 use Rattle.std.specs.Prelude.{ℕ, List, Option}
 use Rattle.ofx_types.specs.declared.number.Moment.{Moment}
 
--- The bytes that its setup and its input have left, those that its output holds, the answers that its clock has given,
--- and the three counts of faults.
+-- The bytes that its setup and its input have left, those that its output holds, the records that its keeper has, the answers
+-- that its clock has given, and the four counts of faults.
 pub record Outside : Type 0 where
   pub setup_left : Option (List ℕ)
   pub setup_faults : ℕ
@@ -11,15 +11,19 @@ pub record Outside : Type 0 where
   pub input_faults : ℕ
   pub held : Option (List ℕ)
   pub out_faults : ℕ
+  pub records : Option (List (List ℕ))
+  pub keeper_faults : ℕ
   pub shown : Option (List Moment)
 
-abbrev pub outside : Option (List ℕ) → ℕ → Option (List ℕ) → ℕ → Option (List ℕ) → ℕ → Option (List Moment) → Outside
-outside setup_left setup_faults input_left input_faults held out_faults shown = record {
+abbrev pub outside : Option (List ℕ) → ℕ → Option (List ℕ) → ℕ → Option (List ℕ) → ℕ → Option (List (List ℕ)) → ℕ → Option (List Moment) → Outside
+outside setup_left setup_faults input_left input_faults held out_faults records keeper_faults shown = record {
   setup_left = setup_left;
   setup_faults = setup_faults;
   input_left = input_left;
   input_faults = input_faults;
   held = held;
   out_faults = out_faults;
+  records = records;
+  keeper_faults = keeper_faults;
   shown = shown;
 }

@@ -4,14 +4,19 @@ use Rattle.std.specs.Io.KnownBytes.{Keeps}
 use Rattle.ofx_ports.specs.Told.{Stays}
 use Rattle.ofx_types.specs.declared.number.Moment.{Moment}
 use Rattle.ofx_types.specs.declared.told.Note.{Note}
-use Rattle.ofx_types.specs.declared.told.Note.TheVariants.{Plain, Place, NoUser, Full}
+use Rattle.ofx_types.specs.declared.told.Note.TheVariants.{Plain, Place, Record, Illegal, NoUser, Full}
 use Rattle.ofx_types.specs.declared.told.Told.{Told}
 use Rattle.bank_model.specs.declared.setup.Setup.{Setup}
+use Rattle.bank_model.specs.declared.event.State.{State}
+use Rattle.bank_replay.specs.Opening.{Stands}
 use Rattle.bank_session.specs.Outside.{Outside}
 use Rattle.bank_session.specs.SetupRead.{IsSetupOf, StopsSetup}
+use Rattle.bank_session.specs.RecordsRead.{StopsOpening}
 use Rattle.bank_session.specs.RunEnd.{RunEnds}
 use Rattle.bank_session.specs.DueEnd.{DueEnds}
 use Rattle.bank_session.specs.MailEnd.{MailEnds}
+use Rattle.bank_session.specs.declared.stop.RecordsFault.{RecordsFault}
+use Rattle.bank_session.specs.declared.stop.RecordsFault.TheVariants.{NoForm, NotLegal}
 use Rattle.bank_session.specs.declared.stop.LetterFault.{LetterFault}
 use Rattle.bank_session.specs.declared.stop.LetterFault.TheVariants as faults
 use Rattle.bank_session.specs.declared.stop.Stop.{Stop}
@@ -26,6 +31,11 @@ told_of_letter faults.NoBody = told 4 (Place 0)
 told_of_letter faults.NoUser = told 10 NoUser
 told_of_letter faults.Full = told 10 Full
 
+-- What is told of records that are none of this bank: the first one that isn't, and the place of its fault where it has one.
+abbrev pub told_of_records : RecordsFault → Told
+told_of_records (NoForm number place) = told 9 (Record number place)
+told_of_records (NotLegal number) = told 9 (Illegal number)
+
 -- What is told of each end: its status, the line of a setup's fault, and the place of what is no frame.
 abbrev pub told_of : Result (Unit {0}) Stop → Told
 told_of (Ok done) = told 0 Plain
@@ -35,24 +45,44 @@ told_of (Err (stops.Frame place)) = told 4 (Place place)
 told_of (Err stops.ReadFailed) = told 5 Plain
 told_of (Err stops.WriteFailed) = told 6 Plain
 told_of (Err stops.NoMemory) = told 7 Plain
+told_of (Err stops.KeeperFailed) = told 8 Plain
+told_of (Err (stops.Records fault)) = told_of_records fault
 told_of (Err (stops.Letter fault)) = told_of_letter fault
 
--- A run that has no setup reads none of its input and writes nothing, and doesn't look at the clock.
+-- A run that has no setup reads none of its input, writes and keeps nothing, and doesn't look at the clock.
 pub record EndsWithoutSetup (before after : Outside) (stop : Stop) : Type 0 where
   pub cause : StopsSetup before.setup_left before.setup_faults after.setup_faults stop
   pub unread : Keeps before.input_left after.input_left
+  pub unkept : Stays before.records after.records
   pub unwritten : Keeps before.held after.held
   pub unseen : Stays before.shown after.shown
 
--- A run has the setup that all bytes of its source spell, and answers the frames of its input.
-pub record EndsWithSetup (at : Option Moment) (before after : Outside) (end : Result (Unit {0}) Stop) : Type 0 where
+-- Neither does one whose bank doesn't open from its records, though it has the setup that all bytes of its source spell.
+pub record EndsWithoutBank (before after : Outside) (stop : Stop) : Type 0 where
   pub setup : Setup
   pub found : IsSetupOf before.setup_left setup
-  pub ends : RunEnds setup at before after end
+  pub cause : StopsOpening setup before.records before.keeper_faults after.keeper_faults stop
+  pub unread : Keeps before.input_left after.input_left
+  pub unkept : Stays before.records after.records
+  pub unwritten : Keeps before.held after.held
+  pub unseen : Stays before.shown after.shown
+
+-- A run that stops may have had no setup, or no bank.
+abbrev pub NeverOpens : Outside → Outside → Stop → Type 0
+NeverOpens before after stop = EndsWithoutSetup before after stop ⊎ EndsWithoutBank before after stop
+
+-- A run has the setup that all bytes of its source spell and a bank that stands for its records, and answers the frames of
+-- its input.
+pub record EndsWithBank (at : Option Moment) (before after : Outside) (end : Result (Unit {0}) Stop) : Type 0 where
+  pub setup : Setup
+  pub start : State
+  pub found : IsSetupOf before.setup_left setup
+  pub stands : Stands setup before.records start
+  pub ends : RunEnds setup start at before after end
 
 abbrev pub EndsSo : Option Moment → Outside → Outside → Result (Unit {0}) Stop → Type 0
-EndsSo at before after (Ok done) = EndsWithSetup at before after (Ok done)
-EndsSo at before after (Err stop) = EndsWithoutSetup before after stop ⊎ EndsWithSetup at before after (Err stop)
+EndsSo at before after (Ok done) = EndsWithBank at before after (Ok done)
+EndsSo at before after (Err stop) = NeverOpens before after stop ⊎ EndsWithBank at before after (Err stop)
 
 -- A run ends so, and this is told of it.
 pub record EndsWith (at : Option Moment) (before after : Outside) (what : Told) : Type 0 where
@@ -60,15 +90,17 @@ pub record EndsWith (at : Option Moment) (before after : Outside) (what : Told) 
   pub told_is : what ≡ told_of end
   pub ends : EndsSo at before after end
 
--- The command `due` has the setup that all bytes of its source spell, and does what is due in a bank that opens.
-pub record DueEndsWithSetup (before after : Outside) (end : Result (Unit {0}) Stop) : Type 0 where
+-- The command `due` has that setup and that bank, and does what is due in it.
+pub record DueEndsWithBank (before after : Outside) (end : Result (Unit {0}) Stop) : Type 0 where
   pub setup : Setup
+  pub start : State
   pub found : IsSetupOf before.setup_left setup
-  pub ends : DueEnds setup before after end
+  pub stands : Stands setup before.records start
+  pub ends : DueEnds setup start before after end
 
 abbrev pub DueEndsSo : Outside → Outside → Result (Unit {0}) Stop → Type 0
-DueEndsSo before after (Ok done) = DueEndsWithSetup before after (Ok done)
-DueEndsSo before after (Err stop) = EndsWithoutSetup before after stop ⊎ DueEndsWithSetup before after (Err stop)
+DueEndsSo before after (Ok done) = DueEndsWithBank before after (Ok done)
+DueEndsSo before after (Err stop) = NeverOpens before after stop ⊎ DueEndsWithBank before after (Err stop)
 
 -- The command ends so, and this is told of it.
 pub record DueEndsWith (before after : Outside) (what : Told) : Type 0 where
@@ -76,16 +108,18 @@ pub record DueEndsWith (before after : Outside) (what : Told) : Type 0 where
   pub told_is : what ≡ told_of end
   pub ends : DueEndsSo before after end
 
--- The command `mail` has the setup that all bytes of its source spell, and writes a letter in a bank that opens.
-pub record MailEndsWithSetup (name subject : List ℕ) (before after : Outside) (end : Result (Unit {0}) Stop) : Type 0 where
+-- The command `mail` has that setup and that bank, and writes a letter in it.
+pub record MailEndsWithBank (name subject : List ℕ) (before after : Outside) (end : Result (Unit {0}) Stop) : Type 0 where
   pub setup : Setup
+  pub start : State
   pub found : IsSetupOf before.setup_left setup
-  pub ends : MailEnds setup name subject before after end
+  pub stands : Stands setup before.records start
+  pub ends : MailEnds (record { setup = setup; state = start }) name subject before after end
 
 abbrev pub MailEndsSo : List ℕ → List ℕ → Outside → Outside → Result (Unit {0}) Stop → Type 0
-MailEndsSo name subject before after (Ok done) = MailEndsWithSetup name subject before after (Ok done)
+MailEndsSo name subject before after (Ok done) = MailEndsWithBank name subject before after (Ok done)
 MailEndsSo name subject before after (Err stop) =
-    EndsWithoutSetup before after stop ⊎ MailEndsWithSetup name subject before after (Err stop)
+    NeverOpens before after stop ⊎ MailEndsWithBank name subject before after (Err stop)
 
 -- The command ends so, and this is told of it.
 pub record MailEndsWith (name subject : List ℕ) (before after : Outside) (what : Told) : Type 0 where

@@ -24,4 +24,6 @@ StopsSetup left before now stops.NoMemory = Unit {0}
 StopsSetup left before now stops.Usage = ⊥
 StopsSetup left before now (stops.Frame place) = ⊥
 StopsSetup left before now stops.WriteFailed = ⊥
+StopsSetup left before now stops.KeeperFailed = ⊥
+StopsSetup left before now (stops.Records fault) = ⊥
 StopsSetup left before now (stops.Letter fault) = ⊥

@@ -1,55 +1,45 @@
--- What the two steps of a turn answer.
-use Rattle.std.specs.Prelude.{◌≡◌, ℕ, List, ◌++◌, length, take, Option, Result, Ok, Err}
+-- What a turn of a run answers.
+use Rattle.std.specs.Prelude.{ℕ, List, [], ◌∷◌, Option, Result, Ok, Err}
 use Rattle.std.specs.Option.{IfSome}
-use Rattle.std.specs.Io.KnownBytes.{Keeps, IsAtEnd, Appends, prepend_known}
+use Rattle.std.specs.Io.KnownBytes.{Keeps, IsAtEnd}
 use Rattle.ofx_ports.specs.Faults.{Rose}
+use Rattle.ofx_ports.specs.Told.{Stays}
 use Rattle.ofx_types.specs.declared.number.Moment.{Moment}
 use Rattle.bank_core.specs.BookView.{BookView}
-use Rattle.bank_session.specs.Frames.{Content, frame_of, Fits}
-use Rattle.bank_session.specs.Answers.{Says}
+use Rattle.bank_session.specs.Frames.{BeginsNoFrame}
+use Rattle.bank_session.specs.Answers.{AreMoments}
 use Rattle.bank_session.specs.Coming.{IsNoFrame}
-use Rattle.bank_session.specs.Turns.{TurnMade, NoTurn, TurnStops}
+use Rattle.bank_session.specs.Turns.{Around, FrameAnswered, FrameStops}
 use Rattle.bank_session.specs.declared.stop.Stop.{Stop}
 use Rattle.bank_session.specs.declared.stop.Stop.TheVariants as stops
 use Rattle.bank_session.specs.declared.turn.Step.{Step}
 use Rattle.bank_session.specs.declared.turn.Step.TheVariants as steps
 
--- The frame in front, of so many bytes, was answered, and all of its line was written; or a front of it.
-pub record FrameWritten (at : Moment) (size : ℕ) (before after : BookView) (ahead later : List ℕ) (held now : Option (List ℕ)) : Type 0 where
-  pub content : Content
-  pub line : List ℕ
-  pub fits : Fits content
-  pub says : Says before.setup at before.state content line after.state
-  pub setup : after.setup ≡ before.setup
-  pub read : ahead ≡ frame_of content ++ later
-  pub size_is : size ≡ length (frame_of content)
-  pub written : Appends held now line
+-- Nothing that is to come was used up, nothing was kept or written, and the clock wasn't read.
+pub record NoTurn (found left : Around) : Type 0 where
+  pub unread : Keeps found.coming left.coming
+  pub unkept : Stays found.records left.records
+  pub unwritten : Keeps found.held left.held
+  pub unseen : Stays found.shown left.shown
 
-pub record FrameBroke (at : Moment) (before after : BookView) (ahead later : List ℕ) (held now : Option (List ℕ)) : Type 0 where
-  pub content : Content
-  pub line : List ℕ
-  pub tail : List ℕ
-  pub count : ℕ
-  pub fits : Fits content
-  pub says : Says before.setup at before.state content line after.state
-  pub kept : later ≡ ahead
-  pub begins : ahead ≡ frame_of content ++ tail
-  pub written : Appends held now (take count line)
+-- Something happened to a frame at its moment, the words' one or the clock's next one.
+pub record AtMoment (at : Option Moment) (found left : Around) (What : Moment → Type 0) : Type 0 where
+  pub moment : Moment
+  pub moments : AreMoments at found.shown left.shown (moment ∷ [])
+  pub happened : What moment
 
-abbrev pub FrameResult : Moment → ℕ → BookView → BookView → List ℕ → List ℕ → Option (List ℕ) → Option (List ℕ) → ℕ → ℕ → Result (Unit {0}) Stop → Type 0
-FrameResult at size before after ahead later held now writes writes' (Ok done) = FrameWritten at size before after ahead later held now
-FrameResult at size before after ahead later held now writes writes' (Err stops.WriteFailed) = FrameBroke at before after ahead later held now × Rose writes writes'
-FrameResult at size before after ahead later held now writes writes' (Err stops.NoMemory) = (later ≡ ahead) × Keeps held now
-FrameResult at size before after ahead later held now writes writes' (Err stops.ReadFailed) = ⊥
-FrameResult at size before after ahead later held now writes writes' (Err (stops.Frame place)) = ⊥
-FrameResult at size before after ahead later held now writes writes' (Err stops.Usage) = ⊥
-FrameResult at size before after ahead later held now writes writes' (Err (stops.Setup line)) = ⊥
-FrameResult at size before after ahead later held now writes writes' (Err (stops.Letter fault)) = ⊥
+abbrev pub TurnMade : Option Moment → BookView → BookView → Around → Around → ℕ → Type 0
+TurnMade at before after found left size = AtMoment at found left (λ moment. FrameAnswered moment size before after found left)
+
+-- Why a turn fails: a read failed while no whole frame was ahead, or the run stops in a frame.
+abbrev pub TurnStops : Option Moment → BookView → Around → Around → List ℕ → Stop → Type 0
+TurnStops at before found left ahead stops.ReadFailed = NoTurn found left × (BeginsNoFrame ahead × Rose found.reads left.reads)
+TurnStops at before found left ahead stop = AtMoment at found left (λ moment. FrameStops moment before found left stop)
 
 -- A frame of so many bytes was answered; or the input is at its end; or bytes that begin no frame are left; or the run
 -- stops.
-abbrev pub TurnResult : Option Moment → BookView → BookView → Option (List ℕ) → List ℕ → Option (List ℕ) → Option (List ℕ) → Option (List ℕ) → Option (List Moment) → Option (List Moment) → ℕ → ℕ → ℕ → ℕ → Result Step Stop → Type 0
-TurnResult at before after coming ahead left held now shown shown' reads reads' writes writes' (Ok (steps.Answered size)) = TurnMade at before after coming (prepend_known ahead left) held now shown shown' size
-TurnResult at before after coming ahead left held now shown shown' reads reads' writes writes' (Ok steps.AtEnd) = NoTurn coming (prepend_known ahead left) held now shown shown' × IsAtEnd (prepend_known ahead left)
-TurnResult at before after coming ahead left held now shown shown' reads reads' writes writes' (Ok steps.NoFrame) = NoTurn coming (prepend_known ahead left) held now shown shown' × IfSome (prepend_known ahead left) IsNoFrame
-TurnResult at before after coming ahead left held now shown shown' reads reads' writes writes' (Err stop) = TurnStops at before coming ahead left held now shown shown' reads reads' writes writes' stop
+abbrev pub TurnResult : Option Moment → BookView → BookView → Around → Around → List ℕ → Result Step Stop → Type 0
+TurnResult at before after found left ahead (Ok (steps.Answered size)) = TurnMade at before after found left size
+TurnResult at before after found left ahead (Ok steps.AtEnd) = NoTurn found left × IsAtEnd left.coming
+TurnResult at before after found left ahead (Ok steps.NoFrame) = NoTurn found left × IfSome left.coming IsNoFrame
+TurnResult at before after found left ahead (Err stop) = TurnStops at before found left ahead stop

@@ -1,62 +1,112 @@
--- One turn of a run, and why a run stops instead.
-use Rattle.std.specs.Prelude.{◌≡◌, ℕ, List, [], ◌∷◌, ◌++◌, length, take, Option}
-use Rattle.std.specs.Option.{IfSome}
-use Rattle.std.specs.Io.KnownBytes.{Keeps, Consumes, Appends, prepend_known}
+-- One frame of a run that is answered, and why a run stops in it instead.
+use Rattle.std.specs.Prelude.{◌≡◌, ℕ, List, length, take, Option, Result, Ok, Err}
+use Rattle.std.specs.Io.KnownBytes.{Keeps, Consumes, Appends}
 use Rattle.ofx_ports.specs.Faults.{Rose}
-use Rattle.ofx_ports.specs.Told.{Stays}
+use Rattle.ofx_ports.specs.Told.{Grows}
 use Rattle.ofx_types.specs.declared.number.Moment.{Moment}
 use Rattle.bank_core.specs.BookView.{BookView}
-use Rattle.bank_session.specs.Frames.{Content, frame_of, Fits, BeginsNoFrame}
-use Rattle.bank_session.specs.Answers.{Says, AreMoments}
+use Rattle.bank_session.specs.Frames.{Content, frame_of, Fits}
+use Rattle.bank_session.specs.Answers.{Says, KeptInVain, KeptBeforeRefusal}
+use Rattle.bank_session.specs.RunEnd.{ComesNext}
 use Rattle.bank_session.specs.declared.stop.Stop.{Stop}
 use Rattle.bank_session.specs.declared.stop.Stop.TheVariants as stops
+use Rattle.bank_session.specs.declared.undone.Undone.{Undone}
+use Rattle.bank_session.specs.declared.undone.Undone.TheVariants.{NoMemory, NotKept}
 
--- A frame of so many bytes was read, and its line written whole. The moment is the words' one or the clock's next one.
-pub record TurnMade (at : Option Moment) (before after : BookView) (coming later held now : Option (List ℕ)) (shown shown' : Option (List Moment)) (size : ℕ) : Type 0 where
+-- What a turn finds and leaves outside of it: what is still to come of the input, the bytes that the output holds, the records
+-- that the keeper has, the answers that the clock has given, and the three counts of faults.
+pub record Around : Type 0 where
+  pub coming : Option (List ℕ)
+  pub reads : ℕ
+  pub held : Option (List ℕ)
+  pub writes : ℕ
+  pub records : Option (List (List ℕ))
+  pub keeps : ℕ
+  pub shown : Option (List Moment)
+
+abbrev pub around : Option (List ℕ) → ℕ → Option (List ℕ) → ℕ → Option (List (List ℕ)) → ℕ → Option (List Moment) → Around
+around coming reads held writes records keeps shown = record {
+  coming = coming;
+  reads = reads;
+  held = held;
+  writes = writes;
+  records = records;
+  keeps = keeps;
+  shown = shown;
+}
+
+-- For a frame this line is to be written, and its records are kept.
+abbrev pub SaysAndKeeps : Moment → BookView → BookView → Content → Option (List (List ℕ)) → Option (List (List ℕ)) → List ℕ → Type 0
+SaysAndKeeps at before after content told told' line =
+    (records : List (List ℕ)) × Says before.setup at before.state content line records after.state × Grows told told' records
+
+-- What is kept of a frame for which there is no line: memory was refused, or the append of a record failed.
+abbrev pub KeepsRefused : Moment → BookView → Content → Option (List (List ℕ)) → Option (List (List ℕ)) → Type 0
+KeepsRefused at before content told told' =
+    (records : List (List ℕ)) × KeptBeforeRefusal before.setup at before.state content records × Grows told told' records
+
+abbrev pub KeepsInVain : Moment → BookView → Content → Option (List (List ℕ)) → Option (List (List ℕ)) → Type 0
+KeepsInVain at before content told told' =
+    (records : List (List ℕ)) × KeptInVain before.setup at before.state content records × Grows told told' records
+
+abbrev pub HasNoLine : Moment → BookView → Content → Option (List (List ℕ)) → Option (List (List ℕ)) → Undone → Type 0
+HasNoLine at before content told told' NoMemory = KeepsRefused at before content told told'
+HasNoLine at before content told told' NotKept = KeepsInVain at before content told told'
+
+-- The frame in front, of so many bytes, is used up, its records are kept, and its line is written whole.
+pub record FrameAnswered (at : Moment) (size : ℕ) (before after : BookView) (found left : Around) : Type 0 where
   pub content : Content
-  pub moment : Moment
   pub line : List ℕ
   pub fits : Fits content
-  pub says : Says before.setup moment before.state content line after.state
+  pub says : SaysAndKeeps at before after content found.records left.records line
   pub setup : after.setup ≡ before.setup
-  pub read : Consumes coming later (frame_of content)
+  pub read : Consumes found.coming left.coming (frame_of content)
   pub size_is : size ≡ length (frame_of content)
-  pub written : Appends held now line
-  pub moments : AreMoments at shown shown' (moment ∷ [])
+  pub written : Appends found.held left.held line
 
--- Nothing that is to come was used up, nothing was written, and the clock wasn't read.
-pub record NoTurn (coming later held now : Option (List ℕ)) (shown shown' : Option (List Moment)) : Type 0 where
-  pub kept : Keeps coming later
-  pub unwritten : Keeps held now
-  pub unseen : Stays shown shown'
-
--- Memory for the next frame's line was refused: only the clock may have been read.
-pub record MemoryRefused (at : Option Moment) (coming later held now : Option (List ℕ)) (shown shown' : Option (List Moment)) : Type 0 where
-  pub moment : Moment
-  pub kept : Keeps coming later
-  pub unwritten : Keeps held now
-  pub moments : AreMoments at shown shown' (moment ∷ [])
-
--- The write of the line for the next frame failed, and a front of it is written.
-pub record WriteBroke (at : Option Moment) (before : BookView) (coming later held now : Option (List ℕ)) (shown shown' : Option (List Moment)) : Type 0 where
-  pub content : Content
-  pub moment : Moment
-  pub line : List ℕ
-  pub next : BookView
-  pub count : ℕ
+-- A frame that comes next stays where it is.
+pub record FrameStays (content : Content) (found left : Around) : Type 0 where
   pub fits : Fits content
-  pub says : Says before.setup moment before.state content line next.state
-  pub kept : Keeps coming later
-  pub begins : IfSome later (λ rest. (tail : List ℕ) × (rest ≡ frame_of content ++ tail))
-  pub written : Appends held now (take count line)
-  pub moments : AreMoments at shown shown' (moment ∷ [])
+  pub unread : Keeps found.coming left.coming
+  pub begins : ComesNext content left.coming
 
--- Why a turn fails: a read failed while no whole frame was ahead, a write failed, or memory was refused.
-abbrev pub TurnStops : Option Moment → BookView → Option (List ℕ) → List ℕ → Option (List ℕ) → Option (List ℕ) → Option (List ℕ) → Option (List Moment) → Option (List Moment) → ℕ → ℕ → ℕ → ℕ → Stop → Type 0
-TurnStops at before coming ahead left held now shown shown' reads reads' writes writes' stops.ReadFailed = NoTurn coming (prepend_known ahead left) held now shown shown' × (BeginsNoFrame ahead × Rose reads reads')
-TurnStops at before coming ahead left held now shown shown' reads reads' writes writes' stops.WriteFailed = WriteBroke at before coming (prepend_known ahead left) held now shown shown' × Rose writes writes'
-TurnStops at before coming ahead left held now shown shown' reads reads' writes writes' stops.NoMemory = MemoryRefused at coming (prepend_known ahead left) held now shown shown'
-TurnStops at before coming ahead left held now shown shown' reads reads' writes writes' (stops.Frame place) = ⊥
-TurnStops at before coming ahead left held now shown shown' reads reads' writes writes' stops.Usage = ⊥
-TurnStops at before coming ahead left held now shown shown' reads reads' writes writes' (stops.Setup line) = ⊥
-TurnStops at before coming ahead left held now shown shown' reads reads' writes writes' (stops.Letter fault) = ⊥
+-- The write of the line for the next frame failed: its records are kept, and a front of the line is written.
+pub record WriteBroke (at : Moment) (before : BookView) (found left : Around) : Type 0 where
+  pub content : Content
+  pub line : List ℕ
+  pub after : BookView
+  pub count : ℕ
+  pub stays : FrameStays content found left
+  pub says : SaysAndKeeps at before after content found.records left.records line
+  pub written : Appends found.held left.held (take count line)
+
+-- The append of a record of the next frame failed: nothing is written.
+pub record AppendBroke (at : Moment) (before : BookView) (found left : Around) : Type 0 where
+  pub content : Content
+  pub stays : FrameStays content found left
+  pub keeps : KeepsInVain at before content found.records left.records
+  pub unwritten : Keeps found.held left.held
+
+-- Memory for the next frame was refused: nothing is written.
+pub record MemoryRefused (at : Moment) (before : BookView) (found left : Around) : Type 0 where
+  pub content : Content
+  pub stays : FrameStays content found left
+  pub keeps : KeepsRefused at before content found.records left.records
+  pub unwritten : Keeps found.held left.held
+
+-- Why a run stops in a frame that is there: a write or an append failed, or memory was refused.
+abbrev pub FrameStops : Moment → BookView → Around → Around → Stop → Type 0
+FrameStops at before found left stops.WriteFailed = WriteBroke at before found left × Rose found.writes left.writes
+FrameStops at before found left stops.KeeperFailed = AppendBroke at before found left × Rose found.keeps left.keeps
+FrameStops at before found left stops.NoMemory = MemoryRefused at before found left
+FrameStops at before found left stops.ReadFailed = ⊥
+FrameStops at before found left stops.Usage = ⊥
+FrameStops at before found left (stops.Setup line) = ⊥
+FrameStops at before found left (stops.Frame place) = ⊥
+FrameStops at before found left (stops.Records fault) = ⊥
+FrameStops at before found left (stops.Letter fault) = ⊥
+
+-- The frame in front was answered, or the run stops in it.
+abbrev pub FrameResult : Moment → ℕ → BookView → BookView → Around → Around → Result (Unit {0}) Stop → Type 0
+FrameResult at size before after found left (Ok done) = FrameAnswered at size before after found left
+FrameResult at size before after found left (Err stop) = FrameStops at before found left stop

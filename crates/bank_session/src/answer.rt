@@ -1,44 +1,51 @@
 //! The commands: `answer`, a stream of frames that are answered in order, `due`, which does once what is due, and `mail`,
 //! which writes a letter.
 
-ghost use Rattle.std.specs.Prelude.{◌≡◌, ◌↔◌, ℕ, List, Option, Some, IsSome};
+ghost use Rattle.std.specs.Prelude.{◌≡◌, ◌≢◌, ◌↔◌, ℕ, false, List, Option, Some, Err, IsSome};
 ghost use Rattle.ofx_types.specs.declared.number.Moment.{Moment as TheMoment};
 ghost use Rattle.ofx_types.specs.declared.told.Told.{Told as WhatIsTold};
 ghost use Rattle.bank_session.specs.Words.{AreWords, AreDueWords, AreMailWords, IsUsage};
 ghost use Rattle.bank_session.specs.WordsRead.{IsLawful};
 ghost use Rattle.bank_session.specs.Outside.{outside};
 ghost use Rattle.bank_session.specs.Run as runs;
-ghost use Rattle.bank_session.specs.Run.{EndsSo, told_of, told_of_letter};
+ghost use Rattle.bank_session.specs.Run.{EndsSo, told_of, told_of_letter, told_of_records};
 ghost use Rattle.bank_session.specs.Exact.{IsRun, IsDueCommand, IsMailCommand};
 
+use crate::desk::Desk;
 use crate::due::do_due_once;
 use crate::mail::send_letter;
+use crate::opening::one_bank;
 use crate::run::answer_frames as answer_input;
 use crate::setup_source::read_setup;
-use crate::stop::{LetterFault, Stop};
+use crate::stop::{LetterFault, RecordsFault, Stop};
 use crate::words::{Command, command_of};
 use bank_model::one_setup;
 use ofx_ports::{Clock, Keeper, Sink, Source};
 use ofx_types::{Moment, Note, Status, Text, Told};
 use std::alloc::Global;
 
-/// Reads the setup and answers the frames of the input, each at that moment, or else at the one that the clock shows.
-fn run<A: Source, B: Source, W: Sink, C: Clock>(
+/// Reads the setup, opens the bank from its records and answers the frames of the input, each at that moment, or else at the
+/// one that the clock shows.
+fn run<A: Source, B: Source, W: Sink, K: Keeper, C: Clock>(
     alloc: Global,
     at: Option<Moment>,
     setup: &mut A,
     input: &mut B,
     out: &mut W,
+    keeper: &mut K,
     clock: &mut C,
 ) -> Result<(), Stop>
-    requires { IsLawful at }
+    requires moment { IsLawful at }
+    requires settled { K.unsettled keeper.old ≡ false }
     ensures ends { EndsSo at
-        (outside (A.left setup.old) (A.faults setup.old) (B.left input.old) (B.faults input.old) (W.held out.old) (W.faults out.old) (C.told clock.old))
-        (outside (A.left setup.new) (A.faults setup.new) (B.left input.new) (B.faults input.new) (W.held out.new) (W.faults out.new) (C.told clock.new)) result }
+        (outside (A.left setup.old) (A.faults setup.old) (B.left input.old) (B.faults input.old) (W.held out.old) (W.faults out.old) (K.records keeper.old) (K.faults keeper.old) (C.told clock.old))
+        (outside (A.left setup.new) (A.faults setup.new) (B.left input.new) (B.faults input.new) (W.held out.new) (W.faults out.new) (K.records keeper.new) (K.faults keeper.new) (C.told clock.new)) result }
+    ensures settled { result ≢ Err Stop.KeeperFailed → K.unsettled keeper.new ≡ false }
     ensures still { IsSome at → clock.new ≡ clock.old }
 {
     let setup = read_setup(alloc, setup)?;
-    answer_input(alloc, setup, at, clock, input, out)
+    let mut desk = Desk::open(alloc, setup, keeper)?;
+    answer_input(alloc, &mut desk, at, clock, input, out, keeper)
 }
 
 /// What is told of an end.
@@ -53,7 +60,19 @@ fn end_told(end: Result<(), Stop>) -> Told
         Err(Stop::ReadFailed) => plain(5),
         Err(Stop::WriteFailed) => plain(6),
         Err(Stop::NoMemory) => plain(7),
+        Err(Stop::KeeperFailed) => plain(8),
+        Err(Stop::Records(fault)) => records_told(fault),
         Err(Stop::Letter(fault)) => letter_told(fault),
+    }
+}
+
+/// What is told of records that are none of this bank.
+fn records_told(fault: RecordsFault) -> Told
+    ensures { result ≡ told_of_records fault }
+{
+    match fault {
+        RecordsFault::NoForm(number, at) => noted(9, Note::Record(number, at)),
+        RecordsFault::NotLegal(number) => noted(9, Note::Illegal(number)),
     }
 }
 
@@ -94,9 +113,11 @@ fn at_place(status: u8, place: u64) -> Told
 
 /// Answers a stream of frames, does once what is due, or writes a letter, and tells how the run ended.
 ///
-/// The words of the first are `answer`, the path of the setup, `-` for records that aren't kept, and perhaps `--at` with
-/// a date (OFX 1.6, "Dates, Times, and Time Zones"). The setup is read whole; then each frame of the input is answered
-/// in turn. With `--at` each frame has that moment. Without it the clock is read once for each frame, when the whole frame
+/// The words of the first are `answer`, the path of the setup, where the records are kept, and perhaps `--at` with a date
+/// (OFX 1.6, "Dates, Times, and Time Zones"). The setup is read whole, and the bank opens from the records that the keeper
+/// has: it stands for the events that they code, each legal after those before it. Then each frame of the input is answered
+/// in turn. Of each event a record is appended before anything of it shows: before the bank takes the step, and before its
+/// line is written. With `--at` each frame has that moment. Without it the clock is read once for each frame, when the whole frame
 /// is there and before it is judged.
 ///
 /// A request file of a user of the setup (OFX 1.6, "Signon") is answered by the reply in its frame. The reply to a file
@@ -113,11 +134,11 @@ fn at_place(status: u8, place: u64) -> Told
 /// A poll of a user, which asks for nothing but newest tokens ("Data Synchronization"), is answered in its frame too, and
 /// changes nothing, not even the business day.
 ///
-/// The words `due`, the path of the setup and `-` ask for the same once, in a bank that opens, at the moment that the
+/// The words `due`, the path of the setup and where the records are kept ask for the same once, at the moment that the
 /// clock shows then. The input isn't read.
 ///
-/// The words `mail`, the path of the setup, `-`, the name of a user and a subject of 1 to 64 bytes ask for a letter of the
-/// bank to this user ("Customer Service and E-Mail"), in a bank that opens. The input is its body, of 1 to 10,000 bytes
+/// The words `mail`, the path of the setup, where the records are kept, the name of a user and a subject of 1 to 64 bytes ask
+/// for a letter of the bank to this user ("Customer Service and E-Mail"). The input is its body, of 1 to 10,000 bytes
 /// without the white space at its ends. The clock is read once, behind all that may refuse, and the line is `MAIL` with
 /// the number of the letter's entry.
 ///
@@ -131,6 +152,9 @@ fn at_place(status: u8, place: u64) -> Told
 /// | 5 | | a read of the setup or of the input failed; the frames before are answered |
 /// | 6 | | a write failed; a front of the text is written |
 /// | 7 | | memory was refused; the frames before are answered |
+/// | 8 | | a call of the keeper failed; the frames before are answered, and the record whose append failed may have landed |
+/// | 9 | the number of a record, from 1, and the place of its first fault | this record is the first that codes no event; nothing was written |
+/// | 9 | the number of a record, from 1 | this record is the first whose event isn't legal after those before it; nothing was written |
 /// | 10 | no user | of `mail`: no user of the setup has the name; nothing was written |
 /// | 10 | full | of `mail`: no number is left for an entry; nothing was written |
 pub fn answer_told<A: Source, B: Source, W: Sink, K: Keeper, C: Clock>(
@@ -142,35 +166,42 @@ pub fn answer_told<A: Source, B: Source, W: Sink, K: Keeper, C: Clock>(
     keeper: &mut K,
     clock: &mut C,
 ) -> Told
+    requires settled { K.unsettled keeper.old ≡ false }
     ensures usage { (result.status.0 ≡ 2) ↔ IsUsage words.now }
     ensures plain { result.status.0 ≡ 2 → result.note ≡ Note.Plain }
-    ensures unread { IsUsage words.now → (setup.new ≡ setup.old) × (input.new ≡ input.old) × (out.new ≡ out.old) × (clock.new ≡ clock.old) }
+    ensures unread { IsUsage words.now → (setup.new ≡ setup.old) × (input.new ≡ input.old) × (out.new ≡ out.old) × (keeper.new ≡ keeper.old) × (clock.new ≡ clock.old) }
 
-    // What is written, for which frames and at which moments, and why the run ended; and that what the setup and the
-    // input are decides what is told, unless a read or a write fails or memory is refused.
+    // What is written and kept, for which frames and at which moments, and why the run ended; and that what the setup, the
+    // records and the input are decides what is told, unless something of the outside fails or memory is refused.
     ensures run { (at : Option TheMoment) → AreWords words.now at → IsRun at
-        (outside (A.left setup.old) (A.faults setup.old) (B.left input.old) (B.faults input.old) (W.held out.old) (W.faults out.old) (C.told clock.old))
-        (outside (A.left setup.new) (A.faults setup.new) (B.left input.new) (B.faults input.new) (W.held out.new) (W.faults out.new) (C.told clock.new)) result }
+        (outside (A.left setup.old) (A.faults setup.old) (B.left input.old) (B.faults input.old) (W.held out.old) (W.faults out.old) (K.records keeper.old) (K.faults keeper.old) (C.told clock.old))
+        (outside (A.left setup.new) (A.faults setup.new) (B.left input.new) (B.faults input.new) (W.held out.new) (W.faults out.new) (K.records keeper.new) (K.faults keeper.new) (C.told clock.new)) result }
 
     // The same of `due`, which leaves the input as it is.
     ensures due { AreDueWords words.now → (input.new ≡ input.old) × IsDueCommand
-        (outside (A.left setup.old) (A.faults setup.old) (B.left input.old) (B.faults input.old) (W.held out.old) (W.faults out.old) (C.told clock.old))
-        (outside (A.left setup.new) (A.faults setup.new) (B.left input.new) (B.faults input.new) (W.held out.new) (W.faults out.new) (C.told clock.new)) result }
+        (outside (A.left setup.old) (A.faults setup.old) (B.left input.old) (B.faults input.old) (W.held out.old) (W.faults out.old) (K.records keeper.old) (K.faults keeper.old) (C.told clock.old))
+        (outside (A.left setup.new) (A.faults setup.new) (B.left input.new) (B.faults input.new) (W.held out.new) (W.faults out.new) (K.records keeper.new) (K.faults keeper.new) (C.told clock.new)) result }
 
     // The same of `mail`.
     ensures mail { (name subject : List ℕ) → AreMailWords words.now name subject → IsMailCommand name subject
-        (outside (A.left setup.old) (A.faults setup.old) (B.left input.old) (B.faults input.old) (W.held out.old) (W.faults out.old) (C.told clock.old))
-        (outside (A.left setup.new) (A.faults setup.new) (B.left input.new) (B.faults input.new) (W.held out.new) (W.faults out.new) (C.told clock.new)) result }
+        (outside (A.left setup.old) (A.faults setup.old) (B.left input.old) (B.faults input.old) (W.held out.old) (W.faults out.old) (K.records keeper.old) (K.faults keeper.old) (C.told clock.old))
+        (outside (A.left setup.new) (A.faults setup.new) (B.left input.new) (B.faults input.new) (W.held out.new) (W.faults out.new) (K.records keeper.new) (K.faults keeper.new) (C.told clock.new)) result }
 
-    ensures keeper { keeper.new ≡ keeper.old }
+    // Only an append that failed leaves something to be settled.
+    ensures settled { result.status.0 ≢ 8 → K.unsettled keeper.new ≡ false }
     ensures clock { (at : TheMoment) → AreWords words.now (Some at) → clock.new ≡ clock.old }
 {
     one_setup();
+    one_bank();
     match command_of(words) {
         None => plain(2),
-        Some(Command::Answer(found)) => end_told(run(alloc, found.at, setup, input, out, clock)),
-        Some(Command::Due) => end_told(do_due_once(alloc, setup, out, clock)),
-        Some(Command::Mail) => { end_told(send_letter(alloc, words, setup, input, out, clock)) }
+        Some(Command::Answer(found)) => end_told(run(
+            alloc, found.at, setup, input, out, keeper, clock,
+        )),
+        Some(Command::Due) => end_told(do_due_once(alloc, setup, out, keeper, clock)),
+        Some(Command::Mail) => {
+            end_told(send_letter(alloc, words, setup, input, out, keeper, clock))
+        }
     }
 }
 
@@ -184,21 +215,22 @@ pub fn answer_files<A: Source, B: Source, W: Sink, K: Keeper, C: Clock>(
     keeper: &mut K,
     clock: &mut C,
 ) -> Status
+    requires settled { K.unsettled keeper.old ≡ false }
     ensures usage { (result.0 ≡ 2) ↔ IsUsage words.now }
-    ensures unread { IsUsage words.now → (setup.new ≡ setup.old) × (input.new ≡ input.old) × (out.new ≡ out.old) × (clock.new ≡ clock.old) }
+    ensures unread { IsUsage words.now → (setup.new ≡ setup.old) × (input.new ≡ input.old) × (out.new ≡ out.old) × (keeper.new ≡ keeper.old) × (clock.new ≡ clock.old) }
 
     // The run is that of which the status is told.
     ensures run { (at : Option TheMoment) → AreWords words.now at → (what : WhatIsTold) × (what.status ≡ result) × IsRun at
-        (outside (A.left setup.old) (A.faults setup.old) (B.left input.old) (B.faults input.old) (W.held out.old) (W.faults out.old) (C.told clock.old))
-        (outside (A.left setup.new) (A.faults setup.new) (B.left input.new) (B.faults input.new) (W.held out.new) (W.faults out.new) (C.told clock.new)) what }
+        (outside (A.left setup.old) (A.faults setup.old) (B.left input.old) (B.faults input.old) (W.held out.old) (W.faults out.old) (K.records keeper.old) (K.faults keeper.old) (C.told clock.old))
+        (outside (A.left setup.new) (A.faults setup.new) (B.left input.new) (B.faults input.new) (W.held out.new) (W.faults out.new) (K.records keeper.new) (K.faults keeper.new) (C.told clock.new)) what }
     ensures due { AreDueWords words.now → (input.new ≡ input.old) × ((what : WhatIsTold) × (what.status ≡ result) × IsDueCommand
-        (outside (A.left setup.old) (A.faults setup.old) (B.left input.old) (B.faults input.old) (W.held out.old) (W.faults out.old) (C.told clock.old))
-        (outside (A.left setup.new) (A.faults setup.new) (B.left input.new) (B.faults input.new) (W.held out.new) (W.faults out.new) (C.told clock.new)) what) }
+        (outside (A.left setup.old) (A.faults setup.old) (B.left input.old) (B.faults input.old) (W.held out.old) (W.faults out.old) (K.records keeper.old) (K.faults keeper.old) (C.told clock.old))
+        (outside (A.left setup.new) (A.faults setup.new) (B.left input.new) (B.faults input.new) (W.held out.new) (W.faults out.new) (K.records keeper.new) (K.faults keeper.new) (C.told clock.new)) what) }
     ensures mail { (name subject : List ℕ) → AreMailWords words.now name subject → (what : WhatIsTold) × (what.status ≡ result) × IsMailCommand name subject
-        (outside (A.left setup.old) (A.faults setup.old) (B.left input.old) (B.faults input.old) (W.held out.old) (W.faults out.old) (C.told clock.old))
-        (outside (A.left setup.new) (A.faults setup.new) (B.left input.new) (B.faults input.new) (W.held out.new) (W.faults out.new) (C.told clock.new)) what }
+        (outside (A.left setup.old) (A.faults setup.old) (B.left input.old) (B.faults input.old) (W.held out.old) (W.faults out.old) (K.records keeper.old) (K.faults keeper.old) (C.told clock.old))
+        (outside (A.left setup.new) (A.faults setup.new) (B.left input.new) (B.faults input.new) (W.held out.new) (W.faults out.new) (K.records keeper.new) (K.faults keeper.new) (C.told clock.new)) what }
 
-    ensures keeper { keeper.new ≡ keeper.old }
+    ensures settled { result.0 ≢ 8 → K.unsettled keeper.new ≡ false }
     ensures clock { (at : TheMoment) → AreWords words.now (Some at) → clock.new ≡ clock.old }
 {
     answer_told(alloc, words, setup, input, out, keeper, clock).status

@@ -1,13 +1,12 @@
 //! What is written is determined, and the books are kept: laws over the definitions.
 
 ghost use Rattle.bank_session.specs.Determined.{OneSplitting, OneRefusal, RefusedIsUnanswered, RefusedIsUndenied, DeniedIsUnanswered, WhereAnswered, WherePolled, WhereDenied, WhereRefused, OnlyWhereRefused, OneDueRun, OneLine, OneOutput};
-ghost use Rattle.bank_session.specs.BooksKept.{RunsKeepTheBooks};
+ghost use Rattle.bank_session.specs.BooksKept.{RunsReopen, RunsKeepTheBooks};
 
-use bank_core::{
-    due_work_is_legal, due_work_is_one, files_are_kept_once, money_stays, no_account_is_overdrawn,
-    uids_work_once,
-};
-use ofx_file::{faults_spell_nothing, one_fault, one_file, spelled_files_are_sound};
+use bank_core::{due_work_is_legal, due_work_is_one};
+use bank_replay::reopened_books_are_right;
+use event_codec::reopening_goes_on;
+use ofx_file::{faults_spell_nothing, one_fault, one_file};
 
 /// An input is split into frames in one way: of two splittings one goes on where the other stops.
 pub fn one_splitting()
@@ -32,7 +31,7 @@ pub fn one_signon()
 }
 
 /// The framed reply is written where a file is an event, the framed newest tokens where it is a poll, the framed denial
-/// where its signon fails, and exactly where it is refused the line with its place.
+/// where its signon fails, and exactly where it is refused the line with its place. A record is kept of an event alone.
 pub fn exact_lines()
     ensures answered { WhereAnswered }
     ensures polled { WherePolled }
@@ -52,7 +51,7 @@ pub fn one_due_run()
     due_work_is_one();
 }
 
-/// For a frame at a moment there is one line, and one state behind it.
+/// For a frame at a moment there is one line, one list of records, and one state behind it.
 pub fn one_line()
     ensures { OneLine }
 {
@@ -60,22 +59,28 @@ pub fn one_line()
     one_due_run();
 }
 
-/// Turns over the same frames at the same moments, from the same state, write the same bytes and leave the same state.
+/// Turns over the same frames at the same moments, from the same state, write the same bytes, keep the same records and
+/// leave the same state.
 pub fn one_output()
     ensures { OneOutput }
 {
     one_line();
 }
 
-/// Whatever frames a bank answers from its opening on, no user's uid is used up twice, no file of a user has two kept
-/// replies, all balances together are all openings together, and no balance is below zero.
+/// The records from which a bank opened and those of the turns behind it bring a bank to the state in which the turns left
+/// it, so that the next run goes on from there.
+pub fn runs_reopen()
+    ensures { RunsReopen }
+{
+    due_work_is_legal();
+    reopening_goes_on();
+}
+
+/// Whatever records a bank opens from and whatever frames it answers then, no user's uid is used up twice, no file of a
+/// user has two kept replies, all balances together are all openings together, and no balance is below zero.
 pub fn runs_keep_the_books()
     ensures { RunsKeepTheBooks }
 {
-    spelled_files_are_sound();
-    due_work_is_legal();
-    uids_work_once();
-    files_are_kept_once();
-    money_stays();
-    no_account_is_overdrawn();
+    runs_reopen();
+    reopened_books_are_right();
 }

@@ -14,21 +14,25 @@ mod due;
 mod frame_head;
 mod frames;
 mod judge;
+mod keeping;
 mod laws;
+mod lines;
 mod mail;
 mod moments;
+mod opening;
 mod output;
 mod run;
 mod setup_source;
 mod stop;
 mod turn;
+mod undone;
 mod whole;
 mod words;
 
 pub use answer::{answer_files, answer_told};
 pub use laws::{
     exact_lines, one_due_run, one_line, one_output, one_refusal, one_signon, one_splitting,
-    runs_keep_the_books,
+    runs_keep_the_books, runs_reopen,
 };
 pub use words::{AnswerWords, Command, command_of};
 

@@ -1,8 +1,7 @@
 //! A run over the frames of an input.
 
-ghost use Rattle.std.specs.Prelude.{◌≡◌, ◌≤◌, ℕ, List, Option, IsSome};
+ghost use Rattle.std.specs.Prelude.{◌≡◌, ◌≢◌, ◌≤◌, ℕ, false, List, Option, Err, IsSome};
 ghost use Rattle.std.specs.Io.KnownBytes.{prepend_known};
-ghost use Rattle.bank_model.specs.SetupForm.{IsWithinLimits};
 ghost use Rattle.bank_session.specs.WordsRead.{IsLawful};
 ghost use Rattle.bank_session.specs.Outside.{outside};
 ghost use Rattle.bank_session.specs.RunEnd.{RunEnds};
@@ -13,39 +12,41 @@ use crate::desk::Desk;
 use crate::frames::{Next, next_frame};
 use crate::stop::Stop;
 use crate::turn::{Step, take_turn};
-use bank_model::Setup;
-use ofx_ports::{Clock, Failed, Sink, Source};
+use ofx_ports::{Clock, Failed, Keeper, Sink, Source};
 use ofx_types::Moment;
 use std::alloc::Global;
 
 /// The most frames that a run answers.
 const MOST_FRAMES: u32 = 1_000_000;
 
-/// Answers the frames of the input in order, each from the state that the one before left and at its moment.
-pub fn answer_frames<B: Source, W: Sink, C: Clock>(
+/// Answers the frames of the input in order, each from the state that the one before left and at its moment, and keeps a
+/// record of each event.
+pub fn answer_frames<B: Source, W: Sink, K: Keeper, C: Clock>(
     alloc: Global,
-    setup: Setup,
+    desk: &mut Desk,
     at: Option<Moment>,
     clock: &mut C,
     input: &mut B,
     out: &mut W,
+    keeper: &mut K,
 ) -> Result<(), Stop>
     requires moment { IsLawful at }
-    requires within { IsWithinLimits setup }
+    requires settled { K.unsettled keeper.old ≡ false }
     // Whatever stands of the source of the setup:
-    ensures ends { (left left' : Option (List ℕ)) (faults faults' : ℕ) → RunEnds setup at
-        (outside left faults (B.left input.old) (B.faults input.old) (W.held out.old) (W.faults out.old) (C.told clock.old))
-        (outside left' faults' (B.left input.new) (B.faults input.new) (W.held out.new) (W.faults out.new) (C.told clock.new)) result }
+    ensures ends { (left left' : Option (List ℕ)) (faults faults' : ℕ) → RunEnds desk.old.setup desk.old.state at
+        (outside left faults (B.left input.old) (B.faults input.old) (W.held out.old) (W.faults out.old) (K.records keeper.old) (K.faults keeper.old) (C.told clock.old))
+        (outside left' faults' (B.left input.new) (B.faults input.new) (W.held out.new) (W.faults out.new) (K.records keeper.new) (K.faults keeper.new) (C.told clock.new)) result }
     ensures reads { B.faults input.old ≤ B.faults input.new }
     ensures writes { W.faults out.old ≤ W.faults out.new }
+    ensures keeps { K.faults keeper.old ≤ K.faults keeper.new }
+    ensures settled { result ≢ Err Stop.KeeperFailed → K.unsettled keeper.new ≡ false }
     ensures still { IsSome at → clock.new ≡ clock.old }
 {
-    let mut desk = Desk::open(alloc, setup)?;
     let mut ahead = Ahead::new(alloc)?;
     let mut turns = 0;
     let mut place = 0;
     while turns < MOST_FRAMES {
-        match take_turn(alloc, &mut desk, at, clock, &mut ahead, input, out)? {
+        match take_turn(alloc, desk, at, clock, &mut ahead, input, out, keeper)? {
             Step::Answered(size) => place += size as u64,
             Step::AtEnd => return Ok(()),
             Step::NoFrame => return Err(Stop::Frame(place)),

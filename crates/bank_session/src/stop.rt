@@ -16,10 +16,23 @@ pub enum Stop {
     ReadFailed,
     /// A write failed.
     WriteFailed,
+    /// A call of the keeper failed.
+    KeeperFailed,
+    /// A record doesn't go on from those before it.
+    Records(RecordsFault),
     /// A letter can't be written.
     Letter(LetterFault),
     /// Memory was refused.
     NoMemory,
+}
+
+/// Why the records that are kept are none of this bank.
+#[derive(Clone, Copy, Debug, PartialEq, Eq)]
+pub enum RecordsFault {
+    /// The record of this number, from 1, codes no event: its first fault is at this byte, from 0.
+    NoForm(u64, u64),
+    /// The record of this number, from 1, codes an event that isn't legal after those before it.
+    NotLegal(u64),
 }
 
 /// Why a letter can't be written.

@@ -5,12 +5,13 @@ mod due;
 mod letters;
 mod moments;
 mod polls;
+mod records;
 mod sample;
 mod transfer;
 
 use self::sample::{SETUP, replies, requests};
 use crate::{answer_files, answer_told};
-use ofx_ports::{Clock, MemClock, MemKeeper, MemSink, MemSource};
+use ofx_ports::{Clock, Keeper, MemClock, MemKeeper, MemSink, MemSource};
 use ofx_types::{Moment, Note, Status, Text, Told};
 use std::alloc::Global;
 use std::test::Fail;
@@ -36,35 +37,56 @@ fn texts(alloc: Global, words: &[&str]) -> Result<Vec<Text>, Fail> {
     Ok(texts)
 }
 
-/// What a run with these words and this clock told, and what it wrote.
-fn told_with(
+/// What a run with these words, this keeper and this clock told, and what it wrote. First it is settled which records
+/// stand.
+fn told_over(
     alloc: Global,
     words: &[&str],
     mut setup: MemSource,
     mut input: MemSource,
     mut out: MemSink,
+    keeper: &mut MemKeeper,
     clock: &mut MemClock,
 ) -> Result<(Told, Vec<u8>), Fail> {
     let texts = texts(alloc, words)?;
-    let mut keeper = MemKeeper::new(alloc);
+    let _ = keeper.settle()?;
     let told = answer_told(
-        alloc,
-        &texts,
-        &mut setup,
-        &mut input,
-        &mut out,
-        &mut keeper,
-        clock,
+        alloc, &texts, &mut setup, &mut input, &mut out, keeper, clock,
     );
     Ok((told, out.held().to_vec(alloc)?))
 }
 
-/// What is written for these frames at the moments of the clock. Nothing where they aren't all answered.
+/// What a run with these words and this clock told, and what it wrote, in a bank without records.
+fn told_with(
+    alloc: Global,
+    words: &[&str],
+    setup: MemSource,
+    input: MemSource,
+    out: MemSink,
+    clock: &mut MemClock,
+) -> Result<(Told, Vec<u8>), Fail> {
+    let mut keeper = MemKeeper::new(alloc);
+    told_over(alloc, words, setup, input, out, &mut keeper, clock)
+}
+
+/// What is written for these frames at the moments of the clock, in a bank without records. Nothing where they aren't all
+/// answered.
 fn written_by_clock(alloc: Global, frames: &[&str], clock: &mut MemClock) -> Result<String, Fail> {
+    let mut keeper = MemKeeper::new(alloc);
+    written_over(alloc, frames, &mut keeper, clock)
+}
+
+/// The same over the records of a keeper.
+fn written_over(
+    alloc: Global,
+    frames: &[&str],
+    keeper: &mut MemKeeper,
+    clock: &mut MemClock,
+) -> Result<String, Fail> {
     let setup = MemSource::new(alloc, SETUP)?;
     let input = MemSource::new(alloc, joined(alloc, frames)?.as_bytes())?;
     let out = MemSink::new(alloc, ROOM)?;
-    let (told, written) = told_with(alloc, &BY_CLOCK, setup, input, out, clock)?;
+    let (told, written) = told_over(alloc, &BY_CLOCK, setup, input, out, keeper, clock)?;
     if told.status != Status(0) {
         return Ok(String::new(alloc));
     }
@@ -195,10 +217,10 @@ fn words_of_no_command_touch_nothing(rt: HostRuntime) -> Result<(), Fail> {
     let mut setup = MemSource::new(alloc, SETUP)?;
     let mut input = MemSource::new(alloc, b"DUE\n")?;
     let mut out = MemSink::new(alloc, ROOM)?;
-    let mut keeper = MemKeeper::new(alloc);
     let mut clock = MemClock::new(alloc, &[Moment(0), Moment(1)])?;
     for words in NO_COMMANDS {
         let texts = texts(alloc, words)?;
+        let mut keeper = MemKeeper::new(alloc);
         let told = answer_told(
             alloc,
             &texts,
@@ -209,6 +231,7 @@ fn words_of_no_command_touch_nothing(rt: HostRuntime) -> Result<(), Fail> {
             &mut clock,
         );
         assert_eq!(rt; told, end(2, Note::Plain));
+        assert_eq!(rt; keeper.calls(), 0);
     }
     assert_eq!(rt; setup.calls(), 0);
     assert_eq!(rt; input.calls(), 0);

@@ -1,12 +1,14 @@
-//! One turn of a run: the next frame is read, answered, and its line written.
+//! One turn of a run: the next frame is read and answered, its records are kept, and its line is written.
 
-ghost use Rattle.std.specs.Prelude.{◌≡◌, ◌≤◌, IfOk, IsSome};
-ghost use Rattle.std.specs.Io.KnownBytes.{prepend_known};
+ghost use Rattle.std.specs.Prelude.{◌≡◌, ◌≢◌, ◌≤◌, ℕ, false, List, Option, Err, IfOk, IfErr, IsErrOf, IsSome};
+ghost use Rattle.std.specs.Io.KnownBytes.{Keeps, prepend_known};
+ghost use Rattle.ofx_ports.specs.Faults.{CountsFaults};
 ghost use Rattle.ofx_types.specs.Calendar.{IsMoment};
+ghost use Rattle.ofx_types.specs.declared.number.Moment.{Moment};
 ghost use Rattle.bank_session.specs.Coming.{HoldsFrame, content_in, size_of};
-ghost use Rattle.bank_session.specs.Answers.{Says};
 ghost use Rattle.bank_session.specs.WordsRead.{IsLawful};
-ghost use Rattle.bank_session.specs.TurnResult.{FrameResult, TurnResult};
+ghost use Rattle.bank_session.specs.Turns.{around, SaysAndKeeps, HasNoLine, FrameResult};
+ghost use Rattle.bank_session.specs.TurnResult.{TurnResult};
 
 use crate::ahead::Ahead;
 use crate::desk::Desk;
@@ -14,44 +16,63 @@ use crate::frames::{Frame, Next, next_frame};
 use crate::moments::next_moment;
 use crate::output::write_whole;
 use crate::stop::Stop;
-use ofx_ports::{Clock, Failed, Sink, Source};
-use ofx_types::{Moment, OutOfMemory};
+use crate::undone::Undone;
+use ofx_ports::{Clock, Failed, Keeper, Sink, Source};
+use ofx_types::Moment;
 use std::alloc::Global;
 
-/// What is to be written for the frame that is ahead.
-fn frame_line(
+/// What is to be written for the frame that is ahead, once its records are kept.
+fn frame_line<K: Keeper>(
     alloc: Global,
     desk: &mut Desk,
     at: Moment,
     ahead: &[u8],
     frame: Frame,
-) -> Result<Vec<u8>, OutOfMemory>
+    keeper: &mut K,
+) -> Result<Vec<u8>, Undone>
     requires moment { IsMoment at.0 }
     requires frame { HoldsFrame ahead.now frame }
+    requires settled { K.unsettled keeper.old ≡ false }
     ensures setup { desk.new.setup ≡ desk.old.setup }
-    ensures line { IfOk result (λ line. Says desk.old.setup at desk.old.state (content_in ahead.now frame) line.items desk.new.state) }
+    ensures line { IfOk result (λ line. SaysAndKeeps at desk.old desk.new (content_in ahead.now frame) (K.records keeper.old) (K.records keeper.new) line.items) }
+    ensures undone { IfErr result (HasNoLine at desk.old (content_in ahead.now frame) (K.records keeper.old) (K.records keeper.new)) }
+    ensures settled { result ≢ Err Undone.NotKept → K.unsettled keeper.new ≡ false }
+    ensures faults { CountsFaults (K.faults keeper.old) (K.faults keeper.new) (IsErrOf result Undone.NotKept) }
 {
     match frame {
-        Frame::File(size) => desk.answer(alloc, at, &ahead[size.head..size.head + size.file]),
-        Frame::Due => desk.due(alloc, at),
+        Frame::File(size) => desk.answer(
+            alloc,
+            keeper,
+            at,
+            &ahead[size.head..size.head + size.file],
+        ),
+        Frame::Due => desk.due(alloc, keeper, at),
     }
 }
 
 /// Answers the frame that is ahead and writes its line. The frame is used up once its line is written whole.
-fn answer_frame<W: Sink>(
+fn answer_frame<W: Sink, K: Keeper>(
     alloc: Global,
     desk: &mut Desk,
     at: Moment,
     ahead: &mut Ahead,
     frame: Frame,
     out: &mut W,
+    keeper: &mut K,
 ) -> Result<(), Stop>
     requires moment { IsMoment at.0 }
     requires frame { HoldsFrame ahead.old frame }
-    ensures turn { FrameResult at (size_of frame) desk.old desk.new ahead.old ahead.new (W.held out.old) (W.held out.new) (W.faults out.old) (W.faults out.new) result }
-    ensures later { W.faults out.old ≤ W.faults out.new }
+    requires settled { K.unsettled keeper.old ≡ false }
+    // Whatever is to come of the input, of which nothing is lost, and whatever stands of the reads and of the clock:
+    ensures turn { (coming left : Option (List ℕ)) (reads reads' : ℕ) (shown shown' : Option (List Moment)) → Keeps coming (prepend_known ahead.old left)
+        → FrameResult at (size_of frame) desk.old desk.new
+        (around coming reads (W.held out.old) (W.faults out.old) (K.records keeper.old) (K.faults keeper.old) shown)
+        (around (prepend_known ahead.new left) reads' (W.held out.new) (W.faults out.new) (K.records keeper.new) (K.faults keeper.new) shown') result }
+    ensures writes { W.faults out.old ≤ W.faults out.new }
+    ensures keeps { K.faults keeper.old ≤ K.faults keeper.new }
+    ensures settled { result ≢ Err Stop.KeeperFailed → K.unsettled keeper.new ≡ false }
 {
-    let line = frame_line(alloc, desk, at, ahead.bytes(), frame)?;
+    let line = frame_line(alloc, desk, at, ahead.bytes(), frame, keeper)?;
     match write_whole(out, &line) {
         Ok(()) => {
             ahead.consume(frame.size());
@@ -73,7 +94,7 @@ pub enum Step {
 }
 
 /// Takes the next turn. The frame's moment is taken once the whole frame is there, and before it is judged.
-pub fn take_turn<B: Source, W: Sink, C: Clock>(
+pub fn take_turn<B: Source, W: Sink, K: Keeper, C: Clock>(
     alloc: Global,
     desk: &mut Desk,
     at: Option<Moment>,
@@ -81,12 +102,18 @@ pub fn take_turn<B: Source, W: Sink, C: Clock>(
     ahead: &mut Ahead,
     input: &mut B,
     out: &mut W,
+    keeper: &mut K,
 ) -> Result<Step, Stop>
-    requires { IsLawful at }
-    ensures turn { TurnResult at desk.old desk.new (prepend_known ahead.old (B.left input.old)) ahead.new (B.left input.new) (W.held out.old) (W.held out.new)
-        (C.told clock.old) (C.told clock.new) (B.faults input.old) (B.faults input.new) (W.faults out.old) (W.faults out.new) result }
+    requires moment { IsLawful at }
+    requires settled { K.unsettled keeper.old ≡ false }
+    ensures turn { TurnResult at desk.old desk.new
+        (around (prepend_known ahead.old (B.left input.old)) (B.faults input.old) (W.held out.old) (W.faults out.old) (K.records keeper.old) (K.faults keeper.old) (C.told clock.old))
+        (around (prepend_known ahead.new (B.left input.new)) (B.faults input.new) (W.held out.new) (W.faults out.new) (K.records keeper.new) (K.faults keeper.new) (C.told clock.new))
+        ahead.new result }
     ensures reads { B.faults input.old ≤ B.faults input.new }
     ensures writes { W.faults out.old ≤ W.faults out.new }
+    ensures keeps { K.faults keeper.old ≤ K.faults keeper.new }
+    ensures settled { result ≢ Err Stop.KeeperFailed → K.unsettled keeper.new ≡ false }
     ensures still { IsSome at → clock.new ≡ clock.old }
 {
     match next_frame(input, ahead) {
@@ -95,7 +122,7 @@ pub fn take_turn<B: Source, W: Sink, C: Clock>(
         Ok(Next::End) => Ok(Step::AtEnd),
         Ok(Next::Frame(frame)) => {
             let moment = next_moment(at, clock);
-            answer_frame(alloc, desk, moment, ahead, frame, out)?;
+            answer_frame(alloc, desk, moment, ahead, frame, out, keeper)?;
             Ok(Step::Answered(frame.size()))
         }
     }

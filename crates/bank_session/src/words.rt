@@ -68,8 +68,8 @@ fn answer_words(words: &[Text]) -> Option<AnswerWords>
     ensures { Reads (AreWords words.now) result }
 {
     match words {
-        [command, _, records, rest @ ..] => {
-            if is_word(command, b"answer") && is_word(records, b"-") {
+        [command, _setup, _records, rest @ ..] => {
+            if is_word(command, b"answer") {
                 moment_option(rest)
             } else {
                 None
@@ -84,7 +84,7 @@ fn are_due_words(words: &[Text]) -> bool
     ensures { IsTrue result ↔ AreDueWords words.now }
 {
     match words {
-        [command, _, records] => is_word(command, b"due") && is_word(records, b"-"),
+        [command, _setup, _records] => is_word(command, b"due"),
         _ => false,
     }
 }
@@ -102,9 +102,8 @@ fn are_mail_words(words: &[Text]) -> bool
     ensures { IsTrue result ↔ AskForLetter words.now }
 {
     match words {
-        [command, _, records, _, subject] => {
-            is_word(command, b"mail") && is_word(records, b"-") && is_subject(subject)
-        }
+        [command, _setup, _records, _user, subject] => is_word(command, b"mail")
+            && is_subject(subject),
         _ => false,
     }
 }

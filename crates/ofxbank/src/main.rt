@@ -13,6 +13,12 @@ use ofx_types::{Text, Told};
 use std::process::ExitCode;
 use std::{fs, io};
 
+/// The place of the word that names the setup.
+const SETUP: usize = 1;
+
+/// The place of the word that names the records.
+const RECORDS: usize = 2;
+
 fn main(rt: HostRuntime) -> ExitCode {
     let end = match read_words(&rt) {
         Request::Help => printed(&rt, HELP),
@@ -25,11 +31,12 @@ fn main(rt: HostRuntime) -> ExitCode {
     ExitCode::from(end.status.0)
 }
 
-/// The end of a run over the file that the second word names, the standard input and the standard output.
+/// The end of the run that the words ask for, over the file that the second word names, the standard input and the standard
+/// output. Records are kept in memory alone so far: a third word other than `-` has no form.
 ///
 /// The file is opened only where the words have their form, since opening may wait.
 fn answered(rt: HostRuntime, words: &[Text]) -> Told {
-    if command_of(words).is_none() {
+    if command_of(words).is_none() || named(words, RECORDS) != Some("-") {
         return plain(2);
     }
     let alloc = rt.alloc();
@@ -51,13 +58,15 @@ fn answered(rt: HostRuntime, words: &[Text]) -> Told {
 
 /// The file that the second word names. An error where there is none.
 fn setup_file(rt: &HostRuntime, words: &[Text]) -> io::Result<fs::File> {
-    match words {
-        [_, path, ..] => match str::from_utf8(path.as_bytes()) {
-            Ok(path) => fs::open(rt, path),
-            Err(_) => Err(io::Error::from(io::ErrorKind::NotFound)),
-        },
-        _ => Err(io::Error::from(io::ErrorKind::NotFound)),
+    match named(words, SETUP) {
+        Some(path) => fs::open(rt, path),
+        None => Err(io::Error::from(io::ErrorKind::NotFound)),
     }
+}
+
+/// The word at a place, from 0. None where there is none.
+fn named(words: &[Text], place: usize) -> Option<&str> {
+    str::from_utf8(words.get(place)?.as_bytes()).ok()
 }
 
 /// The end of printing a text on the standard output.

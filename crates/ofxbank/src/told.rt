@@ -28,7 +28,8 @@ mail writes a letter of the bank to a user; its body is the standard input.
   --version  prints the version
 
 Status: 0 all done, 2 usage, 3 setup, 4 frame or body, 5 read failed,
-6 write failed, 7 no memory, 10 no user or no number left.
+6 write failed, 7 no memory, 8 records failed, 9 a record is none of this bank,
+10 no user or no number left.
 ";
 
 /// What `--version` prints.
@@ -60,6 +61,8 @@ fn tell_cause(rt: &impl Eprint, end: Told) -> io::Result<()> {
         (6, _) => rt.eprintln("write failed"),
         (7, _) => rt.eprintln("no memory"),
         (8, _) => rt.eprintln("keeper failed"),
+        (9, Note::Record(number, at)) => eprintln!(rt; "record {number} at {at}"),
+        (9, Note::Illegal(number)) => eprintln!(rt; "record {number} illegal"),
         (10, Note::NoUser) => rt.eprintln("no user"),
         (10, Note::Full) => rt.eprintln("full"),
         _ => Ok(()),

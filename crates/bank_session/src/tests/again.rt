@@ -1,9 +1,9 @@
-//! A file with a name that comes again later.
+//! A file with a name that comes again in a later run.
 
 use super::sample::{reply_with, request_with};
 use super::transfer::{PAID, POSTED, SOURCE_BALANCE, TRANSFER};
-use super::{joined, written_by_clock};
-use ofx_ports::MemClock;
+use super::written_over;
+use ofx_ports::{MemClock, MemKeeper};
 use ofx_types::Moment;
 use std::test::Fail;
 
@@ -34,8 +34,8 @@ const LATER: [(&str, &str); 7] = [
     SOURCE_BALANCE,
 ];
 
-/// An hour later its reply still has the first moment. The transfer is posted once, which the statement behind both files
-/// shows.
+/// An hour later, in another run over the same records, its reply still has the first moment. The transfer is posted once,
+/// which the statement of a third run shows.
 #[test]
 fn a_named_file_that_comes_again_is_answered_by_the_same_bytes(
     rt: HostRuntime,
@@ -44,9 +44,13 @@ fn a_named_file_that_comes_again_is_answered_by_the_same_bytes(
     let named = request_with(alloc, &[NAMED, TRANSFER])?;
     let plain = request_with(alloc, &[])?;
     let mut clock = MemClock::new(alloc, &AN_HOUR_APART)?;
-    let written = written_by_clock(alloc, &[&named, &named, &plain], &mut clock)?;
-    let first = reply_with(alloc, &FIRST)?;
-    let last = reply_with(alloc, &LATER)?;
-    assert_eq!(rt; written, joined(alloc, &[&first, &first, &last])?);
+    let mut keeper = MemKeeper::new(alloc);
+    let first = written_over(alloc, &[&named], &mut keeper, &mut clock)?;
+    let again = written_over(alloc, &[&named], &mut keeper, &mut clock)?;
+    assert_eq!(rt; first, reply_with(alloc, &FIRST)?);
+    assert_eq!(rt; again, first);
+    assert_eq!(rt; keeper.record_count(), 2);
+    let last = written_over(alloc, &[&plain], &mut keeper, &mut clock)?;
+    assert_eq!(rt; last, reply_with(alloc, &LATER)?);
     Ok(())
 }

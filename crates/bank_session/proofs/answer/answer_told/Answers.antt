@@ -1,7 +1,9 @@
 use Rattle.std.proofs.Common.{refl}
 use Rattle.bank_session.proofs.CommandWords.{commands_apart, answer_or_mail, due_or_mail}
-use Rattle.bank_session.proofs.ExactLemmas.{is_run, is_due_command, never_usage, due_never_usage}
+use Rattle.bank_session.proofs.ExactLemmas.{is_run, never_usage}
+use Rattle.bank_session.proofs.DueCommand.{is_due_command, due_never_usage}
 use Rattle.bank_session.proofs.MailLemmas.{is_mail_command, mail_never_usage}
+use Rattle.bank_session.proofs.Stopping.{settled_told}
 use Rattle.bank_session.proofs.answer.answer_told.Goals as goal
 
 pub returns-in-None-clause-run : goal.returns-in-None-clause-run
@@ -27,7 +29,7 @@ pub returns-in-Some-Answer-clause-run : goal.returns-in-Some-Answer-clause-run
 returns-in-Some-Answer-clause-run g c at words =
     let read = rw c.in-Some-Answer.field-0-is at c.in-Some-Answer.ensures in
     let same = read.2 at words in
-    rw same (is_run c.in-Some-Answer.found.at _ _ c.run.result c.end_told.result c.end_told.ensures c.run.ensures.ends)
+    rw same (is_run c.one_setup.ensures c.one_bank.ensures c.in-Some-Answer.found.at _ _ c.run.result c.end_told.result c.end_told.ensures c.run.ensures.ends)
 
 pub returns-in-Some-Answer-clause-due : goal.returns-in-Some-Answer-clause-due
 returns-in-Some-Answer-clause-due g c words =
@@ -42,7 +44,7 @@ returns-in-Some-Answer-clause-mail g c name subject words =
 pub returns-in-Some-Due-clause-usage : goal.returns-in-Some-Due-clause-usage
 returns-in-Some-Due-clause-usage g c =
     let read = rw c.in-Some-Due.field-0-is at c.in-Some-Due.ensures in
-    let ends = c.do_due_once.ensures (g.B.Source.left c.args.input.now) (g.B.Source.faults c.args.input.now) in
+    let ends = c.do_due_once.ensures.ends (g.B.Source.left c.args.input.now) (g.B.Source.faults c.args.input.now) in
     (λ two. absurd (due_never_usage _ _ c.do_due_once.result c.end_told-in-Some-Due.result c.end_told-in-Some-Due.ensures ends two), λ usage. absurd (usage.undue read))
 
 pub returns-in-Some-Due-clause-run : goal.returns-in-Some-Due-clause-run
@@ -53,7 +55,7 @@ returns-in-Some-Due-clause-run g c at words =
 pub returns-in-Some-Due-clause-due : goal.returns-in-Some-Due-clause-due
 returns-in-Some-Due-clause-due g c words = (
   refl,
-  is_due_command _ _ c.do_due_once.result c.end_told-in-Some-Due.result c.end_told-in-Some-Due.ensures (c.do_due_once.ensures (g.B.Source.left c.args.input.now) (g.B.Source.faults c.args.input.now)),
+  is_due_command c.one_setup.ensures c.one_bank.ensures _ _ c.do_due_once.result c.end_told-in-Some-Due.result c.end_told-in-Some-Due.ensures (c.do_due_once.ensures.ends (g.B.Source.left c.args.input.now) (g.B.Source.faults c.args.input.now)),
 )
 
 pub returns-in-Some-Due-clause-clock : goal.returns-in-Some-Due-clause-clock
@@ -69,7 +71,7 @@ returns-in-Some-Due-clause-mail g c name subject words =
 pub returns-in-Some-Mail-clause-usage : goal.returns-in-Some-Mail-clause-usage
 returns-in-Some-Mail-clause-usage g c =
     let read = rw c.in-Some-Mail.field-0-is at c.in-Some-Mail.ensures in
-    let ends = c.send_letter.ensures read.0 read.1 read.2 in
+    let ends = c.send_letter.ensures.ends read.0 read.1 read.2 in
     (λ two. absurd (mail_never_usage read.0 read.1 _ _ c.send_letter.result c.end_told-in-Some-Mail.result c.end_told-in-Some-Mail.ensures ends two), λ usage. absurd (usage.unmailed read))
 
 pub returns-in-Some-Mail-clause-unread : goal.returns-in-Some-Mail-clause-unread
@@ -89,12 +91,21 @@ returns-in-Some-Mail-clause-due g c words =
 
 pub returns-in-Some-Mail-clause-mail : goal.returns-in-Some-Mail-clause-mail
 returns-in-Some-Mail-clause-mail g c name subject words =
-    is_mail_command c.one_setup.ensures name subject _ _ c.send_letter.result c.end_told-in-Some-Mail.result c.end_told-in-Some-Mail.ensures (c.send_letter.ensures name subject words)
+    is_mail_command c.one_setup.ensures c.one_bank.ensures name subject _ _ c.send_letter.result c.end_told-in-Some-Mail.result c.end_told-in-Some-Mail.ensures (c.send_letter.ensures.ends name subject words)
 
 pub returns-in-Some-Mail-clause-clock : goal.returns-in-Some-Mail-clause-clock
 returns-in-Some-Mail-clause-clock g c at words =
     let read = rw c.in-Some-Mail.field-0-is at c.in-Some-Mail.ensures in
     absurd (answer_or_mail c.args.words.now _ words read)
 
-pub send_letter-requires : goal.send_letter-requires
-send_letter-requires g c = rw c.in-Some-Mail.field-0-is at c.in-Some-Mail.ensures
+pub send_letter-requires-clause-words : goal.send_letter-requires-clause-words
+send_letter-requires-clause-words g c = λ κs lives. rw c.in-Some-Mail.field-0-is at c.in-Some-Mail.ensures
+
+pub returns-in-Some-Answer-clause-settled : goal.returns-in-Some-Answer-clause-settled
+returns-in-Some-Answer-clause-settled g c = settled_told c.run.result c.end_told.result _ c.end_told.ensures c.run.ensures.settled
+
+pub returns-in-Some-Due-clause-settled : goal.returns-in-Some-Due-clause-settled
+returns-in-Some-Due-clause-settled g c = settled_told c.do_due_once.result c.end_told-in-Some-Due.result _ c.end_told-in-Some-Due.ensures c.do_due_once.ensures.settled
+
+pub returns-in-Some-Mail-clause-settled : goal.returns-in-Some-Mail-clause-settled
+returns-in-Some-Mail-clause-settled g c = settled_told c.send_letter.result c.end_told-in-Some-Mail.result _ c.end_told-in-Some-Mail.ensures c.send_letter.ensures.settled

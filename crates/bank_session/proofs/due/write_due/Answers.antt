@@ -1,8 +1,10 @@
+use Rattle.std.proofs.Common.{Err, ap}
 use Rattle.std.proofs.lemmas.Result.{err_from_is_err_and}
-use Rattle.bank_session.proofs.DueLemmas.{refused_behind}
+use Rattle.bank_session.proofs.DueCommand.{due_undone}
 use Rattle.bank_session.proofs.due.write_due.Goals as goal
 
-pub returns-in_err-line : goal.returns-in_err-line
-returns-in_err-line g c setup_left setup_left' left setup_faults setup_faults' faults =
-    let p = err_from_is_err_and c.from_residual-in_err-line.result c.from_residual-in_err-line.ensures.1 in
-    rw (p.1, p.2) (refused_behind setup_left setup_left' left _ setup_faults setup_faults' faults _ _ _ c.now-moment.result c.now-moment.ensures.told)
+pub returns-in_err-line-clause-ends : goal.returns-in_err-line-clause-ends
+returns-in_err-line-clause-ends g c setup_left setup_left' left setup_faults setup_faults' faults =
+    let p = err_from_is_err_and c.from_residual.result c.from_residual.ensures.1 in
+    let front = c.in_err-line.ensures.front in
+    rw (p.1, p.2) (due_undone c.args.desk.now.setup c.args.desk.now.state setup_left setup_left' left _ setup_faults setup_faults' faults _ _ _ _ _ _ _ c.now-moment.result c.in_err-line.field-0.0 c.now-moment.ensures.told front (λ e. c.in_err-line.ensures.faults.cause (ap Err e)))

@@ -1,16 +1,19 @@
-use Rattle.std.proofs.Common.{◌≡◌, ◌-◌, ◌*◌, ◌≤◌, IsSome}
+use Rattle.std.proofs.Common.{◌≡◌, ◌-◌, ◌*◌, ◌≤◌, false, IsSome}
 use Rattle.std.specs.Io.KnownBytes.{prepend_known}
+use Rattle.bank_session.specs.Turns.{around}
 use Rattle.bank_session.proofs.Standing.{Standing}
 use Rattle.bank_session.proofs.run.answer_frames.Given as goal
 
--- so many turns are taken, so many bytes are read in them, and no count of faults has fallen
+-- the run stands behind so many turns, in which so many bytes are read
 abbrev pub invariant-loop-turns : goal.invariant-loop-turns
 invariant-loop-turns g l = record {
-  standing : Standing l.fn.setup l.at (g.B.Source.left l.fn.input) (g.W.Sink.held l.fn.out) (g.C.Clock.told l.fn.clock) l.turns l.place l.desk (prepend_known l.ahead (g.B.Source.left l.input)) (g.W.Sink.held l.out) (g.C.Clock.told l.clock);
+  standing : Standing l.fn.desk.setup l.fn.desk.state l.at
+      (around (g.B.Source.left l.fn.input) (g.B.Source.faults l.fn.input) (g.W.Sink.held l.fn.out) (g.W.Sink.faults l.fn.out) (g.K.Keeper.records l.fn.keeper) (g.K.Keeper.faults l.fn.keeper) (g.C.Clock.told l.fn.clock))
+      l.turns l.place l.desk
+      (around (prepend_known l.ahead (g.B.Source.left l.input)) (g.B.Source.faults l.input) (g.W.Sink.held l.out) (g.W.Sink.faults l.out) (g.K.Keeper.records l.keeper) (g.K.Keeper.faults l.keeper) (g.C.Clock.told l.clock));
   few : l.turns ≤ 1000000;
   small : l.place ≤ 262156 * l.turns;
-  reads : g.B.Source.faults l.fn.input ≤ g.B.Source.faults l.input;
-  writes : g.W.Sink.faults l.fn.out ≤ g.W.Sink.faults l.out;
+  settled : g.K.Keeper.unsettled l.keeper ≡ false;
   still : IsSome l.at → l.clock ≡ l.fn.clock;
 }
 

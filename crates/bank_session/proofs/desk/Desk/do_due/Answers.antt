@@ -1,20 +1,22 @@
 use Rattle.std.proofs.Common.{arith}
-use Rattle.bank_session.proofs.DueLemmas.{one_more_event, none_left, full_run, front_made, where_refused}
+use Rattle.bank_session.proofs.DueEvents.{one_more_event, none_left, full_run, front_undone, where_refused}
 use Rattle.bank_session.proofs.desk.Desk.do_due.Goals as goal
 
 pub returns-then-not-branch-clause-run : goal.returns-then-not-branch-clause-run
-returns-then-not-branch-clause-run c =
-    none_left c.args.at c.args.self.now c.loop-count.self c.take_next.new.self c.loop-count.count c.loop-count.invariant.happened c.loop-count.invariant.few (rw c.if-not-branch.true at c.in_ok-take_next.ensures.taken)
+returns-then-not-branch-clause-run g c =
+    none_left c.args.at c.args.self.now c.loop-count.self c.take_next.new.self _ _ _ c.loop-count.count c.loop-count.invariant.happened c.loop-count.invariant.few (rw c.if-not-branch.true at c.in_ok-take_next.ensures.taken)
 
 pub loop-count-preserved : goal.loop-count-preserved
-loop-count-preserved c = record {
-  happened = one_more_event c.args.at c.args.self.now c.loop-count.self c.take_next.new.self c.loop-count.count c.loop-count.invariant.happened c.take_next.ensures.setup (rw c.if-not-branch.false at c.in_ok-take_next.ensures.taken);
+loop-count-preserved g c = record {
+  happened = one_more_event c.args.at c.args.self.now c.loop-count.self c.take_next.new.self _ _ _ c.loop-count.count c.loop-count.invariant.happened c.take_next.ensures.setup (rw c.if-not-branch.false at c.in_ok-take_next.ensures.taken);
   few = omega (arith, c.loop-count-test.true);
+  settled = c.in_ok-take_next.ensures.settled (λ same. cc);
+  later = omega (arith, c.loop-count.invariant.later, c.take_next.ensures.faults.later);
 }
 
 pub returns-clause-run : goal.returns-clause-run
-returns-clause-run c = full_run c.args.at c.args.self.now c.loop-count.self c.loop-count.count c.loop-count.invariant.happened (omega (arith, c.loop-count-test.false, c.loop-count.invariant.few))
+returns-clause-run g c = full_run c.args.at c.args.self.now c.loop-count.self _ _ c.loop-count.count c.loop-count.invariant.happened (omega (arith, c.loop-count-test.false, c.loop-count.invariant.few))
 
 pub returns-in_err-take_next-clause-front : goal.returns-in_err-take_next-clause-front
-returns-in_err-take_next-clause-front c =
-    where_refused c.from_residual.result (front_made c.args.at c.args.self.now c.loop-count.self c.take_next.new.self c.loop-count.count c.loop-count.invariant.happened c.loop-count.invariant.few c.in_err-take_next.ensures.refused)
+returns-in_err-take_next-clause-front g c =
+    where_refused c.from_residual.result (front_undone c.args.at c.args.self.now c.loop-count.self _ _ _ c.loop-count.count _ c.loop-count.invariant.happened c.loop-count-test.true c.in_err-take_next.ensures.undone)

@@ -2,10 +2,10 @@ use Rattle.bank_session.proofs.DeskLemmas.{opened_held, numbers_rise}
 use Rattle.bank_session.proofs.desk.Desk.open.Goals as goal
 
 pub invariant_of-result : goal.invariant_of-result
-invariant_of-result c = (
-  rw (c.from_vec.ensures, c.in_ok-book.ensures.setup, c.in_ok-book.ensures.state) (opened_held c.args.setup c.in_ok-book.accounts.items c.in_ok-book.ensures.accounts),
-  rw c.in_ok-book.ensures.setup c.requires,
+invariant_of-result g c = (
+  rw (c.from_vec.ensures, c.in-Ok.ensures.setup) (opened_held c.args.setup c.in-Ok.book.state c.in-Ok.accounts.items c.in-Ok.ensures.accounts),
+  rw c.in-Ok.ensures.setup c.requires.within,
 )
 
 pub from_vec-requires : goal.from_vec-requires
-from_vec-requires c = numbers_rise c.in_ok-book.accounts.items c.in_ok-book.ensures.accounts.numbered
+from_vec-requires g c = numbers_rise c.in-Ok.accounts.items c.in-Ok.ensures.accounts.numbered

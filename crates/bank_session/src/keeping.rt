@@ -1,0 +1,49 @@
+//! Records of events, appended to a keeper.
+
+ghost use Rattle.std.specs.Prelude.{◌≡◌, ◌≢◌, ◌⊎◌, false, [], ◌∷◌, Err, IfOk, OnOk, IsErrOf};
+ghost use Rattle.ofx_ports.specs.Faults.{CountsFaults};
+ghost use Rattle.ofx_ports.specs.Told.{Stays, Grows};
+ghost use Rattle.ofx_types.specs.Calendar.{IsMoment};
+ghost use Rattle.bank_model.specs.Rules.{IsLegal};
+ghost use Rattle.event_codec.specs.Records.{Codes};
+
+use crate::undone::Undone;
+use bank_core::Book;
+use bank_model::Event;
+use event_codec::write_event;
+use ofx_file::OfxPrinter;
+use ofx_ports::{Keeper, PutFault};
+use ofx_types::{Moment, OutOfMemory};
+use std::alloc::Global;
+
+/// The record of an event that is legal in the book at that moment.
+pub fn record_of(
+    alloc: Global,
+    book: &Book<OfxPrinter>,
+    event: &Event,
+    at: Moment,
+) -> Result<Vec<u8>, OutOfMemory>
+    requires moment { IsMoment at.0 }
+    requires legal { IsLegal book.now.setup book.now.state at event.now }
+    ensures { IfOk result (λ rec. Codes rec.items at event.now) }
+{
+    let _setup = book.setup();
+    write_event(alloc, event, at)
+}
+
+/// Appends a record. Where that fails the record may have landed.
+pub fn keep<K: Keeper>(keeper: &mut K, rec: &[u8]) -> Result<(), Undone>
+    requires { K.unsettled keeper.old ≡ false }
+    ensures kept { OnOk result (Grows (K.records keeper.old) (K.records keeper.new) (rec.now ∷ [])) }
+    ensures refused { result ≡ Err Undone.NoMemory → Stays (K.records keeper.old) (K.records keeper.new) }
+    ensures unkept { result ≡ Err Undone.NotKept →
+        Stays (K.records keeper.old) (K.records keeper.new) ⊎ Grows (K.records keeper.old) (K.records keeper.new) (rec.now ∷ []) }
+    ensures settled { result ≢ Err Undone.NotKept → K.unsettled keeper.new ≡ false }
+    ensures faults { CountsFaults (K.faults keeper.old) (K.faults keeper.new) (IsErrOf result Undone.NotKept) }
+{
+    match keeper.append(rec) {
+        Ok(()) => Ok(()),
+        Err(PutFault::Failed) => Err(Undone::NotKept),
+        Err(PutFault::OutOfMemory) => Err(Undone::NoMemory),
+    }
+}
