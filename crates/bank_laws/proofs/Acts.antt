@@ -78,7 +78,7 @@ in_right : (j : ℕ) (xs ys : List ℕ) → IsIn j ys → IsIn j (xs ++ ys)
 in_right j [] ys is = is
 in_right j (x ∷ xs) ys is = inr (in_right j xs ys is)
 
-in_either : (j : ℕ) (xs ys : List ℕ) → IsIn j (xs ++ ys) → IsIn j xs ⊎ IsIn j ys
+pub in_either : (j : ℕ) (xs ys : List ℕ) → IsIn j (xs ++ ys) → IsIn j xs ⊎ IsIn j ys
 in_either j [] ys is = inr is
 in_either j (x ∷ xs) ys (inl same) = inl (inl same)
 in_either j (x ∷ xs) ys (inr is) = (elim (in_either j xs ys is) as (λ either. IsIn j (x ∷ xs) ⊎ IsIn j ys) [

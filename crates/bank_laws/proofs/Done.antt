@@ -16,13 +16,15 @@ use Rattle.ofx_types.specs.declared.recurring.Recur.{Recur}
 use Rattle.bank_model.specs.declared.entry.Entry.{Entry}
 use Rattle.bank_model.specs.declared.setup.Setup.{Setup}
 use Rattle.bank_model.specs.declared.event.State.{State}
+use Rattle.bank_model.specs.SetupLookups.{account_of}
 use Rattle.bank_model.specs.Ledger.{row_of}
 use Rattle.bank_model.specs.Models.{model_of, is_model_dropped, waiting_of}
 use Rattle.bank_model.specs.Judging.{is_due, is_cancelled}
-use Rattle.bank_model.specs.Deeds.{judged, object_of, model_object_of, new_row, changed_row, new_model, changed_model, next_entry, entry_on, entries_behind, if_pending, model_entries_on, done}
+use Rattle.bank_model.specs.Deeds.{source_balance, judged, object_of, model_object_of, new_row, changed_row, new_model, changed_model, next_entry, entry_on, entries_behind, if_pending, model_entries_on, done}
 use Rattle.bank_laws.specs.Histories.{MaySay, AllFollow}
 use Rattle.bank_laws.proofs.Growth.{row_of-id, row_of-named, model_of-id, model_of-named}
-use Rattle.bank_laws.proofs.Verdicts.{IsFree, IsModelFree, free_to_modify, free_to_cancel, free_model_to_modify, free_model_to_cancel}
+use Rattle.bank_laws.proofs.Verdicts.{IsFree, IsModelFree, free_to_modify, free_to_cancel, own_transfer, free_model_to_modify, free_model_to_cancel, own_model, own_letter}
+use Rattle.bank_laws.proofs.Places.{IsKnown, own_known, at_transfers, at_recurring, at_letters, mail_place}
 use Rattle.bank_laws.proofs.Waiting.{IsWay, LeavesRows, with_new_terms, dropping, changing_way, dropping_way, waiting_follow}
 
 -- ---- the entries
@@ -56,9 +58,9 @@ new_kept : (due : Bool) → is_cancelled (cond due Posted Waiting) ≡ false
 new_kept true = refl
 new_kept false = refl
 
-new_says : (setup : Setup) (before : List Entry) (at : Moment) (day : Day) (info : XferInfo) → MaySay setup before (object_of setup info.from) (NewTransfer (new_row (length before + 1) at day info))
+new_says : (setup : Setup) (before : List Entry) (at : Moment) (day : Day) (info : XferInfo) → IsKnown setup (account_of setup info.from) → MaySay setup before (object_of setup info.from) (NewTransfer (new_row (length before + 1) at day info))
 unfolding new_row
-new_says setup before at day info = (refl, new_kept (is_due info day), refl)
+new_says setup before at day info known = (refl, new_kept (is_due info day), refl, at_transfers setup (account_of setup info.from) known)
 
 changed_says : (setup : Setup) (user : UserId) (only : Option AcctId) (before : List Entry) (id : ℕ) (day : Day) (info : XferInfo) (free : IsFree setup user only (row_of id before)) → MaySay setup before (object_of setup free.row.from) (SetTransfer (changed_row day info free.row))
 unfolding changed_row
@@ -66,9 +68,9 @@ changed_says setup user only before id day info free =
     let same = row_of-named id (row_of id before) free.row (row_of-id id before) free.is in
     (record { row = free.row; found = ap (λ (n : ℕ). row_of n before) same ∙ free.is; waits = free.waits; here = refl }, refl, refl, refl)
 
-new_model_says : (setup : Setup) (before : List Entry) (day : Day) (recur : Recur) (info : XferInfo) → MaySay setup before (model_object_of setup info.from) (NewModel (new_model (length before + 1) day recur info))
+new_model_says : (setup : Setup) (before : List Entry) (day : Day) (recur : Recur) (info : XferInfo) → IsKnown setup (account_of setup info.from) → MaySay setup before (model_object_of setup info.from) (NewModel (new_model (length before + 1) day recur info))
 unfolding new_model
-new_model_says setup before day recur info = (refl, refl)
+new_model_says setup before day recur info known = (refl, refl, at_recurring setup (account_of setup info.from) known)
 
 changed_model_says : (setup : Setup) (user : UserId) (only : Option AcctId) (before : List Entry) (id : ℕ) (day : Day) (recur : Recur) (info : XferInfo) (also : Bool) (free : IsModelFree setup user only (model_of id before) (is_model_dropped id before)) → MaySay setup before (model_object_of setup free.row.from) (SetModel (changed_model day recur info free.row) also)
 unfolding changed_model
@@ -85,7 +87,8 @@ along_follow setup S change entry false id way leaves follow = tt
 pub done_follow : (setup : Setup) (S : State) (user : UserId) (only : Option AcctId) (at : Moment) (trnuid : List ℕ) (deed : Deed) → AllFollow setup [] S.entries → judged setup S user only deed ≡ 0 → AllFollow setup S.entries (done setup S user at trnuid deed)
 unfolding judged done
 done_follow setup S user only at trnuid (Transfer info) follow none =
-    (record { number = refl; says = new_says setup S.entries at S.day info }, tt)
+    let own = own_transfer setup user only info S.day (source_balance setup S info) none in
+    (record { number = refl; says = new_says setup S.entries at S.day info (own_known setup user only (account_of setup info.from) own) }, tt)
 done_follow setup S user only at trnuid (ModifyTransfer id info) follow none =
     let free = free_to_modify setup user only (row_of id S.entries) info S.day none in
     subst (AllFollow setup S.entries) (sym (modify_entries setup S user at trnuid id info free.row free.is))
@@ -95,7 +98,8 @@ done_follow setup S user only at trnuid (CancelTransfer id) follow none =
     subst (AllFollow setup S.entries) (sym (cancel_entries setup S user at trnuid id free.row free.is))
     (record { number = refl; says = record { row = free.row; found = free.is; waits = free.waits; here = refl } }, tt)
 done_follow setup S user only at trnuid (Model recur info) follow none =
-    (record { number = refl; says = new_model_says setup S.entries S.day recur info }, tt)
+    let own = own_model setup user only info S.day none in
+    (record { number = refl; says = new_model_says setup S.entries S.day recur info (own_known setup user only (account_of setup info.from) own) }, tt)
 done_follow setup S user only at trnuid (ModifyModel id recur info also) follow none =
     let free = free_model_to_modify setup user only (model_of id S.entries) (is_model_dropped id S.entries) info S.day none in
     subst (AllFollow setup S.entries) (sym (modify_model_entries setup S user at trnuid id recur info also free.row free.is)) (
@@ -108,5 +112,7 @@ done_follow setup S user only at trnuid (CancelModel id also) follow none =
       record { number = refl; says = record { row = free.row; found = free.is; goes_on = free.goes_on; here = refl } },
       along_follow setup S dropping (next_entry S (model_object_of setup free.row.from) trnuid (DropModel id also)) also id (dropping_way setup) (λ n dropped before. refl) follow,
     )
-done_follow setup S user only at trnuid (BankMail about mail) follow none = (record { number = refl; says = tt }, tt)
-done_follow setup S user only at trnuid (Mail mail) follow none = (record { number = refl; says = tt }, tt)
+done_follow setup S user only at trnuid (BankMail about mail) follow none =
+    let own = own_letter setup user only about mail none in
+    (record { number = refl; says = at_letters setup (account_of setup about) (own_known setup user only (account_of setup about) own) }, tt)
+done_follow setup S user only at trnuid (Mail mail) follow none = (record { number = refl; says = mail_place setup user }, tt)

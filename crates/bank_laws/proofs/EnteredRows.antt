@@ -1,107 +1,133 @@
 -- The rows of an object are those that its entries say.
-use Rattle.std.proofs.Common.{◌≡◌, ℕ, ◌+◌, ◌<◌, Bool, true, false, cond, nat_le, eqb, List, [], ◌∷◌, ◌++◌, length, length-append, filter, fold, refl, sym, ap, ◌∙◌, subst, arith}
+use Rattle.std.proofs.Common.{◌≡◌, ℕ, ◌+◌, ◌<◌, ◌⊎◌, inl, inr, Bool, true, false, cond, nat_le, eqb, List, [], ◌∷◌, ◌++◌, length, length-append, filter, fold, Option, None, Some, refl, sym, ap, ◌∙◌, subst, arith}
+use Rattle.std.specs.List.{AllByRecursion}
 use Rattle.std.proofs.lemmas.Bool.{leb-false}
 use Rattle.std.proofs.lemmas.List.Sums.{fold-append}
+use Rattle.ofx_types.specs.SyncForm.{object_family}
+use Rattle.ofx_types.specs.declared.account.AcctName.{AcctName}
 use Rattle.ofx_types.specs.declared.number.ObjectId.{ObjectId}
+use Rattle.ofx_types.specs.declared.number.UserId.{UserId}
 use Rattle.ofx_types.specs.declared.transfer.Change.{Change}
 use Rattle.ofx_types.specs.declared.transfer.Change.TheVariants.{NewTransfer, SetTransfer, DropTransfer, NewModel, SetModel, DropModel, NewMail}
 use Rattle.ofx_types.specs.declared.transfer.Family.{Family}
 use Rattle.ofx_types.specs.declared.transfer.Family.TheVariants as families
+use Rattle.ofx_types.specs.declared.sync.ObjectName.{ObjectName}
 use Rattle.bank_model.specs.declared.entry.Entry.{Entry}
 use Rattle.bank_model.specs.declared.setup.Setup.{Setup}
 use Rattle.bank_model.specs.declared.event.State.{State}
-use Rattle.bank_model.specs.Objects.{belongs_to, history_of}
+use Rattle.bank_model.specs.Objects.{belongs_to, object_named, history_of}
 use Rattle.bank_model.specs.Stores.{Row, changed, is_up_to, rows_up_to}
 use Rattle.bank_laws.specs.Entered.{entered, rows_entered}
+use Rattle.bank_laws.specs.Places.{IsPlaceOf, mail_family}
 use Rattle.bank_laws.specs.Histories.{Follows, AllFollow, IsInOrder}
 use Rattle.bank_laws.proofs.Acts.{acted, ids_made, history_push}
 use Rattle.bank_laws.proofs.Changes.{fold_entries}
-use Rattle.bank_laws.proofs.Numbers.{by_entries, none_up_to, rising_follow}
+use Rattle.bank_laws.proofs.Numbers.{follow_both, by_entries, none_up_to, rising_follow}
 use Rattle.bank_laws.proofs.Rows.{looked}
+use Rattle.bank_laws.proofs.Places.{named_place}
+use Rattle.bank_laws.proofs.Placed.{family_in, follows_placed, all_placed, family_here, history_family}
 use Rattle.bank_laws.proofs.TransferRows.{act_transfer, transfer_found, AreKnown, rows_push, known_none, known_more}
 
-abbrev fold_entered : Family → List Row → List Entry → List Row
-fold_entered family rows entries = fold (λ (held : List Row) (entry : Entry). entered family held entry.change) rows entries
+abbrev fold_entered : List Row → List Entry → List Row
+fold_entered rows entries = fold (λ (held : List Row) (entry : Entry). entered held entry.change) rows entries
+
+-- a mail is no transfer and no recurring transfer
+abbrev IsMoney : Family → Type 0
+IsMoney family = (family ≡ families.Intra) ⊎ (family ≡ families.RecIntra)
+
+no_money : (about : Option AcctName) → IsMoney (mail_family about) → ⊥
+no_money None (inl is) = cc
+no_money None (inr is) = cc
+no_money (Some about) (inl is) = cc
+no_money (Some about) (inr is) = cc
 
 -- ---- recurring transfers and mails
 
-model_same : (rows : List Row) (change : Change) → changed families.RecIntra rows change ≡ entered families.RecIntra rows change
+model_same : (rows : List Row) (change : Change) → family_in change ≡ families.RecIntra → changed families.RecIntra rows change ≡ entered rows change
 unfolding changed entered
-model_same rows (NewTransfer row) = refl
-model_same rows (SetTransfer row) = refl
-model_same rows (DropTransfer id) = refl
-model_same rows (NewModel row) = refl
-model_same rows (SetModel row also) = refl
-model_same rows (DropModel id also) = refl
-model_same rows (NewMail mail) = refl
+model_same rows (NewTransfer row) is = cc
+model_same rows (SetTransfer row) is = cc
+model_same rows (DropTransfer id) is = cc
+model_same rows (NewModel row) is = refl
+model_same rows (SetModel row also) is = refl
+model_same rows (DropModel id also) is = refl
+model_same rows (NewMail mail) is = absurd (no_money mail.about (inr is))
 
-letter_same : (rows : List Row) (change : Change) → changed families.BankMail rows change ≡ entered families.BankMail rows change
+letter_same : (rows : List Row) (change : Change) → family_in change ≡ families.BankMail → changed families.BankMail rows change ≡ entered rows change
 unfolding changed entered
-letter_same rows (NewTransfer row) = refl
-letter_same rows (SetTransfer row) = refl
-letter_same rows (DropTransfer id) = refl
-letter_same rows (NewModel row) = refl
-letter_same rows (SetModel row also) = refl
-letter_same rows (DropModel id also) = refl
-letter_same rows (NewMail mail) = refl
+letter_same rows (NewTransfer row) is = cc
+letter_same rows (SetTransfer row) is = cc
+letter_same rows (DropTransfer id) is = cc
+letter_same rows (NewModel row) is = cc
+letter_same rows (SetModel row also) is = cc
+letter_same rows (DropModel id also) is = cc
+letter_same rows (NewMail mail) is = refl
 
-mail_same : (rows : List Row) (change : Change) → changed families.Mail rows change ≡ entered families.Mail rows change
+mail_same : (rows : List Row) (change : Change) → family_in change ≡ families.Mail → changed families.Mail rows change ≡ entered rows change
 unfolding changed entered
-mail_same rows (NewTransfer row) = refl
-mail_same rows (SetTransfer row) = refl
-mail_same rows (DropTransfer id) = refl
-mail_same rows (NewModel row) = refl
-mail_same rows (SetModel row also) = refl
-mail_same rows (DropModel id also) = refl
-mail_same rows (NewMail mail) = refl
+mail_same rows (NewTransfer row) is = cc
+mail_same rows (SetTransfer row) is = cc
+mail_same rows (DropTransfer id) is = cc
+mail_same rows (NewModel row) is = cc
+mail_same rows (SetModel row also) is = cc
+mail_same rows (DropModel id also) is = cc
+mail_same rows (NewMail mail) is = refl
 
-fold_same : (family : Family) (rows : List Row) (entries : List Entry) → ((held : List Row) (change : Change) → changed family held change ≡ entered family held change) → fold_entries family rows entries ≡ fold_entered family rows entries
-fold_same family rows [] same = refl
-fold_same family rows (entry ∷ entries) same =
-    fold_same family (changed family rows entry.change) entries same
-    ∙ ap (λ (held : List Row). fold_entered family held entries) (same rows entry.change)
+abbrev AreOf : Family → List Entry → Type 0
+AreOf family entries = AllByRecursion (λ (entry : Entry). family_in entry.change ≡ family) entries
+
+fold_same : (family : Family) (rows : List Row) (entries : List Entry) → ((held : List Row) (change : Change) → family_in change ≡ family → changed family held change ≡ entered held change) → AreOf family entries → fold_entries family rows entries ≡ fold_entered rows entries
+fold_same family rows [] same are = refl
+fold_same family rows (entry ∷ entries) same are =
+    fold_same family (changed family rows entry.change) entries same are.1
+    ∙ ap (λ (held : List Row). fold_entered held entries) (same rows entry.change are.0)
 
 -- ---- transfers
 
-entered_acts : (rows : List Row) (change : Change) → entered families.Intra rows change ≡ acted (act_transfer change) rows
+entered_acts : (rows : List Row) (change : Change) → family_in change ≡ families.Intra → entered rows change ≡ acted (act_transfer change) rows
 unfolding entered
-entered_acts rows (NewTransfer row) = refl
-entered_acts rows (SetTransfer row) = refl
-entered_acts rows (DropTransfer id) = refl
-entered_acts rows (NewModel row) = refl
-entered_acts rows (SetModel row also) = refl
-entered_acts rows (DropModel id also) = refl
-entered_acts rows (NewMail mail) = refl
+entered_acts rows (NewTransfer row) is = refl
+entered_acts rows (SetTransfer row) is = refl
+entered_acts rows (DropTransfer id) is = refl
+entered_acts rows (NewModel row) is = cc
+entered_acts rows (SetModel row also) is = cc
+entered_acts rows (DropModel id also) is = cc
+entered_acts rows (NewMail mail) is = absurd (no_money mail.about (inl is))
 
-entered_more : (setup : Setup) (entries : List Entry) (entry : Entry) (object : ObjectId) → AreKnown setup entries → Follows setup entries entry → fold_entered families.Intra [] (history_of object entries) ≡ fold_entries families.Intra [] (history_of object entries) → fold_entered families.Intra [] (history_of object (entries ++ entry ∷ [])) ≡ fold_entries families.Intra [] (history_of object (entries ++ entry ∷ []))
-entered_more setup entries entry object known follows same =
-    ap (fold_entered families.Intra []) (history_push object entries entry)
-    ∙ fold-append (λ (rows : List Row) (one : Entry). entered families.Intra rows one.change) [] (history_of object entries) (cond (eqb entry.object.0 object.0) (entry ∷ []) [])
-    ∙ ap (λ (rows : List Row). fold_entered families.Intra rows (cond (eqb entry.object.0 object.0) (entry ∷ []) [])) (same ∙ known.rows object)
-    ∙ by_object (eqb entry.object.0 object.0)
+entered_more : (setup : Setup) (entries : List Entry) (entry : Entry) (object : ObjectId) → IsPlaceOf setup families.Intra object.0 → AreKnown setup entries → AllFollow setup [] entries → Follows setup entries entry → fold_entered [] (history_of object entries) ≡ fold_entries families.Intra [] (history_of object entries) → fold_entered [] (history_of object (entries ++ entry ∷ [])) ≡ fold_entries families.Intra [] (history_of object (entries ++ entry ∷ []))
+entered_more setup entries entry object place known all follows same =
+    ap (fold_entered []) (history_push object entries entry)
+    ∙ fold-append (λ (rows : List Row) (one : Entry). entered rows one.change) [] (history_of object entries) (cond (eqb entry.object.0 object.0) (entry ∷ []) [])
+    ∙ ap (λ (rows : List Row). fold_entered rows (cond (eqb entry.object.0 object.0) (entry ∷ []) [])) (same ∙ known.rows object)
+    ∙ by_object (eqb entry.object.0 object.0) refl
     ∙ sym (rows_push setup entries entry object known follows)
   where
     held : List Row
     held = looked (transfer_found entries) (ids_made act_transfer (history_of object entries))
 
-    by_object : (own : Bool) → fold_entered families.Intra held (cond own (entry ∷ []) []) ≡ cond own (acted (act_transfer entry.change) held) held
-    by_object true = entered_acts held entry.change
-    by_object false = refl
+    by_object : (own : Bool) → eqb entry.object.0 object.0 ≡ own → fold_entered held (cond own (entry ∷ []) []) ≡ cond own (acted (act_transfer entry.change) held) held
+    by_object true is =
+        entered_acts held entry.change (family_here setup families.Intra object entry place (follows_placed setup entries entry all follows) is)
+    by_object false is = refl
 
--- what holds of the transfers of a history that is in order, and that its entries say the rows of each object
-abbrev AreEntered : Setup → List Entry → Type 0
-AreEntered setup entries =
-    AreKnown setup entries
-    × ((object : ObjectId) → fold_entered families.Intra [] (history_of object entries) ≡ fold_entries families.Intra [] (history_of object entries))
+-- what holds of the transfers of a history that is in order, and that its entries say the rows of each object of transfers
+record AreEntered (setup : Setup) (entries : List Entry) : Type 0 where
+  follow : AllFollow setup [] entries
+  known : AreKnown setup entries
+  said : (object : ObjectId) → IsPlaceOf setup families.Intra object.0 → fold_entered [] (history_of object entries) ≡ fold_entries families.Intra [] (history_of object entries)
 
 none_entered : (setup : Setup) → AreEntered setup []
 unfolding history_of
-none_entered setup = (known_none setup, λ object. refl)
+none_entered setup = record { follow = tt; known = known_none setup; said = λ object place. refl }
 
 all_entered : (setup : Setup) (entries : List Entry) → AllFollow setup [] entries → AreEntered setup entries
 all_entered setup entries all =
     by_entries setup (AreEntered setup) (none_entered setup)
-    (λ before entry holds follows. (known_more setup before entry holds.0 follows, λ object. entered_more setup before entry object holds.0 follows (holds.1 object))) entries all
+    (λ before entry holds follows. record {
+      follow = follow_both setup [] before (entry ∷ []) holds.follow (follows, tt);
+      known = known_more setup before entry holds.known follows;
+      said = λ object place. entered_more setup before entry object place holds.known holds.follow follows (holds.said object place);
+    }) entries all
 
 -- ---- the entries up to a token
 
@@ -137,13 +163,27 @@ follow_up_to setup token before (entry ∷ more) all = by_number (follow_up_to s
 
 -- ---- any family
 
-pub rows_said : (setup : Setup) (S : State) (family : Family) (object : ObjectId) (token : ℕ) → IsInOrder setup S → rows_up_to family object token S.entries ≡ rows_entered family object token S.entries
+-- the entries of an object up to a token are of its family
+up_to_family : (setup : Setup) (entries : List Entry) (family : Family) (object : ObjectId) (token : ℕ) → AllFollow setup [] entries → IsPlaceOf setup family object.0 → AreOf family (filter (is_up_to token) (history_of object entries))
+up_to_family setup entries family object token all place =
+    let front : List Entry = filter (is_up_to token) entries in
+    subst (AreOf family) (sym (history_up_to object token entries))
+    (history_family setup family object place front (all_placed setup [] front tt (follow_up_to setup token [] entries all)))
+
+pub rows_said : (setup : Setup) (S : State) (family : Family) (object : ObjectId) (token : ℕ) → IsInOrder setup S → IsPlaceOf setup family object.0 → rows_up_to family object token S.entries ≡ rows_entered object token S.entries
 unfolding rows_up_to rows_entered
-rows_said setup S families.Intra object token sound =
+rows_said setup S families.Intra object token sound place =
     let front : List Entry = filter (is_up_to token) S.entries in
     ap (fold_entries families.Intra []) (history_up_to object token S.entries)
-    ∙ sym ((all_entered setup front (follow_up_to setup token [] S.entries sound.follow)).1 object)
-    ∙ ap (fold_entered families.Intra []) (sym (history_up_to object token S.entries))
-rows_said setup S families.RecIntra object token sound = fold_same families.RecIntra [] (filter (is_up_to token) (history_of object S.entries)) model_same
-rows_said setup S families.BankMail object token sound = fold_same families.BankMail [] (filter (is_up_to token) (history_of object S.entries)) letter_same
-rows_said setup S families.Mail object token sound = fold_same families.Mail [] (filter (is_up_to token) (history_of object S.entries)) mail_same
+    ∙ sym ((all_entered setup front (follow_up_to setup token [] S.entries sound.follow)).said object place)
+    ∙ ap (fold_entered []) (sym (history_up_to object token S.entries))
+rows_said setup S families.RecIntra object token sound place =
+    fold_same families.RecIntra [] (filter (is_up_to token) (history_of object S.entries)) model_same (up_to_family setup S.entries families.RecIntra object token sound.follow place)
+rows_said setup S families.BankMail object token sound place =
+    fold_same families.BankMail [] (filter (is_up_to token) (history_of object S.entries)) letter_same (up_to_family setup S.entries families.BankMail object token sound.follow place)
+rows_said setup S families.Mail object token sound place =
+    fold_same families.Mail [] (filter (is_up_to token) (history_of object S.entries)) mail_same (up_to_family setup S.entries families.Mail object token sound.follow place)
+
+pub rows_said_of : (setup : Setup) (S : State) (user : UserId) (name : ObjectName) (object : ObjectId) (token : ℕ) → IsInOrder setup S → object_named setup user name ≡ Some object → rows_up_to (object_family name) object token S.entries ≡ rows_entered object token S.entries
+rows_said_of setup S user name object token sound is =
+    rows_said setup S (object_family name) object token sound (named_place setup user name object is)

@@ -1,6 +1,7 @@
 -- A history grows in order: behind deeds, synchronisations, files and whatever the bank does by itself.
 use Rattle.std.proofs.Common.{◌≡◌, ℕ, ◌+◌, ◌≤◌, Bool, true, false, cond, eqb, List, [], ◌∷◌, ◌++◌, length, length-append, Option, None, Some, refl, sym, ap, ◌∙◌, subst, append_assoc, arith}
 use Rattle.std.proofs.lemmas.Bool.{eqb-true, and_parts, ltb-false, not-true}
+use Rattle.std.specs.Option.{IfSome}
 use Rattle.std.proofs.lemmas.List.{append-nil}
 use Rattle.ofx_types.specs.declared.number.AcctId.{AcctId}
 use Rattle.ofx_types.specs.declared.number.ObjectId.{ObjectId}
@@ -11,6 +12,7 @@ use Rattle.ofx_types.specs.declared.transfer.XferCode.TheVariants.{Posted, NoFun
 use Rattle.ofx_types.specs.declared.transfer.TransferRow.{TransferRow}
 use Rattle.ofx_types.specs.declared.transfer.Deed.{Deed}
 use Rattle.ofx_types.specs.declared.transfer.Change.TheVariants.{SetTransfer}
+use Rattle.ofx_types.specs.declared.transfer.Family.TheVariants as families
 use Rattle.ofx_types.specs.declared.recurring.ModelRow.{ModelRow}
 use Rattle.ofx_types.specs.declared.sync.SyncAsk.{SyncAsk}
 use Rattle.ofx_types.specs.declared.request.Ask.{Ask}
@@ -29,10 +31,13 @@ use Rattle.bank_model.specs.Objects.{account_about, object_named, newest}
 use Rattle.bank_model.specs.Sync.{rejection, deed_answers, deeds_or_rejection, sync_on, sync_answer}
 use Rattle.bank_model.specs.Due.{has_number, is_to_post, may_post, posts, settled_row, has_cover, may_spawn, spawned_row, place_date, spawns_on, spawns}
 use Rattle.bank_model.specs.Rules.{with_entries, raised, opening_state, ask_answer, ask_answers, kept_for, new_outcome, outcome_or_kept, file_outcome, letter_entry, state_after, IsLegal}
+use Rattle.bank_laws.specs.Places.{IsPlaceOf}
 use Rattle.bank_laws.specs.Histories.{MaySay, AllFollow, IsInOrder, IsLater}
 use Rattle.bank_laws.proofs.Growth.{row_of-id, row_of-named}
 use Rattle.bank_laws.proofs.Numbers.{follow_both}
 use Rattle.bank_laws.proofs.Verdicts.{allowed_by_code}
+use Rattle.bank_laws.proofs.Places.{mail_place}
+use Rattle.bank_laws.proofs.Placed.{source_place}
 use Rattle.bank_laws.proofs.Done.{done_follow}
 
 -- A later state, which is in order where the earlier one is.
@@ -160,11 +165,16 @@ post_order setup S at id (Some row) is may sound =
     (λ held. (record { number = refl; says = settled_says setup S.entries (has_cover setup S row) at id row is waits.0 }, tt))
     (λ held. few_number setup S both.1)).order sound
 
-spawn_follow : (setup : Setup) (S : State) (found : Option ModelRow) (date : Option Day) → AllFollow setup S.entries (spawns_on setup S found date)
+spawn_follow : (setup : Setup) (S : State) (found : Option ModelRow) (date : Option Day) → IfSome found (λ (row : ModelRow). IsPlaceOf setup families.Intra (object_of setup row.from).0) → AllFollow setup S.entries (spawns_on setup S found date)
 unfolding spawned_row
-spawn_follow setup S None date = tt
-spawn_follow setup S (Some row) None = tt
-spawn_follow setup S (Some row) (Some date) = (record { number = refl; says = (refl, refl, refl) }, tt)
+spawn_follow setup S None date place = tt
+spawn_follow setup S (Some row) None place = tt
+spawn_follow setup S (Some row) (Some date) place = (record { number = refl; says = (refl, refl, refl, place) }, tt)
+
+-- a recurring transfer goes out of an account of the setup
+model_place : (setup : Setup) (S : State) (id : ℕ) (found : Option ModelRow) → model_of id S.entries ≡ found → IsInOrder setup S → IfSome found (λ (row : ModelRow). IsPlaceOf setup families.Intra (object_of setup row.from).0)
+model_place setup S id None is sound = tt
+model_place setup S id (Some row) is sound = source_place setup S.entries id row sound.follow is
 
 spawn_few : (setup : Setup) (S : State) (found : Option ModelRow) (date : Option Day) → length S.entries + 1 ≤ setup.entries → length S.entries + length (spawns_on setup S found date) ≤ setup.entries
 spawn_few setup S None date few = omega arith
@@ -176,13 +186,13 @@ unfolding spawns
 spawn_order setup S id place may sound =
     let both = and_parts _ (has_number setup S) may in
     (grows_by setup S (with_entries S (spawns setup S id place)) (spawns setup S id place) refl
-    (λ held. spawn_follow setup S (model_of id S.entries) (place_date (model_of id S.entries) place))
+    (λ held. spawn_follow setup S (model_of id S.entries) (place_date (model_of id S.entries) place) (model_place setup S id (model_of id S.entries) refl held))
     (λ held. spawn_few setup S (model_of id S.entries) (place_date (model_of id S.entries) place) (few_number setup S both.1))).order sound
 
 letter_order : (setup : Setup) (S : State) (user : UserId) (at : Moment) (subject body : List ℕ) → has_number setup S ≡ true → IsInOrder setup S → IsInOrder setup (with_entries S (letter_entry setup S user at subject body ∷ []))
 letter_order setup S user at subject body may sound =
     (grows_by setup S (with_entries S (letter_entry setup S user at subject body ∷ [])) (letter_entry setup S user at subject body ∷ []) refl
-    (λ held. (record { number = refl; says = tt }, tt))
+    (λ held. (record { number = refl; says = mail_place setup user }, tt))
     (λ held. few_number setup S may)).order sound
 
 -- ---- any event

@@ -2,9 +2,9 @@ pub mod Lists
 pub mod Numbers
 pub mod Growth
 pub mod Verdicts
+pub mod Places
 pub mod Waiting
 pub mod Done
-pub mod Events
 pub mod Lost
 pub mod Strangers
 pub mod Staying
@@ -15,6 +15,8 @@ pub mod Rows
 pub mod Acts
 pub mod TransferRows
 pub mod ModelRows
+pub mod Placed
+pub mod Events
 pub mod Refreshing
 pub mod Taking
 pub mod EnteredRows

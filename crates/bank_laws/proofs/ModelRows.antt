@@ -125,7 +125,7 @@ found_row setup entries object (NewMail mail) j known says = found_left (is_mode
 
 -- ---- the step
 
-goes_home : (setup : Setup) (entries : List Entry) (object : ObjectId) (id : ℕ) → GoesOn setup entries object id → model_home setup entries id ≡ Some object.0
+pub goes_home : (setup : Setup) (entries : List Entry) (object : ObjectId) (id : ℕ) → GoesOn setup entries object id → model_home setup entries id ≡ Some object.0
 goes_home setup entries object id goes = ap (home_of setup) goes.found ∙ ap (λ (o : ObjectId). Some o.0) (sym goes.here)
 
 goes_found : (setup : Setup) (entries : List Entry) (object : ObjectId) (id : ℕ) (goes : GoesOn setup entries object id) → model_found entries id ≡ Some (model_row goes.row)

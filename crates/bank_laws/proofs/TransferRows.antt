@@ -143,7 +143,7 @@ found_row setup entries object (NewMail mail) j known says = refl
 
 -- ---- the step
 
-waits_home : (setup : Setup) (entries : List Entry) (object : ObjectId) (id : ℕ) → Waits setup entries object id → transfer_home setup entries id ≡ Some object.0
+pub waits_home : (setup : Setup) (entries : List Entry) (object : ObjectId) (id : ℕ) → Waits setup entries object id → transfer_home setup entries id ≡ Some object.0
 waits_home setup entries object id waits = ap (home_of setup) waits.found ∙ ap (λ (o : ObjectId). Some o.0) (sym waits.here)
 
 waits_found : (setup : Setup) (entries : List Entry) (object : ObjectId) (id : ℕ) (waits : Waits setup entries object id) → transfer_found entries id ≡ Some (transfer_row waits.row)

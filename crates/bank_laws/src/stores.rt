@@ -8,6 +8,7 @@ ghost use Rattle.ofx_types.specs.declared.number.ObjectId.{ObjectId};
 ghost use Rattle.ofx_types.specs.declared.number.UserId.{UserId};
 ghost use Rattle.ofx_types.specs.declared.request.Ask.{Ask};
 ghost use Rattle.ofx_types.specs.declared.transfer.Family.{Family};
+ghost use Rattle.ofx_types.specs.declared.sync.ObjectName.{ObjectName};
 ghost use Rattle.ofx_types.specs.declared.sync.SyncAsk.{SyncAsk};
 ghost use Rattle.ofx_types.specs.declared.sync.SyncKind.{SyncKind};
 ghost use Rattle.ofx_types.specs.declared.sync.SyncKind.TheVariants.{After, TokenOnly, Refresh};
@@ -22,6 +23,7 @@ ghost use Rattle.bank_model.specs.Stores.{Store, IsRight, marked_lost, rows_up_t
 ghost use Rattle.bank_model.specs.Rules.{IsLegal, state_after, ask_answers};
 ghost use Rattle.bank_model.specs.Sound.{IsSoundSync};
 ghost use Rattle.bank_laws.specs.Entered.{rows_entered};
+ghost use Rattle.bank_laws.specs.Places.{IsPlaceOf};
 ghost use Rattle.bank_laws.specs.Histories.{IsInOrder, IsLater};
 ghost use Rattle.bank_laws.specs.Told.{empty_store, store_after, bank_after};
 
@@ -51,8 +53,9 @@ pub fn token_alone_leaves_stores()
         → IsRight (store_after setup S user at ask store) object (bank_after setup S user at ask).entries }
 {}
 
-/// Where all was asked for, or what came after a token, the store is marked lost exactly where the reply says so. A store that
-/// is right and isn't marked lost is told so exactly where its token is below the floor of its object. A store keeps its family.
+/// Where all was asked for, or what came after a token, the store is marked lost exactly where the reply says so. A store of an
+/// object of the user's that is right and isn't marked lost, and whose client asks by its token, is told so exactly where its
+/// token is below the floor of the object. A store keeps its family.
 pub fn stores_are_lost_where_told()
     ensures after { (store : Store) (text : List ℕ) (reply : SyncReply) → (taken store (After text) reply).is_lost ≡ reply.lost }
     ensures refresh { (store : Store) (reply : SyncReply) → (taken store Refresh reply).is_lost ≡ reply.lost }
@@ -63,8 +66,9 @@ pub fn stores_are_lost_where_told()
     ensures family { (store : Store) (kind : SyncKind) (reply : SyncReply) → (taken store kind reply).family ≡ store.family }
 {}
 
-/// A store that is right and isn't marked lost, whose client asks for what came after its token, is right behind the reply,
-/// and has the newest token unless it is marked lost. The text of its token, in decimal digits, stands for it.
+/// A store of an object of the user's that is right and isn't marked lost, and whose client asks for what came after its token,
+/// is right behind the reply, and has the newest token unless it is marked lost. The text of its token, in decimal digits, stands
+/// for it. The synchronisation is sound, and the store is of the object's family.
 pub fn stores_are_right_by_token()
     ensures text { (setup : Setup) (S : State) (object : ObjectId) (store : Store) → IsWithinLimits setup → IsInOrder setup S
         → store.is_lost ≡ false → IsRight store object S.entries → token_of (decimal store.token) ≡ Some store.token }
@@ -80,7 +84,8 @@ pub fn stores_are_right_by_token()
         → (store_after setup S user at ask store).token ≡ newest object (bank_after setup S user at ask).entries }
 {}
 
-/// Any store whose client asks for all is right behind the reply, has the newest token, and isn't marked lost.
+/// Any store of an object of the user's whose client asks for all is right behind the reply, has the newest token, and isn't
+/// marked lost. The synchronisation is sound, and the store is of the object's family.
 pub fn stores_are_right_by_refresh()
     ensures right { (setup : Setup) (S : State) (user : UserId) (at : Moment) (ask : SyncAsk) (object : ObjectId)
         (store : Store) → IsWithinLimits setup → IsInOrder setup S → IsSoundSync ask
@@ -114,8 +119,13 @@ pub fn strangers_are_told_that_they_are_lost()
 {}
 
 /// The rows of an object up to a token are those that its entries say: each row as its last entry gave it, without those that
-/// were cancelled, and each mail.
+/// were cancelled, and each mail. The family is the object's, by the place where the object stands; of an object that a user
+/// names it is the name's.
 pub fn rows_are_those_of_the_entries()
-    ensures { (setup : Setup) (S : State) (family : Family) (object : ObjectId) (token : ℕ) → IsInOrder setup S
-        → rows_up_to family object token S.entries ≡ rows_entered family object token S.entries }
+    ensures object { (setup : Setup) (S : State) (family : Family) (object : ObjectId) (token : ℕ) → IsInOrder setup S
+        → IsPlaceOf setup family object.0
+        → rows_up_to family object token S.entries ≡ rows_entered object token S.entries }
+    ensures named { (setup : Setup) (S : State) (user : UserId) (name : ObjectName) (object : ObjectId) (token : ℕ)
+        → IsInOrder setup S → object_named setup user name ≡ Some object
+        → rows_up_to (object_family name) object token S.entries ≡ rows_entered object token S.entries }
 {}

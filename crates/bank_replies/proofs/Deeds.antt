@@ -25,17 +25,18 @@ use Rattle.bank_model.specs.Ledger.{row_of}
 use Rattle.bank_model.specs.Models.{model_of, is_model_dropped, waiting_of}
 use Rattle.bank_model.specs.Deeds.{judged, done, object_of, entries_behind, mail_row}
 use Rattle.bank_model.specs.Sound as file
+use Rattle.bank_laws.specs.Places.{IsPlaceOf}
 use Rattle.bank_laws.proofs.Verdicts.{free_to_modify, free_to_cancel, free_model_to_modify, free_model_to_cancel, own_model, own_letter}
+use Rattle.bank_laws.proofs.Places.{own_known, at_intra, at_recurring, at_letters}
 use Rattle.bank_laws.proofs.Waiting.{IsHere, with_new_terms, dropping}
 use Rattle.bank_laws.proofs.Done.{along, modify_entries, cancel_entries, modify_model_entries, cancel_model_entries}
 use Rattle.msg_bank.specs.Sound.{IsTextWithin, IsSoundAccount, IsSoundInfo, family_of_change}
 use Rattle.msg_mail.specs.MailSound.{IsSoundMail, IsSoundMailRow}
 use Rattle.bank_replies.specs.Texts.{HasDeedTexts}
-use Rattle.bank_replies.specs.Telling.{IsToldChange, IsPlaceOf, IsToldEntry, IsTellable}
+use Rattle.bank_replies.specs.Telling.{IsToldChange, IsToldEntry, IsTellable}
 use Rattle.bank_replies.proofs.Values.{account_sound, info_sound, mail_sound, zero_within}
 use Rattle.bank_replies.proofs.Words.{user_within}
 use Rattle.bank_replies.proofs.Found.{IsKnownRow, known_row, waiting_known, known_model}
-use Rattle.bank_replies.proofs.Places.{own_known, at_intra, at_recurring, at_letters}
 use Rattle.bank_replies.proofs.Rows.{new_row_told, changed_row_told, with_terms_told, new_model_told, changed_model_told}
 
 -- The entries of a deed: the first is of the family, and all may be told.

@@ -4,7 +4,6 @@ pub mod Words
 pub mod Days
 pub mod Found
 pub mod Verdicts
-pub mod Places
 pub mod Rows
 pub mod Deeds
 pub mod Last

@@ -1,5 +1,5 @@
 -- What a bank answers over a run of events is a printed reply.
-use Rattle.std.proofs.Common.{ℕ, ◌<◌, Bool, true, false, cond, List, [], ◌∷◌, length, Option, None, Some, sym, subst}
+use Rattle.std.proofs.Common.{ℕ, ◌<◌, Bool, true, false, cond, List, [], ◌∷◌, length, Option, None, Some, refl, sym, subst}
 use Rattle.std.specs.List.{AllByRecursion, find}
 use Rattle.std.specs.Option.{IfSome, option_map}
 use Rattle.ofx_types.specs.Calendar.{IsMoment}
@@ -21,7 +21,7 @@ use Rattle.bank_core.specs.Runs.{Happening, after_all, AreLegal}
 use Rattle.bank_core.proofs.StateLemmas.{IsSoundState-step, kept-asks}
 use Rattle.bank_core.proofs.RunLaws.{IsSoundState-run}
 use Rattle.bank_laws.proofs.Lists.{all_append}
-use Rattle.ofx_file.specs.Written.{wire_file, RepliesReadBack}
+use Rattle.ofx_file.specs.Written.{RepliesReadBack}
 use Rattle.bank_replies.specs.Texts.{HasTexts, HasEventTexts}
 use Rattle.bank_replies.specs.Telling.{IsTellable}
 use Rattle.bank_replies.specs.Replies.{new_reply, IsReply, HaveTexts}
@@ -65,7 +65,7 @@ all_kept user (Some newer) reply kept all is = all_append (λ (r : KeptReply). I
 
 new_is : (setup : Setup) (S : State) (user : UserId) (at : Moment) (sent : RequestFile) → RepliesReadBack → IsWithinLimits setup → Holds setup S → IsMoment at.0 → user.0 < length setup.users → file.IsSound sent → HasTexts sent → IsReply (reply_text (new_reply setup S user at sent))
 new_is setup S user at sent law within holds moment known sound texts =
-    (wire_file (new_reply setup S user at sent), law (new_reply setup S user at sent) (new_sound setup S user at sent within holds.sound holds.tellable moment known sound texts))
+    (new_reply setup S user at sent, refl, law (new_reply setup S user at sent) (new_sound setup S user at sent within holds.sound holds.tellable moment known sound texts))
 
 kept_new : (setup : Setup) (S : State) (user : UserId) (at : Moment) (sent : RequestFile) → AreReplies S.kept → IsReply (new_outcome setup S user at sent).reply → AreReplies (new_outcome setup S user at sent).after.kept
 unfolding new_outcome

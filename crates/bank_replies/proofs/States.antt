@@ -26,13 +26,13 @@ use Rattle.bank_model.specs.Sound as file
 use Rattle.bank_laws.specs.Histories.{IsInOrder}
 use Rattle.bank_laws.proofs.Events.{order_step, order_opening, grows_raised}
 use Rattle.bank_laws.proofs.Lists.{all_append}
+use Rattle.bank_laws.proofs.Places.{at_intra}
 use Rattle.bank_replies.specs.Texts.{HasTexts, HasEventTexts}
 use Rattle.bank_replies.specs.Telling.{IsToldEntry, IsTellable}
 use Rattle.bank_replies.proofs.Values.{text_within, zero_within, bank_within}
 use Rattle.bank_replies.proofs.Words.{user_within}
 use Rattle.bank_replies.proofs.Days.{day_of_moment, later_day}
 use Rattle.bank_replies.proofs.Found.{known_row, known_model}
-use Rattle.bank_replies.proofs.Places.{at_intra}
 use Rattle.bank_replies.proofs.Rows.{settled_told_row, spawned_told, date_is}
 use Rattle.bank_replies.proofs.Answers.{MayAsk}
 use Rattle.bank_replies.proofs.Asks.{tellable_asks}

@@ -26,17 +26,18 @@ use Rattle.bank_model.specs.Judging.{is_cancelled}
 use Rattle.bank_model.specs.Objects.{account_about, object_named, belongs_to, history_of, newest}
 use Rattle.bank_model.specs.Sync.{token_of, is_lost, told_as, is_above, entries_above, told_entry, standing_transfer, standing_model, standing_in, standing, history_told, is_newest, unless_newest, rejection, deeds_or_rejection, sync_on, sync_answer}
 use Rattle.bank_model.specs.Sound as file
+use Rattle.bank_laws.specs.Places.{IsPlaceOf}
 use Rattle.bank_laws.proofs.Lists.{all_append}
 use Rattle.bank_laws.proofs.Numbers.{newest_few}
+use Rattle.bank_laws.proofs.Places.{one_family, named_place}
 use Rattle.msg_bank.specs.Sound.{IsTextWithin, family_of_change}
 use Rattle.msg_sync.specs.Sound.{IsSoundToldIn, IsSoundSyncReply}
 use Rattle.bank_replies.specs.Texts.{HasObjectTexts, HasPairTexts}
-use Rattle.bank_replies.specs.Telling.{IsToldChange, IsPlaceOf, IsToldEntry, IsTellable}
+use Rattle.bank_replies.specs.Telling.{IsToldChange, IsToldEntry, IsTellable}
 use Rattle.bank_replies.proofs.Lists.{all_filter, all_map, all_flat}
 use Rattle.bank_replies.proofs.Values.{object_sound, zero_within}
 use Rattle.bank_replies.proofs.Words.{token_within}
 use Rattle.bank_replies.proofs.Found.{known_row, known_model}
-use Rattle.bank_replies.proofs.Places.{one_family, named_place}
 use Rattle.bank_replies.proofs.Rows.{told_code}
 use Rattle.bank_replies.proofs.Answers.{MayAsk, AreAnswered, told_sound, all_refused, deeds_sound}
 

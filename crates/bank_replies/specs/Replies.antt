@@ -1,5 +1,5 @@
 -- The replies of a bank, and that they read back.
-use Rattle.std.specs.Prelude.{ℕ, List}
+use Rattle.std.specs.Prelude.{◌≡◌, ℕ, List}
 use Rattle.std.specs.List.{AllByRecursion}
 use Rattle.ofx_types.specs.FileForm.{SpellsReply}
 use Rattle.ofx_types.specs.ReplyForm.{reply_text}
@@ -23,9 +23,9 @@ new_reply setup S user at file = reply_file at file (ask_answers setup (raised S
 abbrev pub ReadsBack : ReplyFile → Type 0
 ReadsBack reply = SpellsReply (reply_text reply) (wire_file reply)
 
--- The bytes are a printed reply.
+-- The bytes are the printed form of a reply, and this reads back.
 abbrev pub IsReply : List ℕ → Type 0
-IsReply bytes = (reply : ReplyFile) × SpellsReply bytes reply
+IsReply bytes = (reply : ReplyFile) × (bytes ≡ reply_text reply) × ReadsBack reply
 
 -- The texts of each event are texts.
 abbrev pub HaveTexts : List Happening → Type 0

@@ -1,17 +1,15 @@
 -- States whose history may be told: each entry, printed in a reply, reads back.
-use Rattle.std.specs.Prelude.{◌≡◌, ℕ, ◌+◌, ◌*◌, ◌<◌, ◌≤◌, length}
 use Rattle.std.specs.List.{AllByRecursion}
 use Rattle.ofx_types.specs.Calendar.{IsDay}
 use Rattle.ofx_types.specs.declared.transfer.TransferRow.{TransferRow}
 use Rattle.ofx_types.specs.declared.transfer.Change.{Change}
 use Rattle.ofx_types.specs.declared.transfer.Change.TheVariants.{NewTransfer, SetTransfer, DropTransfer, NewModel, SetModel, DropModel, NewMail}
-use Rattle.ofx_types.specs.declared.transfer.Family.{Family}
-use Rattle.ofx_types.specs.declared.transfer.Family.TheVariants as families
 use Rattle.bank_model.specs.declared.entry.Entry.{Entry}
 use Rattle.bank_model.specs.declared.setup.Setup.{Setup}
 use Rattle.bank_model.specs.declared.event.State.{State}
 use Rattle.msg_bank.specs.Sound.{IsTextWithin, IsSoundId, IsSoundRow, IsSoundModelRow, family_of_change}
 use Rattle.msg_mail.specs.MailSound.{IsSoundMailRow}
+use Rattle.bank_laws.specs.Places.{IsPlaceOf}
 use Rattle.bank_laws.specs.Histories.{IsInOrder}
 
 -- The row of a transfer may be told, and so may the recurring transfer that made it.
@@ -26,14 +24,6 @@ IsToldChange (NewModel row) = IsSoundModelRow row
 IsToldChange (SetModel row pending) = IsSoundModelRow row
 IsToldChange (DropModel id pending) = IsSoundId id
 IsToldChange (NewMail row) = IsSoundMailRow row
-
--- Account a has its transfers at 3a, its recurring transfers at 3a + 1 and the mail about it at 3a + 2. Behind those of all
--- accounts come the users' other mails.
-abbrev pub IsPlaceOf : Setup → Family → ℕ → Type 0
-IsPlaceOf setup families.Intra place = (account : ℕ) × (account < length setup.accounts) × (place ≡ 3 * account)
-IsPlaceOf setup families.RecIntra place = (account : ℕ) × (account < length setup.accounts) × (place ≡ 3 * account + 1)
-IsPlaceOf setup families.BankMail place = (account : ℕ) × (account < length setup.accounts) × (place ≡ 3 * account + 2)
-IsPlaceOf setup families.Mail place = 3 * length setup.accounts ≤ place
 
 -- An entry has a uid that may be told, says what may be told, and stands in an object of its family.
 pub record IsToldEntry (setup : Setup) (entry : Entry) : Type 0 where

@@ -34,8 +34,8 @@ pub fn new_replies_read_back()
     replies_read_back();
 }
 
-/// Whatever a bank answers to a user's file, after any events from its opening, is a printed reply: the new reply, or the
-/// kept bytes of an earlier one. The reply to a poll is one too.
+/// Whatever a bank answers to a user's file, after any events from its opening, is the printed form of a reply, and this reads
+/// back; so it is with the kept bytes with which a file that comes again is answered. The reply to a poll reads back too.
 pub fn answers_are_replies()
     ensures file { (setup : Setup) (run : List Happening) (user : UserId) (at : Moment) (file : RequestFile)
         → IsWithinLimits setup → AreLegal setup opening_state run → HaveTexts run → IsMoment at.0

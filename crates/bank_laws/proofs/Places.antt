@@ -1,4 +1,4 @@
--- Where the entries of deeds stand, and that objects of two families are two.
+-- Where entries stand, and that objects of two families are two.
 use Rattle.std.proofs.Common.{◌≡◌, ℕ, zero, suc, ◌*◌, ◌<◌, ◌≤◌, Bool, true, false, cond, nat_lt, List, [], ◌∷◌, length, Option, None, Some, refl, sym, ap, subst, arith}
 use Rattle.std.specs.List.{slice_get, position_or_len}
 use Rattle.std.specs.Option.{option_map}
@@ -20,7 +20,7 @@ use Rattle.bank_model.specs.SetupLookups.{account_of, line_at, names_owner, is_o
 use Rattle.bank_model.specs.Judging.{is_only, is_own_account}
 use Rattle.bank_model.specs.Deeds.{intra_of, recurring_of, letters_of, mail_object, object_of}
 use Rattle.bank_model.specs.Objects.{numbered, object_named}
-use Rattle.bank_replies.specs.Telling.{IsPlaceOf}
+use Rattle.bank_laws.specs.Places.{IsPlaceOf}
 
 -- ---- accounts that are a user's
 
@@ -62,11 +62,17 @@ at_intra setup name within = by_place (nat_lt place (length setup.accounts)) ref
     by_place true is = (place, ltb-true place (length setup.accounts) is, refl)
     by_place false is = (0, within.lines.accounts_low, refl)
 
+pub at_transfers : (setup : Setup) (found : Option AcctId) → IsKnown setup found → IsPlaceOf setup families.Intra (intra_of found).0
+at_transfers setup found known = subst (λ (f : Option AcctId). IsPlaceOf setup families.Intra (intra_of f).0) (sym known.is) (known.account.0, known.below, refl)
+
 pub at_recurring : (setup : Setup) (found : Option AcctId) → IsKnown setup found → IsPlaceOf setup families.RecIntra (recurring_of found).0
 at_recurring setup found known = subst (λ (f : Option AcctId). IsPlaceOf setup families.RecIntra (recurring_of f).0) (sym known.is) (known.account.0, known.below, refl)
 
 pub at_letters : (setup : Setup) (found : Option AcctId) → IsKnown setup found → IsPlaceOf setup families.BankMail (letters_of found).0
 at_letters setup found known = subst (λ (f : Option AcctId). IsPlaceOf setup families.BankMail (letters_of f).0) (sym known.is) (known.account.0, known.below, refl)
+
+pub mail_place : (setup : Setup) (user : UserId) → IsPlaceOf setup families.Mail (mail_object setup user).0
+mail_place setup user = omega arith
 
 -- ---- objects and families
 
@@ -111,4 +117,4 @@ named_place setup user (objects.BankMail account) object is =
     (known.0.0, known.1, ap (λ (o : ObjectId). o.0) known.2)
 named_place setup user objects.Mail object is =
     let same : mail_object setup user ≡ object = cc in
-    subst (λ (o : ObjectId). 3 * length setup.accounts ≤ o.0) same (omega arith)
+    subst (λ (o : ObjectId). 3 * length setup.accounts ≤ o.0) same (mail_place setup user)
