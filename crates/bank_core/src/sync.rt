@@ -45,7 +45,7 @@ const OUT_OF_DATE: u16 = 6502;
 impl Draft {
     /// Answers a synchronisation, and adds what its deeds do.
     ///
-    /// The token and the history are judged on the state before the deeds.
+    /// The history, and whether the client has lost its place or its deeds are refused, are judged on the state before them.
     #[tactic(auto, unfolding(bank_model::specs::Sync::sync_answer))]
     pub(crate) fn sync(
         &mut self,

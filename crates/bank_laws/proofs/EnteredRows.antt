@@ -1,5 +1,6 @@
 -- The rows of an object are those that its entries say.
 use Rattle.std.proofs.Common.{◌≡◌, ℕ, ◌+◌, ◌<◌, ◌⊎◌, inl, inr, Bool, true, false, cond, nat_le, eqb, List, [], ◌∷◌, ◌++◌, length, length-append, filter, fold, Option, None, Some, refl, sym, ap, ◌∙◌, subst, arith}
+use Rattle.std.specs.Prelude.{is_some}
 use Rattle.std.specs.List.{AllByRecursion}
 use Rattle.std.proofs.lemmas.Bool.{leb-false}
 use Rattle.std.proofs.lemmas.List.Sums.{fold-append}
@@ -16,7 +17,7 @@ use Rattle.bank_model.specs.declared.entry.Entry.{Entry}
 use Rattle.bank_model.specs.declared.setup.Setup.{Setup}
 use Rattle.bank_model.specs.declared.event.State.{State}
 use Rattle.bank_model.specs.Objects.{belongs_to, object_named, history_of}
-use Rattle.bank_model.specs.Stores.{Row, changed, is_up_to, rows_up_to}
+use Rattle.bank_model.specs.Stores.{Row, mail_row, changed, is_up_to, rows_up_to}
 use Rattle.bank_laws.specs.Entered.{entered, rows_entered}
 use Rattle.bank_laws.specs.Places.{IsPlaceOf, mail_family}
 use Rattle.bank_laws.specs.Histories.{Follows, AllFollow, IsInOrder}
@@ -53,6 +54,15 @@ model_same rows (SetModel row also) is = refl
 model_same rows (DropModel id also) is = refl
 model_same rows (NewMail mail) is = absurd (no_money mail.about (inr is))
 
+-- a mail about an account is told as such, any other as other mail
+is_letter : (about : Option AcctName) → mail_family about ≡ families.BankMail → is_some about ≡ true
+is_letter None is = cc
+is_letter (Some about) is = refl
+
+is_other : (about : Option AcctName) → mail_family about ≡ families.Mail → is_some about ≡ false
+is_other None is = refl
+is_other (Some about) is = cc
+
 letter_same : (rows : List Row) (change : Change) → family_in change ≡ families.BankMail → changed families.BankMail rows change ≡ entered rows change
 unfolding changed entered
 letter_same rows (NewTransfer row) is = cc
@@ -61,7 +71,7 @@ letter_same rows (DropTransfer id) is = cc
 letter_same rows (NewModel row) is = cc
 letter_same rows (SetModel row also) is = cc
 letter_same rows (DropModel id also) is = cc
-letter_same rows (NewMail mail) is = refl
+letter_same rows (NewMail mail) is = ap (λ (b : Bool). cond b (rows ++ mail_row mail ∷ []) rows) (is_letter mail.about is)
 
 mail_same : (rows : List Row) (change : Change) → family_in change ≡ families.Mail → changed families.Mail rows change ≡ entered rows change
 unfolding changed entered
@@ -71,7 +81,7 @@ mail_same rows (DropTransfer id) is = cc
 mail_same rows (NewModel row) is = cc
 mail_same rows (SetModel row also) is = cc
 mail_same rows (DropModel id also) is = cc
-mail_same rows (NewMail mail) is = refl
+mail_same rows (NewMail mail) is = ap (λ (b : Bool). cond b rows (rows ++ mail_row mail ∷ [])) (is_other mail.about is)
 
 abbrev AreOf : Family → List Entry → Type 0
 AreOf family entries = AllByRecursion (λ (entry : Entry). family_in entry.change ≡ family) entries

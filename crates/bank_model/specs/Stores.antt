@@ -1,5 +1,5 @@
 -- What a client keeps of an object: a token and the rows that belong to it, and how a reply changes them.
-use Rattle.std.specs.Prelude.{◌≡◌, ℕ, ◌≤◌, ◌⊎◌, Bool, true, false, not, nat_lt, nat_le, ◌==◌, if◌then◌else◌, List, [], ◌∷◌, ◌++◌, filter, map, fold, Option, None, Some, unwrap_or, option_to_list}
+use Rattle.std.specs.Prelude.{◌≡◌, ℕ, ◌≤◌, ◌⊎◌, Bool, true, false, not, nat_lt, nat_le, ◌==◌, if◌then◌else◌, List, [], ◌∷◌, ◌++◌, filter, map, fold, Option, None, Some, is_some, unwrap_or, option_to_list}
 use Rattle.std.specs.List.{flat_map}
 use Rattle.ofx_types.specs.declared.number.ObjectId.{ObjectId}
 use Rattle.ofx_types.specs.declared.transfer.TransferRow.{TransferRow}
@@ -76,7 +76,8 @@ model_if_named id found (mail_row row) = found
 abbrev pub model_among : ℕ → List Row → ℕ
 model_among id rows = fold (model_if_named id) 0 rows
 
--- What a change does to the rows of an object of a family; a change of another family does nothing.
+-- What a change does to the rows of an object of a family; a change of another family does nothing. A mail about an account is
+-- of the mail about it, any other mail of the user's other mail.
 unfoldable pub changed : Family → List Row → Change → List Row
 changed families.Intra rows (NewTransfer row) = put row.id (transfer_row row) rows
 changed families.Intra rows (SetTransfer row) = put row.id (transfer_row (with_model (model_among row.id rows) row)) rows
@@ -84,8 +85,8 @@ changed families.Intra rows (DropTransfer id) = take_out id rows
 changed families.RecIntra rows (NewModel row) = put row.id (model_row row) rows
 changed families.RecIntra rows (SetModel row pending) = put row.id (model_row row) rows
 changed families.RecIntra rows (DropModel id pending) = take_out id rows
-changed families.BankMail rows (NewMail row) = rows ++ mail_row row ∷ []
-changed families.Mail rows (NewMail row) = rows ++ mail_row row ∷ []
+changed families.BankMail rows (NewMail row) = if is_some row.about then rows ++ mail_row row ∷ [] else rows
+changed families.Mail rows (NewMail row) = if is_some row.about then rows else rows ++ mail_row row ∷ []
 changed family rows change = rows
 
 -- The rows of an object up to a token: its entries up to there, one after another.

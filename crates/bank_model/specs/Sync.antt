@@ -142,7 +142,8 @@ pub record SyncAnswer : Type 0 where
   pub reply : SyncReply
   pub after : State
 
--- The token and the history are those of the state before the deeds, the token that is told is the newest one behind them.
+-- Whether the client has lost its place, the history that it is told and whether its deeds are refused are judged on the state
+-- before the deeds. The token that is told is the newest one behind them.
 unfoldable pub sync_on : Setup → State → UserId → Moment → SyncAsk → Option ObjectId → SyncAnswer
 sync_on setup S user at ask None = record {
   reply = record {
