@@ -1,8 +1,8 @@
 """A case as it stands in a line of a file of this folder.
 
     name     what it shows
-    words    the words behind the program's name; SETUP stands for the path of the case's setup. Without them they are
-             answer SETUP - --at 20240131120000
+    words    the words behind the program's name; SETUP stands for the path of the case's setup, and RECORDS for that of
+             its file of records. Without them they are answer SETUP - --at 20240131120000
     setup    the setup's text, in pieces (pieces.py says which there are), null where there is no such file; without it
              the setup is samples/setup
     input    the standard input, in pieces, null where it can't be read
@@ -10,14 +10,25 @@
     frames   in place of input and output: a list of pairs, the pieces of a frame and those of the answer that it gets
     status   the status that is wanted; without it 0
     note     the first line of the error stream that is wanted; without it the stream is empty
+    given    what the file of records is before the run (record_file.py says what it may be); without it it is what the
+             run before has left, and there is none at first
+    held     true where another program has that file open meanwhile
+    records  the records in that file in the end, in hex as they are given, with `*` for each digit of a moment that is
+             the clock's; without it no run adds anything to the file
+    runs     a list of runs over the one file of records, one after the other. Each has the parts above but for name and
+             records; what it lacks of them is that of the case. Without words they are
+             answer SETUP RECORDS --at 20240131120000
 """
 import json
 import os
 
 from pieces import sample, whole
+from record_file import Given
 
 HERE = os.path.dirname(os.path.abspath(__file__))
 WORDS = ["answer", "SETUP", "-", "--at", "20240131120000"]
+WORDS_OVER_FILE = ["answer", "SETUP", "RECORDS", "--at", "20240131120000"]
+OF_THE_CASE = ("name", "records", "runs")
 
 
 def path_of(name):
@@ -32,15 +43,24 @@ def maybe_whole(pieces):
     return None if pieces is None else whole(pieces)
 
 
-class Case:
-    def __init__(self, line):
-        self.parts = json.loads(line)
+class Run:
+    """One run of the program."""
 
-    def name(self):
-        return self.parts["name"]
+    def __init__(self, parts, words=None):
+        self.parts = parts
+        self.asked_words = parts.get("words", words or WORDS)
 
-    def words(self, setup_path):
-        return [setup_path if word == "SETUP" else word.encode("latin-1") for word in self.parts.get("words", WORDS)]
+    def words(self, **paths):
+        """The words, with these paths in place of their names."""
+        return [paths[word] if word in paths else word.encode("latin-1") for word in self.asked_words]
+
+    def is_over_file(self):
+        """Whether it runs over the case's file of records, and can open it."""
+        return self.asked_words[2:3] == ["RECORDS"] and not self.is_held()
+
+    def reads_clock(self):
+        """Whether its moments are the clock's."""
+        return not any(word.strip() == "--at" for word in self.asked_words)
 
     def setup(self):
         return maybe_whole(self.parts["setup"]) if "setup" in self.parts else sample("setup")
@@ -58,6 +78,31 @@ class Case:
 
     def note(self):
         return self.parts.get("note")
+
+    def given(self):
+        """What takes the place of the file of records before this run. None where nothing does."""
+        return Given(self.parts["given"]) if "given" in self.parts else None
+
+    def is_held(self):
+        return self.parts.get("held", False)
+
+
+class Case:
+    def __init__(self, line):
+        self.parts = json.loads(line)
+
+    def name(self):
+        return self.parts["name"]
+
+    def runs(self):
+        parts = self.parts
+        if "runs" not in parts:
+            return [Run(parts)]
+        shared = {key: value for key, value in parts.items() if key not in OF_THE_CASE}
+        return [Run({**shared, **own}, WORDS_OVER_FILE) for own in parts["runs"]]
+
+    def records(self):
+        return self.parts.get("records")
 
 
 def read_cases(name):

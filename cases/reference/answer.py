@@ -1,17 +1,18 @@
-"""A whole run of `ofxbank`: its words, its input, and what it writes."""
+"""A whole run of `ofxbank`: its words, the records that it begins with, its input, and what it writes and keeps."""
 import re
 from datetime import datetime, timezone
 from typing import NamedTuple, Optional
 
 from . import replies
-from .bank import Bank
 from .dates import read_moment
-from .due import due_run
+from .events import File, Letter
 from .fault import Fault
+from .happening import due_run, happen, opened
 from .kept import exchanged
-from .mailing import write_to
 from .requests import MOST_IN_A_BODY, MOST_IN_A_SUBJECT, read_request
 from .setup import SetupFault, read_setup
+from .stopped import Stopped
+from .sync import is_poll
 from .tags import FORBIDDEN
 from .text import trimmed
 
@@ -26,42 +27,39 @@ class Outcome(NamedTuple):
     status: int
     output: bytes
     note: Optional[str]  # the first line of the error stream, which says why the run ended; None where it is empty
+    records: Optional[list]  # all that are kept behind the run; None where no bank was opened, and nothing changes
 
 
-class Stopped(Exception):
-    """Why a run ends before it is done: its status, and the first line of the error stream."""
-
-    def __init__(self, status, note):
-        super().__init__(status, note)
-        self.status = status
-        self.note = note
-
-
-def answer(words, setup_text, given, takes_output=True):
-    """The outcome of a run with these words, whose second one is the path of the setup's text, on an input. Text and
-    input are None where they can't be read."""
-    written = []
+def answer(words, setup_text, given, takes_output=True, kept=()):
+    """The outcome of a run with these words, whose second one is the path of the setup's text, on an input, over the
+    records that are kept behind the third. Text and input are None where they can't be read, and so is a record."""
+    words, written, bank = [trimmed(word) for word in words], [], None
     try:
-        for one in lines_of([trimmed(word) for word in words], setup_text, given):
+        bank = bank_of(words, setup_text, kept)
+        for one in lines_of(words, bank, given):
             written.append(one)
             if not takes_output:
                 raise Stopped(6, "write failed")
     except Stopped as stopped:
-        return Outcome(stopped.status, b"".join(written), stopped.note)
-    return Outcome(0, b"".join(written), None)
+        return Outcome(stopped.status, b"".join(written), stopped.note, bank and bank.records)
+    return Outcome(0, b"".join(written), None, bank.records)
 
 
-def lines_of(words, setup_text, given):
-    """What is written, answer by answer. `due` is a run over one frame DUE, and it reads no input."""
-    clock = clock_of(words)
-    if clock is None:
+def bank_of(words, setup_text, kept):
+    """The bank that a run with these words opens; behind `-` nothing is kept."""
+    if clock_of(words) is None:
         raise Stopped(2, "usage")
     if setup_text is None:
         raise Stopped(5, "read failed")
     try:
-        bank = Bank(read_setup(setup_text))
+        return opened(read_setup(setup_text), () if words[2] == b"-" else kept)
     except SetupFault as fault:
         raise Stopped(3, "setup line %d" % fault.line)
+
+
+def lines_of(words, bank, given):
+    """What is written, answer by answer. `due` is a run over one frame DUE, and it reads no input."""
+    clock = clock_of(words)
     if words[0] == b"due":
         given = b"DUE\n"
     if given is None:
@@ -82,9 +80,10 @@ def is_word(word):
 
 
 def clock_of(words):
-    """What tells the moment of an event. None where the words are others than `due SETUP -`, `mail SETUP - USER
-    SUBJECT`, or `answer SETUP -`, the latter perhaps with `--at` and a date, which then is every frame's moment."""
-    if not all(map(is_word, words)) or len(words) not in (3, 5) or words[2] != b"-":
+    """What tells the moment of an event. None where the words are others than `due SETUP RECORDS`, `mail SETUP RECORDS
+    USER SUBJECT`, or `answer SETUP RECORDS`, the latter perhaps with `--at` and a date, which then is every frame's
+    moment."""
+    if not all(map(is_word, words)) or len(words) not in (3, 5):
         return None
     if len(words) == 3:
         return now if words[0] in (b"answer", b"due") else None
@@ -107,7 +106,7 @@ def mailed(bank, user, subject, given, clock):
         raise Stopped(10, "no user")
     if not bank.has_room(1):
         raise Stopped(10, "full")
-    write_to(bank, user, subject, body, clock())
+    happen(bank, Letter(number_of(bank, user), subject, body), clock())
     return b"MAIL %d\n" % bank.count
 
 
@@ -142,4 +141,10 @@ def reply_to(bank, request, at):
     fails leaves the bank as it was."""
     if bank.setup.users.get(request.user) != request.password:
         return replies.denied(request.header, at)
-    return exchanged(bank, request, at)
+    if is_poll(request):
+        return exchanged(bank, request, at)
+    return happen(bank, File(number_of(bank, request.user), request), at)
+
+
+def number_of(bank, user):
+    return list(bank.setup.users).index(user)

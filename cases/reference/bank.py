@@ -1,4 +1,4 @@
-"""The bank's state over a run: the entries, the used pairs, the kept replies, and the business day.
+"""The bank's state: the entries, the used pairs, the kept replies, and the business day; and the records of its events.
 
 Beside the entries stand what they come to: the transfers and models as they stand, each account's lines, and the
 entries of each object. So a run of a hundred thousand due events takes seconds.
@@ -90,6 +90,7 @@ class Bank:
         self.used = set()  # pairs of a user and a TRNUID
         self.kept = {}  # replies, by user and file uid
         self.day = FIRST_DAY
+        self.records = []  # one for each event that has happened
         self.transfers = {}  # rows by id
         self.models = {}  # models by id
         self.made = {}  # by a model's id, how many transfers it made since it was made or changed

@@ -9,14 +9,12 @@ from .requests import Statement, Sync
 
 
 def exchanged(bank, request, at):
-    """The reply to a file, which is one event, or a poll, which is none. Where the user's NEWFILEUID is kept it is the
-    kept reply, and nothing is done; what is said in the file isn't looked at.
+    """The reply to a file. Where the user's NEWFILEUID is kept it is the kept reply, and nothing is done; what is said
+    in the file isn't looked at.
 
     Otherwise its asks are done in their order. Then OLDFILEUID releases the reply that is kept under it, where there is
-    one, and then the new reply is kept under NEWFILEUID.
+    one, and then the new reply is kept under NEWFILEUID. So a poll changes nothing.
     """
-    if not sync.is_poll(request):
-        bank.begin_event(at)
     header, user = request.header, request.user
     if (user, header.newer) in bank.kept:
         return bank.kept[user, header.newer]

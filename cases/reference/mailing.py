@@ -22,6 +22,5 @@ def change(bank, asker, ask, at):
 
 
 def write_to(bank, user, subject, body, at):
-    """Does the event of a letter of the bank to a user."""
-    bank.begin_event(at)
+    """A letter of the bank to a user."""
     bank.put_letter(NO_TRNUID, Letter(None, user, Mail(at, BANK_NAME, user, subject, body)))

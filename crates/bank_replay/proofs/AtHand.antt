@@ -31,7 +31,7 @@ use Rattle.bank_core.specs.Opened.{AreOpened}
 use Rattle.bank_replay.specs.Opening.{AreAccountsIn}
 
 -- a place that is found is one of the list's
-found_within : {X : Type 0} (test : X → Bool) (xs : List X) (place : ℕ) → position test xs ≡ Some place → place < length xs
+pub found_within : {X : Type 0} (test : X → Bool) (xs : List X) (place : ℕ) → position test xs ≡ Some place → place < length xs
 found_within test xs place e =
     let parts = cond_some (nat_lt (prefix_len (λ x. not (test x)) xs) (length xs)) (prefix_len (λ x. not (test x)) xs) place e in
     omega (arith, parts.1, ltb-true _ _ parts.0)
@@ -102,7 +102,7 @@ row_held setup accounts (Some row) all =
     All-from_recursion (IsAtHand accounts) (account_of setup row.from ∷ account_of setup row.to ∷ []) (both_held setup accounts row.from row.to all)
 
 -- every account that an event names is at hand where all are
-all_held : (setup : Setup) (state : State) (accounts : List AccountView) (event : Event) → AreAll setup accounts → AreHeld accounts (named setup state event)
+pub all_held : (setup : Setup) (state : State) (accounts : List AccountView) (event : Event) → AreAll setup accounts → AreHeld accounts (named setup state event)
 all_held setup state accounts (File user file) all = asks_held setup accounts file.asks all
 all_held setup state accounts (Post id) all = row_held setup accounts (row_of id state.entries) all
 all_held setup state accounts (Spawn id place) all = each_held accounts [] tt

@@ -1,127 +1,31 @@
 -- What a desk's accounts and answers rest on.
-use Rattle.std.proofs.Common.{◌≡◌, ℕ, ◌<◌, ◌+◌, Bool, List, [], ◌∷◌, length, get_or, position, nat_lt, not, pos, Option, None, Some, IfSome, arith, refl, sym, ap, ◌∙◌, subst}
+use Rattle.std.proofs.Common.{◌≡◌, ℕ, ◌<◌, ◌+◌, List, length, get_or, pos, Option, None, Some, arith, refl, sym, ap, ◌∙◌, subst}
 use Rattle.std.specs.Option.{option_map}
-use Rattle.std.specs.List.{prefix_len}
-use Rattle.std.proofs.lemmas.Option.{cond_some}
-use Rattle.std.proofs.lemmas.Bool.{ltb-true}
 use Rattle.std.proofs.lemmas.List.{length-map, get_or-map}
-use Rattle.std.proofs.lemmas.List.Elements.{All-from_recursion, All-append}
-use Rattle.std.specs.List.{All, AllByRecursion, Contains, flat_map}
-use Rattle.ofx_types.specs.AccountForm.{same_account}
+use Rattle.std.specs.List.{Contains}
 use Rattle.ofx_types.specs.declared.number.AcctId.{AcctId}
 use Rattle.ofx_types.specs.declared.number.UserId.{UserId}
-use Rattle.ofx_types.specs.declared.request.Ask.{Ask}
-use Rattle.ofx_types.specs.declared.request.Ask.TheVariants as asks
-use Rattle.ofx_types.specs.declared.sync.ObjectName.{ObjectName}
-use Rattle.ofx_types.specs.declared.sync.ObjectName.TheVariants as objects
-use Rattle.ofx_types.specs.declared.transfer.Deed.{Deed}
-use Rattle.ofx_types.specs.declared.transfer.Deed.TheVariants.{Transfer, ModifyTransfer, CancelTransfer, Model, ModifyModel, CancelModel, BankMail, Mail}
-use Rattle.ofx_types.specs.declared.transfer.TransferRow.{TransferRow}
-use Rattle.ofx_types.specs.declared.account.AcctName.{AcctName}
 use Rattle.ofx_types.specs.declared.request.RequestFile.{RequestFile}
 use Rattle.bank_model.specs.declared.setup.Setup.{Setup}
-use Rattle.bank_model.specs.declared.setup.AccountLine.{AccountLine}
 use Rattle.bank_model.specs.declared.event.State.{State}
-use Rattle.bank_model.specs.declared.event.Event.{Event}
-use Rattle.bank_model.specs.declared.event.Event.TheVariants.{File, Post, Spawn, Letter}
-use Rattle.bank_model.specs.SetupLookups.{account_of}
-use Rattle.bank_model.specs.Ledger.{row_of}
-use Rattle.bank_model.specs.Rules.{named, named_by, named_by_deed, named_by_pair, named_by_object, named_by_row, denial}
+use Rattle.bank_model.specs.Rules.{denial}
 use Rattle.ofx_types.specs.Calendar.{IsMoment}
 use Rattle.ofx_types.specs.Printable.{IsPrintable}
 use Rattle.ofx_types.specs.declared.number.Moment.{Moment}
 use Rattle.bank_accounts.specs.AccountView.{AccountView}
-use Rattle.bank_accounts.specs.HeldAccounts.{AreHeld, IsHeld, NumbersRise, HaveSameNumbers}
+use Rattle.bank_accounts.specs.HeldAccounts.{IsHeld, NumbersRise, HaveSameNumbers}
 use Rattle.bank_core.specs.Balanced.{AreBalanced}
 use Rattle.bank_replay.specs.Opening.{AreAccountsIn}
 use Rattle.bank_session.specs.Desk.{HasAccounts}
 
--- a place that is found is one of the list's
-pub found_within : {X : Type 0} (test : X → Bool) (xs : List X) (place : ℕ) → position test xs ≡ Some place → place < length xs
-found_within test xs place e =
-    let parts = cond_some (nat_lt (prefix_len (λ x. not (test x)) xs) (length xs)) (prefix_len (λ x. not (test x)) xs) place e in
-    omega (arith, parts.1, ltb-true _ _ parts.0)
-
 some_inside : {X : Type 0} (x y : X) → Some x ≡ Some y → x ≡ y
 some_inside x y e = cc
 
--- and where it is a user's so is the user's number
+-- a user's number is one of the setup's where its place is
 pub user_within : (found : Option ℕ) (count : ℕ) (user : UserId) → ((place : ℕ) → found ≡ Some place → place < count) → option_map (λ (place : ℕ). record { 0 = place }) found ≡ Some user → user.0 < count
 user_within None count user within is = cc
 user_within (Some place) count user within is =
     subst (λ (u : UserId). u.0 < count) (some_inside (record { 0 = place }) user is) (within place refl)
-
-abbrev numbered : ℕ → AcctId
-numbered place = record { 0 = place }
-
--- the accounts at hand are those of the setup
-abbrev AreAll : Setup → List AccountView → Type 0
-AreAll setup accounts = (number : AcctId) → number.0 < length setup.accounts → IsHeld accounts number
-
-abbrev IsAtHand : List AccountView → Option AcctId → Type 0
-IsAtHand accounts entry = IfSome entry (IsHeld accounts)
-
--- an account of the setup is at hand
-entry_held : (count : ℕ) (accounts : List AccountView) (found : Option ℕ) → ((place : ℕ) → found ≡ Some place → place < count) → ((number : AcctId) → number.0 < count → IsHeld accounts number) → IsAtHand accounts (option_map numbered found)
-entry_held count accounts None within all = tt
-entry_held count accounts (Some place) within all = all (numbered place) (within place refl)
-
-name_held : (setup : Setup) (accounts : List AccountView) (name : AcctName) → AreAll setup accounts → IsAtHand accounts (account_of setup name)
-name_held setup accounts name all =
-    let is_named : AccountLine → Bool = λ line. same_account line.name name in
-    entry_held (length setup.accounts) accounts (position is_named setup.accounts) (found_within is_named setup.accounts) all
-
--- both accounts of a transfer are at hand
-both_held : (setup : Setup) (accounts : List AccountView) (from to : AcctName) → AreAll setup accounts → AllByRecursion (IsAtHand accounts) (account_of setup from ∷ account_of setup to ∷ [])
-both_held setup accounts from to all = (name_held setup accounts from all, (name_held setup accounts to all, tt))
-
-deed_held : (setup : Setup) (accounts : List AccountView) (deed : Deed) → AreAll setup accounts → AllByRecursion (IsAtHand accounts) (named_by_deed setup deed)
-deed_held setup accounts (Transfer info) all = both_held setup accounts info.from info.to all
-deed_held setup accounts (ModifyTransfer id info) all = both_held setup accounts info.from info.to all
-deed_held setup accounts (CancelTransfer id) all = tt
-deed_held setup accounts (Model recur info) all = both_held setup accounts info.from info.to all
-deed_held setup accounts (ModifyModel id recur info pending) all = both_held setup accounts info.from info.to all
-deed_held setup accounts (CancelModel id pending) all = tt
-deed_held setup accounts (BankMail account mail) all = (name_held setup accounts account all, tt)
-deed_held setup accounts (Mail mail) all = tt
-
-object_held : (setup : Setup) (accounts : List AccountView) (object : ObjectName) → AreAll setup accounts → AllByRecursion (IsAtHand accounts) (named_by_object setup object)
-object_held setup accounts (objects.Intra account) all = (name_held setup accounts account all, tt)
-object_held setup accounts (objects.RecIntra account) all = (name_held setup accounts account all, tt)
-object_held setup accounts (objects.BankMail account) all = (name_held setup accounts account all, tt)
-object_held setup accounts objects.Mail all = tt
-
--- a list whose items are at hand one by one
-each_held : (accounts : List AccountView) (entries : List (Option AcctId)) → AllByRecursion (IsAtHand accounts) entries → All (IsAtHand accounts) entries
-each_held accounts entries held = All-from_recursion (IsAtHand accounts) entries held
-
-deeds_held : (setup : Setup) (accounts : List AccountView) (deeds : List (List ℕ × Deed)) → AreAll setup accounts → All (IsAtHand accounts) (flat_map (named_by_pair setup) deeds)
-deeds_held setup accounts [] all = each_held accounts [] tt
-deeds_held setup accounts (deed ∷ deeds) all =
-    All-append (IsAtHand accounts) (named_by_deed setup deed.1) (flat_map (named_by_pair setup) deeds) (each_held accounts (named_by_deed setup deed.1) (deed_held setup accounts deed.1 all)) (deeds_held setup accounts deeds all)
-
-ask_held : (setup : Setup) (accounts : List AccountView) (ask : Ask) → AreAll setup accounts → All (IsAtHand accounts) (named_by setup ask)
-ask_held setup accounts (asks.Statement trnuid name period) all = each_held accounts (account_of setup name ∷ []) (name_held setup accounts name all, tt)
-ask_held setup accounts (asks.One trnuid deed) all = each_held accounts (named_by_deed setup deed) (deed_held setup accounts deed all)
-ask_held setup accounts (asks.Sync sync) all =
-    All-append (IsAtHand accounts) (named_by_object setup sync.object) (flat_map (named_by_pair setup) sync.deeds) (each_held accounts (named_by_object setup sync.object) (object_held setup accounts sync.object all)) (deeds_held setup accounts sync.deeds all)
-
-asks_held : (setup : Setup) (accounts : List AccountView) (list : List Ask) → AreAll setup accounts → All (IsAtHand accounts) (flat_map (named_by setup) list)
-asks_held setup accounts [] all = each_held accounts [] tt
-asks_held setup accounts (ask ∷ more) all =
-    All-append (IsAtHand accounts) (named_by setup ask) (flat_map (named_by setup) more) (ask_held setup accounts ask all) (asks_held setup accounts more all)
-
-row_held : (setup : Setup) (accounts : List AccountView) (row : Option TransferRow) → AreAll setup accounts → All (IsAtHand accounts) (named_by_row setup row)
-row_held setup accounts None all = each_held accounts [] tt
-row_held setup accounts (Some row) all =
-    All-from_recursion (IsAtHand accounts) (account_of setup row.from ∷ account_of setup row.to ∷ []) (both_held setup accounts row.from row.to all)
-
--- every account that an event names is at hand where all are
-pub all_held : (setup : Setup) (state : State) (accounts : List AccountView) (event : Event) → AreAll setup accounts → AreHeld accounts (named setup state event)
-all_held setup state accounts (File user file) all = asks_held setup accounts file.asks all
-all_held setup state accounts (Post id) all = row_held setup accounts (row_of id state.entries) all
-all_held setup state accounts (Spawn id place) all = each_held accounts [] tt
-all_held setup state accounts (Letter user subject body) all = each_held accounts [] tt
 
 -- where accounts keep their numbers and have their balances in another state, all are at hand there
 pub still_held : (setup : Setup) (state state' : State) (before after : List AccountView) → HaveSameNumbers after before → AreBalanced setup state' after → HasAccounts setup state before → HasAccounts setup state' after
@@ -137,7 +41,7 @@ at_place : (accounts : List AccountView) (d : AccountView) → d.number.0 < leng
 at_place accounts d h places = (
   d.number.0,
   omega (arith, length-map accounts (λ (account : AccountView). account.number)),
-  get_or-map (λ (account : AccountView). account.number) accounts d.number.0 d d.number h ∙ ap numbered (places d.number.0 d h),
+  get_or-map (λ (account : AccountView). account.number) accounts d.number.0 d d.number h ∙ ap (λ (place : ℕ). record { 0 = place }) (places d.number.0 d h),
 )
 
 -- accounts that are numbered from 0 have rising numbers

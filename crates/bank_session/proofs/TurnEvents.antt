@@ -16,7 +16,8 @@ use Rattle.event_codec.specs.Records.{Codes, Reopens}
 use Rattle.bank_session.specs.Frames.{Content, request, due_work}
 use Rattle.bank_session.specs.Keeping.{AreRecordsOf}
 use Rattle.bank_session.specs.Answers.{IsSignedOn, SaysOfFile, Says, Turn, AreTurns, records_in}
-use Rattle.bank_session.proofs.DeskLemmas.{found_within, user_within}
+use Rattle.bank_replay.proofs.AtHand.{found_within}
+use Rattle.bank_session.proofs.DeskLemmas.{user_within}
 
 -- what is due may be done
 abbrev pub DueIsLegal : Type 0

@@ -2,14 +2,17 @@
 //! people on the error stream why a run ended.
 #![tactic(auto)]
 
+ghost use Rattle.std.specs.Prelude.{◌≡◌, false};
+
 mod command_line;
 mod told;
 
 use crate::command_line::{Request, read_words};
 use crate::told::{HELP, VERSION, plain, tell};
 use bank_session::{answer_told, command_of};
-use ofx_ports::{MemKeeper, ReaderSource, SystemClock, WriterSink};
+use ofx_ports::{Keeper, MemKeeper, ReaderSource, SystemClock, WriterSink};
 use ofx_types::{Text, Told};
+use sqlite_keeper::SqliteKeeper;
 use std::process::ExitCode;
 use std::{fs, io};
 
@@ -31,28 +34,32 @@ fn main(rt: HostRuntime) -> ExitCode {
     ExitCode::from(end.status.0)
 }
 
-/// The end of the run that the words ask for, over the file that the second word names, the standard input and the standard
-/// output. Records are kept in memory alone so far: a third word other than `-` has no form.
+/// The end of the run that the words ask for, over the records that the third word names: those of a file, or of none with
+/// `-`.
 ///
-/// The file is opened only where the words have their form, since opening may wait.
+/// Files are opened only where the words have their form, since opening may wait, and may make the file of the records.
 fn answered(rt: HostRuntime, words: &[Text]) -> Told {
-    if command_of(words).is_none() || named(words, RECORDS) != Some("-") {
+    if command_of(words).is_none() {
         return plain(2);
     }
+    match named(words, RECORDS) {
+        Some("-") => run_over(rt, words, &mut MemKeeper::new(rt.alloc())),
+        Some(path) => run_over(rt, words, &mut SqliteKeeper::open(&rt, path)),
+        None => plain(2),
+    }
+}
+
+/// The end of a run over the file that the second word names, the standard input and the standard output.
+fn run_over<K: Keeper>(rt: HostRuntime, words: &[Text], keeper: &mut K) -> Told
+    requires { K.unsettled keeper.old ≡ false }
+{
     let alloc = rt.alloc();
     let mut setup = ReaderSource::opened(setup_file(&rt, words));
     let mut input = ReaderSource::new(rt.stdin());
     let mut out = WriterSink::new(io::writer(&rt));
-    let mut keeper = MemKeeper::new(alloc);
     let mut clock = SystemClock::new(rt);
     answer_told(
-        alloc,
-        words,
-        &mut setup,
-        &mut input,
-        &mut out,
-        &mut keeper,
-        &mut clock,
+        alloc, words, &mut setup, &mut input, &mut out, keeper, &mut clock,
     )
 }
 

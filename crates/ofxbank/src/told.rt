@@ -5,9 +5,9 @@ use std::io;
 
 /// What `--help` prints.
 pub const HELP: &str = "\
-usage: ofxbank answer SETUP - [--at DATE]
-       ofxbank due SETUP -
-       ofxbank mail SETUP - USER SUBJECT
+usage: ofxbank answer SETUP RECORDS [--at DATE]
+       ofxbank due SETUP RECORDS
+       ofxbank mail SETUP RECORDS USER SUBJECT
 
 answer answers a stream of Open Financial Exchange 1.6 request files from the
 standard input, each in its frame, on the standard output. For the frame DUE it
@@ -17,7 +17,8 @@ there is no cover. due does the same once, at the moment that the clock shows.
 mail writes a letter of the bank to a user; its body is the standard input.
 
   SETUP      the file with the bank, its users and its accounts
-  -          the records are kept in memory
+  RECORDS    the file in which the bank is kept, or - to keep it in memory, for
+             this run alone; a file that isn't there is made
   USER       the name of a user
   SUBJECT    1 to 64 bytes
   --at DATE  the moment of every frame, as a date of a file: YYYYMMDD or

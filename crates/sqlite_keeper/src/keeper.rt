@@ -14,7 +14,8 @@ use std::marker::Model;
 #[cfg(test)]
 mod tests;
 
-/// The records in a file, one row of its one table for each. No other program can open the file meanwhile.
+/// The records in a file, one row of its one table for each, numbered from 1. There are taken to be as many as the greatest
+/// number says, and one that is missing fails where it is fetched. No other program can open the file meanwhile.
 ///
 /// A record is on the disk when its append is acknowledged. A keeper over a file that couldn't be opened has one
 /// record and refuses every call, so that whoever goes over the records meets the fault at the first.

@@ -25,8 +25,8 @@ const DEFINITION: &str = "SELECT sql FROM sqlite_schema WHERE type = 'table' AND
 // How many tables and other objects the database has.
 const OBJECTS: &str = "SELECT count(*) FROM sqlite_schema";
 
-/// Makes the table where the database has nothing in it yet. A database that has other things and not just this table
-/// is another program's, and is refused before anything is written.
+/// Makes the table where the database has nothing in it yet. A database that has other things and not this table is
+/// another program's, and is refused before anything is written. Indices and views beside the table are let be.
 pub fn make_or_find(database: &mut Database) -> Result<(), Refusal> {
     if is_empty(database)? {
         return make(database);

@@ -1,5 +1,6 @@
 use Rattle.std.proofs.Common.{◌∙◌}
-use Rattle.bank_session.proofs.DeskLemmas.{all_held, still_held}
+use Rattle.bank_replay.proofs.AtHand.{all_held}
+use Rattle.bank_session.proofs.DeskLemmas.{still_held}
 use Rattle.bank_session.proofs.desk.Desk.happen.Goals as goal
 
 pub answer-requires-clause-named : goal.answer-requires-clause-named

@@ -4,7 +4,8 @@ use Rattle.bank_model.specs.Rules.{state_after, answer_to}
 use Rattle.bank_core.specs.BookView.{BookView}
 use Rattle.bank_session.specs.Frames.{frame}
 use Rattle.bank_session.proofs.ToldLemmas.{stays_self}
-use Rattle.bank_session.proofs.DeskLemmas.{all_held, still_held}
+use Rattle.bank_replay.proofs.AtHand.{all_held}
+use Rattle.bank_session.proofs.DeskLemmas.{still_held}
 use Rattle.bank_session.proofs.desk.Desk.reply_line.Goals as goal
 
 pub answer-requires-clause-named : goal.answer-requires-clause-named

@@ -1,0 +1,63 @@
+"""The second reading of what happens to a bank over many runs, each of which may end at any time."""
+from collections import Counter
+
+from fed_run import whole
+from frames import DUE, answers, difference
+from reference.answer import answered
+from reference.due import next_due
+from reference.happening import happen, opened
+from reference.setup import read_setup
+from stream import Wrong
+
+
+class Witness:
+    """A bank of the second reading, to which happens what has landed."""
+
+    def __init__(self, setup_text):
+        self.setup = read_setup(setup_text)
+        self.bank = opened(self.setup, [])
+        self.figures = Counter()
+        self.unanswered = False  # whether what landed last wasn't answered
+
+    def judge(self, at, frames, written, records):
+        """Judges what a run has written for these frames, and the records behind it. The answers."""
+        self.look_back(records)
+        got = whole(answers(written))
+        for one, got_one in zip(frames, got):
+            want = answered(self.bank, content(one), at)
+            if got_one != want:
+                raise Wrong(difference(got_one, want))
+        if len(got) > len(frames):
+            raise Wrong("more answers than frames")
+        more = records[len(self.bank.records):]
+        cut = written[len(b"".join(got)):]
+        self.unanswered = bool(more)
+        if len(got) < len(frames) and (more or cut):
+            self.land(at, frames[len(got)], more, cut)
+        if records != self.bank.records:
+            raise Wrong("%d records are kept, and %d events have happened" % (len(records), len(self.bank.records)))
+        self.figures.update(answers=len(got), cut=bool(cut), kept=bool(more))
+        return got
+
+    def look_back(self, records):
+        """What landed and wasn't answered may be taken back by the next start, where only the stock SQLite took the
+        commit for whole."""
+        known = self.bank.records
+        if self.unanswered and records[:len(known)] != known and records[:len(known) - 1] == known[:-1]:
+            self.bank = opened(self.setup, known[:-1])
+            self.figures["back"] += 1
+
+    def land(self, at, frame, records, cut):
+        """What these records of the frame say has happened, of which an answer may have been begun."""
+        if frame == DUE and not cut:
+            for _ in records:
+                event = next_due(self.bank, at)
+                if event is None:
+                    raise Wrong("a record is kept of due work, and nothing was due")
+                happen(self.bank, event, at)
+        elif not answered(self.bank, content(frame), at).startswith(cut):
+            raise Wrong("an answer was begun by %r" % cut[:80])
+
+
+def content(frame):
+    return None if frame == DUE else frame.split(b"\n", 1)[1]

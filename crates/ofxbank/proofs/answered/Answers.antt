@@ -1,0 +1,6 @@
+use denote.Param.Send.{sendable}
+use Rattle.sqlite_keeper.proofs.Sending.{keeper_send}
+use Rattle.ofxbank.proofs.answered.Goals as goal
+
+pub run_over-requires-in-Some-send-K : goal.run_over-requires-in-Some-send-K
+run_over-requires-in-Some-send-K c κs = search (sendable, keeper_send)
