@@ -3,17 +3,18 @@ use Rattle.std.proofs.Common.{◌≡◌, ℕ, ◌^◌, ◌<◌, ◌≤◌, Bool,
 use Rattle.std.proofs.lemmas.Bool.{eqb-true, eqb-false, eq-eqb, leb-true, le-leb}
 use Rattle.std.proofs.lemmas.List.{append-nil, drop_all}
 use Rattle.ofx_types.specs.Calendar.{IsMoment}
+use Rattle.ofx_types.specs.TextRules.{IsText}
 use Rattle.ofx_types.specs.declared.number.Moment.{Moment}
 use Rattle.ofx_types.specs.declared.number.UserId.{UserId}
 use Rattle.ofx_types.specs.declared.request.RequestFile.{RequestFile}
-use Rattle.bank_model.specs.Sound.{IsVersion, IsSound}
+use Rattle.bank_model.specs.Sound.{IsVersion, IsSound, IsId, HasLength}
 use Rattle.bank_model.specs.declared.event.Event.{Event}
 use Rattle.bank_model.specs.declared.event.Event.TheVariants.{File, Post, Spawn, Letter}
 use Rattle.event_codec.specs.declared.fault.RecordFault.{RecordFault}
 use Rattle.event_codec.specs.declared.fault.RecordFault.TheVariants as faults
 use Rattle.event_codec.specs.Coding.{u8_bytes, u16_bytes, u32_bytes, u64_bytes, i64_bytes, text_bytes, file_uid_bytes, asks_bytes, file_bytes, kind_of_event, event_bytes, coded}
 use Rattle.event_codec.specs.Texts.{HasKeptTexts}
-use Rattle.event_codec.specs.Records.{IsWithinBounds, IsTyped, IsKeepable, Codes}
+use Rattle.event_codec.specs.Records.{IsWithinBounds, IsShort, IsTyped, Codes}
 use Rattle.event_codec.specs.Reading.{version_at, file_event_at, post_at, spawn_at, letter_at, event_of, kind_at, behind_version, placed, record_read, kept}
 use Rattle.event_codec.specs.AskList.{AreAsks}
 use Rattle.event_codec.specs.Standing.{IsBytes, StandsAt, IsField}
@@ -69,6 +70,14 @@ version_field = record {
 }
 
 -- ---- events of each kind
+
+-- An event is within its bounds and typed.
+abbrev pub IsKeepable : Event → Type 0
+IsKeepable (File user file) = IsShort user.0 × IsSound file × HasKeptTexts file
+IsKeepable (Post id) = IsId id
+IsKeepable (Spawn model place) = IsId model × IsShort place
+IsKeepable (Letter user subject body) =
+    IsShort user.0 × (IsText subject × HasLength 64 subject) × (IsText body × HasLength 10000 body)
 
 pub record EventStands (kind : ℕ) (rec : List ℕ) (at : ℕ) (found : Event × ℕ) : Type 0 where
   pub stands : StandsAt rec at (event_bytes found.0) found.1

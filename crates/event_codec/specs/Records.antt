@@ -40,14 +40,6 @@ pub record Codes (rec : List ℕ) (at : Moment) (event : Event) : Type 0 where
   pub typed : IsTyped event
   pub spelled : rec ≡ coded at event
 
--- Both together.
-abbrev pub IsKeepable : Event → Type 0
-IsKeepable (File user file) = IsShort user.0 × IsSound file × HasKeptTexts file
-IsKeepable (Post id) = IsId id
-IsKeepable (Spawn model place) = IsId model × IsShort place
-IsKeepable (Letter user subject body) =
-    IsShort user.0 × (IsText subject × HasLength 64 subject) × (IsText body × HasLength 10000 body)
-
 -- A bank comes by these records from one state to another: each codes an event that is legal in the state that those
 -- before it left.
 abbrev pub Reopens : Setup → State → List (List ℕ) → State → Type 0
