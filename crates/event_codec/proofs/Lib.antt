@@ -1,3 +1,4 @@
+pub mod Fronts
 pub mod Loops
 pub mod Steps
 pub mod NumberLaws

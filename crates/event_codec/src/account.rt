@@ -1,6 +1,7 @@
 //! Accounts as records name them.
 
 ghost use Rattle.std.specs.Prelude.{◌≡◌, ◌≤◌, ◌++◌, length, slice_get, IfOk, OnOk};
+ghost use Rattle.std.specs.Io.{StartsWith};
 ghost use Rattle.bank_model.specs.Sound.{IsSoundAccount};
 ghost use Rattle.event_codec.specs.Answers.{Gives};
 ghost use Rattle.event_codec.specs.Texts.{HasAccountTexts};
@@ -65,12 +66,13 @@ pub fn get_acct(alloc: Global, rec: &[u8], at: usize) -> Result<(AcctName, usize
     Ok((AcctName { bank, number, kind }, next))
 }
 
-/// Appends an account whose bank and number have at most 32 bytes.
+/// Appends an account whose bank and number have 1 to 32 bytes each.
 #[tactic(auto, unfolding(crate::specs::Coding::acct_bytes))]
 pub fn put_acct(value: &AcctName, out: &mut Vec<u8>) -> Result<(), OutOfMemory>
     requires { IsSoundAccount value.now }
     ensures bytes { OnOk result (out.new.items ≡ out.old.items ++ acct_bytes value.now) }
     ensures typed { OnOk result (HasAccountTexts value.now) }
+    ensures kept { StartsWith out.new.items out.old.items }
 {
     put_text(&value.bank, out)?;
     put_text(&value.number, out)?;

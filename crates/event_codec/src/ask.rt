@@ -1,6 +1,7 @@
 //! Asks: what a file asks of the bank, those to the bank before mail.
 
 ghost use Rattle.std.specs.Prelude.{◌≡◌, ◌≤◌, ◌++◌, false, length, IfOk, OnOk};
+ghost use Rattle.std.specs.Io.{StartsWith};
 ghost use Rattle.std.specs.List.{AllByRecursion};
 ghost use Rattle.ofx_types.specs.DeedForm.{family_of};
 ghost use Rattle.ofx_types.specs.SyncForm.{is_mail_family};
@@ -37,7 +38,8 @@ fn get_optional_moment(rec: &[u8], at: usize) -> Result<(Option<Moment>, usize),
 }
 
 fn put_optional_moment(moment: Option<Moment>, out: &mut Vec<u8>) -> Result<(), OutOfMemory>
-    ensures { OnOk result (out.new.items ≡ out.old.items ++ optional_bytes moment_bytes moment) }
+    ensures bytes { OnOk result (out.new.items ≡ out.old.items ++ optional_bytes moment_bytes moment) }
+    ensures kept { StartsWith out.new.items out.old.items }
 {
     match moment {
         None => put_u8(&0, out),
@@ -69,7 +71,8 @@ fn get_period(rec: &[u8], at: usize) -> Result<(Period, usize), RecordFault>
 
 #[tactic(auto, unfolding(crate::specs::Coding::period_bytes))]
 fn put_period(period: Period, out: &mut Vec<u8>) -> Result<(), OutOfMemory>
-    ensures { OnOk result (out.new.items ≡ out.old.items ++ period_bytes period) }
+    ensures bytes { OnOk result (out.new.items ≡ out.old.items ++ period_bytes period) }
+    ensures kept { StartsWith out.new.items out.old.items }
 {
     put_optional_moment(period.start, out)?;
     put_optional_moment(period.end, out)?;
@@ -91,7 +94,8 @@ fn get_optional_period(rec: &[u8], at: usize) -> Result<(Option<Period>, usize),
 }
 
 fn put_optional_period(period: Option<Period>, out: &mut Vec<u8>) -> Result<(), OutOfMemory>
-    ensures { OnOk result (out.new.items ≡ out.old.items ++ optional_bytes period_bytes period) }
+    ensures bytes { OnOk result (out.new.items ≡ out.old.items ++ optional_bytes period_bytes period) }
+    ensures kept { StartsWith out.new.items out.old.items }
 {
     match period {
         None => put_u8(&0, out),
@@ -236,8 +240,7 @@ fn asks_from(alloc: Global, count: u16, rec: &[u8], at: usize) -> Result<(Asks, 
 
 /// The asks of a file at `at`.
 ///
-/// `Bad(k)` at the first field after which no rest could make asks that are within their bounds, those to the bank
-/// before mail.
+/// `Bad(k)` at the first field without a form, at k. Behind an ask of mail only asks of mail have one.
 #[tactic(auto, unfolding(crate::specs::AskReading::asks_at))]
 pub fn get_asks(alloc: Global, rec: &[u8], at: usize) -> Result<(Asks, usize), RecordFault>
     requires { at ≤ length rec.now }
@@ -253,6 +256,7 @@ fn put_ask(ask: &Ask, out: &mut Vec<u8>) -> Result<(), OutOfMemory>
     requires { IsSoundAsk ask.now }
     ensures bytes { OnOk result (out.new.items ≡ out.old.items ++ ask_bytes ask.now) }
     ensures typed { OnOk result (HasAskTexts ask.now) }
+    ensures kept { StartsWith out.new.items out.old.items }
 {
     match ask {
         Ask::Statement(trnuid, account, period) => {
@@ -274,11 +278,13 @@ fn put_ask(ask: &Ask, out: &mut Vec<u8>) -> Result<(), OutOfMemory>
 }
 
 /// Appends at most 65,535 asks that are within their bounds.
+#[tactic(auto, using(crate::proofs::Fronts::front_of_front))]
 pub fn put_asks(value: &Asks, out: &mut Vec<u8>) -> Result<(), OutOfMemory>
     requires few { length value.now ≤ 65535 }
     requires sound { AllByRecursion IsSoundAsk value.now }
     ensures bytes { OnOk result (out.new.items ≡ out.old.items ++ asks_bytes value.now) }
     ensures typed { OnOk result (AllByRecursion HasAskTexts value.now) }
+    ensures kept { StartsWith out.new.items out.old.items }
 {
     let asks = value.items();
     put_u16(&(asks.len() as u16), out)?;

@@ -1,6 +1,7 @@
 //! Deeds: what a client asks to be done.
 
 ghost use Rattle.std.specs.Prelude.{◌≡◌, ◌≤◌, ◌++◌, length, IfOk, OnOk};
+ghost use Rattle.std.specs.Io.{StartsWith};
 ghost use Rattle.bank_model.specs.Sound.{IsSoundDeed};
 ghost use Rattle.event_codec.specs.Answers.{Gives};
 ghost use Rattle.event_codec.specs.Texts.{HasDeedTexts};
@@ -167,6 +168,7 @@ pub(crate) fn put_deed(deed: &Deed, out: &mut Vec<u8>) -> Result<(), OutOfMemory
     requires { IsSoundDeed deed.now }
     ensures bytes { OnOk result (out.new.items ≡ out.old.items ++ deed_bytes deed.now) }
     ensures typed { OnOk result (HasDeedTexts deed.now) }
+    ensures kept { StartsWith out.new.items out.old.items }
 {
     match deed {
         Deed::Transfer(info) => {

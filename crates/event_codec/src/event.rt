@@ -1,6 +1,7 @@
 //! Events and their moments as records.
 
 ghost use Rattle.std.specs.Prelude.{◌≡◌, ◌≢◌, ◌≤◌, ◌++◌, ◌⊎◌, [], length, IfOk, IfErr, OnOk, IsErrAnd};
+ghost use Rattle.std.specs.Io.{StartsWith};
 ghost use Rattle.ofx_types.specs.Calendar.{IsMoment};
 ghost use Rattle.ofx_types.specs.declared.number.Moment.{Moment};
 ghost use Rattle.ofx_types.specs.TextRules.{IsText};
@@ -54,6 +55,7 @@ fn put_event(event: &Event, out: &mut Vec<u8>) -> Result<(), OutOfMemory>
     requires { IsWithinBounds event.now }
     ensures bytes { OnOk result (out.new.items ≡ out.old.items ++ event_bytes event.now) }
     ensures typed { OnOk result (IsTyped event.now) }
+    ensures kept { StartsWith out.new.items out.old.items }
 {
     match event {
         Event::File(user, file) => put_file_of(*user, file, out),
@@ -67,6 +69,7 @@ fn put_file_of(user: UserId, file: &RequestFile, out: &mut Vec<u8>) -> Result<()
     requires { IsSound file.now }
     ensures bytes { OnOk result (out.new.items ≡ out.old.items ++ (u32_bytes user.0 ++ file_bytes file.now)) }
     ensures typed { OnOk result (IsShort user.0 × HasKeptTexts file.now) }
+    ensures kept { StartsWith out.new.items out.old.items }
 {
     put_u32(&user.0, out)?;
     put_file(file, out)
@@ -75,6 +78,7 @@ fn put_file_of(user: UserId, file: &RequestFile, out: &mut Vec<u8>) -> Result<()
 fn put_spawn(model: u64, place: u32, out: &mut Vec<u8>) -> Result<(), OutOfMemory>
     ensures bytes { OnOk result (out.new.items ≡ out.old.items ++ (u64_bytes model ++ u32_bytes place)) }
     ensures typed { OnOk result (IsShort place) }
+    ensures kept { StartsWith out.new.items out.old.items }
 {
     put_u64(&model, out)?;
     put_u32(&place, out)
@@ -91,6 +95,7 @@ fn put_letter(
     ensures bytes { OnOk result (out.new.items
         ≡ out.old.items ++ (u32_bytes user.0 ++ text_bytes subject.now ++ text_bytes body.now)) }
     ensures typed { OnOk result (IsShort user.0 × IsText subject.now × IsText body.now) }
+    ensures kept { StartsWith out.new.items out.old.items }
 {
     put_u32(&user.0, out)?;
     put_text(subject, out)?;
@@ -102,6 +107,7 @@ fn put_file(file: &RequestFile, out: &mut Vec<u8>) -> Result<(), OutOfMemory>
     requires { IsSound file.now }
     ensures bytes { OnOk result (out.new.items ≡ out.old.items ++ file_bytes file.now) }
     ensures typed { OnOk result (HasKeptTexts file.now) }
+    ensures kept { StartsWith out.new.items out.old.items }
 {
     put_u16(&file.version, out)?;
     put_file_uid(&file.older, out)?;
@@ -111,8 +117,8 @@ fn put_file(file: &RequestFile, out: &mut Vec<u8>) -> Result<(), OutOfMemory>
 
 /// The event that a record codes, and its moment.
 ///
-/// `Version(n)` exactly where the first byte n isn't 1. Otherwise `Bad(at)` where no event has this coding, at the first
-/// field after which no rest could make the record that of an event.
+/// `Version(n)` exactly where the first byte n isn't 1. Otherwise `Bad(at)` where no event has this coding: the fields are
+/// looked at from the left, and the first without a form begins at `at`, or all have one and more bytes stand from `at` on.
 pub fn read_event(alloc: Global, rec: &[u8]) -> Result<(Event, Moment), RecordFault>
     // What is found is coded by the record.
     ensures found { IfOk result (λ found. Codes rec.now found.1 found.0) }

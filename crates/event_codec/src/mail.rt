@@ -1,6 +1,7 @@
 //! What a mail says.
 
 ghost use Rattle.std.specs.Prelude.{◌≡◌, ◌≤◌, ◌++◌, length, IfOk, OnOk};
+ghost use Rattle.std.specs.Io.{StartsWith};
 ghost use Rattle.bank_model.specs.Sound.{IsSoundMail};
 ghost use Rattle.event_codec.specs.Answers.{Gives};
 ghost use Rattle.event_codec.specs.Texts.{HasMailTexts};
@@ -45,6 +46,7 @@ pub fn put_mail(value: &MailText, out: &mut Vec<u8>) -> Result<(), OutOfMemory>
     requires { IsSoundMail value.now }
     ensures bytes { OnOk result (out.new.items ≡ out.old.items ++ mail_bytes value.now) }
     ensures typed { OnOk result (HasMailTexts value.now) }
+    ensures kept { StartsWith out.new.items out.old.items }
 {
     put_i64(&value.created.0, out)?;
     put_text(&value.sender, out)?;

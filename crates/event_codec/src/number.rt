@@ -1,6 +1,7 @@
 //! Numbers and flags: big-endian, with a sign in two's complement.
 
 ghost use Rattle.std.specs.Prelude.{◌≡◌, ◌≢◌, ◌+◌, ◌<◌, ◌≤◌, ◌++◌, ◌∷◌, [], length, IfOk, OnOk};
+ghost use Rattle.std.specs.Io.{StartsWith};
 ghost use Rattle.event_codec.specs.declared.fault.RecordFault.{RecordFault};
 ghost use Rattle.event_codec.specs.Answers.{Gives, GivesBy};
 ghost use Rattle.event_codec.specs.Coding.{u16_bytes, u32_bytes, u64_bytes, i32_bytes, i64_bytes, flag_bytes};
@@ -136,7 +137,8 @@ pub fn get_flag(rec: &[u8], at: usize) -> Result<(bool, usize), RecordFault>
 
 /// Appends a byte.
 pub fn put_u8(value: &u8, out: &mut Vec<u8>) -> Result<(), OutOfMemory>
-    ensures { OnOk result (out.new.items ≡ out.old.items ++ value.now ∷ []) }
+    ensures bytes { OnOk result (out.new.items ≡ out.old.items ++ value.now ∷ []) }
+    ensures kept { StartsWith out.new.items out.old.items }
 {
     out.push(*value)?;
     Ok(())
@@ -144,7 +146,8 @@ pub fn put_u8(value: &u8, out: &mut Vec<u8>) -> Result<(), OutOfMemory>
 
 /// Appends the two bytes of a number.
 pub fn put_u16(value: &u16, out: &mut Vec<u8>) -> Result<(), OutOfMemory>
-    ensures { OnOk result (out.new.items ≡ out.old.items ++ u16_bytes value.now) }
+    ensures bytes { OnOk result (out.new.items ≡ out.old.items ++ u16_bytes value.now) }
+    ensures kept { StartsWith out.new.items out.old.items }
 {
     out.extend_from_slice(&value.to_be_bytes())?;
     Ok(())
@@ -152,7 +155,8 @@ pub fn put_u16(value: &u16, out: &mut Vec<u8>) -> Result<(), OutOfMemory>
 
 /// Appends the four bytes of a number.
 pub fn put_u32(value: &u32, out: &mut Vec<u8>) -> Result<(), OutOfMemory>
-    ensures { OnOk result (out.new.items ≡ out.old.items ++ u32_bytes value.now) }
+    ensures bytes { OnOk result (out.new.items ≡ out.old.items ++ u32_bytes value.now) }
+    ensures kept { StartsWith out.new.items out.old.items }
 {
     out.extend_from_slice(&value.to_be_bytes())?;
     Ok(())
@@ -160,7 +164,8 @@ pub fn put_u32(value: &u32, out: &mut Vec<u8>) -> Result<(), OutOfMemory>
 
 /// Appends the eight bytes of a number.
 pub fn put_u64(value: &u64, out: &mut Vec<u8>) -> Result<(), OutOfMemory>
-    ensures { OnOk result (out.new.items ≡ out.old.items ++ u64_bytes value.now) }
+    ensures bytes { OnOk result (out.new.items ≡ out.old.items ++ u64_bytes value.now) }
+    ensures kept { StartsWith out.new.items out.old.items }
 {
     out.extend_from_slice(&value.to_be_bytes())?;
     Ok(())
@@ -168,7 +173,8 @@ pub fn put_u64(value: &u64, out: &mut Vec<u8>) -> Result<(), OutOfMemory>
 
 /// Appends the four bytes of a number with a sign.
 pub fn put_i32(value: &i32, out: &mut Vec<u8>) -> Result<(), OutOfMemory>
-    ensures { OnOk result (out.new.items ≡ out.old.items ++ i32_bytes value.now) }
+    ensures bytes { OnOk result (out.new.items ≡ out.old.items ++ i32_bytes value.now) }
+    ensures kept { StartsWith out.new.items out.old.items }
 {
     out.extend_from_slice(&value.to_be_bytes())?;
     Ok(())
@@ -176,7 +182,8 @@ pub fn put_i32(value: &i32, out: &mut Vec<u8>) -> Result<(), OutOfMemory>
 
 /// Appends the eight bytes of a number with a sign.
 pub fn put_i64(value: &i64, out: &mut Vec<u8>) -> Result<(), OutOfMemory>
-    ensures { OnOk result (out.new.items ≡ out.old.items ++ i64_bytes value.now) }
+    ensures bytes { OnOk result (out.new.items ≡ out.old.items ++ i64_bytes value.now) }
+    ensures kept { StartsWith out.new.items out.old.items }
 {
     out.extend_from_slice(&value.to_be_bytes())?;
     Ok(())
@@ -184,7 +191,8 @@ pub fn put_i64(value: &i64, out: &mut Vec<u8>) -> Result<(), OutOfMemory>
 
 /// Appends a flag: 0 or 1.
 pub fn put_flag(value: &bool, out: &mut Vec<u8>) -> Result<(), OutOfMemory>
-    ensures { OnOk result (out.new.items ≡ out.old.items ++ flag_bytes value.now) }
+    ensures bytes { OnOk result (out.new.items ≡ out.old.items ++ flag_bytes value.now) }
+    ensures kept { StartsWith out.new.items out.old.items }
 {
     put_u8(&u8::from(*value), out)
 }

@@ -1,14 +1,14 @@
 //! How a transfer recurs.
 
-ghost use Rattle.std.specs.Prelude.{◌≡◌, ◌≢◌, ◌≤◌, ◌++◌, length, slice_get, IfOk, OnOk};
+ghost use Rattle.std.specs.Prelude.{◌≡◌, ◌≢◌, ◌<◌, ◌≤◌, ◌^◌, ◌++◌, length, slice_get, IfOk, OnOk};
+ghost use Rattle.std.specs.Io.{StartsWith};
+ghost use Rattle.std.specs.Option.{ForSome};
 ghost use Rattle.bank_model.specs.Sound.{IsSoundRecur};
 ghost use Rattle.event_codec.specs.declared.fault.RecordFault.{RecordFault};
 ghost use Rattle.event_codec.specs.Answers.{Gives};
 ghost use Rattle.event_codec.specs.Coding.{recur_bytes, freq_number, optional_bytes, u16_bytes};
 ghost use Rattle.event_codec.specs.FieldReading.{choice_at, optional_at, count_at};
 ghost use Rattle.event_codec.specs.AskReading.{frequencies, recur_at};
-ghost use Rattle.std.specs.Option.{ForSome};
-ghost use Rattle.std.specs.Prelude.{◌<◌, ◌^◌};
 
 use crate::bounded::get_count;
 use crate::fault::RecordFault;
@@ -98,7 +98,8 @@ pub fn get_recur(rec: &[u8], at: usize) -> Result<(Recur, usize), RecordFault>
 
 fn put_optional_count(count: Option<u32>, out: &mut Vec<u8>) -> Result<(), OutOfMemory>
     requires { ForSome count (λ n. n < 2 ^ 16) }
-    ensures { OnOk result (out.new.items ≡ out.old.items ++ optional_bytes u16_bytes count) }
+    ensures bytes { OnOk result (out.new.items ≡ out.old.items ++ optional_bytes u16_bytes count) }
+    ensures kept { StartsWith out.new.items out.old.items }
 {
     match count {
         None => put_u8(&0, out),
@@ -113,7 +114,8 @@ fn put_optional_count(count: Option<u32>, out: &mut Vec<u8>) -> Result<(), OutOf
 #[tactic(auto, unfolding(crate::specs::Coding::recur_bytes))]
 pub fn put_recur(value: &Recur, out: &mut Vec<u8>) -> Result<(), OutOfMemory>
     requires { IsSoundRecur value.now }
-    ensures { OnOk result (out.new.items ≡ out.old.items ++ recur_bytes value.now) }
+    ensures bytes { OnOk result (out.new.items ≡ out.old.items ++ recur_bytes value.now) }
+    ensures kept { StartsWith out.new.items out.old.items }
 {
     put_optional_count(value.count, out)?;
     put_u8(&number_of(value.freq), out)

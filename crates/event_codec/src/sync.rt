@@ -1,6 +1,7 @@
 //! Synchronisations: an object, how much of its history is asked for, and deeds of its family.
 
 ghost use Rattle.std.specs.Prelude.{◌≡◌, ◌≤◌, ◌++◌, false, length, IfOk, OnOk};
+ghost use Rattle.std.specs.Io.{StartsWith};
 ghost use Rattle.std.specs.List.{AllByRecursion};
 ghost use Rattle.ofx_types.specs.SyncForm.{object_family};
 ghost use Rattle.bank_model.specs.Sound.{IsSoundObject, IsSoundKind, IsSoundPair, IsSoundSync};
@@ -119,6 +120,7 @@ pub fn put_object(value: &ObjectName, out: &mut Vec<u8>) -> Result<(), OutOfMemo
     requires { IsSoundObject value.now }
     ensures bytes { OnOk result (out.new.items ≡ out.old.items ++ object_bytes value.now) }
     ensures typed { OnOk result (HasObjectTexts value.now) }
+    ensures kept { StartsWith out.new.items out.old.items }
 {
     match value {
         ObjectName::Intra(account) => {
@@ -167,6 +169,7 @@ fn put_sync_kind(kind: &SyncKind, out: &mut Vec<u8>) -> Result<(), OutOfMemory>
     requires { IsSoundKind kind.now }
     ensures bytes { OnOk result (out.new.items ≡ out.old.items ++ sync_kind_bytes kind.now) }
     ensures typed { OnOk result (HasKindText kind.now) }
+    ensures kept { StartsWith out.new.items out.old.items }
 {
     match kind {
         SyncKind::After(token) => {
@@ -236,16 +239,19 @@ fn put_pair(pair: &(TrnUid, Deed), family: Family, out: &mut Vec<u8>) -> Result<
     requires { IsSoundPair family pair.now }
     ensures bytes { OnOk result (out.new.items ≡ out.old.items ++ pair_bytes pair.now) }
     ensures typed { OnOk result (HasPairTexts pair.now) }
+    ensures kept { StartsWith out.new.items out.old.items }
 {
     put_trnuid(&pair.0, out)?;
     put_deed(&pair.1, out)
 }
 
+#[tactic(auto, using(crate::proofs::Fronts::front_of_front))]
 fn put_pairs(pairs: &[(TrnUid, Deed)], family: Family, out: &mut Vec<u8>) -> Result<(), OutOfMemory>
     requires few { length pairs.now ≤ 65535 }
     requires sound { AllByRecursion (IsSoundPair family) pairs.now }
     ensures bytes { OnOk result (out.new.items ≡ out.old.items ++ list_bytes pair_bytes pairs.now) }
     ensures typed { OnOk result (AllByRecursion HasPairTexts pairs.now) }
+    ensures kept { StartsWith out.new.items out.old.items }
 {
     put_u16(&(pairs.len() as u16), out)?;
     for pair in pairs {
@@ -285,6 +291,7 @@ pub(crate) fn put_sync(ask: &SyncAsk, out: &mut Vec<u8>) -> Result<(), OutOfMemo
     requires { IsSoundSync ask.now }
     ensures bytes { OnOk result (out.new.items ≡ out.old.items ++ sync_bytes ask.now) }
     ensures typed { OnOk result (HasSyncTexts ask.now) }
+    ensures kept { StartsWith out.new.items out.old.items }
 {
     put_object(&ask.object, out)?;
     put_sync_kind(&ask.kind, out)?;

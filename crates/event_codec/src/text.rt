@@ -1,6 +1,7 @@
 //! Texts: a length in two bytes, and as many bytes.
 
 ghost use Rattle.std.specs.Prelude.{◌≡◌, ◌≤◌, ◌++◌, true, false, length, IfOk, OnOk, MatchOption};
+ghost use Rattle.std.specs.Io.{StartsWith};
 ghost use Rattle.event_codec.specs.Answers.{Gives};
 ghost use Rattle.ofx_types.specs.TextRules.{IsText};
 ghost use Rattle.event_codec.specs.Coding.{text_bytes};
@@ -74,6 +75,7 @@ pub fn put_text(value: &Text, out: &mut Vec<u8>) -> Result<(), OutOfMemory>
     requires { length value.now ≤ 65535 }
     ensures bytes { OnOk result (out.new.items ≡ out.old.items ++ text_bytes value.now) }
     ensures typed { OnOk result (IsText value.now) }
+    ensures kept { StartsWith out.new.items out.old.items }
 {
     let bytes = value.as_bytes();
     put_u16(&(bytes.len() as u16), out)?;

@@ -1,6 +1,7 @@
 //! What is said of a transfer.
 
 ghost use Rattle.std.specs.Prelude.{◌≡◌, ◌≤◌, ◌++◌, length, IfOk, OnOk};
+ghost use Rattle.std.specs.Io.{StartsWith};
 ghost use Rattle.bank_model.specs.Sound.{IsSoundInfo};
 ghost use Rattle.event_codec.specs.Answers.{Gives};
 ghost use Rattle.event_codec.specs.Texts.{HasInfoTexts};
@@ -56,7 +57,8 @@ pub(crate) fn get_info(
 }
 
 fn put_optional_day(day: Option<Day>, out: &mut Vec<u8>) -> Result<(), OutOfMemory>
-    ensures { OnOk result (out.new.items ≡ out.old.items ++ optional_bytes day_bytes day) }
+    ensures bytes { OnOk result (out.new.items ≡ out.old.items ++ optional_bytes day_bytes day) }
+    ensures kept { StartsWith out.new.items out.old.items }
 {
     match day {
         None => put_u8(&0, out),
@@ -73,6 +75,7 @@ pub(crate) fn put_info(info: &XferInfo, out: &mut Vec<u8>) -> Result<(), OutOfMe
     requires { IsSoundInfo info.now }
     ensures bytes { OnOk result (out.new.items ≡ out.old.items ++ info_bytes info.now) }
     ensures typed { OnOk result (HasInfoTexts info.now) }
+    ensures kept { StartsWith out.new.items out.old.items }
 {
     put_acct(&info.from, out)?;
     put_acct(&info.to, out)?;

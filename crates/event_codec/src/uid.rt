@@ -1,6 +1,7 @@
 //! Uids: a length in one byte, and as many bytes.
 
 ghost use Rattle.std.specs.Prelude.{◌≡◌, ◌≢◌, ◌≤◌, ◌++◌, true, false, length, codes, IfOk, OnOk, MatchOption};
+ghost use Rattle.std.specs.Io.{StartsWith};
 ghost use Rattle.event_codec.specs.declared.fault.RecordFault.{RecordFault};
 ghost use Rattle.event_codec.specs.Answers.{Gives};
 ghost use Rattle.std.specs.Option.{IfSome};
@@ -101,6 +102,7 @@ pub fn get_file_uid(rec: &[u8], at: usize) -> Result<(Option<FileUid>, usize), R
 pub fn put_trnuid(value: &TrnUid, out: &mut Vec<u8>) -> Result<(), OutOfMemory>
     ensures bytes { OnOk result (out.new.items ≡ out.old.items ++ uid_bytes value.now) }
     ensures typed { OnOk result (IsTrnUid value.now) }
+    ensures kept { StartsWith out.new.items out.old.items }
 {
     let bytes = value.as_bytes();
     put_u8(&(bytes.len() as u8), out)?;
@@ -113,6 +115,7 @@ pub fn put_trnuid(value: &TrnUid, out: &mut Vec<u8>) -> Result<(), OutOfMemory>
 pub fn put_file_uid(value: &Option<FileUid>, out: &mut Vec<u8>) -> Result<(), OutOfMemory>
     ensures bytes { OnOk result (out.new.items ≡ out.old.items ++ file_uid_bytes value.now) }
     ensures typed { OnOk result (IfSome value.now IsFileUid) }
+    ensures kept { StartsWith out.new.items out.old.items }
 {
     match value {
         None => put_u8(&0, out),
