@@ -1,11 +1,11 @@
 //! Deeds: what a client asks to be done.
 
-ghost use Rattle.std.specs.Prelude.{◌≡◌, ◌≤◌, ◌++◌, length, IfOk, OnOk};
+ghost use Rattle.std.specs.Prelude.{◌≡◌, ◌≤◌, ◌++◌, ◌∷◌, length, IfOk, OnOk};
 ghost use Rattle.std.specs.Io.{StartsWith};
 ghost use Rattle.bank_model.specs.Sound.{IsSoundDeed};
 ghost use Rattle.event_codec.specs.Answers.{Gives};
 ghost use Rattle.event_codec.specs.Texts.{HasDeedTexts};
-ghost use Rattle.event_codec.specs.Coding.{deed_bytes};
+ghost use Rattle.event_codec.specs.Coding.{u64_bytes, deed_bytes};
 ghost use Rattle.event_codec.specs.AskReading.{is_wanted, deed_at, deed_of, transfer_at, modify_transfer_at, cancel_transfer_at, model_at, modify_model_at, cancel_model_at, bank_mail_at, mail_deed_at};
 
 use crate::account::{get_acct, put_acct};
@@ -162,6 +162,15 @@ fn mail_deed(alloc: Global, rec: &[u8], at: usize) -> Result<(Deed, usize), Reco
     Ok((Deed::Mail(mail), next))
 }
 
+/// Appends the kind of a deed and the id of what it is about.
+fn put_kind_and_id(kind: u8, id: &u64, out: &mut Vec<u8>) -> Result<(), OutOfMemory>
+    ensures bytes { OnOk result (out.new.items ≡ out.old.items ++ kind ∷ u64_bytes id.now) }
+    ensures kept { StartsWith out.new.items out.old.items }
+{
+    put_u8(&kind, out)?;
+    put_u64(id, out)
+}
+
 /// Appends a deed: its kind, and what it needs.
 #[tactic(auto, unfolding(crate::specs::Coding::deed_bytes))]
 pub(crate) fn put_deed(deed: &Deed, out: &mut Vec<u8>) -> Result<(), OutOfMemory>
@@ -176,29 +185,23 @@ pub(crate) fn put_deed(deed: &Deed, out: &mut Vec<u8>) -> Result<(), OutOfMemory
             put_info(info, out)
         }
         Deed::ModifyTransfer(id, info) => {
-            put_u8(&2, out)?;
-            put_u64(id, out)?;
+            put_kind_and_id(2, id, out)?;
             put_info(info, out)
         }
-        Deed::CancelTransfer(id) => {
-            put_u8(&3, out)?;
-            put_u64(id, out)
-        }
+        Deed::CancelTransfer(id) => put_kind_and_id(3, id, out),
         Deed::Model(recur, info) => {
             put_u8(&4, out)?;
             put_recur(recur, out)?;
             put_info(info, out)
         }
         Deed::ModifyModel(id, recur, info, pending) => {
-            put_u8(&5, out)?;
-            put_u64(id, out)?;
+            put_kind_and_id(5, id, out)?;
             put_recur(recur, out)?;
             put_info(info, out)?;
             put_flag(pending, out)
         }
         Deed::CancelModel(id, pending) => {
-            put_u8(&6, out)?;
-            put_u64(id, out)?;
+            put_kind_and_id(6, id, out)?;
             put_flag(pending, out)
         }
         Deed::BankMail(account, mail) => {
