@@ -4,17 +4,19 @@ ghost use Rattle.std.specs.Prelude.{◌≡◌};
 ghost use Rattle.event_codec.specs.declared.fault.RecordFault.TheVariants as faults;
 
 use ofx_types::OutOfMemory;
-use std::error::Error;
-use std::fmt;
+use thiserror::Error;
 
 /// Why a record codes no event, or why it couldn't be read.
-#[derive(Clone, Copy, Debug, PartialEq, Eq)]
+#[derive(Clone, Copy, Debug, PartialEq, Eq, Error)]
 pub enum RecordFault {
     /// The first byte, which names the version of the coding, is this and not 1.
+    #[error("the record is of the unknown version {0}")]
     Version(u8),
     /// The first field without a form begins at this byte, counted from 0.
+    #[error("the record has no form at byte {0}")]
     Bad(u64),
     /// Memory was refused.
+    #[error("out of memory")]
     OutOfMemory,
 }
 
@@ -25,15 +27,3 @@ impl From<OutOfMemory> for RecordFault {
         RecordFault::OutOfMemory
     }
 }
-
-impl fmt::Display for RecordFault {
-    fn fmt<W: fmt::Write>(&self, f: &mut fmt::Formatter<W>) -> fmt::Result {
-        match self {
-            RecordFault::Version(n) => write!(f, "the record is of the unknown version {n}"),
-            RecordFault::Bad(at) => write!(f, "the record has no form at byte {at}"),
-            RecordFault::OutOfMemory => write!(f, "out of memory"),
-        }
-    }
-}
-
-impl Error for RecordFault {}
