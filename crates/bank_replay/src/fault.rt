@@ -6,19 +6,22 @@ ghost use Rattle.bank_replay.specs.Fetching.{failed_fetch};
 
 use ofx_ports::FetchFault;
 use ofx_types::OutOfMemory;
-use std::error::Error;
-use std::fmt;
+use thiserror::Error;
 
 /// Why a bank doesn't open from its records.
-#[derive(Clone, Copy, Debug, PartialEq, Eq)]
+#[derive(Clone, Copy, Debug, PartialEq, Eq, Error)]
 pub enum OpenFault {
     /// A record couldn't be fetched.
+    #[error("a record could not be read")]
     Read,
     /// The record of this number, from 1, codes no event: its first fault is at this byte, from 0.
+    #[error("record {0} has no form at byte {1}")]
     Record(u64, u64),
     /// The record of this number, from 1, codes an event that isn't legal after those before it.
+    #[error("record {0} is not legal after those before it")]
     Illegal(u64),
     /// Memory was refused.
+    #[error("out of memory")]
     OutOfMemory,
 }
 
@@ -40,19 +43,3 @@ impl From<FetchFault> for OpenFault {
         }
     }
 }
-
-impl fmt::Display for OpenFault {
-    fn fmt<W: fmt::Write>(&self, f: &mut fmt::Formatter<W>) -> fmt::Result {
-        match self {
-            OpenFault::Read => write!(f, "a record could not be read"),
-            OpenFault::Record(number, at) => write!(f, "record {number} has no form at byte {at}"),
-            OpenFault::Illegal(number) => write!(
-                f,
-                "record {number} is not legal after those before it"
-            ),
-            OpenFault::OutOfMemory => write!(f, "out of memory"),
-        }
-    }
-}
-
-impl Error for OpenFault {}
