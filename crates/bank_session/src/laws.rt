@@ -1,7 +1,8 @@
 //! What is written is determined, and the books are kept: laws over the definitions.
 
 ghost use Rattle.bank_session.specs.Determined.{OneSplitting, OneRefusal, RefusedIsUnanswered, RefusedIsUndenied, DeniedIsUnanswered, WhereAnswered, WherePolled, WhereDenied, WhereRefused, OnlyWhereRefused, OneDueRun, OneLine, OneOutput};
-ghost use Rattle.bank_session.specs.BooksKept.{RunsReopen, RunsKeepTheBooks};
+ghost use Rattle.bank_session.specs.Answers.{KeptInVain, KeptBeforeRefusal};
+ghost use Rattle.bank_session.specs.BooksKept.{RunsReopen, StoppedRunsReopen, UnwrittenRunsReopen, LettersReopen, RunsKeepTheBooks};
 
 use bank_core::{due_work_is_legal, due_work_is_one};
 use bank_replay::reopened_books_are_right;
@@ -73,6 +74,26 @@ pub fn runs_reopen()
     ensures { RunsReopen }
 {
     due_work_is_legal();
+    reopening_goes_on();
+}
+
+/// The same where a run stopped within a frame, whose records stand behind those of the turns: because an append failed,
+/// whether or not its record landed; because memory was refused; or because the line couldn't be written. The next run
+/// finds none of them illegal. With no turns, and a call for due work as the frame, this is the command `due`.
+pub fn stopped_runs_reopen()
+    ensures unkept { StoppedRunsReopen KeptInVain }
+    ensures refused { StoppedRunsReopen KeptBeforeRefusal }
+    ensures unwritten { UnwrittenRunsReopen }
+{
+    due_work_is_legal();
+    reopening_goes_on();
+}
+
+/// The same of the command `mail`, whose record is that of no turn: the next run goes on from behind the letter, also where
+/// its append failed and the record landed.
+pub fn letters_reopen()
+    ensures { LettersReopen }
+{
     reopening_goes_on();
 }
 

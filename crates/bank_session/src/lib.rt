@@ -31,8 +31,8 @@ mod words;
 
 pub use answer::{answer_files, answer_told};
 pub use laws::{
-    exact_lines, one_due_run, one_line, one_output, one_refusal, one_signon, one_splitting,
-    runs_keep_the_books, runs_reopen,
+    exact_lines, letters_reopen, one_due_run, one_line, one_output, one_refusal, one_signon,
+    one_splitting, runs_keep_the_books, runs_reopen, stopped_runs_reopen,
 };
 pub use words::{AnswerWords, Command, command_of};
 
