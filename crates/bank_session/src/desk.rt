@@ -76,7 +76,8 @@ impl Desk {
     }
 
     /// What is to be written for the bytes of a file, at most 262,144 of them, at that moment. Where they are a user's
-    /// and no poll the event has happened. Otherwise, and where memory is refused, nothing has.
+    /// and no poll the event has happened. Otherwise nothing has, nor where memory is refused or the append of its record
+    /// failed; but where the append failed the record may stand.
     pub fn answer<K: Keeper>(
         &mut self,
         alloc: Global,

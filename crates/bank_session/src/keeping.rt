@@ -27,6 +27,7 @@ pub fn record_of(
     requires legal { IsLegal book.now.setup book.now.state at event.now }
     ensures { IfOk result (λ rec. Codes rec.items at event.now) }
 {
+    // For the proof alone: its contract says that the book is sound, so the event is within the bounds of a record.
     let _setup = book.setup();
     write_event(alloc, event, at)
 }
