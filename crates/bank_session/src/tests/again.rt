@@ -8,7 +8,7 @@ use ofx_types::Moment;
 use std::test::Fail;
 
 /// The name of a file.
-const NAMED: (&str, &str) = ("NEWFILEUID:NONE", "NEWFILEUID:week");
+pub const NAMED: (&str, &str) = ("NEWFILEUID:NONE", "NEWFILEUID:week");
 
 /// What the first reply to the named file with the transfer tells.
 const FIRST: [(&str, &str); 5] = [NAMED, POSTED, PAID, SOURCE_BALANCE, SOURCE_BALANCE];

@@ -1,7 +1,10 @@
 //! Records: appends and fetches that fail, and records that are none of this bank.
 
-use super::sample::{SETUP, replies, requests};
-use super::{AT_NOON, NAMES, ROOM, end, told_over};
+use super::again::NAMED;
+use super::due::{DUE_LATER, NEXT_DAY, NOON};
+use super::sample::{SETUP, replies, request_with, requests};
+use super::transfer::TRANSFER;
+use super::{AT_NOON, BY_CLOCK, NAMES, ROOM, end, joined, told_over};
 use ofx_ports::{Keeper, MemClock, MemKeeper, MemSink, MemSource};
 use ofx_types::{Moment, Note, Told};
 use std::alloc::Global;
@@ -79,6 +82,82 @@ fn records_of_another_bank_stop_the_run(rt: HostRuntime) -> Result<(), Fail> {
         assert_eq!(rt; told, end(9, note));
         assert!(rt; written.is_empty());
         assert_eq!(rt; keeper.record_count(), 1);
+    }
+    Ok(())
+}
+
+/// A file with a name, and in it transfers of 20.00 and of 10.00 that are due on 1 February.
+const TWO_WAITING: [(&str, &str); 7] = [
+    NAMED,
+    TRANSFER,
+    ("<TRNUID>t1", "<TRNUID>x1"),
+    (
+        "<TRNAMT>10.00\r\n",
+        "<TRNAMT>20.00\r\n<DTDUE>20240201000000\r\n",
+    ),
+    TRANSFER,
+    ("<TRNUID>t1", "<TRNUID>x2"),
+    DUE_LATER,
+];
+
+/// A named file with the transfers, a call for due work, and a plain file with a transfer of its own.
+fn week(alloc: Global) -> Result<String, Fail> {
+    let named = request_with(alloc, &TWO_WAITING)?;
+    let plain = request_with(alloc, &[TRANSFER])?;
+    joined(alloc, &[&named, "DUE\n", &plain])
+}
+
+/// The status of a run over these frames, the first on 31 January and the others a day later, and what it wrote.
+fn run_by_days(alloc: Global, frames: &str, keeper: &mut MemKeeper) -> Result<(u8, String), Fail> {
+    let setup = MemSource::new(alloc, SETUP)?;
+    let input = MemSource::new(alloc, frames.as_bytes())?;
+    let out = MemSink::new(alloc, ROOM)?;
+    let mut clock = MemClock::new(alloc, &[NOON, NEXT_DAY])?;
+    let (told, written) = told_over(alloc, &BY_CLOCK, setup, input, out, keeper, &mut clock)?;
+    Ok((
+        told.status.0,
+        String::from_str(alloc, str::from_utf8(&written)?)?,
+    ))
+}
+
+/// The statuses of two runs over the same frames, and what the second wrote.
+fn run_twice(alloc: Global, keeper: &mut MemKeeper) -> Result<(u8, u8, String), Fail> {
+    let frames = week(alloc)?;
+    let (stopped, _) = run_by_days(alloc, &frames, keeper)?;
+    let (status, written) = run_by_days(alloc, &frames, keeper)?;
+    Ok((stopped, status, written))
+}
+
+/// What a run without failures wrote, with this line for what is due.
+fn unfailing(alloc: Global, due: &str) -> Result<String, Fail> {
+    let frames = week(alloc)?;
+    let mut keeper = MemKeeper::new(alloc);
+    let (_, written) = run_by_days(alloc, &frames, &mut keeper)?;
+    Ok(written.replace(alloc, "DUE 2\n", due)?)
+}
+
+/// An append of a first run that fails, which calls land then, and what is still due to the second run. The run settles by
+/// its first call. The last append that lands isn't here, since the plain file is refused by 2019 then.
+const APPENDS: [(u64, &[u64], &str); 7] = [
+    (2, &[], "DUE 2\n"),
+    (2, &[2], "DUE 2\n"),
+    (3, &[], "DUE 2\n"),
+    (3, &[3], "DUE 1\n"),
+    (4, &[], "DUE 1\n"),
+    (4, &[4], "DUE 0\n"),
+    (5, &[], "DUE 0\n"),
+];
+
+/// The same frames again get the bytes of a run without failures, but for the number of what is still due.
+#[test]
+fn a_run_behind_a_failed_append_goes_on(rt: HostRuntime) -> Result<(), Fail> {
+    let alloc = rt.alloc();
+    for (call, landing, due) in APPENDS {
+        let mut keeper = MemKeeper::failing(alloc, &[call], landing)?;
+        let (stopped, status, written) = run_twice(alloc, &mut keeper)?;
+        assert_eq!(rt; stopped, 8);
+        assert_eq!(rt; status, 0);
+        assert_eq!(rt; written, unfailing(alloc, due)?);
     }
     Ok(())
 }
