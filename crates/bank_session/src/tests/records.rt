@@ -161,3 +161,33 @@ fn a_run_behind_a_failed_append_goes_on(rt: HostRuntime) -> Result<(), Fail> {
     }
     Ok(())
 }
+
+/// A call of a second run over the same frames that fails, and which calls land then. That run settles, fetches four times,
+/// and appends for the two files.
+const REPEATED: [(u64, &[u64]); 8] = [
+    (7, &[]),
+    (8, &[]),
+    (9, &[]),
+    (10, &[]),
+    (11, &[]),
+    (11, &[11]),
+    (12, &[]),
+    (12, &[12]),
+];
+
+/// A third run gets the bytes of a second one without failures: the named file's again, and 2019 for the plain file.
+#[test]
+fn a_run_behind_a_failed_call_repeats(rt: HostRuntime) -> Result<(), Fail> {
+    let alloc = rt.alloc();
+    for (call, landing) in REPEATED {
+        let mut keeper = MemKeeper::failing(alloc, &[call], landing)?;
+        let _ = run_by_days(alloc, &week(alloc)?, &mut keeper)?;
+        let (stopped, status, written) = run_twice(alloc, &mut keeper)?;
+        assert_eq!(rt; stopped, 8);
+        assert_eq!(rt; status, 0);
+        let (_, _, repeated) = run_twice(alloc, &mut MemKeeper::new(alloc))?;
+        assert_eq!(rt; written, repeated);
+        assert!(rt; written.contains("<CODE>2019\r\n"));
+    }
+    Ok(())
+}
