@@ -1,4 +1,5 @@
 """A run of `ofxbank answer` that is given its whole input at once, and may be killed at any time."""
+import fcntl
 import os
 import resource
 import select
@@ -10,17 +11,24 @@ from frames import answers
 from stream import Wrong
 
 MOST_SECONDS = 20
+MOST_SECONDS_TO_DIE = 5
+ONE_PAGE = 4096  # the least that a pipe holds
+LOOK = 0.002  # seconds
+LOOKS_ASLEEP = 5
 UNLIMITED = resource.RLIM_INFINITY
 
 
 class Run:
-    """A run of the program that has been given its whole input. No file may have more bytes than the room."""
+    """A run of the program that has been given its whole input, and waits for more of it until it is closed. No file
+    may have more bytes than the room. A narrow run has to wait until somebody reads once it has written a page."""
 
-    def __init__(self, program, folder, at, stream, room=UNLIMITED):
+    def __init__(self, program, folder, at, stream, room=UNLIMITED, is_narrow=False):
         words = [program, "answer", "setup", "records", "--at", at.strftime("%Y%m%d%H%M%S")]
         pipes = {"stdin": subprocess.PIPE, "stdout": subprocess.PIPE, "stderr": subprocess.PIPE, "bufsize": 0}
         # What restores signals would have a write past the room end the program.
         self.child = subprocess.Popen(words, cwd=folder, restore_signals=False, preexec_fn=limit(room), **pipes)
+        if is_narrow:
+            fcntl.fcntl(self.child.stdout, fcntl.F_SETPIPE_SZ, ONE_PAGE)
         self.end = time.monotonic() + MOST_SECONDS
         self.written = b""
         try:
@@ -36,33 +44,58 @@ class Run:
         return bool(more)
 
     def wait_for(self, count):
-        """Waits for so many answers."""
+        """Waits for so many answers. A run that says nothing more in time is killed."""
         while len(whole(answers(self.written))) < count:
             if not self.read(self.end - time.monotonic()):
-                self.kill()
-                raise Wrong("%d answers came, and no more" % len(whole(answers(self.written))))
+                status, told = self.kill() if time.monotonic() >= self.end else self.close()
+                count = len(whole(answers(self.written)))
+                raise Wrong("%d answers came, and no more: status %d with %r" % (count, status, told[:80]))
+
+    def wait_until_asleep(self):
+        """Waits, reading nothing, until the program sleeps for some looks in a row, as it does where it waits for its
+        input or output, or until it has ended."""
+        asleep = 0
+        while asleep < LOOKS_ASLEEP and time.monotonic() < self.end:
+            time.sleep(LOOK)
+            asleep = asleep + 1 if state_of(self.child.pid) in "SZ" else 0
 
     def kill(self):
+        """Kills it where it hasn't ended. The status, and the error stream. Its input stays open until it is dead, so
+        it has no reason to have ended before. Its output isn't read until then, which would let a held-up answer out.
+        """
         self.child.send_signal(signal.SIGKILL)
-        self.close()
+        self.end = time.monotonic() + MOST_SECONDS_TO_DIE
+        self.wait()
+        return self.close()
 
     def close(self):
-        """Reads the rest. The status, and the error stream."""
+        """Ends its input, and reads the rest of its output. The status, and the error stream."""
         self.child.stdin.close()
         try:
             while self.read(self.end - time.monotonic()):
                 pass
-            return self.child.wait(max(0, self.end - time.monotonic())), self.child.stderr.read()
-        except subprocess.TimeoutExpired:
-            self.child.kill()
-            raise Wrong("no end in %d seconds" % MOST_SECONDS)
+            return self.wait(), self.child.stderr.read()
         finally:
             self.child.stdout.close()
             self.child.stderr.close()
 
+    def wait(self):
+        """The status, once it has ended."""
+        try:
+            return self.child.wait(max(0, self.end - time.monotonic()))
+        except subprocess.TimeoutExpired:
+            self.child.kill()
+            raise Wrong("it doesn't end")
+
 
 def limit(room):
     return lambda: resource.setrlimit(resource.RLIMIT_FSIZE, (room, room))
+
+
+def state_of(pid):
+    """The letter by which the system says what the process does."""
+    with open("/proc/%d/stat" % pid) as f:
+        return f.read().rpartition(")")[2].split()[0]
 
 
 def whole(some):

@@ -4,6 +4,8 @@ What a case gives as such a file is one of these:
 
     [RECORD, ..]            a file with these records, numbered from 1
     {"rows": [ROW, ..]}     a file with these rows, each a number and a RECORD, or a number and {"text": TEXT}
+    {"cut": [[RECORD, ..], BYTES]}
+                            a file with these records, of which only so many bytes are left
     {"database": [SQL, ..]} a database that these statements make
     {"bytes": PIECES}       a file of these bytes
     {"folder": 1}           a folder
@@ -42,6 +44,10 @@ class Given:
         elif self.kind == "bytes":
             with open(path, "wb") as f:
                 f.write(whole(self.what))
+        elif self.kind == "cut":
+            records, size = self.what
+            Given(records).make(path)
+            os.truncate(path, size)
         elif self.kind == "database":
             with closing(sqlite3.connect(path)) as database:
                 database.executescript(";".join(self.what))
@@ -127,6 +133,11 @@ def rows_in(path):
         if tables and tables != [TABLE]:
             raise sqlite3.DatabaseError("another program's")
         return list(database.execute("SELECT number, bytes FROM records ORDER BY number")) if tables else []
+
+
+def are_numbered(rows):
+    """Whether the numbers of the rows are 1, 2 and so on."""
+    return [number for number, _ in rows] == list(range(1, len(rows) + 1))
 
 
 @contextmanager

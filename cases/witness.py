@@ -17,7 +17,7 @@ class Witness:
         self.setup = read_setup(setup_text)
         self.bank = opened(self.setup, [])
         self.figures = Counter()
-        self.unanswered = False  # whether what landed last wasn't answered
+        self.is_unsettled = False  # whether the next start may take back what landed last
 
     def judge(self, at, frames, written, records):
         """Judges what a run has written for these frames, and the records behind it. The answers."""
@@ -31,7 +31,9 @@ class Witness:
             raise Wrong("more answers than frames")
         more = records[len(self.bank.records):]
         cut = written[len(b"".join(got)):]
-        self.unanswered = bool(more)
+        # An answer is begun once its records are kept for good. And what the start of a run found is what it goes on
+        # with; but a run that has written nothing may have been killed before it found anything.
+        self.is_unsettled = not cut if more else self.is_unsettled and not written
         if len(got) < len(frames) and (more or cut):
             self.land(at, frames[len(got)], more, cut)
         if records != self.bank.records:
@@ -40,11 +42,12 @@ class Witness:
         return got
 
     def look_back(self, records):
-        """What landed and wasn't answered may be taken back by the next start, where only the stock SQLite took the
-        commit for whole."""
+        """What landed, and of whose answer nothing came, may be taken back by the next start, where only the stock
+        SQLite took the commit for whole. What is before it stays."""
         known = self.bank.records
-        if self.unanswered and records[:len(known)] != known and records[:len(known) - 1] == known[:-1]:
+        if self.is_unsettled and records[:len(known)] != known and records[:len(known) - 1] == known[:-1]:
             self.bank = opened(self.setup, known[:-1])
+            self.is_unsettled = False
             self.figures["back"] += 1
 
     def land(self, at, frame, records, cut):
