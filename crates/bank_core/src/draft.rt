@@ -1,7 +1,7 @@
 //! What the asks of a file, or due work, have added so far, before the book takes it in.
 
-ghost use Rattle.std.specs.Prelude.{◌≡◌, ◌∷◌, ◌++◌, ◌||◌, [], List, Some, map, IfOk, OnOk, OnErr, pos, ◌≤ℤ◌, bytes_eq, length, reverse};
-ghost use Rattle.std.specs.List.{list_any, find};
+ghost use Rattle.std.specs.Prelude.{◌≡◌, ◌∷◌, ◌++◌, ◌||◌, [], List, Some, map, IfOk, OnOk, OnErr, pos, ◌≤ℤ◌, length, reverse};
+ghost use Rattle.std.specs.List.{find};
 ghost use Rattle.std.specs.Option.{option_copied, option_or};
 ghost use Rattle.bank_model.specs.declared.entry.Entry.{Entry};
 ghost use Rattle.bank_model.specs.Ledger.{row_in, row_of, posting_of, moved, lines_of};
@@ -23,6 +23,7 @@ use ofx_types::{
     AcctId, AcctName, Cents, Day, Duplicate, Lines, ModelRow, Moment, OutOfMemory, TransferRow,
     TrnUid, UserId, XferCode,
 };
+use once_records::Uids;
 use std::alloc::Global;
 use std::marker::Model;
 
@@ -34,7 +35,7 @@ pub(crate) struct Draft {
     day: Day,
     entries: Vec<Entry>,
     effects: Vec<Effect>,
-    uids: Vec<TrnUid>,
+    uids: Uids,
     accounts: Held,
     postings: Transfers,
 }
@@ -51,7 +52,7 @@ impl Model for Draft {
       day = d.day;
       entries = d.entries.items;
       effects = d.effects.items;
-      uids = d.uids.items;
+      uids = d.uids;
       accounts = d.accounts;
     } };
 
@@ -83,7 +84,7 @@ impl Draft {
             day,
             entries: Vec::new(alloc),
             effects: Vec::new(alloc),
-            uids: Vec::new(alloc),
+            uids: Uids::new(alloc),
             accounts: held.copy()?,
             postings: Transfers::new(alloc),
         })
@@ -137,7 +138,7 @@ impl Draft {
         ensures effects { result.1.items ≡ self.effects }
         ensures uids { result.2.items ≡ self.uids }
     {
-        (self.entries, self.effects, self.uids)
+        (self.entries, self.effects, self.uids.into_vec())
     }
 
     /// Whether the user has used up the uid, before this event or in it.
@@ -145,7 +146,7 @@ impl Draft {
     pub(crate) fn is_used(&self, ledger: &Ledger, trnuid: &TrnUid) -> bool
         ensures { result ≡ is_used self.now.user trnuid.now (drafted ledger.now.state self.now).used }
     {
-        ledger.is_used(self.user, trnuid) || has_uid(&self.uids, trnuid)
+        ledger.is_used(self.user, trnuid) || self.uids.has(trnuid)
     }
 
     /// The row of the transfer with this id, lent.
@@ -240,8 +241,7 @@ impl Draft {
           accounts = self.old.accounts;
         }) }
     {
-        self.uids.push(trnuid)?;
-        Ok(())
+        self.uids.use_up(trnuid)
     }
 
     /// Gives an account that is held another balance.
@@ -259,12 +259,6 @@ impl Draft {
     {
         self.accounts.set(account, amount);
     }
-}
-
-fn has_uid(uids: &[TrnUid], trnuid: &TrnUid) -> bool
-    ensures { result ≡ list_any (λ uid. bytes_eq uid trnuid.now) uids.now }
-{
-    uids.iter().any(|uid| uid.as_bytes() == trnuid.as_bytes())
 }
 
 /// The last row of the transfer with this id.

@@ -8,6 +8,7 @@ ghost use Rattle.ofx_types.specs.TextOutcome.{IsUidOf, trnuid_fault, file_uid_fa
 use crate::duplicate::Duplicate;
 use crate::memory::OutOfMemory;
 use crate::text::{TextFault, fault_in, trim};
+use std::hash::{Hash, Hasher};
 use std::marker::Model;
 
 /// The most bytes of a uid.
@@ -69,6 +70,40 @@ impl Duplicate for TrnUid {
             bytes: self.bytes,
             size: self.size,
         })
+    }
+}
+
+impl PartialEq for TrnUid {
+    ghost use Rattle.std.specs.Prelude.{bytes_eq};
+    ghost use Rattle.std.specs.Cmp.{partial_equiv_from_equiv};
+    ghost use Rattle.std.specs.Cmp.Lexicographic.{nat_list_eq_equiv};
+
+    ghost eq = { bytes_eq };
+
+    ghost laws = { partial_equiv_from_equiv nat_list_eq_equiv };
+
+    fn eq(&self, other: &TrnUid) -> bool {
+        self.as_bytes() == other.as_bytes()
+    }
+}
+
+impl Eq for TrnUid {
+    ghost use Rattle.std.specs.Cmp.Lexicographic.{nat_list_eq_equiv};
+
+    ghost laws = { nat_list_eq_equiv };
+}
+
+impl Hash for TrnUid {
+    ghost use Rattle.std.specs.Hash as fed;
+    ghost use Rattle.std.specs.Cmp.Rules.{hashing};
+    ghost use Rattle.std.proofs.Common.{rules};
+
+    ghost hash_input = { λ uid. fed.slice fed.u8 uid };
+
+    ghost respects_eq = { Prim.search (hashing, rules) };
+
+    fn hash<H: Hasher>(&self, state: &mut H) {
+        self.as_bytes().hash(state);
     }
 }
 

@@ -1,1 +1,2 @@
 pub mod RecordsView
+pub mod UidsView

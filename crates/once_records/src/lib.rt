@@ -1,12 +1,15 @@
 //! Used uids and kept replies: what makes a deed run once and a file be answered once.
 //!
-//! `Records` looks them up and takes them in. The memory for them is reserved first, so that what is taken in
-//! can't be refused.
+//! `Uids` are those that the deeds of one event use up while it is answered, which may be refused for want of memory.
+//! `Records` are all of the bank, which it looks up and takes in. The memory for them is reserved first, so that what is
+//! taken in can't be refused.
 #![tactic(auto)]
 
 mod records;
+mod uids;
 
 pub use records::Records;
+pub use uids::Uids;
 
 #[cfg(test)]
 mod tests;

@@ -1,6 +1,6 @@
-//! Two users whose uids and files have the same names.
+//! Two users whose uids and files have the same names, and the uids of one event.
 
-use crate::Records;
+use crate::{Records, Uids};
 use ofx_types::{FileUid, TrnUid, UserId};
 use std::test::Fail;
 
@@ -51,5 +51,22 @@ fn a_reply_is_kept_until_its_file_is_released(rt: HostRuntime) -> Result<(), Fai
     assert!(rt; !records.release(ALICE, &name));
     assert!(rt; records.kept(ALICE, &name).is_none());
     assert!(rt; records.kept(BOB, &name) == Some(b"for bob".as_slice()));
+    Ok(())
+}
+
+#[test]
+fn uids_of_an_event_stand_in_their_order(rt: HostRuntime) -> Result<(), Fail> {
+    let mut uids = Uids::new(rt.alloc());
+    assert!(rt; !uids.has(&trnuid(b"t2")?));
+    uids.use_up(trnuid(b"t2")?)?;
+    uids.use_up(trnuid(b"t1")?)?;
+    assert!(rt; uids.len() == 2);
+    assert!(rt; uids.has(&trnuid(b"t1")?));
+    assert!(rt; uids.has(&trnuid(b" t2 ")?));
+    assert!(rt; !uids.has(&trnuid(b"t")?));
+    let order = uids.into_vec();
+    assert!(rt; order.len() == 2);
+    assert!(rt; order[0].as_bytes() == b"t2".as_slice());
+    assert!(rt; order[1].as_bytes() == b"t1".as_slice());
     Ok(())
 }

@@ -20,11 +20,11 @@ fn place_of_signon(users: &[User], name: &Text, pass: &Text) -> Option<usize>
     users.iter().position(|user| has_signon(user, name, pass))
 }
 
-/// Whether the account line has that name.
+/// Whether the account line has that name. The lines of a setup are of one bank, which is compared last.
 pub(super) fn has_account_name(line: &AccountLine, name: &AcctName) -> bool
     ensures { result ≡ same_account line.now.name name.now }
 {
-    line.name == *name
+    line.name.kind == name.kind && line.name.number == name.number && line.name.bank == name.bank
 }
 
 fn place_of_account(accounts: &[AccountLine], name: &AcctName) -> Option<usize>
