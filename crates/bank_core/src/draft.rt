@@ -1,9 +1,8 @@
 //! What the asks of a file, or due work, have added so far, before the book takes it in.
 
-ghost use Rattle.std.specs.Prelude.{◌≡◌, ◌∷◌, ◌++◌, ◌||◌, [], List, Some, map, IfOk, OnOk, OnErr, pos, ◌≤ℤ◌, length, reverse};
+ghost use Rattle.std.specs.Prelude.{◌≡◌, ◌∷◌, ◌++◌, ◌||◌, [], Some, map, IfOk, OnOk, OnErr, pos, ◌≤ℤ◌, ◌<◌, length, reverse, vec_len, vec_capacity};
 ghost use Rattle.std.specs.List.{find};
 ghost use Rattle.std.specs.Option.{option_copied, option_or};
-ghost use Rattle.bank_model.specs.declared.entry.Entry.{Entry};
 ghost use Rattle.bank_model.specs.Ledger.{row_in, row_of, posting_of, moved, lines_of};
 ghost use Rattle.bank_model.specs.Models.{model_of, is_model_dropped};
 ghost use Rattle.bank_model.specs.Ledger as rules;
@@ -11,7 +10,7 @@ ghost use Rattle.bank_model.specs.Once.{is_used};
 ghost use Rattle.bank_accounts.specs.HeldAccounts.{balance_held, set_if_named};
 ghost use Rattle.bank_transfers.specs.TransfersView.{IsWithinAmounts};
 ghost use Rattle.bank_core.specs.Effects.{IsKnown, has_row, has_model, row_given_by, row_drafted, model_drafted, is_cancelled_in};
-ghost use Rattle.bank_core.specs.Postings.{HoldsPostings};
+ghost use Rattle.bank_core.specs.Postings.{HoldOneMore, HoldTheSame};
 ghost use Rattle.bank_core.specs.DraftView.{drafted};
 
 use crate::effect::Effect;
@@ -221,9 +220,13 @@ impl Draft {
           accounts = self.old.accounts;
         }) }
     {
-        self.entries.reserve(1)?;
-        self.effects.reserve(1)?;
-        post(&mut self.postings, entry.number, &effect)?;
+        post_with_room(
+            &mut self.entries,
+            &mut self.effects,
+            &mut self.postings,
+            entry.number,
+            &effect,
+        )?;
         self.entries.push_reserved(entry);
         self.effects.push_reserved(effect);
         Ok(())
@@ -306,13 +309,33 @@ pub(crate) fn is_posted(code: XferCode) -> bool
     code == XferCode::Posted
 }
 
+/// All of adding an entry for which memory may be refused: room for it and for what it gives, and, where this is a transfer
+/// that is posted, a copy of its row put behind the postings.
+fn post_with_room(
+    entries: &mut Vec<Entry>,
+    effects: &mut Vec<Effect>,
+    postings: &mut Transfers,
+    number: u64,
+    effect: &Effect,
+) -> Result<(), OutOfMemory>
+    requires known { IsKnown effect.now }
+    ensures entries { entries.new.items ≡ entries.old.items }
+    ensures effects { effects.new.items ≡ effects.old.items }
+    ensures entry { OnOk result (vec_len entries.new < vec_capacity entries.new) }
+    ensures effect { OnOk result (vec_len effects.new < vec_capacity effects.new) }
+    ensures ok { OnOk result (HoldOneMore postings.old postings.new number (row_given_by effect.now)) }
+    ensures err { OnErr result (HoldTheSame postings.old postings.new) }
+{
+    entries.reserve(1)?;
+    effects.reserve(1)?;
+    post(postings, number, effect)
+}
+
 /// Puts a copy of the row that the entry with this number gives to a transfer, where it is posted.
 fn post(postings: &mut Transfers, number: u64, effect: &Effect) -> Result<(), OutOfMemory>
     requires known { IsKnown effect.now }
-    ensures ok { OnOk result ((entries : List Entry) (entry : Entry) → HoldsPostings postings.old entries
-        → entry.number ≡ number → posting_of entry.number (row_in entry.change) ≡ posting_of entry.number (row_given_by effect.now)
-        → HoldsPostings postings.new (entries ++ entry ∷ [])) }
-    ensures err { OnErr result ((entries : List Entry) → HoldsPostings postings.old entries → HoldsPostings postings.new entries) }
+    ensures ok { OnOk result (HoldOneMore postings.old postings.new number (row_given_by effect.now)) }
+    ensures err { OnErr result (HoldTheSame postings.old postings.new) }
 {
     match effect {
         Effect::Row(row) => post_row(postings, number, row),
@@ -325,10 +348,8 @@ fn post(postings: &mut Transfers, number: u64, effect: &Effect) -> Result<(), Ou
 
 fn post_row(postings: &mut Transfers, number: u64, row: &TransferRow) -> Result<(), OutOfMemory>
     requires amount { IsWithinAmounts row.now }
-    ensures ok { OnOk result ((entries : List Entry) (entry : Entry) → HoldsPostings postings.old entries
-        → entry.number ≡ number → posting_of entry.number (row_in entry.change) ≡ posting_of entry.number (Some row.now)
-        → HoldsPostings postings.new (entries ++ entry ∷ [])) }
-    ensures err { OnErr result ((entries : List Entry) → HoldsPostings postings.old entries → HoldsPostings postings.new entries) }
+    ensures ok { OnOk result (HoldOneMore postings.old postings.new number (Some row.now)) }
+    ensures err { OnErr result (HoldTheSame postings.old postings.new) }
 {
     if !is_posted(row.code) {
         return Ok(());

@@ -1,4 +1,4 @@
-//! Equal copies, which take memory.
+//! Equal copies, for which memory may be refused.
 
 ghost use Rattle.std.specs.Prelude.{◌≡◌, IfOk};
 

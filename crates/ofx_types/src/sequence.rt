@@ -55,10 +55,15 @@ impl<T> Sequence<T> {
 
 impl<T: Drop> Sequence<T> {
     /// Puts an item at the end. Where memory is refused the item is dropped and the items are as before.
+    ///
+    /// The first item takes room for itself alone, since most synchronisations in a file have one deed.
     pub fn push(&mut self, item: T) -> Result<(), OutOfMemory>
         ensures ok { OnOk result (self.new ≡ self.old ++ item ∷ []) }
         ensures err { OnErr result (self.new ≡ self.old) }
     {
+        if self.items.is_empty() {
+            self.items.reserve_exact(1)?;
+        }
         self.items.push(item)?;
         Ok(())
     }

@@ -30,6 +30,13 @@ fn texts_are_trimmed_and_limited(rt: HostRuntime) -> Result<(), Fail> {
 }
 
 #[test]
+fn a_copy_outlives_its_text(rt: HostRuntime) -> Result<(), Fail> {
+    let copy = text(rt.alloc(), b"alice")?.copy()?;
+    assert_eq!(rt; copy.as_bytes(), b"alice".as_slice());
+    Ok(())
+}
+
+#[test]
 fn uids_have_1_to_36_bytes(rt: HostRuntime) -> Result<(), Fail> {
     let longest = b"abcdefghijklmnopqrstuvwxyz0123456789";
     let own = TrnUid::new(longest).ok().ok_or("36 bytes are a uid")?;

@@ -8,6 +8,7 @@ use crate::duplicate::Duplicate;
 use crate::memory::OutOfMemory;
 use std::alloc::{AllocError, Global};
 use std::marker::Model;
+use std::sync::ArcSlice;
 
 /// Why bytes are no text of the wanted kind.
 #[derive(Clone, Copy, Debug, PartialEq, Eq)]
@@ -100,20 +101,23 @@ pub(crate) fn fault_in(text: &[u8], most: u32) -> Option<TextFault>
 }
 
 /// A text: bytes without white space at either end, in which no control byte stands but tab, LF and CR.
+///
+/// Its copies share the bytes, and take no memory.
 #[derive(Debug, Drop)]
 pub struct Text {
-    bytes: Vec<u8>,
+    bytes: ArcSlice<u8>,
 }
 
 impl Model for Text {
     ghost use Rattle.std.specs.Prelude.{ℕ, List};
+    ghost use Rattle.std.specs.Arc.{arc_slice_items};
     ghost use Rattle.ofx_types.specs.TextRules.{IsText};
 
     ghost Value = { List ℕ };
 
-    ghost view = { λ t. t.bytes.items };
+    ghost view = { λ t. arc_slice_items t.bytes };
 
-    ghost invariant = { λ t. IsText t.bytes.items };
+    ghost invariant = { λ t. IsText (arc_slice_items t.bytes) };
 }
 
 impl Text {
@@ -128,7 +132,7 @@ impl Text {
         match fault_in(text, most) {
             Some(fault) => Err(fault),
             None => Ok(Text {
-                bytes: Vec::from_slice(alloc, text)?,
+                bytes: ArcSlice::from_slice(alloc, text)?,
             }),
         }
     }
