@@ -16,3 +16,8 @@ def aggregate(file, name):
     """The first aggregate of this name in a file, with its line ends."""
     start, end = file.index(b"<%s>" % name), b"</%s>\r\n" % name
     return file[start:file.index(end) + len(end)]
+
+
+def answer_words(program, setup=SETUP):
+    """The words of a run without a file of records, at noon of 31 January 2024."""
+    return [program, "answer", setup, "-", "--at", "20240131120000"]
