@@ -25,7 +25,7 @@ use Rattle.bank_model.specs.Sound as file
 use Rattle.bank_laws.proofs.Events.{Grows, grows_deed}
 use Rattle.bank_laws.proofs.Lists.{all_append}
 use Rattle.bank_laws.proofs.Verdicts.{allowed_by_code}
-use Rattle.msg_bank.specs.Sound.{IsTextWithin, mail_family, family_of_change}
+use Rattle.msg_parts.specs.Sound.{IsTextWithin, mail_family, family_of_change}
 use Rattle.msg_sync.specs.Sound.{IsSoundAnswer, IsSoundToldIn}
 use Rattle.bank_replies.specs.Texts.{HasDeedTexts, HasPairTexts}
 use Rattle.bank_replies.specs.Telling.{IsToldChange, IsToldEntry, IsTellable}

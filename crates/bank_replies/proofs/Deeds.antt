@@ -30,7 +30,8 @@ use Rattle.bank_laws.proofs.Verdicts.{free_to_modify, free_to_cancel, free_model
 use Rattle.bank_laws.proofs.Places.{own_known, at_intra, at_recurring, at_letters}
 use Rattle.bank_laws.proofs.Waiting.{IsHere, with_new_terms, dropping}
 use Rattle.bank_laws.proofs.Done.{along, modify_entries, cancel_entries, modify_model_entries, cancel_model_entries}
-use Rattle.msg_bank.specs.Sound.{IsTextWithin, IsSoundAccount, IsSoundInfo, family_of_change}
+use Rattle.msg_parts.specs.Sound.{IsTextWithin, IsSoundAccount, family_of_change}
+use Rattle.msg_deed.specs.Sound.{IsSoundInfo}
 use Rattle.msg_mail.specs.MailSound.{IsSoundMail, IsSoundMailRow}
 use Rattle.bank_replies.specs.Texts.{HasDeedTexts}
 use Rattle.bank_replies.specs.Telling.{IsToldChange, IsToldEntry, IsTellable}

@@ -12,7 +12,8 @@ use Rattle.bank_model.specs.declared.entry.Entry.{Entry}
 use Rattle.bank_model.specs.declared.setup.Setup.{Setup}
 use Rattle.bank_model.specs.Ledger.{row_in, if_named, or_before, last_row, is_dropped, with_code, row_of}
 use Rattle.bank_model.specs.Models.{model_in, if_model_named, or_model_before, model_of, waiting_of}
-use Rattle.msg_bank.specs.Sound.{IsSoundId, IsSoundInfo, IsSoundMoment, IsSoundModelRow}
+use Rattle.msg_deed.specs.Sound.{IsSoundId, IsSoundInfo, IsSoundModelRow}
+use Rattle.msg_parts.specs.Sound.{IsSoundMoment}
 use Rattle.bank_laws.proofs.Waiting.{IsHere, waiting_here}
 use Rattle.bank_replies.specs.Telling.{IsToldChange, IsToldEntry}
 use Rattle.bank_replies.proofs.Lists.{all_step}

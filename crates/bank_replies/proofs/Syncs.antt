@@ -30,7 +30,7 @@ use Rattle.bank_laws.specs.Places.{IsPlaceOf}
 use Rattle.bank_laws.proofs.Lists.{all_append}
 use Rattle.bank_laws.proofs.Numbers.{newest_few}
 use Rattle.bank_laws.proofs.Places.{one_family, named_place}
-use Rattle.msg_bank.specs.Sound.{IsTextWithin, family_of_change}
+use Rattle.msg_parts.specs.Sound.{IsTextWithin, family_of_change}
 use Rattle.msg_sync.specs.Sound.{IsSoundToldIn, IsSoundSyncReply}
 use Rattle.bank_replies.specs.Texts.{HasObjectTexts, HasPairTexts}
 use Rattle.bank_replies.specs.Telling.{IsToldChange, IsToldEntry, IsTellable}

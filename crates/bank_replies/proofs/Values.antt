@@ -7,7 +7,8 @@ use Rattle.ofx_types.specs.declared.transfer.XferInfo.{XferInfo}
 use Rattle.ofx_types.specs.declared.sync.ObjectName.{ObjectName}
 use Rattle.ofx_types.specs.declared.sync.ObjectName.TheVariants as objects
 use Rattle.bank_model.specs.Sound as file
-use Rattle.msg_bank.specs.Sound.{IsTextWithin, IsSoundAccount, IsSoundInfo}
+use Rattle.msg_parts.specs.Sound.{IsTextWithin, IsSoundAccount}
+use Rattle.msg_deed.specs.Sound.{IsSoundInfo}
 use Rattle.msg_mail.specs.MailSound.{IsSoundMail}
 use Rattle.msg_sync.specs.Sound.{IsSoundObject}
 use Rattle.bank_replies.specs.Texts.{HasAccountTexts, HasInfoTexts, HasMailTexts, HasObjectTexts}

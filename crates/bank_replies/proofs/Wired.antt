@@ -5,7 +5,7 @@ use Rattle.ofx_types.specs.declared.transfer.Change.{Change}
 use Rattle.ofx_types.specs.declared.transfer.Change.TheVariants.{NewTransfer, SetTransfer, DropTransfer, NewModel, SetModel, DropModel, NewMail}
 use Rattle.ofx_types.specs.declared.transfer.DeedReply.{DeedReply}
 use Rattle.ofx_types.specs.declared.sync.SyncReply.{SyncReply}
-use Rattle.msg_bank.specs.Wire.{wire_change, wire}
+use Rattle.msg_deed.specs.Wire.{wire_change, wire}
 use Rattle.msg_sync.specs.Sound.{wire_sync}
 use Rattle.bank_laws.specs.Told.{wired_change, wired_reply, wired}
 

@@ -10,8 +10,8 @@ use Rattle.ofx_types.specs.declared.mail.MailText.{MailText}
 use Rattle.ofx_tree.specs.Placed.{Stands, Any, IsWithin}
 use Rattle.ofx_tree.proofs.FormLaws.{bind_ok, bind_to, one_value, one_found, one_again, text_in_found, text_in_again, moment_in_found, moment_in_again}
 use Rattle.ofx_tree.proofs.FormPlaces.{bound, one_within, text_within, moment_within}
-use Rattle.msg_bank.proofs.StatementLaws.{account_found, account_again}
-use Rattle.msg_bank.proofs.StatementPlaces.{account_within}
+use Rattle.msg_parts.proofs.PartLaws.{account_found, account_again}
+use Rattle.msg_parts.proofs.PartPlaces.{account_within}
 
 -- ---- the account
 

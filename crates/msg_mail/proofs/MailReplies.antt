@@ -19,8 +19,8 @@ use Rattle.ofx_types.specs.declared.transfer.DeedReply.{DeedReply}
 use Rattle.ofx_tree.specs.Placed.{Stands, Any, IsWithin}
 use Rattle.ofx_tree.proofs.FormLaws.{bind_ok, bind_to, one_value, chosen, bytes_same, one_found, one_again, text_in_found, text_in_again}
 use Rattle.ofx_tree.proofs.FormPlaces.{bound, either, one_within, text_within}
-use Rattle.msg_bank.proofs.Named.{second_name}
-use Rattle.msg_bank.proofs.Statuses.{status_found, status_again, status_within}
+use Rattle.msg_parts.proofs.Named.{second_name}
+use Rattle.msg_parts.proofs.Statuses.{status_found, status_again, status_within}
 use Rattle.msg_mail.specs.MailLaws.{mail_reply_names}
 use Rattle.msg_mail.proofs.MailParts.{account_in_found, account_in_again, account_in_within, user_mail_in_found, user_mail_in_again, user_mail_in_within}
 

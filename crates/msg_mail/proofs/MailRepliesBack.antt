@@ -14,10 +14,10 @@ use Rattle.ofx_types.specs.declared.transfer.Family.{Family}
 use Rattle.ofx_types.specs.declared.transfer.Family.TheVariants.{Intra, RecIntra, BankMail, Mail}
 use Rattle.ofx_tree.specs.Documents.{AreLawful, empty}
 use Rattle.ofx_tree.proofs.DocumentItems.{named_of_branch}
-use Rattle.msg_bank.specs.DeedsAsDocuments.{deed_reply_documents, DeedRepliesAreDocuments}
-use Rattle.msg_bank.specs.Sound.{mail_family}
-use Rattle.msg_bank.proofs.Alone.{read_alone}
-use Rattle.msg_bank.proofs.DeedRepliesBack.{reply_item, trnuid_stands, status_stands}
+use Rattle.msg_parts.specs.DeedDocuments.{deed_reply_documents, DeedRepliesAreDocuments}
+use Rattle.msg_parts.specs.Sound.{mail_family}
+use Rattle.msg_parts.proofs.Alone.{read_alone}
+use Rattle.msg_parts.proofs.Transactions.{reply_item, trnuid_stands, status_stands}
 use Rattle.msg_mail.specs.MailSound.{IsSoundMailRow, IsSoundMailByCode}
 use Rattle.msg_mail.specs.MailsAsDocuments.{MailRepliesReadBack, MailRepliesReadBackAlone}
 use Rattle.msg_mail.proofs.MailReplies.{reply_again}

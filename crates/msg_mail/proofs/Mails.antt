@@ -11,9 +11,9 @@ use Rattle.ofx_types.specs.declared.transfer.Deed.TheVariants as deeds
 use Rattle.ofx_tree.specs.Placed.{Stands, Any, IsWithin}
 use Rattle.ofx_tree.proofs.FormLaws.{bind_ok, bind_to, one_value, chosen, bytes_same, one_found, one_again}
 use Rattle.ofx_tree.proofs.FormPlaces.{bound, either, one_within}
-use Rattle.msg_bank.proofs.Named.{second_name}
-use Rattle.msg_bank.proofs.StatementLaws.{trnuid_found, trnuid_again}
-use Rattle.msg_bank.proofs.StatementPlaces.{trnuid_within}
+use Rattle.msg_parts.proofs.Named.{second_name}
+use Rattle.msg_parts.proofs.PartLaws.{trnuid_found, trnuid_again}
+use Rattle.msg_parts.proofs.PartPlaces.{trnuid_within}
 use Rattle.msg_mail.specs.MailLaws.{mail_deed_names}
 use Rattle.msg_mail.proofs.MailParts.{account_in_found, account_in_again, account_in_within, mail_in_found, mail_in_again, mail_in_within}
 

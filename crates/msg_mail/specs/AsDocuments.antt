@@ -8,8 +8,8 @@ use Rattle.ofx_types.specs.ReplyReading.{signon_reply_of}
 use Rattle.ofx_types.specs.ReplyForm.{signon_reply}
 use Rattle.ofx_types.specs.declared.number.Moment.{Moment}
 use Rattle.ofx_tree.specs.Documents.{Documents, empty, leaf, branch, printed, AreLawful, branch_item}
-use Rattle.msg_bank.specs.AsDocuments.{status_documents}
-use Rattle.msg_bank.specs.Sound.{IsTextWithin}
+use Rattle.msg_parts.specs.AsDocuments.{status_documents}
+use Rattle.msg_parts.specs.Sound.{IsTextWithin}
 
 -- A user's name has 1 to 32 bytes and a password 1 to 64, and the signon was made in the years 1900 to 9999.
 pub record IsSoundSignon (user pass : List ℕ) (at : Moment) : Type 0 where

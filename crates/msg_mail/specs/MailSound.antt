@@ -10,7 +10,7 @@ use Rattle.ofx_types.specs.declared.transfer.Change.TheVariants.{NewTransfer, Se
 use Rattle.ofx_types.specs.declared.transfer.Family.{Family}
 use Rattle.ofx_types.specs.declared.transfer.Family.TheVariants.{BankMail, Mail}
 use Rattle.ofx_types.specs.declared.transfer.DeedReply.{DeedReply}
-use Rattle.msg_bank.specs.Sound.{IsTextWithin, IsSoundMoment, IsSoundAccount, family_of_change}
+use Rattle.msg_parts.specs.Sound.{IsTextWithin, IsSoundMoment, IsSoundAccount, family_of_change}
 
 pub record IsSoundMail (text : MailText) : Type 0 where
   pub created : IsSoundMoment text.created

@@ -2,12 +2,12 @@
 
 ghost use Rattle.msg_mail.specs.SignonLaws.{SignonsAreFound, SignonFaultsHavePlaces, SignonRepliesAreFound, SignonReplyFaultsHavePlaces};
 ghost use Rattle.msg_mail.specs.MailLaws.{MailsAreFound, MailFaultsHavePlaces, MailRepliesAreFound, MailReplyFaultsHavePlaces};
-ghost use Rattle.msg_bank.specs.DeedsAsDocuments.{DeedsAreDocuments, DeedRepliesAreDocuments};
+ghost use Rattle.msg_parts.specs.DeedDocuments.{DeedsAreDocuments, DeedRepliesAreDocuments};
 ghost use Rattle.msg_mail.specs.MailsAsDocuments.{MailsAreLawful, MailsReadBack, MailsReadBackAlone, MailRepliesAreLawful, MailRepliesReadBack, MailRepliesReadBackAlone};
 ghost use Rattle.msg_mail.specs.AsDocuments.{SignonsAreDocuments, SignonsAreLawful, SignonsReadBack, SignonRepliesAreDocuments, SignonRepliesAreLawful, SignonRepliesReadBack};
 
-use msg_bank::{
-    deed_replies_read_back, deeds_read_back, status_faults_have_places, statuses_are_found,
+use msg_parts::{
+    deed_replies_are_documents, deeds_are_documents, status_faults_have_places, statuses_are_found,
     statuses_read_back,
 };
 
@@ -80,7 +80,7 @@ pub fn mails_read_back()
     ensures read { MailsReadBack }
     ensures alone { MailsReadBackAlone }
 {
-    deeds_read_back();
+    deeds_are_documents();
 }
 
 /// What is written of a sound answer to a mail are lawful documents, and reads back as that answer wherever it stands.
@@ -90,5 +90,5 @@ pub fn mail_replies_read_back()
     ensures read { MailRepliesReadBack }
     ensures alone { MailRepliesReadBackAlone }
 {
-    deed_replies_read_back();
+    deed_replies_are_documents();
 }

@@ -9,7 +9,7 @@ ghost use Rattle.ofx_types.specs.ReplyReading.{signon_reply_of};
 ghost use Rattle.ofx_types.specs.ReplyForm.{signon_reply};
 ghost use Rattle.msg_mail.specs.SignonParts as parts;
 
-use msg_bank::{print_status, read_status};
+use msg_parts::{print_status, read_status};
 use ofx_tree::{Cursor, Sheet};
 use ofx_types::{Moment, OutOfMemory, Text, TreeFault};
 use std::alloc::Global;

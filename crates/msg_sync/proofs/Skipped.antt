@@ -11,7 +11,7 @@ use Rattle.ofx_types.specs.declared.sync.ObjectName.TheVariants.{Intra, RecIntra
 use Rattle.ofx_types.specs.declared.sync.SyncKind.{SyncKind}
 use Rattle.ofx_types.specs.declared.sync.SyncKind.TheVariants.{After, TokenOnly, Refresh}
 use Rattle.ofx_tree.specs.Documents.{Documents, leaf, branch, printed, leaf_item, branch_item, items_of}
-use Rattle.msg_bank.specs.AsDocuments.{account_documents}
+use Rattle.msg_parts.specs.AsDocuments.{account_documents}
 use Rattle.msg_sync.specs.Listing.{forms_of}
 use Rattle.msg_sync.specs.AsDocuments.{kind_document, plain_documents, object_document}
 use Rattle.msg_sync.proofs.Forms.{wanted}

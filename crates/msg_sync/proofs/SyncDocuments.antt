@@ -16,9 +16,10 @@ use Rattle.ofx_types.specs.declared.sync.SyncAsk.{SyncAsk}
 use Rattle.ofx_types.specs.declared.sync.SyncReply.{SyncReply}
 use Rattle.ofx_tree.specs.Documents.{Documents, leaf, printed, AreLawful, IsBranch}
 use Rattle.ofx_tree.proofs.Leaves.{flag_leaf}
-use Rattle.msg_bank.specs.DeedsAsDocuments.{DeedsAreDocuments, DeedsAreLawful, DeedRepliesAreLawful}
-use Rattle.msg_bank.proofs.Lawful.{named, is_branch, text_leaf, account_lawful}
-use Rattle.msg_bank.proofs.PrintedDocuments.{account_printed}
+use Rattle.msg_parts.specs.DeedDocuments.{DeedsAreDocuments}
+use Rattle.msg_deed.specs.AsDocuments.{DeedsAreLawful, DeedRepliesAreLawful}
+use Rattle.msg_parts.proofs.Lawful.{named, is_branch, text_leaf, account_lawful}
+use Rattle.msg_parts.proofs.Printed.{account_printed}
 use Rattle.msg_mail.specs.MailsAsDocuments.{MailsAreLawful, MailRepliesAreLawful}
 use Rattle.msg_sync.specs.Listing.{branches}
 use Rattle.msg_sync.specs.Sound.{IsSoundObject, IsSoundKind, IsSoundIn, IsSoundSync, IsSoundToldIn, IsSoundSyncReply}

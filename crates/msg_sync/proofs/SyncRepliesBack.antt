@@ -22,10 +22,10 @@ use Rattle.ofx_tree.specs.Documents.{Documents, leaf, branch, AreLawful, leaf_it
 use Rattle.ofx_tree.proofs.DocumentItems.{children_of_branch, named_of_branch}
 use Rattle.ofx_tree.proofs.FormLaws.{bind_to, bytes_self}
 use Rattle.ofx_tree.proofs.Leaves.{text_of_leaf, maybe_flag_of_leaf}
-use Rattle.msg_bank.specs.AsDocuments.{account_documents}
-use Rattle.msg_bank.specs.DeedsAsDocuments.{DeedRepliesReadBack}
-use Rattle.msg_bank.specs.Wire.{wire}
-use Rattle.msg_bank.proofs.Lawful.{named}
+use Rattle.msg_parts.specs.AsDocuments.{account_documents}
+use Rattle.msg_deed.specs.AsDocuments.{DeedRepliesReadBack}
+use Rattle.msg_deed.specs.Wire.{wire}
+use Rattle.msg_parts.proofs.Lawful.{named}
 use Rattle.msg_mail.specs.MailSound.{IsSoundMailByCode, IsSoundMailReply}
 use Rattle.msg_mail.specs.MailsAsDocuments.{MailRepliesReadBack}
 use Rattle.msg_sync.specs.Listing.{forms_of, branches}

@@ -20,7 +20,7 @@ use Rattle.ofx_types.specs.declared.sync.SyncAsk.{SyncAsk}
 use Rattle.ofx_tree.specs.Placed.{Stands, Any, IsWithin}
 use Rattle.ofx_tree.proofs.FormLaws.{bind_ok, bind_to, one_value, chosen, ok_guarded, bytes_same, one_of_found, one_of_again, has_one_of, text_found, text_again, flag_in_found, flag_in_again}
 use Rattle.ofx_tree.proofs.FormPlaces.{bound, either, one_of_within, flag_within, children_within}
-use Rattle.msg_bank.proofs.Named.{third_name}
+use Rattle.msg_parts.proofs.Named.{third_name}
 use Rattle.msg_sync.specs.Laws.{TransactionsAreFound, TransactionFaultsHavePlaces, sync_names, SyncsAreFound, SyncFaultsHavePlaces}
 use Rattle.msg_sync.specs.Steps.{is_name_of}
 use Rattle.msg_sync.proofs.Deeds.{deeds_are}

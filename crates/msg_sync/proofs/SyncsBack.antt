@@ -24,11 +24,12 @@ use Rattle.ofx_tree.specs.Documents.{Documents, leaf, branch, AreLawful, leaf_it
 use Rattle.ofx_tree.proofs.DocumentItems.{children_of_branch, named_of_branch, named_one_of_branch, value_of_leaf}
 use Rattle.ofx_tree.proofs.FormLaws.{bind_to, bytes_self, one_again, one_of_again}
 use Rattle.ofx_tree.proofs.Leaves.{flag_leaf, stands_of_leaf, flag_of_leaf}
-use Rattle.msg_bank.specs.AsDocuments.{account_documents}
-use Rattle.msg_bank.specs.DeedsAsDocuments.{DeedsReadBack}
-use Rattle.msg_bank.specs.Sound.{IsSoundDeed, IsSoundAccount}
-use Rattle.msg_bank.proofs.Lawful.{named, text_leaf}
-use Rattle.msg_bank.proofs.RequestsBack.{account_back}
+use Rattle.msg_parts.specs.AsDocuments.{account_documents}
+use Rattle.msg_deed.specs.AsDocuments.{DeedsReadBack}
+use Rattle.msg_deed.specs.Sound.{IsSoundDeed}
+use Rattle.msg_parts.specs.Sound.{IsSoundAccount}
+use Rattle.msg_parts.proofs.Lawful.{named, text_leaf}
+use Rattle.msg_parts.proofs.ReadBack.{account_back}
 use Rattle.msg_mail.specs.MailSound.{IsSoundMailDeed}
 use Rattle.msg_mail.specs.MailsAsDocuments.{MailsReadBack}
 use Rattle.msg_sync.specs.Listing.{forms_of, branches}

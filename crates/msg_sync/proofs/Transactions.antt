@@ -19,7 +19,7 @@ use Rattle.ofx_types.specs.declared.transfer.DeedReply.{DeedReply}
 use Rattle.ofx_tree.specs.Placed.{Any}
 use Rattle.ofx_tree.proofs.FormLaws.{chosen, has_one_of}
 use Rattle.ofx_tree.proofs.FormPlaces.{either}
-use Rattle.msg_bank.specs.Laws.{deed_names, deed_reply_names, DeedsAreFound, DeedFaultsHavePlaces, DeedRepliesAreFound, DeedReplyFaultsHavePlaces}
+use Rattle.msg_deed.specs.Laws.{deed_names, deed_reply_names, DeedsAreFound, DeedFaultsHavePlaces, DeedRepliesAreFound, DeedReplyFaultsHavePlaces}
 use Rattle.msg_mail.specs.MailLaws.{mail_deed_names, mail_reply_names, MailsAreFound, MailFaultsHavePlaces, MailRepliesAreFound, MailReplyFaultsHavePlaces}
 use Rattle.msg_sync.specs.Laws.{TransactionsAreFound, TransactionFaultsHavePlaces, TransactionRepliesAreFound, TransactionReplyFaultsHavePlaces}
 

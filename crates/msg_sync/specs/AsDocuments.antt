@@ -17,9 +17,9 @@ use Rattle.ofx_types.specs.declared.sync.SyncKind.TheVariants.{After, TokenOnly,
 use Rattle.ofx_types.specs.declared.sync.SyncAsk.{SyncAsk}
 use Rattle.ofx_types.specs.declared.sync.SyncReply.{SyncReply}
 use Rattle.ofx_tree.specs.Documents.{Documents, leaf, branch, printed, AreLawful, branch_item}
-use Rattle.msg_bank.specs.AsDocuments.{account_documents}
-use Rattle.msg_bank.specs.DeedsAsDocuments.{deed_documents, deed_reply_documents}
-use Rattle.msg_bank.specs.Wire.{wire}
+use Rattle.msg_parts.specs.AsDocuments.{account_documents}
+use Rattle.msg_parts.specs.DeedDocuments.{deed_documents, deed_reply_documents}
+use Rattle.msg_deed.specs.Wire.{wire}
 use Rattle.msg_sync.specs.Listing.{branches}
 use Rattle.msg_sync.specs.Sound.{IsSoundTransaction, IsSoundAnswer, IsSoundSync, IsSoundSyncReply, wire_sync}
 

@@ -5,7 +5,7 @@ use Rattle.ofx_types.specs.Calendar.{IsMoment}
 use Rattle.ofx_types.specs.declared.transfer.Deed.{Deed}
 use Rattle.ofx_types.specs.declared.transfer.Deed.TheVariants.{Transfer, ModifyTransfer, CancelTransfer, Model, ModifyModel, CancelModel, BankMail, Mail}
 use Rattle.ofx_types.specs.declared.sync.SyncAsk.{SyncAsk}
-use Rattle.msg_bank.specs.Deeds.{IsPrintableDeed}
+use Rattle.msg_deed.specs.Deeds.{IsPrintableDeed}
 
 -- A mail was written in the years 1900 to 9999, and the due day of any other deed, if one is said, lies in them.
 abbrev pub IsPrintableTransaction : Deed → Type 0

@@ -13,8 +13,9 @@ use Rattle.ofx_types.specs.declared.sync.SyncKind.{SyncKind}
 use Rattle.ofx_types.specs.declared.sync.SyncKind.TheVariants.{After, TokenOnly, Refresh}
 use Rattle.ofx_types.specs.declared.sync.SyncAsk.{SyncAsk}
 use Rattle.ofx_types.specs.declared.sync.SyncReply.{SyncReply}
-use Rattle.msg_bank.specs.Sound.{IsTextWithin, IsSoundAccount, IsSoundDeedRequest, IsSoundDeedReply}
-use Rattle.msg_bank.specs.Wire.{wire}
+use Rattle.msg_parts.specs.Sound.{IsTextWithin, IsSoundAccount}
+use Rattle.msg_deed.specs.Sound.{IsSoundDeedRequest, IsSoundDeedReply}
+use Rattle.msg_deed.specs.Wire.{wire}
 use Rattle.msg_mail.specs.MailSound.{IsSoundMailRequest, IsSoundMailReply}
 
 -- a transfer, a recurring transfer or a mail

@@ -3,7 +3,7 @@
 ghost use Rattle.msg_sync.specs.Laws.{TransactionsAreFound, TransactionFaultsHavePlaces, TransactionRepliesAreFound, TransactionReplyFaultsHavePlaces, SyncsAreFound, SyncFaultsHavePlaces, SyncRepliesAreFound, SyncReplyFaultsHavePlaces};
 ghost use Rattle.msg_sync.specs.AsDocuments.{TransactionsAreDocuments, TransactionsAreLawful, TransactionsReadBack, AnswersAreDocuments, AnswersAreLawful, AnswersReadBack, SyncsAreDocuments, SyncsAreLawful, SyncsReadBack, SyncRepliesAreDocuments, SyncRepliesAreLawful, SyncRepliesReadBack};
 
-use msg_bank::{
+use msg_deed::{
     deed_faults_have_places, deed_replies_are_found, deed_replies_read_back,
     deed_reply_faults_have_places, deeds_are_found, deeds_read_back,
 };

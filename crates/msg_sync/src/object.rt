@@ -6,7 +6,7 @@ ghost use Rattle.ofx_types.specs.SyncForm.{object_family};
 ghost use Rattle.ofx_types.specs.SyncReading as reading;
 ghost use Rattle.ofx_types.specs.PrintedSync as text;
 
-use msg_bank::{print_account, read_account_in};
+use msg_parts::{print_account, read_account_in};
 use ofx_tree::{Cursor, Sheet};
 use ofx_types::{Family, ObjectName, OutOfMemory, TreeFault};
 use std::alloc::Global;

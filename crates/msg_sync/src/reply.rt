@@ -15,7 +15,7 @@ ghost use Rattle.msg_sync.specs.Steps as steps;
 use crate::listing::put_form;
 use crate::object::{family_of, print_object, read_object};
 use crate::transaction::{print_transaction_reply, read_transaction_reply};
-use msg_bank::{print_flag, reply_name};
+use msg_parts::{print_flag, reply_name};
 use ofx_tree::{Cursor, Sheet};
 use ofx_types::{DeedReplies, DeedReply, Family, OutOfMemory, SyncReply, TreeFault};
 use std::alloc::Global;

@@ -16,7 +16,7 @@ ghost use Rattle.msg_sync.specs.Printable.{IsPrintablePair, IsPrintableSync};
 use crate::listing::put_form;
 use crate::object::{family_of, print_object, read_object};
 use crate::transaction::{print_transaction, read_transaction};
-use msg_bank::print_flag;
+use msg_parts::print_flag;
 use ofx_tree::{Cursor, Sheet};
 use ofx_types::{Deed, Deeds, Family, OutOfMemory, SyncAsk, SyncKind, TreeFault, TrnUid};
 use std::alloc::Global;

@@ -8,7 +8,7 @@ ghost use Rattle.ofx_types.specs.SyncReading.{transaction_of, transaction_reply_
 ghost use Rattle.ofx_types.specs.DeedText.{deed_text, deed_reply_text};
 ghost use Rattle.msg_sync.specs.Printable.{IsPrintableTransaction};
 
-use msg_bank::{print_deed, print_reply, read_deed, read_reply};
+use msg_deed::{print_deed, print_reply, read_deed, read_reply};
 use msg_mail::{mail_print_deed, mail_print_reply, mail_read_deed, mail_read_reply};
 use ofx_tree::{Cursor, Sheet};
 use ofx_types::{Change, Deed, DeedReply, OutOfMemory, TreeFault, TrnUid};

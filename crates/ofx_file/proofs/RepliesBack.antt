@@ -24,10 +24,10 @@ use Rattle.ofx_tree.specs.Documents.{Documents, empty, branch, printed, AreLawfu
 use Rattle.ofx_tree.proofs.DocumentItems.{named_of_branch}
 use Rattle.ofx_tree.proofs.FormLaws.{bind_to, one_again}
 use Rattle.ofx_header.specs.HeaderLaws.{WrittenIsSpelled}
-use Rattle.msg_bank.specs.AsDocuments.{reply_documents, StatementRepliesAreDocuments, StatementRepliesAreLawful, StatementRepliesReadBack}
-use Rattle.msg_bank.specs.DeedsAsDocuments.{deed_reply_documents}
-use Rattle.msg_bank.specs.Wire.{wire}
-use Rattle.msg_bank.proofs.Lawful.{is_branch}
+use Rattle.msg_statement.specs.AsDocuments.{reply_documents, StatementRepliesAreDocuments, StatementRepliesAreLawful, StatementRepliesReadBack}
+use Rattle.msg_parts.specs.DeedDocuments.{deed_reply_documents}
+use Rattle.msg_deed.specs.Wire.{wire}
+use Rattle.msg_parts.proofs.Lawful.{is_branch}
 use Rattle.msg_mail.specs.AsDocuments.{signon_reply_documents, SignonRepliesAreDocuments, SignonRepliesAreLawful, SignonRepliesReadBack}
 use Rattle.msg_sync.specs.Steps.{is_name_of}
 use Rattle.msg_sync.specs.Sound.{wire_sync}

@@ -21,7 +21,7 @@ use Rattle.ofx_types.specs.declared.sync.SyncReply.{SyncReply}
 use Rattle.ofx_types.specs.declared.reply.AskReply.{AskReply}
 use Rattle.ofx_types.specs.declared.reply.AskReply.TheVariants.{Statement, One, Sync}
 use Rattle.ofx_tree.proofs.FormLaws.{bind_ok, bind_to, one_value, chosen, bytes_same, one_found, one_again}
-use Rattle.msg_bank.specs.Laws.{StatementRepliesAreFound}
+use Rattle.msg_statement.specs.Laws.{StatementRepliesAreFound}
 use Rattle.msg_mail.specs.SignonLaws.{SignonRepliesAreFound}
 use Rattle.msg_sync.specs.Laws.{TransactionRepliesAreFound, sync_reply_names, SyncRepliesAreFound}
 use Rattle.msg_sync.proofs.Forms.{AreRead}

@@ -21,7 +21,7 @@ use Rattle.ofx_types.specs.declared.sync.SyncAsk.{SyncAsk}
 use Rattle.ofx_types.specs.declared.request.Ask.{Ask}
 use Rattle.ofx_types.specs.declared.request.Ask.TheVariants.{Statement, One, Sync}
 use Rattle.ofx_tree.proofs.FormLaws.{bind_ok, bind_to, one_value, chosen, bytes_same, one_found, one_again}
-use Rattle.msg_bank.specs.Laws.{StatementsAreFound}
+use Rattle.msg_statement.specs.Laws.{StatementsAreFound}
 use Rattle.msg_mail.specs.SignonLaws.{SignonsAreFound}
 use Rattle.msg_sync.specs.Laws.{TransactionsAreFound, sync_names, SyncsAreFound}
 use Rattle.msg_sync.proofs.Forms.{AreRead}

@@ -14,8 +14,8 @@ use Rattle.ofx_types.specs.declared.request.RequestFile.{RequestFile}
 use Rattle.ofx_types.specs.declared.reply.AskReply.{AskReply}
 use Rattle.ofx_types.specs.declared.reply.AskReply.TheVariants as replies
 use Rattle.ofx_types.specs.declared.reply.ReplyFile.{ReplyFile}
-use Rattle.msg_bank.specs.Sound.{IsSoundStatement, IsSoundReply}
-use Rattle.msg_bank.specs.Wire.{wire}
+use Rattle.msg_statement.specs.Sound.{IsSoundStatement, IsSoundReply}
+use Rattle.msg_deed.specs.Wire.{wire}
 use Rattle.msg_mail.specs.AsDocuments.{IsSoundSignon, IsSoundSignonReply}
 use Rattle.msg_sync.specs.Sound.{IsSoundTransaction, IsSoundAnswer, IsSoundSync, IsSoundSyncReply, wire_sync}
 use Rattle.ofx_file.specs.declared.messages.MessageSet.TheVariants.{Bank, Mail}

@@ -8,7 +8,7 @@ ghost use Rattle.ofx_file.specs.SoundFiles.{SpelledFilesAreSound};
 ghost use Rattle.ofx_file.specs.Printable.{SoundFilesArePrintable, SpelledRepliesArePrintable};
 ghost use Rattle.ofx_file.specs.Written.{FilesReadBack, RepliesReadBack};
 
-use msg_bank::{
+use msg_statement::{
     statement_faults_have_places, statement_replies_are_found, statement_replies_read_back,
     statement_reply_faults_have_places, statements_are_found, statements_read_back,
 };

@@ -13,7 +13,7 @@ ghost use Rattle.ofx_types.specs.DeedText.{deed_reply_text};
 ghost use Rattle.msg_mail.specs.MailParts.{IsMail};
 
 use crate::mail::text::{print_mail, read_user_mail_in};
-use msg_bank::{
+use msg_parts::{
     print_account, print_status, print_trnuid, read_account_in, read_status, read_trnuid,
     reply_name,
 };
@@ -100,7 +100,7 @@ fn read_plain_row(alloc: Global, transaction: &Cursor<'_>) -> Result<Change, Tre
 }
 
 /// Writes the answer to a mail. It has a mail exactly where its code is 0, which was written in the years 1900 to 9999.
-#[tactic(auto, unfolding(ofx_types::specs::DeedText::deed_reply_text), using(msg_bank::proofs::Joined::joined))]
+#[tactic(auto, unfolding(ofx_types::specs::DeedText::deed_reply_text), using(msg_parts::proofs::Joined::joined))]
 pub fn mail_print_reply(r: &DeedReply, out: &mut Sheet) -> Result<(), OutOfMemory>
     requires by_code { HasChangeByCode r.now.code r.now.change }
     requires mail { IfSome r.now.change IsMail }
@@ -152,7 +152,7 @@ fn print_row(row: &MailRow, sheet: &mut Sheet) -> Result<(), OutOfMemory>
     }
 }
 
-#[tactic(auto, unfolding(ofx_types::specs::PrintedMail::mail_row_about), using(msg_bank::proofs::Joined::joined))]
+#[tactic(auto, unfolding(ofx_types::specs::PrintedMail::mail_row_about), using(msg_parts::proofs::Joined::joined))]
 fn print_bank_row(account: &AcctName, row: &MailRow, sheet: &mut Sheet) -> Result<(), OutOfMemory>
     requires { IsMoment row.now.mail.created.0 }
     ensures { OnOk result (sheet.new ≡ sheet.old ++ form.mail_row_about (Some account.now) row.now) }
@@ -163,7 +163,7 @@ fn print_bank_row(account: &AcctName, row: &MailRow, sheet: &mut Sheet) -> Resul
     sheet.end(b"BANKMAILRS")
 }
 
-#[tactic(auto, unfolding(ofx_types::specs::PrintedMail::mail_row_about), using(msg_bank::proofs::Joined::joined))]
+#[tactic(auto, unfolding(ofx_types::specs::PrintedMail::mail_row_about), using(msg_parts::proofs::Joined::joined))]
 fn print_plain_row(row: &MailRow, sheet: &mut Sheet) -> Result<(), OutOfMemory>
     requires { IsMoment row.now.mail.created.0 }
     ensures { OnOk result (sheet.new ≡ sheet.old ++ form.mail_row_about None row.now) }

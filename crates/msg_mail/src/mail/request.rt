@@ -10,7 +10,7 @@ ghost use Rattle.ofx_types.specs.DeedText.{deed_text};
 ghost use Rattle.msg_mail.specs.MailParts.{IsPrintableMail};
 
 use crate::mail::text::{print_mail, read_mail_in};
-use msg_bank::{print_account, print_trnuid, read_account_in, read_own_trnuid, request_name};
+use msg_parts::{print_account, print_trnuid, read_account_in, read_own_trnuid, request_name};
 use ofx_tree::{Cursor, Sheet};
 use ofx_types::{AcctName, Deed, MailText, OutOfMemory, TreeFault, TrnUid};
 use std::alloc::Global;
@@ -58,7 +58,7 @@ fn read_plain_mail(alloc: Global, transaction: &Cursor<'_>) -> Result<Deed, Tree
 }
 
 /// Writes the request of a mail, which was written in the years 1900 to 9999.
-#[tactic(auto, unfolding(ofx_types::specs::DeedText::deed_text), using(msg_bank::proofs::Joined::joined))]
+#[tactic(auto, unfolding(ofx_types::specs::DeedText::deed_text), using(msg_parts::proofs::Joined::joined))]
 pub fn mail_print_deed(trnuid: &TrnUid, deed: &Deed, out: &mut Sheet) -> Result<(), OutOfMemory>
     requires { IsPrintableMail deed.now }
     ensures { OnOk result (out.new ≡ out.old ++ deed_text trnuid.now deed.now) }
@@ -86,7 +86,7 @@ fn print_request(deed: &Deed, sheet: &mut Sheet) -> Result<(), OutOfMemory>
 }
 
 /// Writes the request to send a mail about an account. USERID has the text of FROM.
-#[tactic(auto, unfolding(ofx_types::specs::DeedText::request_text, ofx_types::specs::PrintedMail::bank_mail_text), using(msg_bank::proofs::Joined::joined))]
+#[tactic(auto, unfolding(ofx_types::specs::DeedText::request_text, ofx_types::specs::PrintedMail::bank_mail_text), using(msg_parts::proofs::Joined::joined))]
 fn print_bank_mail(
     account: &AcctName,
     mail: &MailText,
@@ -102,7 +102,7 @@ fn print_bank_mail(
 }
 
 /// Writes the request to send a mail about nothing in particular. USERID has the text of FROM.
-#[tactic(auto, unfolding(ofx_types::specs::DeedText::request_text, ofx_types::specs::PrintedMail::plain_mail_text), using(msg_bank::proofs::Joined::joined))]
+#[tactic(auto, unfolding(ofx_types::specs::DeedText::request_text, ofx_types::specs::PrintedMail::plain_mail_text), using(msg_parts::proofs::Joined::joined))]
 fn print_plain_mail(mail: &MailText, sheet: &mut Sheet) -> Result<(), OutOfMemory>
     requires { IsMoment mail.now.created.0 }
     ensures { OnOk result (sheet.new ≡ sheet.old ++ text.request_text (Deed.Mail mail.now)) }

@@ -64,7 +64,7 @@ fn header_of(reply: &ReplyFile) -> Result<Header, OutOfMemory>
 }
 
 /// Appends what stands behind the header.
-#[tactic(auto, using(msg_bank::proofs::Joined::aggregate_of_three))]
+#[tactic(auto, using(msg_parts::proofs::Joined::aggregate_of_three))]
 fn body(reply: &ReplyFile, sheet: &mut Sheet) -> Result<(), OutOfMemory>
     requires { IsPrintable reply.now }
     ensures { OnOk result (sheet.new ≡ sheet.old ++ parts.reply_body reply.now) }

@@ -48,7 +48,7 @@ fn header_of(file: &RequestFile) -> Result<Header, OutOfMemory>
 }
 
 /// Appends what stands behind the header.
-#[tactic(auto, using(msg_bank::proofs::Joined::aggregate_of_three))]
+#[tactic(auto, using(msg_parts::proofs::Joined::aggregate_of_three))]
 fn body(file: &RequestFile, at: Moment, sheet: &mut Sheet) -> Result<(), OutOfMemory>
     requires { IsPrintableFile file.now at }
     ensures { OnOk result (sheet.new ≡ sheet.old ++ parts.request_body file.now at) }

@@ -4,5 +4,5 @@ use Rattle.msg_mail.proofs.laws.mail_replies_read_back.Goals as goal
 
 pub returns : goal.returns
 returns c =
-    let written = c.deed_replies_read_back.ensures.written in
+    let written = c.deed_replies_are_documents.ensures in
     record { written = written; lawful = mail_replies_lawful; read = mail_replies_back; alone = mail_replies_alone written }

@@ -4,5 +4,5 @@ use Rattle.msg_mail.proofs.laws.mails_read_back.Goals as goal
 
 pub returns : goal.returns
 returns c =
-    let written = c.deeds_read_back.ensures.written in
+    let written = c.deeds_are_documents.ensures in
     record { written = written; lawful = mails_lawful; read = mails_back; alone = mails_alone written }

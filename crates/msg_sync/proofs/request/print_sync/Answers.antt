@@ -2,7 +2,7 @@ use Rattle.std.proofs.Common.{◌≡◌, ℕ, List, ◌++◌, Result, OnOk, sym,
 use Rattle.ofx_types.specs.Sheet.{start_line, end_line, aggregate}
 use Rattle.ofx_types.specs.SyncForm.{sync_name}
 use Rattle.ofx_types.specs.PrintedSync.{sync_text}
-use Rattle.msg_bank.proofs.Joined.{behind, aggregate_of}
+use Rattle.msg_parts.proofs.Joined.{behind, aggregate_of}
 use Rattle.msg_sync.proofs.request.print_sync.Goals as goal
 
 -- an aggregate with five parts

@@ -1,5 +1,0 @@
-use Rattle.msg_bank.proofs.DeedReplies.{reply_again, reply_found}
-use Rattle.msg_bank.proofs.laws.deed_replies_are_found.Goals as goal
-
-pub returns : goal.returns
-returns c = λ item reply named. (reply_again item reply named, reply_found item reply named)

@@ -1,5 +1,0 @@
-use Rattle.msg_bank.proofs.Replies.{reply_again, reply_found}
-use Rattle.msg_bank.proofs.laws.statement_replies_are_found.Goals as goal
-
-pub returns : goal.returns
-returns c = λ item reply. (reply_again item reply, reply_found item reply)

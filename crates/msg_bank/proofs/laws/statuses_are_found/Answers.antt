@@ -1,5 +1,0 @@
-use Rattle.msg_bank.proofs.Statuses.{status_again, status_found}
-use Rattle.msg_bank.proofs.laws.statuses_are_found.Goals as goal
-
-pub returns : goal.returns
-returns c = λ parent code. (status_again parent code, status_found parent code)

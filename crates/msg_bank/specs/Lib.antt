@@ -1,8 +1,0 @@
-pub mod Steps
-pub mod Laws
-pub mod Sound
-pub mod AsDocuments
-pub mod MailDocuments
-pub mod Wire
-pub mod DeedsAsDocuments
-pub mod Deeds

@@ -1,0 +1,14 @@
+mod DueDays
+mod TransferParts
+mod RecurringParts
+mod Recurs
+mod TransferRequests
+mod ModelRequests
+mod Deeds
+mod TransferReplies
+mod ModelReplies
+mod DeedReplies
+mod Lawful
+mod DeedsBack
+mod DeedRepliesBack
+mod DeedsAlone

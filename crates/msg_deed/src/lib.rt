@@ -1,0 +1,19 @@
+//! Deeds, which are transfers and recurring transfers, and the answers to them, read from a tape and written on a sheet
+//! (OFX 1.6, "Intrabank Funds Transfer", "Recurring Transactions").
+//!
+//! What is read is the message that stands there, or the first fault of its form with that fault's place. What is
+//! written is the message's one printed form.
+#![tactic(auto)]
+
+mod laws;
+mod recurring;
+mod reply;
+mod request;
+mod transfer;
+
+pub use laws::{
+    deed_faults_have_places, deed_replies_are_found, deed_replies_read_back,
+    deed_reply_faults_have_places, deeds_are_found, deeds_read_back,
+};
+pub use reply::{print_reply, read_reply};
+pub use request::{print_deed, read_deed};

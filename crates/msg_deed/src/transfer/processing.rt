@@ -1,0 +1,73 @@
+//! How far a transfer is (XFERPRCSTS), read and written.
+
+ghost use Rattle.std.specs.Prelude.{◌≡◌, ◌++◌, OnOk};
+ghost use Rattle.ofx_types.specs.Calendar.{IsMoment};
+ghost use Rattle.ofx_types.specs.FormWords.{Gives};
+ghost use Rattle.ofx_types.specs.TransferForm.{code_word};
+ghost use Rattle.ofx_types.specs.TransferReading as reading;
+ghost use Rattle.ofx_types.specs.TransferText as form;
+
+use ofx_tree::{Cursor, Sheet};
+use ofx_types::{Moment, OutOfMemory, TreeFault, XferCode};
+
+/// How far the transfer of a reply is, and since when or until when.
+#[tactic(auto, unfolding(ofx_types::specs::TransferReading::processing_in))]
+pub(crate) fn read_processing_in(parent: &Cursor<'_>) -> Result<(XferCode, Moment), TreeFault>
+    ensures { Gives result (reading.processing_in parent.now) }
+{
+    let xferprcsts = parent.one(b"XFERPRCSTS")?;
+    read_processing(&xferprcsts)
+}
+
+#[tactic(auto, unfolding(ofx_types::specs::TransferReading::processing_of))]
+fn read_processing(xferprcsts: &Cursor<'_>) -> Result<(XferCode, Moment), TreeFault>
+    ensures { Gives result (reading.processing_of xferprcsts.now) }
+{
+    let code = code_at(&xferprcsts.one(b"XFERPRCCODE")?)?;
+    let stamp = xferprcsts.moment(b"DTXFERPRC")?;
+    Ok((code, stamp))
+}
+
+/// The code that an element says. A cancelled transfer has a reply of its own, and no code.
+fn code_at(word: &Cursor<'_>) -> Result<XferCode, TreeFault>
+    ensures { result ≡ reading.code_at word.now.node }
+{
+    if word.value_eq(b"WILLPROCESSON") {
+        return Ok(XferCode::Waiting);
+    }
+    if word.value_eq(b"POSTEDON") {
+        return Ok(XferCode::Posted);
+    }
+    if word.value_eq(b"NOFUNDSON") {
+        return Ok(XferCode::NoFunds);
+    }
+    Err(TreeFault::Value(word.place() as u64))
+}
+
+/// Writes how far a transfer is.
+#[tactic(auto, unfolding(ofx_types::specs::TransferText::processing_text), using(msg_parts::proofs::Joined::joined))]
+pub(crate) fn print_processing(
+    code: XferCode,
+    stamp: Moment,
+    sheet: &mut Sheet,
+) -> Result<(), OutOfMemory>
+    requires { IsMoment stamp.0 }
+    ensures { OnOk result (sheet.new ≡ sheet.old ++ form.processing_text code stamp) }
+{
+    sheet.start(b"XFERPRCSTS")?;
+    sheet.element(b"XFERPRCCODE", word_of(code))?;
+    sheet.moment(b"DTXFERPRC", stamp)?;
+    sheet.end(b"XFERPRCSTS")
+}
+
+/// The word of a code.
+fn word_of(code: XferCode) -> &'static [u8]
+    ensures { result.now ≡ code_word code }
+{
+    match code {
+        XferCode::Waiting => b"WILLPROCESSON",
+        XferCode::Posted => b"POSTEDON",
+        XferCode::NoFunds => b"NOFUNDSON",
+        XferCode::Cancelled => b"CANCELEDON",
+    }
+}

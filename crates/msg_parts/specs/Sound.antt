@@ -1,0 +1,46 @@
+-- What all messages have in common and reads back as it was written: values within the limits of their elements.
+use Rattle.std.specs.Prelude.{ℕ, ◌<◌, ◌≤◌, List, length, Option, None, Some, unsigned_abs}
+use Rattle.ofx_types.specs.Calendar.{IsMoment}
+use Rattle.ofx_types.specs.TextRules.{IsText}
+use Rattle.ofx_types.specs.declared.account.AcctName.{AcctName}
+use Rattle.ofx_types.specs.declared.number.Cents.{Cents}
+use Rattle.ofx_types.specs.declared.number.Moment.{Moment}
+use Rattle.ofx_types.specs.declared.transfer.Change.{Change}
+use Rattle.ofx_types.specs.declared.transfer.Change.TheVariants.{NewTransfer, SetTransfer, DropTransfer, NewModel, SetModel, DropModel, NewMail}
+use Rattle.ofx_types.specs.declared.transfer.Family.{Family}
+use Rattle.ofx_types.specs.declared.transfer.Family.TheVariants.{Intra, RecIntra, BankMail, Mail}
+
+-- a text of 1 byte up to the limit
+pub record IsTextWithin (most : ℕ) (text : List ℕ) : Type 0 where
+  pub is_text : IsText text
+  pub is_there : 0 < length text
+  pub is_within : length text ≤ most
+
+-- a moment of the years 1900 to 9999
+abbrev pub IsSoundMoment : Moment → Type 0
+IsSoundMoment moment = IsMoment moment.0
+
+-- an amount of at most 99,999,999,999.99
+abbrev pub IsSoundAmount : Cents → Type 0
+IsSoundAmount amount = unsigned_abs amount.0 ≤ 9999999999999
+
+pub record IsSoundAccount (account : AcctName) : Type 0 where
+  pub bank : IsTextWithin 32 account.bank
+  pub number : IsTextWithin 32 account.number
+
+-- ---- deeds
+
+-- Mail about an account stands apart from other mail.
+abbrev pub mail_family : Option AcctName → Family
+mail_family None = Mail
+mail_family (Some account) = BankMail
+
+-- what a change belongs to
+abbrev pub family_of_change : Change → Family
+family_of_change (NewTransfer row) = Intra
+family_of_change (SetTransfer row) = Intra
+family_of_change (DropTransfer id) = Intra
+family_of_change (NewModel row) = RecIntra
+family_of_change (SetModel row pending) = RecIntra
+family_of_change (DropModel id pending) = RecIntra
+family_of_change (NewMail row) = mail_family row.about

@@ -1,0 +1,24 @@
+//! The parts that the bank's messages and messages of mail have in common, read from a tape and written on a sheet:
+//! accounts, statuses, the uids of transactions, flags, and the names of transactions (OFX 1.6, "Common Aggregates,
+//! Elements, and Data Types").
+//!
+//! What is read is the part that stands there, or the first fault of its form with that fault's place. What is written is
+//! the part's one printed form.
+#![tactic(auto)]
+
+mod account;
+mod flag;
+mod laws;
+mod status;
+mod transaction;
+mod trnuid;
+
+pub use account::{print_account, print_destination, read_account, read_account_in};
+pub use flag::print_flag;
+pub use laws::{
+    deed_replies_are_documents, deeds_are_documents, status_faults_have_places, statuses_are_found,
+    statuses_read_back,
+};
+pub use status::{print_status, read_status};
+pub use transaction::{reply_name, request_name};
+pub use trnuid::{print_trnuid, read_own_trnuid, read_trnuid};

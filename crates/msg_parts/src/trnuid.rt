@@ -1,0 +1,81 @@
+//! The uid that a client gives to a transaction (TRNUID), read and written.
+
+ghost use Rattle.std.specs.Prelude.{◌≡◌, ◌++◌, OnOk, codes};
+ghost use Rattle.ofx_types.specs.TextRules.{trimmed};
+ghost use Rattle.ofx_types.specs.ValueForm.{value_of};
+ghost use Rattle.ofx_types.specs.FormWords.{Gives, text_in};
+ghost use Rattle.ofx_types.specs.RequestReading as reading;
+ghost use Rattle.ofx_types.specs.Sheet.{element};
+ghost use Rattle.msg_parts.specs.Steps as steps;
+
+use ofx_tape::value_into;
+use ofx_tree::{Cursor, Sheet};
+use ofx_types::{OutOfMemory, TextFault, TreeFault, TrnUid};
+use std::alloc::Global;
+
+/// The most bytes of a uid.
+const MOST: u32 = 36;
+
+/// The uid of a request's wrapper, 1 to 36 bytes. `0` marks what the bank does by itself, and is a fault.
+///
+/// `Missing`, `Repeated` or `Value` with its place; `OutOfMemory` where memory to decode its entities is refused.
+pub fn read_own_trnuid(alloc: Global, wrapper: &Cursor<'_>) -> Result<TrnUid, TreeFault>
+    ensures { Gives result (reading.trnuid_of wrapper.now) }
+{
+    let child = wrapper.one(b"TRNUID")?;
+    let place = child.place() as u64;
+    unless_zero(trnuid_at(alloc, child.value(), place)?, place)
+}
+
+/// The uid of a reply's wrapper, 1 to 36 bytes.
+///
+/// `Missing`, `Repeated` or `Value` with its place; `OutOfMemory` where memory to decode its entities is refused.
+#[tactic(auto, unfolding(ofx_types::specs::FormWords::text_in, crate::specs::Steps::trnuid_at))]
+pub fn read_trnuid(alloc: Global, wrapper: &Cursor<'_>) -> Result<TrnUid, TreeFault>
+    ensures { Gives result (text_in (codes "TRNUID") 36 wrapper.now) }
+{
+    let child = wrapper.one(b"TRNUID")?;
+    trnuid_at(alloc, child.value(), child.place() as u64)
+}
+
+/// The uid that a value at a place stands for. It takes memory only where a `&` stands in the value.
+#[tactic(auto, using(crate::proofs::Uids::refused_uids))]
+fn trnuid_at(alloc: Global, value: &[u8], place: u64) -> Result<TrnUid, TreeFault>
+    ensures { Gives result (steps.trnuid_at place (value_of value.now)) }
+{
+    if !value.contains(&b'&') {
+        return plain_trnuid(value, place);
+    }
+    match value_into(alloc, value, MOST) {
+        Ok(text) => plain_trnuid(text.as_bytes(), place),
+        Err(TextFault::OutOfMemory) => Err(TreeFault::OutOfMemory),
+        Err(_) => Err(TreeFault::Value(place)),
+    }
+}
+
+/// The uid that bytes without entities are.
+#[tactic(auto, using(crate::proofs::Uids::plain_uids))]
+fn plain_trnuid(bytes: &[u8], place: u64) -> Result<TrnUid, TreeFault>
+    ensures { result ≡ steps.trnuid_at place (trimmed bytes.now) }
+{
+    match TrnUid::new(bytes) {
+        Ok(uid) => Ok(uid),
+        Err(_) => Err(TreeFault::Value(place)),
+    }
+}
+
+fn unless_zero(uid: TrnUid, place: u64) -> Result<TrnUid, TreeFault>
+    ensures { result ≡ reading.unless_zero place uid }
+{
+    if uid.as_bytes() == b"0".as_slice() {
+        return Err(TreeFault::Value(place));
+    }
+    Ok(uid)
+}
+
+/// Writes the uid of a wrapper.
+pub fn print_trnuid(trnuid: &TrnUid, sheet: &mut Sheet) -> Result<(), OutOfMemory>
+    ensures { OnOk result (sheet.new ≡ sheet.old ++ element (codes "TRNUID") trnuid.now) }
+{
+    sheet.element(b"TRNUID", trnuid.as_bytes())
+}

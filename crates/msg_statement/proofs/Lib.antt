@@ -1,0 +1,10 @@
+mod Lawful
+mod PrintedDocuments
+mod RequestsBack
+mod RepliesBack
+mod Alone
+mod StatementLaws
+mod StatementPlaces
+mod LineSteps
+mod Lists
+mod Replies

@@ -1,0 +1,17 @@
+//! Statements: what asks for one, and the replies, read from a tape and written on a sheet (OFX 1.6, "Statement Download").
+//!
+//! What is read is the message that stands there, or the first fault of its form with that fault's place. What is
+//! written is the message's one printed form.
+#![tactic(auto)]
+
+mod laws;
+mod list;
+mod reply;
+mod request;
+
+pub use laws::{
+    statement_faults_have_places, statement_replies_are_found, statement_replies_read_back,
+    statement_reply_faults_have_places, statements_are_found, statements_read_back,
+};
+pub use reply::{print_statement_reply, read_statement_reply};
+pub use request::{print_statement, read_statement};
