@@ -1,0 +1,4 @@
+pub mod FieldLemmas
+pub mod TargetLemmas
+pub mod HeadLemmas
+pub mod TextLemmas
