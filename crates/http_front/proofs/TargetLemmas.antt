@@ -33,7 +33,7 @@ space_is method rest all =
 token_test : (method : List ℕ) → IsToken method → is_token method ≡ true
 token_test method token = and_from _ _ (lt-ltb _ _ token.0) (list_all-from_AllPass is_token_byte method token.1)
 
-token_from : (method : List ℕ) → is_token method ≡ true → IsToken method
+pub token_from : (method : List ℕ) → is_token method ≡ true → IsToken method
 token_from method test = let both = and_parts _ _ test in (ltb-true _ _ both.0, AllPass-from_list_all is_token_byte method both.1)
 
 behind : (method target : List ℕ) → drop (length method + 1) (method ++ 32 ∷ target) ≡ target
