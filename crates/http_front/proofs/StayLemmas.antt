@@ -1,11 +1,11 @@
 -- Bytes that are bad stay so.
-use Rattle.std.proofs.Common.{◌≡◌, ℕ, ◌+◌, ◌-◌, ◌<◌, ◌≤◌, ◌⊎◌, inl, inr, List, [], ◌++◌, length, take, drop, refl, sym, ap, ◌∙◌, arith, length-append, append-nil}
+use Rattle.std.proofs.Common.{◌≡◌, ℕ, ◌<◌, ◌≤◌, ◌⊎◌, inl, inr, List, ◌++◌, length, take, drop, sym, ap, ◌∙◌, arith, length-append, append-nil}
 use Rattle.std.proofs.lemmas.Bool.{cases_lt}
-use Rattle.std.proofs.lemmas.List.{take-append-le, drop-append-le, take-append-drop, take_all, length-drop}
-use Rattle.std.proofs.Math.Seq.{take-append_seam, drop-append_seam}
-use Rattle.httparse.specs.Grammar.{RequestHead, IsRequestHead, print_request, ReadsRequest, HasNoRequest, MayBecomeRequest, ResponseHead, IsResponseHead, print_response, ReadsResponse, HasNoResponse}
+use Rattle.std.proofs.lemmas.List.{take-append-le, take-append-drop}
+use Rattle.std.proofs.Math.Seq.{take-append_seam}
+use Rattle.httparse.specs.Grammar.{RequestHead, print_request, HasNoRequest, ResponseHead, print_response, HasNoResponse}
 use Rattle.httparse.proofs.GrammarLemmas.{request_prefix_free, response_prefix_free}
-use Rattle.http_front.specs.Heads.{BeginsRequest, BeginsNoRequest, AwaitsRequest, BeginsResponse, BeginsNoResponse, AwaitsResponse}
+use Rattle.http_front.specs.Heads.{BeginsNoRequest, AwaitsRequest, BeginsNoResponse, AwaitsResponse}
 
 -- what stands at the front of the bytes and more, against the bytes alone: it ends in them, or they end in it
 pub record EndsWithin (bytes text : List ℕ) : Type 0 where

@@ -1,12 +1,12 @@
 -- The heads that are written, as heads of the grammar.
-use Rattle.std.proofs.Common.{◌≡◌, ℕ, ◌+◌, ◌%◌, ◌^◌, ◌<◌, ◌≤◌, ◌⊎◌, inl, inr, Bool, true, false, ◌&&◌, ◌||◌, cond, eqb, List, [], ◌∷◌, ◌++◌, length, codes, reverse, map, Option, Some, None, refl, sym, ap, subst, ◌∙◌, arith, append_assoc, length-append, append-nil, lit<, lit≤}
-use Rattle.std.specs.Prelude.{All, IsTrue, IsUtf8}
+use Rattle.std.proofs.Common.{◌≡◌, ℕ, ◌+◌, ◌%◌, ◌^◌, ◌<◌, ◌≤◌, ◌⊎◌, inl, inr, Bool, true, false, ◌&&◌, ◌||◌, cond, eqb, List, [], ◌∷◌, ◌++◌, length, codes, reverse, map, Some, None, refl, sym, ap, subst, ◌∙◌, arith, append_assoc, length-append, append-nil, lit<, lit≤}
+use Rattle.std.specs.Prelude.{All, IsTrue}
 use Rattle.std.specs.Char.{is_ascii_digit}
 use Rattle.std.specs.Fmt.{decimal, digits}
 use Rattle.std.specs.List.{flat_map, list_all}
 use Rattle.std.specs.Str.{IsAscii}
 use Rattle.std.specs.Str.Parse.{digits_value}
-use Rattle.std.proofs.lemmas.Bool.{and_from, le-leb, or_cases, eqb-true, false≢true}
+use Rattle.std.proofs.lemmas.Bool.{and_from, le-leb, or_cases, eqb-true}
 use Rattle.std.proofs.lemmas.Bool.{cond-false}
 use Rattle.std.proofs.lemmas.Fmt.{decimal_by_steps, decimal_is_IsNumeral, length-decimal-le}
 use Rattle.std.proofs.lemmas.Grind.{common_steps}
@@ -15,7 +15,7 @@ use Rattle.std.proofs.lemmas.List.Folds.{list_all-append}
 use Rattle.std.proofs.lemmas.List.Sums.{AllPass-from_list_all}
 use Rattle.std.proofs.lemmas.Str.{IsUtf8-from_ascii}
 use Rattle.std.proofs.lemmas.Str.Ascii.{IsAscii-cons, IsAscii-nil}
-use Rattle.httparse.specs.Grammar.{is_token_byte, is_uri_byte, is_value_byte, is_ows, skip_ows, trim_ows, AllPass, IsToken, LineEnd, crlf, Field, print_field, IsField, field_value, RequestHead, IsRequestHead, print_request, ResponseHead, IsResponseHead, print_response}
+use Rattle.httparse.specs.Grammar.{is_token_byte, is_uri_byte, is_value_byte, is_ows, skip_ows, trim_ows, AllPass, IsToken, crlf, Field, print_field, IsField, RequestHead, IsRequestHead, print_request, ResponseHead, IsResponseHead, print_response}
 use Rattle.httparse.specs.Spans.{name_and_value}
 use Rattle.httparse.proofs.GrammarLemmas.{cons-append, print_response-append, print_request-append}
 use Rattle.httparse.proofs.TrimLemmas.{AllPass-reverse, trim_ows_space}
@@ -23,7 +23,7 @@ use Rattle.ofx_types.specs.NumberReading.{number_at}
 use Rattle.http_front.specs.Fields.{usable_length, says_close}
 use Rattle.http_front.proofs.TargetLemmas.{token_from}
 use Rattle.http_front.specs.Heads.{BeginsResponse, response_told, BeginsRequest, request_told}
-use Rattle.http_front.specs.HeadText.{IsReplyCode, phrase, media_type, field_line, allowed, ending, status_line, reply_head, post_head}
+use Rattle.http_front.specs.HeadText.{IsReplyCode, phrase, media_type, field_line, ending, status_line, reply_head, post_head}
 
 -- ---- numbers
 
