@@ -50,7 +50,9 @@ fn told(buf: &[u8], spans: ResponseSpans, fields: &[HeaderSpan]) -> ReplyHead
     }
 }
 
-/// Whether more of a head is awaited, however many fields it has.
+/// Whether more of a head is awaited, however many fields it has. It has a large table of its own on the stack.
+#[cold]
+#[inline(never)]
 fn awaits(buf: &[u8]) -> bool
     ensures { IsTrue result ↔ AwaitsResponse buf.now }
 {
