@@ -1,6 +1,6 @@
 //! The heads that are written: a reply's, and that of the client's request.
 
-ghost use Rattle.std.specs.Prelude.{◌≡◌, ◌+◌, ◌≤◌, ◌++◌, Some, IsOk, OnOk, OnErr, codes, length, option_map, vec_len, vec_capacity};
+ghost use Rattle.std.specs.Prelude.{◌≡◌, ◌+◌, ◌≤◌, ◌++◌, IsOk, OnOk, OnErr, length, vec_len, vec_capacity};
 ghost use Rattle.http_front.specs.HeadText as text;
 ghost use Rattle.http_front.specs.HeadText.{IsReplyCode, field_line, status_line, allowed, reply_head, post_head};
 
