@@ -1,0 +1,5 @@
+pub mod Fields
+pub mod Heads
+pub mod Targets
+pub mod HeadText
+pub mod HeadLaws
