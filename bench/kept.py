@@ -8,7 +8,7 @@ from datetime import datetime
 from samples import ROOT
 
 sys.path.append(os.path.join(ROOT, "cases"))
-from record_file import INSERT, TABLE
+from written.record_file import INSERT, TABLE
 from reference.events import File, Letter
 from reference.header import Header
 from reference.records import record_of

@@ -7,8 +7,8 @@ import signal
 import subprocess
 import time
 
-from frames import answers
-from stream import Wrong
+from killed.stream import Wrong
+from written.frames import answers
 
 MOST_SECONDS = 20
 MOST_SECONDS_TO_DIE = 5

@@ -1,5 +1,5 @@
 """The replies that most answers are near to: each is the answer to one ask at the bank of samples/setup."""
-from asks import account, printed, series, terms, text
+from written.asks import account, printed, series, terms, text
 
 
 def status(code):

@@ -5,15 +5,15 @@ The frames of a batch go to one bank, one after the other.
 import random
 import re
 
-import mailed
-import synced
-from dated import any_date
-from frames import DUE, frame
-from pieces import FILES
-from priced import any_amount
+from chance import mailed
+from chance import synced
+from chance.dated import any_date
+from chance.priced import any_amount
+from chance.spelled import ANY_COUNTS, ANY_FREQUENCIES, FLAGS, FORMS, LEAVES, ONE_LINE, VALUES, spelled, stranger
 from reference.names import AGGREGATES, ELEMENTS
 from reference.requests import FREQUENCIES
-from spelled import ANY_COUNTS, ANY_FREQUENCIES, FLAGS, FORMS, LEAVES, ONE_LINE, VALUES, spelled, stranger
+from written.frames import DUE, frame
+from written.pieces import FILES
 
 IN_A_BATCH = 500
 # Well spelled files that a batch does its damage to.

@@ -1,13 +1,13 @@
 """The second reading of what happens to a bank over many runs, each of which may end at any time."""
 from collections import Counter
 
-from fed_run import whole
-from frames import DUE, answers, difference
+from killed.fed_run import whole
+from killed.stream import Wrong
 from reference.answer import answered
 from reference.due import next_due
 from reference.happening import happen, opened
 from reference.setup import read_setup
-from stream import Wrong
+from written.frames import DUE, answers, difference
 
 
 class Witness:

@@ -1,6 +1,6 @@
 """What the second reading in reference/ says of a case."""
-from record_file import in_hex
 from reference.answer import answer
+from written.record_file import in_hex
 
 
 class Told:

@@ -1,11 +1,11 @@
 """Request files at random that are well spelled."""
-from dated import any_date, date
-from mailed import about_account, about_none
-from pieces import HEADER
-from priced import amount, any_amount
+from chance.dated import any_date, date
+from chance.mailed import about_account, about_none
+from chance.priced import amount, any_amount
+from chance.synced import FAMILIES, poll, sync
 from reference.names import ELEMENTS
 from reference.requests import FREQUENCIES
-from synced import FAMILIES, poll, sync
+from written.pieces import HEADER
 
 LEAVES = sorted(ELEMENTS)
 # The forms of bank and mail messages beside the statement request.

@@ -1,5 +1,5 @@
 """Mails at random that are well spelled, and texts in them that have no form."""
-from dated import any_date, date
+from chance.dated import any_date, date
 
 NAMES = (b"alice", b"bob", b"BANK", b"carol &amp; co.", b"a>b", b"\xe9\xff", b"f" * 32, b"&lt;" * 32)
 RECEIVERS = (b"BANK",) * 8 + (b"bank", b"BANKS", b"bob", b"B&amp;K", b"t" * 32)

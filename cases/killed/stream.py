@@ -7,9 +7,9 @@ import re
 from datetime import timedelta
 from typing import NamedTuple, Optional
 
-from asks import asked
-from frames import DUE, frame
-from pieces import HEADER
+from written.asks import asked
+from written.frames import DUE, frame
+from written.pieces import HEADER
 
 USERS = {"alice": "alice secret", "bob": "bob hunter"}
 ACCOUNTS = (b"1001", b"1002")

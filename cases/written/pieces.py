@@ -31,11 +31,11 @@ pairs before have left, and the pieces that take its place.
 """
 import os
 
-from asks import asked
-from frames import frame
-from replied import ANSWERED, message_set
+from written.asks import asked
+from written.frames import frame
+from written.replied import ANSWERED, message_set
 
-SAMPLES = os.path.join(os.path.dirname(os.path.abspath(__file__)), "..", "samples")
+SAMPLES = os.path.join(os.path.dirname(os.path.abspath(__file__)), "..", "..", "samples")
 
 
 def sample(name):

@@ -1,4 +1,4 @@
-"""A case as it stands in a line of a file of this folder.
+"""A case as it stands in a line of a file of answers/.
 
     name     what it shows
     words    the words behind the program's name; SETUP stands for the path of the case's setup, and RECORDS for that of
@@ -22,21 +22,21 @@
 import json
 import os
 
-from pieces import sample, whole
-from record_file import Given
+from written.pieces import sample, whole
+from written.record_file import Given
 
-HERE = os.path.dirname(os.path.abspath(__file__))
+ANSWERS = os.path.join(os.path.dirname(os.path.abspath(__file__)), "..", "answers")
 WORDS = ["answer", "SETUP", "-", "--at", "20240131120000"]
 WORDS_OVER_FILE = ["answer", "SETUP", "RECORDS", "--at", "20240131120000"]
 OF_THE_CASE = ("name", "records", "runs")
 
 
 def path_of(name):
-    return os.path.join(HERE, name + ".jsonl")
+    return os.path.join(ANSWERS, name + ".jsonl")
 
 
 def all_names():
-    return sorted(f[:-6] for f in os.listdir(HERE) if f.endswith(".jsonl"))
+    return sorted(f[:-6] for f in os.listdir(ANSWERS) if f.endswith(".jsonl"))
 
 
 def maybe_whole(pieces):

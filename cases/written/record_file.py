@@ -18,8 +18,8 @@ import sqlite3
 import tempfile
 from contextlib import closing, contextmanager
 
-from frames import place
-from pieces import whole
+from written.frames import place
+from written.pieces import whole
 
 TABLE = "CREATE TABLE records (number INTEGER PRIMARY KEY, bytes BLOB NOT NULL) STRICT"
 # A table for rows that TABLE refuses; it gets the text of TABLE behind them.

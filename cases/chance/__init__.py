@@ -1,0 +1,1 @@
+"""Files and frames at random, from a seed."""
