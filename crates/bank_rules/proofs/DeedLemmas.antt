@@ -10,7 +10,7 @@ use Rattle.ofx_types.specs.declared.number.Cents.{Cents}
 use Rattle.ofx_types.specs.declared.number.Moment.{Moment}
 use Rattle.ofx_types.specs.declared.transfer.TransferRow.{TransferRow}
 use Rattle.ofx_types.specs.declared.transfer.XferInfo.{XferInfo}
-use Rattle.ofx_types.specs.declared.transfer.XferCode.TheVariants.{Waiting, Posted, Cancelled}
+use Rattle.ofx_types.specs.declared.transfer.XferCode.TheVariants.{Waiting, Posted}
 use Rattle.ofx_types.specs.declared.transfer.Change.TheVariants.{NewTransfer, SetTransfer, DropTransfer, NewModel, SetModel, DropModel}
 use Rattle.ofx_types.specs.declared.transfer.Deed.TheVariants.{Transfer, ModifyTransfer, CancelTransfer, Model, ModifyModel, CancelModel}
 use Rattle.ofx_types.specs.declared.recurring.ModelRow.{ModelRow}
@@ -20,7 +20,7 @@ use Rattle.bank_model.specs.declared.setup.Setup.{Setup}
 use Rattle.bank_model.specs.declared.event.State.{State}
 use Rattle.bank_model.specs.SetupForm.{IsWithinLimits}
 use Rattle.bank_model.specs.SetupLookups.{account_of}
-use Rattle.bank_model.specs.Ledger.{is_posted, posting_of, with_code, row_of, balance, is_covered}
+use Rattle.bank_model.specs.Ledger.{is_posted, posting_of, row_of, balance, is_covered}
 use Rattle.bank_model.specs.Models.{model_of, is_model_dropped}
 use Rattle.bank_model.specs.Judging.{is_due, is_cancelled}
 use Rattle.bank_model.specs.Deeds.{source_balance, judged, object_of, model_object_of, new_row, changed_row, new_model, changed_model, next_entry, entry_on, done}

@@ -31,7 +31,7 @@ use Rattle.bank_model.specs.Models.{model_of, is_waiting, waiting_of}
 use Rattle.bank_model.specs.Judging.{is_positive}
 use Rattle.bank_transfers.specs.Growth.{row_after}
 use Rattle.bank_transfers.proofs.GrowthLemmas.{row_of-push}
-use Rattle.bank_model.specs.Deeds.{judged, object_of, new_row, changed_row, new_model, changed_model, with_terms, next_entry, entries_behind, if_pending, model_entries_on, letter_object_of, mail_object, mail_row, done}
+use Rattle.bank_model.specs.Deeds.{judged, object_of, changed_row, changed_model, with_terms, next_entry, entries_behind, if_pending, model_entries_on, letter_object_of, mail_object, mail_row, done}
 use Rattle.bank_model.specs.Rules.{with_entries}
 use Rattle.bank_model.specs.Sound.{IsSoundInfo, IsSoundDeed}
 use Rattle.bank_rules.specs.Standing.{IsSoundState, HasSource}

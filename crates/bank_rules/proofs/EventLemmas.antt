@@ -30,8 +30,7 @@ use Rattle.bank_rules.proofs.LedgerSteps.{balance-kept, covered-posted}
 use Rattle.bank_rules.proofs.RowLemmas.{IsSoundRow-settled, IsSoundRow-spawned, model_of-named}
 use Rattle.bank_rules.proofs.NextLemmas.{row_of-named, made_next, set_next}
 use Rattle.bank_rules.proofs.DeedLemmas.{some_of, covers}
-use Rattle.bank_rules.proofs.StandingLemmas.{place_most}
-use Rattle.bank_rules.proofs.SoundFound.{row_sound, model_sound, models_sound}
+use Rattle.bank_rules.proofs.SoundFound.{row_sound, model_sound}
 use Rattle.bank_recur.proofs.SeriesDays.{few_places}
 
 not_true : (b : Bool) → not b ≡ true → b ≡ false

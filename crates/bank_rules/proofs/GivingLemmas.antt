@@ -1,5 +1,5 @@
 -- What an entry that may come next gives to transfers and to recurring transfers, behind the entries of a sound state.
-use Rattle.std.proofs.Common.{◌≡◌, ◌≢◌, ℕ, ◌+◌, ◌≤◌, ◌⊎◌, inl, inr, Bool, true, false, List, length, Option, None, Some, refl, sym, ap, ◌∙◌, subst, arith}
+use Rattle.std.proofs.Common.{◌≡◌, ◌≢◌, ℕ, ◌+◌, ◌≤◌, Bool, true, false, List, length, Option, None, Some, refl, ap, ◌∙◌, arith}
 use Rattle.std.specs.Prelude.{is_some}
 use Rattle.std.specs.Option.{option_map}
 use Rattle.ofx_types.specs.Printable.{IsPrintableRow}
@@ -13,12 +13,12 @@ use Rattle.bank_model.specs.declared.entry.Entry.{Entry}
 use Rattle.bank_model.specs.declared.setup.Setup.{Setup}
 use Rattle.bank_model.specs.declared.event.State.{State}
 use Rattle.bank_model.specs.Ledger.{is_dropped, with_code, row_of}
-use Rattle.bank_model.specs.Models.{model_of, next_place, is_waiting}
+use Rattle.bank_model.specs.Models.{model_of, next_place}
 use Rattle.bank_model.specs.Judging.{is_cancelled}
 use Rattle.bank_model.specs.Due.{place_date}
-use Rattle.bank_transfers.specs.TransfersView.{IsSet, GivesRow, waits}
+use Rattle.bank_transfers.specs.TransfersView.{GivesRow, waits}
 use Rattle.bank_recur.specs.ModelsView.{GivesModel, Cancels, IsMadeBy, LeavesModels}
-use Rattle.bank_rules.specs.Standing.{IsSoundState, IsOfWaiting, IsNextOf, IsLawful, GoesOn}
+use Rattle.bank_rules.specs.Standing.{IsSoundState, IsOfWaiting, IsNextOf, IsLawful}
 use Rattle.bank_rules.proofs.Verdicts.{open_waits}
 use Rattle.bank_rules.proofs.RowLemmas.{is_dropped-new, row_of-new, model_of-new, model_of-0, is_dropped-open}
 use Rattle.bank_rules.proofs.SoundFound.{models_sound}

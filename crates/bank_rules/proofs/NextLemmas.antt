@@ -1,5 +1,5 @@
 -- Entries that may come next, by their kinds of change.
-use Rattle.std.proofs.Common.{◌≡◌, ◌≢◌, ℕ, ◌+◌, ◌≤◌, ◌⊎◌, inl, inr, Bool, true, false, cond, List, [], ◌∷◌, ◌++◌, length, Option, None, Some, pos, ◌≤ℤ◌, refl, sym, ap, ◌∙◌, subst, arith}
+use Rattle.std.proofs.Common.{◌≡◌, ◌≢◌, ℕ, ◌+◌, ◌⊎◌, inl, inr, Bool, true, false, cond, List, [], ◌∷◌, ◌++◌, length, Option, None, Some, pos, ◌≤ℤ◌, refl, sym, ap, ◌∙◌, subst, arith}
 use Rattle.std.specs.Prelude.{is_some}
 use Rattle.std.specs.Option.{option_map}
 use Rattle.std.proofs.lemmas.Bool.{true≢false}
@@ -17,8 +17,8 @@ use Rattle.ofx_types.specs.Calendar.{IsMoment}
 use Rattle.bank_model.specs.declared.entry.Entry.{Entry}
 use Rattle.bank_model.specs.declared.setup.Setup.{Setup}
 use Rattle.bank_model.specs.declared.event.State.{State}
-use Rattle.bank_model.specs.Ledger.{is_posted, posting_of, with_code, row_of, balance}
-use Rattle.bank_model.specs.Models.{model_of, is_model_dropped, next_place, is_waiting}
+use Rattle.bank_model.specs.Ledger.{is_posted, posting_of, row_of, balance}
+use Rattle.bank_model.specs.Models.{model_of, is_model_dropped, is_waiting}
 use Rattle.bank_model.specs.Judging.{is_cancelled}
 use Rattle.bank_model.specs.Deeds.{next_entry}
 use Rattle.bank_transfers.specs.TransfersView.{waits}
@@ -27,7 +27,7 @@ use Rattle.bank_rules.specs.Standing.{IsSoundRow, IsSoundModel, IsSoundState, Is
 use Rattle.bank_rules.specs.Next.{IsNext}
 use Rattle.bank_rules.proofs.LedgerSteps.{PostsNothing, balance-kept}
 use Rattle.bank_rules.proofs.Verdicts.{open_waits}
-use Rattle.bank_rules.proofs.RowLemmas.{is_dropped-new, id_made, row_of-new, model_made, model_of-new, model_of-0, is_dropped-open}
+use Rattle.bank_rules.proofs.RowLemmas.{id_made, model_made}
 
 -- ---- ids
 

@@ -1,8 +1,6 @@
 -- A bank that opens: its state is sound, and each account has its opening balance.
-use Rattle.std.proofs.Common.{◌≡◌, ℕ, zero, suc, ◌<◌, ◌≤◌, lit≤, Bool, true, false, ltb, List, [], ◌∷◌, ◌++◌, length, length-append, get_or, Some, ℤ, pos, ◌≤ℤ◌, refl, sym, ap, ◌∙◌, arith}
+use Rattle.std.proofs.Common.{◌≡◌, ℕ, zero, suc, ◌<◌, ◌≤◌, lit≤, List, [], ◌∷◌, length, get_or, Some, ℤ, pos, ◌≤ℤ◌, refl, sym, ap, ◌∙◌, arith}
 use Rattle.std.specs.List.{AllByRecursion, IsDistinct, slice_get}
-use Rattle.std.proofs.lemmas.Bool.{ltb-true, ltb-false}
-use Rattle.std.proofs.lemmas.List.{get_or_append_left, get_or_push}
 use Rattle.std.proofs.lemmas.Int.{ints}
 use Rattle.std.proofs.lemmas.Option.{slice_get-get_or}
 use Rattle.bank_model.specs.declared.setup.AccountLine.{AccountLine}

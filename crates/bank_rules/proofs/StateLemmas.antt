@@ -29,7 +29,7 @@ use Rattle.bank_model.specs.declared.entry.Entry.{Entry}
 use Rattle.bank_model.specs.Ledger.{row_of}
 use Rattle.bank_model.specs.Objects.{account_about, object_named, newest}
 use Rattle.bank_model.specs.Sync.{rejection, deed_answers, deeds_or_rejection, sync_on, sync_answer}
-use Rattle.bank_model.specs.Due.{has_number, may_post, posts, settled_row, has_cover, may_spawn, spawns, spawned_row}
+use Rattle.bank_model.specs.Due.{has_number, may_post, posts, may_spawn, spawns}
 use Rattle.bank_model.specs.Rules.{with_entries, raised, ask_answer, ask_answers, release, keep, with_kept, kept_for, new_outcome, outcome_or_kept, file_outcome, letter, letter_entry, state_after, IsLegal}
 use Rattle.bank_model.specs.Sound.{IsSoundDeed, IsSoundPair, IsSoundSync, IsSoundAsk}
 use Rattle.once_records.specs.RecordsView.{UsedOnce, KeptOnce}

@@ -27,7 +27,6 @@ ghost use Rattle.bank_transfers.specs.Together.{balances};
 ghost use Rattle.bank_transfers.specs.Lawful.{PostsOnce};
 ghost use Rattle.bank_rules.specs.Runs.{Happening, after_all, AreLegal, StaysKept, releases};
 
-
 /// No user's uid is used up twice.
 pub fn uids_work_once()
     ensures { (setup : Setup) (run : List Happening) → IsWithinLimits setup → AreLegal setup opening_state run
