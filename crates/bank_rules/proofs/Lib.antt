@@ -13,6 +13,7 @@ pub mod PendingLemmas
 pub mod DeedLemmas
 pub mod DoneLemmas
 pub mod EventLemmas
+pub mod StageLemmas
 pub mod StateLemmas
 pub mod MoneyLemmas
 pub mod WaitingLemmas

@@ -1,5 +1,6 @@
 pub mod Standing
 pub mod Next
+pub mod Stages
 pub mod Runs
 pub mod Books
 pub mod Pending
