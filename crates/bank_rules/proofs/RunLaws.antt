@@ -22,7 +22,8 @@ use Rattle.bank_transfers.specs.Together.{balances}
 use Rattle.bank_transfers.proofs.TogetherLemmas.{balances_stay}
 use Rattle.bank_rules.specs.Standing.{IsSoundState}
 use Rattle.bank_rules.specs.Runs.{Happening, after_all, AreLegal, StaysKept, names_file, releases}
-use Rattle.bank_rules.proofs.StateLemmas.{IsSoundState-step, kept-asks, absent-release}
+use Rattle.bank_rules.proofs.StageLemmas.{kept-asks}
+use Rattle.bank_rules.proofs.StateLemmas.{IsSoundState-step, absent-release}
 use Rattle.bank_rules.proofs.OpeningLemmas.{IsSoundState-opening}
 use Rattle.bank_rules.proofs.DeedLemmas.{some_of}
 use Rattle.bank_rules.proofs.MoneyLemmas.{inside_all}

@@ -1,5 +1,5 @@
 -- Each step of a bank is made of stages, and what each of its stages keeps the step keeps.
-use Rattle.std.proofs.Common.{◌≡◌, ℕ, true, List, [], ◌∷◌, ◌++◌, Option, None, Some, refl, sym, ◌∙◌, subst}
+use Rattle.std.proofs.Common.{◌≡◌, ℕ, List, [], ◌∷◌, ◌++◌, Option, None, Some, refl, sym, ap, ◌∙◌, subst}
 use Rattle.std.specs.List.{AllByRecursion}
 use Rattle.ofx_types.specs.declared.number.AcctId.{AcctId}
 use Rattle.ofx_types.specs.declared.number.Moment.{Moment}
@@ -10,7 +10,9 @@ use Rattle.ofx_types.specs.declared.sync.SyncAsk.{SyncAsk}
 use Rattle.ofx_types.specs.declared.request.Ask.{Ask}
 use Rattle.ofx_types.specs.declared.request.Ask.TheVariants.{Statement, One, Sync}
 use Rattle.ofx_types.specs.declared.request.RequestFile.{RequestFile}
+use Rattle.bank_model.specs.declared.once.KeptReply.{KeptReply}
 use Rattle.bank_model.specs.declared.setup.Setup.{Setup}
+use Rattle.bank_model.specs.Once.{reply_kept}
 use Rattle.bank_model.specs.declared.event.State.{State}
 use Rattle.bank_model.specs.declared.event.Event.{Event}
 use Rattle.bank_model.specs.declared.event.Event.TheVariants.{File, Post, Spawn, Letter}
@@ -109,11 +111,71 @@ leads_asks setup Known S user at (ask ∷ asks) known =
     let next : State = (ask_answer setup S user at ask).after in
     leads_on setup Known S next _ (leads_ask setup Known S user at ask known.0) (leads_asks setup Known next user at asks known.1)
 
--- asks keep no reply and let none go
-IsDeedStage : Stage → Type 0
-IsDeedStage (deed user only at trnuid what) = Unit {0}
+-- ---- asks keep no reply and let none go
+
+abbrev IsDeedStage : Stage → Type 0
 IsDeedStage (day at) = ⊥
+IsDeedStage (deed user only at trnuid what) = Unit {0}
 IsDeedStage (names user older newer reply) = ⊥
 IsDeedStage (post at id) = ⊥
 IsDeedStage (spawn id place) = ⊥
 IsDeedStage (letter user at subject body) = ⊥
+
+are_deeds : (user : UserId) (at : Moment) (deeds : List (List ℕ × Deed)) → AllByRecursion (IsKnownDeed IsDeedStage user at) deeds
+are_deeds user at [] = tt
+are_deeds user at (one ∷ deeds) = (λ only. tt, are_deeds user at deeds)
+
+are_deeds_asked : (user : UserId) (at : Moment) (ask : Ask) → IsKnownAsk IsDeedStage user at ask
+are_deeds_asked user at (Statement trnuid name period) = tt
+are_deeds_asked user at (One trnuid what) = λ only. tt
+are_deeds_asked user at (Sync ask) = are_deeds user at ask.deeds
+
+are_all_deeds : (user : UserId) (at : Moment) (asks : List Ask) → AllByRecursion (IsKnownAsk IsDeedStage user at) asks
+are_all_deeds user at [] = tt
+are_all_deeds user at (ask ∷ asks) = (are_deeds_asked user at ask, are_all_deeds user at asks)
+
+kept_stage : (setup : Setup) (kept : List KeptReply) → Lasts setup IsDeedStage (λ (S : State). S.kept ≡ kept)
+unfolding deed_answer
+kept_stage setup kept S (day at) may known same = absurd known
+kept_stage setup kept S (deed user only at trnuid what) may known same = same
+kept_stage setup kept S (names user older newer reply) may known same = absurd known
+kept_stage setup kept S (post at id) may known same = absurd known
+kept_stage setup kept S (spawn id place) may known same = absurd known
+kept_stage setup kept S (letter user at subject body) may known same = absurd known
+
+pub kept-asks : (setup : Setup) (S : State) (user : UserId) (at : Moment) (asks : List Ask) → (ask_answers setup S user at asks).after.kept ≡ S.kept
+kept-asks setup S user at asks =
+    lasts setup IsDeedStage (λ (T : State). T.kept ≡ S.kept) S (ask_answers setup S user at asks).after (kept_stage setup S.kept)
+    (leads_asks setup IsDeedStage S user at asks (are_all_deeds user at asks)) refl
+
+-- ---- files
+
+kept_for-same : (S T : State) (user : UserId) (newer : Option (List ℕ)) → T.kept ≡ S.kept → kept_for S user newer ≡ None → kept_for T user newer ≡ None
+kept_for-same S T user None same absent = refl
+kept_for-same S T user (Some newer) same absent = ap (reply_kept user newer) same ∙ absent
+
+leads_new : (setup : Setup) (Known : Stage → Type 0) (S : State) (user : UserId) (at : Moment) (file : RequestFile) → kept_for S user file.newer ≡ None → AllByRecursion (IsKnownAsk Known user at) file.asks → ((reply : List ℕ) → Known (names user file.older file.newer reply)) → Leads setup Known S (new_outcome setup S user at file).after
+unfolding new_outcome
+leads_new setup Known S user at file absent known named =
+    let answered : State = (ask_answers setup S user at file.asks).after in
+    leads_on setup Known S answered _ (leads_asks setup Known S user at file.asks known)
+    (leads_once setup Known answered (names user file.older file.newer _) (kept_for-same S answered user file.newer (kept-asks setup S user at file.asks) absent) (named _))
+
+leads_or : (setup : Setup) (Known : Stage → Type 0) (S : State) (user : UserId) (at : Moment) (file : RequestFile) (kept : Option (List ℕ)) → kept_for S user file.newer ≡ kept → AllByRecursion (IsKnownAsk Known user at) file.asks → ((reply : List ℕ) → Known (names user file.older file.newer reply)) → Leads setup Known S (outcome_or_kept setup S user at file kept).after
+leads_or setup Known S user at file None is known named = leads_new setup Known S user at file is known named
+leads_or setup Known S user at file (Some reply) is known named = leads_nowhere setup Known S
+
+-- ---- any event
+
+-- The stages of which a step is made.
+pub leads_step : (setup : Setup) (Known : Stage → Type 0) (S : State) (at : Moment) (event : Event) → IsLegal setup S at event → IsKnownEvent Known at event → Leads setup Known S (state_after setup S at event)
+unfolding file_outcome
+leads_step setup Known S at (File user file) legal known =
+    leads_on setup Known S (raised S at) _ (leads_once setup Known S (day at) tt known.0)
+    (leads_or setup Known (raised S at) user at file (kept_for (raised S at) user file.newer) refl known.1 known.2)
+leads_step setup Known S at (Post id) legal known =
+    leads_on setup Known S (raised S at) _ (leads_once setup Known S (day at) tt known.0) (leads_once setup Known (raised S at) (post at id) legal known.1)
+leads_step setup Known S at (Spawn id place) legal known =
+    leads_on setup Known S (raised S at) _ (leads_once setup Known S (day at) tt known.0) (leads_once setup Known (raised S at) (spawn id place) legal known.1)
+leads_step setup Known S at (Letter user subject body) legal known =
+    leads_on setup Known S (raised S at) _ (leads_once setup Known S (day at) tt known.0) (leads_once setup Known (raised S at) (letter user at subject body) legal.3 known.1)
