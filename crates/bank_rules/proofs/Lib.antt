@@ -23,3 +23,4 @@ pub mod DueFirstLemmas
 pub mod OnceLemmas
 pub mod RunLaws
 pub mod UidLaws
+pub mod UidSteps

@@ -2,6 +2,7 @@ pub mod Standing
 pub mod Next
 pub mod Stages
 pub mod Runs
+pub mod Uids
 pub mod Books
 pub mod Pending
 pub mod Series
