@@ -24,3 +24,4 @@ pub mod OnceLemmas
 pub mod RunLaws
 pub mod UidLaws
 pub mod UidSteps
+pub mod TakenLemmas

@@ -28,11 +28,12 @@ use Rattle.bank_model.specs.Models.{model_of, waiting_of}
 use Rattle.bank_model.specs.Due.{posts, place_date, spawns_on, spawns}
 use Rattle.bank_model.specs.Deeds.{entry_on, entries_behind, if_pending, model_entries_on, done, code_of, answer_with, deed_answer}
 use Rattle.bank_model.specs.Once.{is_pair, is_used}
+use Rattle.bank_model.specs.Sync.{deed_answers}
 use Rattle.bank_model.specs.Rules.{raised, ask_answer, ask_answers, state_after, IsLegal}
 use Rattle.bank_rules.specs.Stages.{Stage, day, deed, names, post, spawn, letter, after_stage, IsKnownDeed, IsKnownAsk, IsKnownEvent}
 use Rattle.bank_rules.specs.Runs.{Happening, after_all, AreLegal}
 use Rattle.bank_rules.specs.Uids.{asker, is_used_by, AddsByUids, AllAddByUids}
-use Rattle.bank_rules.proofs.StageLemmas.{Lasts, lasts, leads_ask, leads_asks, leads_step}
+use Rattle.bank_rules.proofs.StageLemmas.{Lasts, lasts, leads_deeds, leads_ask, leads_asks, leads_step}
 use Rattle.bank_rules.proofs.StateLemmas.{IsAllowed-from_code, unused-from_code}
 
 -- ---- the uids of a deed's entries
@@ -243,6 +244,11 @@ asked_event at (File user file) = (tt, asked_asks user at file.asks, λ reply. t
 asked_event at (Post id) = (tt, tt)
 asked_event at (Spawn id place) = (tt, tt)
 asked_event at (Letter user subject body) = (tt, tt)
+
+pub adds_deeds : (setup : Setup) (S : State) (user : UserId) (only : Option AcctId) (at : Moment) (deeds : List (List ℕ × Deed)) → AddsByUids (Some user) S (deed_answers setup S user only at deeds).after
+adds_deeds setup S user only at deeds =
+    lasts setup (IsAskedBy (Some user)) (AddsByUids (Some user) S) S _ (adds_lasts setup (Some user) S)
+    (leads_deeds setup (IsAskedBy (Some user)) S user only at deeds (asked_deeds user at deeds)) (adds_nothing (Some user) S S refl refl)
 
 pub adds_ask : (setup : Setup) (S : State) (user : UserId) (at : Moment) (ask : Ask) → AddsByUids (Some user) S (ask_answer setup S user at ask).after
 adds_ask setup S user at ask =

@@ -6,4 +6,5 @@ pub mod Uids
 pub mod Books
 pub mod Pending
 pub mod Series
+pub mod Taken
 pub mod DueFirst
