@@ -10,6 +10,7 @@ pub mod StandingLemmas
 pub mod NextLemmas
 pub mod GivingLemmas
 pub mod PendingLemmas
+pub mod RisingLemmas
 pub mod DeedLemmas
 pub mod DoneLemmas
 pub mod EventLemmas

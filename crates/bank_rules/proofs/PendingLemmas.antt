@@ -98,16 +98,17 @@ waiting_here id entries =
 
 -- ---- their ids rise
 
-abbrev IsNewAt : ℕ → Change → Type 0
+-- What is new has the number of its entry as its id.
+abbrev pub IsNewAt : ℕ → Change → Type 0
 IsNewAt count (NewTransfer row) = row.id ≡ count + 1
 IsNewAt count (SetTransfer row) = Unit {0}
 IsNewAt count (DropTransfer id) = Unit {0}
-IsNewAt count (NewModel row) = Unit {0}
+IsNewAt count (NewModel row) = row.id ≡ count + 1
 IsNewAt count (SetModel row also) = Unit {0}
 IsNewAt count (DropModel id also) = Unit {0}
 IsNewAt count (NewMail mail) = Unit {0}
 
-abbrev AreNewAt : ℕ → List Entry → Type 0
+abbrev pub AreNewAt : ℕ → List Entry → Type 0
 AreNewAt count [] = Unit {0}
 AreNewAt count (entry ∷ more) = IsNewAt count entry.change × AreNewAt (count + 1) more
 
@@ -115,12 +116,12 @@ lawful_new : (before : List Entry) (change : Change) → IsLawful before change 
 lawful_new before (NewTransfer row) lawful = lawful.0
 lawful_new before (SetTransfer row) lawful = tt
 lawful_new before (DropTransfer id) lawful = tt
-lawful_new before (NewModel row) lawful = tt
+lawful_new before (NewModel row) lawful = lawful
 lawful_new before (SetModel row also) lawful = tt
 lawful_new before (DropModel id also) lawful = tt
 lawful_new before (NewMail mail) lawful = tt
 
-new_behind : (before entries : List Entry) → AreLawfulAt (before ++ entries) → AreNewAt (length before) entries
+pub new_behind : (before entries : List Entry) → AreLawfulAt (before ++ entries) → AreNewAt (length before) entries
 new_behind before [] lawful = tt
 new_behind before (entry ∷ entries) lawful =
     let size : length (before ++ entry ∷ entries) ≡ length before + length (entry ∷ entries) = length-append before (entry ∷ entries) in
@@ -179,6 +180,10 @@ pub waiting_rise : (entries : List Entry) → AreLawfulAt entries → Rise (all_
 unfolding all_waiting
 waiting_rise entries lawful = filter_rise (λ (row : TransferRow). is_waiting row.code) _ (rise_all entries entries 0 (new_behind [] entries lawful)).1
 
+pub waiting_of_rise : (id : ℕ) (entries : List Entry) → AreLawfulAt entries → Rise (waiting_of id entries)
+unfolding waiting_of
+waiting_of_rise id entries lawful = filter_rise (λ (row : TransferRow). eqb row.model id) (all_waiting entries) (waiting_rise entries lawful)
+
 -- ---- no two are of one transfer
 
 apart_from : (id : ℕ) (rows : List TransferRow) → AllByRecursion (λ (row : TransferRow). id < row.id) rows → AllByRecursion (λ (row : TransferRow). eqb id row.id ≡ false) rows
@@ -191,8 +196,7 @@ rise_own [] rise = tt
 rise_own (row ∷ rows) rise = (apart_from row.id rows rise.0, rise_own rows rise.1)
 
 pub waiting_own : (id : ℕ) (entries : List Entry) → AreLawfulAt entries → HaveOwnIds (waiting_of id entries)
-unfolding waiting_of
-waiting_own id entries lawful = rise_own (waiting_of id entries) (filter_rise (λ (row : TransferRow). eqb row.model id) (all_waiting entries) (waiting_rise entries lawful))
+waiting_own id entries lawful = rise_own (waiting_of id entries) (waiting_of_rise id entries lawful)
 
 -- each row that waits is the one of its transfer
 pub all_here : (entries : List Entry) → AllByRecursion (IsHere entries) (all_waiting entries)

@@ -6,5 +6,6 @@ pub mod Uids
 pub mod Books
 pub mod Pending
 pub mod Series
+pub mod Rising
 pub mod Taken
 pub mod DueFirst
