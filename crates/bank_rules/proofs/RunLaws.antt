@@ -21,23 +21,29 @@ use Rattle.bank_model.proofs.SetupWords.{bytes_eq_is, bytes_eq_self}
 use Rattle.bank_transfers.specs.Together.{balances}
 use Rattle.bank_transfers.proofs.TogetherLemmas.{balances_stay}
 use Rattle.bank_rules.specs.Standing.{IsSoundState}
+use Rattle.bank_rules.specs.Next.{ExtendsTo}
 use Rattle.bank_rules.specs.Runs.{Happening, after_all, AreLegal, StaysKept, names_file, releases}
 use Rattle.bank_rules.proofs.StageLemmas.{kept-asks}
-use Rattle.bank_rules.proofs.StateLemmas.{IsSoundState-step, absent-release}
+use Rattle.bank_rules.proofs.StateLemmas.{extends_same, extends_on, extends-step, absent-release}
 use Rattle.bank_rules.proofs.OpeningLemmas.{IsSoundState-opening}
 use Rattle.bank_rules.proofs.DeedLemmas.{some_of}
 use Rattle.bank_rules.proofs.MoneyLemmas.{inside_all}
 
 -- ---- any events
 
-sound_all : (setup : Setup) (S : State) (run : List Happening) → IsWithinLimits setup → IsSoundState setup S → AreLegal setup S run → IsSoundState setup (after_all setup S run)
-sound_all setup S [] within sound legal = sound
-sound_all setup S (first ∷ more) within sound legal =
-    sound_all setup (state_after setup S first.at first.event) more within (IsSoundState-step setup S first.at first.event within sound legal.0.0 legal.0.1) legal.1
+extends_all : (setup : Setup) (S T : State) (run : List Happening) → IsWithinLimits setup → ExtendsTo setup S T → AreLegal setup T run → ExtendsTo setup S (after_all setup T run)
+extends_all setup S T [] within extends legal = extends
+extends_all setup S T (first ∷ more) within extends legal =
+    let next : State = state_after setup T first.at first.event in
+    extends_all setup S next more within (extends_on setup S T next extends (extends-step setup T first.at first.event within extends.sound legal.0.0 legal.0.1)) legal.1
 
--- After any legal events from its opening a bank's state is sound.
+-- After any legal events from its opening a bank's state is sound, and its history is made of entries that may come one
+-- after another.
+pub extends-run : (setup : Setup) (run : List Happening) → IsWithinLimits setup → AreLegal setup opening_state run → ExtendsTo setup opening_state (after_all setup opening_state run)
+extends-run setup run within legal = extends_all setup opening_state opening_state run within (extends_same setup opening_state (IsSoundState-opening setup within)) legal
+
 pub IsSoundState-run : (setup : Setup) (run : List Happening) → IsWithinLimits setup → AreLegal setup opening_state run → IsSoundState setup (after_all setup opening_state run)
-IsSoundState-run setup run within legal = sound_all setup opening_state run within (IsSoundState-opening setup within) legal
+IsSoundState-run setup run within legal = (extends-run setup run within legal).sound
 
 pub balances-run : (setup : Setup) (run : List Happening) → IsWithinLimits setup → AreLegal setup opening_state run → balances setup (after_all setup opening_state run).entries ≡ openings setup.accounts
 balances-run setup run within legal =

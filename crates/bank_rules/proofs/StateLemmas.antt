@@ -119,6 +119,9 @@ unextended setup S T is sound once kept day = record {
   sound = sound_as setup S T is sound once kept day;
 }
 
+pub extends_same : (setup : Setup) (S : State) → IsSoundState setup S → ExtendsTo setup S S
+extends_same setup S sound = unextended setup S S refl sound sound.used sound.kept sound.day
+
 -- What may come next behind a history doesn't depend on uids, kept replies and the day.
 next_as : (setup : Setup) (S T : State) (entry : Entry) → T.entries ≡ S.entries → IsNext setup S entry → IsNext setup T entry
 next_as setup S T entry is next =
@@ -139,9 +142,11 @@ all_next_as setup S T (entry ∷ more) is next =
 
 both_next : (setup : Setup) (S : State) (first last : List Entry) → AreNext setup S first → AreNext setup (with_entries S first) last → AreNext setup S (first ++ last)
 both_next setup S [] last one two = all_next_as setup (with_entries S []) S last (sym (append-nil S.entries)) two
-both_next setup S (entry ∷ first) last one two =
-    (one.0, both_next setup (with_entries S (entry ∷ [])) first last one.1
-    (all_next_as setup (with_entries S (entry ∷ first)) (with_entries (with_entries S (entry ∷ [])) first) last (append_assoc S.entries (entry ∷ []) first) two))
+both_next setup S (entry ∷ first) last one two = (
+  one.0,
+  both_next setup (with_entries S (entry ∷ [])) first last one.1
+      (all_next_as setup (with_entries S (entry ∷ first)) (with_entries (with_entries S (entry ∷ [])) first) last (append_assoc S.entries (entry ∷ []) first) two),
+)
 
 pub extends_on : (setup : Setup) (S T U : State) → ExtendsTo setup S T → ExtendsTo setup T U → ExtendsTo setup S U
 extends_on setup S T U first last = record {
@@ -249,7 +254,7 @@ extends_lasts setup S within T stage may known extends = extends_on setup S T (a
 -- Wherever sound stages lead, the history has grown by entries that may come, and the state is sound.
 pub extends_to : (setup : Setup) (S T : State) → IsWithinLimits setup → IsSoundState setup S → Leads setup IsSoundStage S T → ExtendsTo setup S T
 extends_to setup S T within sound leads =
-    lasts setup IsSoundStage (ExtendsTo setup S) S T (extends_lasts setup S within) leads (unextended setup S S refl sound sound.used sound.kept sound.day)
+    lasts setup IsSoundStage (ExtendsTo setup S) S T (extends_lasts setup S within) leads (extends_same setup S sound)
 
 -- ---- what is asked is made of sound stages
 

@@ -177,7 +177,7 @@ unrejected setup S user at ask source about reject =
       ap (λ (answer : SyncAnswer). answer.after) is ∙ ap (λ (given : DeedAnswers). given.after) answers,
     )
 
-pub sync_takes : (setup : Setup) (S : State) (user : UserId) (at : Moment) (ask : SyncAsk) (source : AcctId) (first last : List (List ℕ × Deed)) (trnuid : List ℕ) (what : Deed) (family : Family) (entry : Entry) → account_about setup user ask.object ≡ Some source → ask.reject ≡ false → ask.deeds ≡ first ++ (trnuid, what) ∷ last → deed_answer setup (deed_answers setup S user (Some source) at first).after user (Some source) at trnuid what ≡ taken_with (deed_answers setup S user (Some source) at first).after user trnuid family entry → TakesInAsk setup S user at (Sync ask) (deed_answers setup S user (Some source) at first).after (told_as family trnuid entry.change) entry
+sync_takes : (setup : Setup) (S : State) (user : UserId) (at : Moment) (ask : SyncAsk) (source : AcctId) (first last : List (List ℕ × Deed)) (trnuid : List ℕ) (what : Deed) (family : Family) (entry : Entry) → account_about setup user ask.object ≡ Some source → ask.reject ≡ false → ask.deeds ≡ first ++ (trnuid, what) ∷ last → deed_answer setup (deed_answers setup S user (Some source) at first).after user (Some source) at trnuid what ≡ taken_with (deed_answers setup S user (Some source) at first).after user trnuid family entry → TakesInAsk setup S user at (Sync ask) (deed_answers setup S user (Some source) at first).after (told_as family trnuid entry.change) entry
 unfolding ask_answer deed_answers
 sync_takes setup S user at ask source first last trnuid what family entry about reject are takes =
     let answered = unrejected setup S user at ask source about reject in
@@ -192,8 +192,8 @@ sync_takes setup S user at ask source first last trnuid what family entry about 
         answered.0 ++ front.replies,
         rest.replies,
         answered.1 ∙ ap (λ (given : DeedAnswers). answered.0 ++ given.replies) all
-        ∙ sym (append_assoc answered.0 front.replies (next.reply ∷ rest.replies))
-        ∙ ap (λ (answer : DeedAnswer). (answered.0 ++ front.replies) ++ answer.reply ∷ rest.replies) takes,
+            ∙ sym (append_assoc answered.0 front.replies (next.reply ∷ rest.replies))
+            ∙ ap (λ (answer : DeedAnswer). (answered.0 ++ front.replies) ++ answer.reply ∷ rest.replies) takes,
       );
       more = later.added;
       entries =
@@ -202,6 +202,13 @@ sync_takes setup S user at ask source first last trnuid what family entry about 
           ∙ ap (λ (answer : DeedAnswer). answer.after.entries ++ later.added) takes
           ∙ append_assoc front.after.entries (entry ∷ []) later.added;
     }
+
+-- The state in which the deed is answered may be given by another name.
+pub sync_takes_at : (setup : Setup) (S T : State) (user : UserId) (at : Moment) (ask : SyncAsk) (source : AcctId) (first last : List (List ℕ × Deed)) (trnuid : List ℕ) (what : Deed) (family : Family) (entry : Entry) → account_about setup user ask.object ≡ Some source → ask.reject ≡ false → ask.deeds ≡ first ++ (trnuid, what) ∷ last → (deed_answers setup S user (Some source) at first).after ≡ T → deed_answer setup T user (Some source) at trnuid what ≡ taken_with T user trnuid family entry → TakesInAsk setup S user at (Sync ask) T (told_as family trnuid entry.change) entry
+sync_takes_at setup S T user at ask source first last trnuid what family entry about reject are is takes =
+    let at_front = subst (λ (U : State). deed_answer setup U user (Some source) at trnuid what ≡ taken_with U user trnuid family entry) (sym is) takes in
+    subst (λ (U : State). TakesInAsk setup S user at (Sync ask) U (told_as family trnuid entry.change) entry) is
+    (sync_takes setup S user at ask source first last trnuid what family entry about reject are at_front)
 
 -- ---- among the asks of a file
 

@@ -1,5 +1,0 @@
-use Rattle.bank_rules.proofs.RunLaws.{balances-run}
-use Rattle.bank_rules.proofs.laws.money_stays.Goals as goal
-
-pub returns : goal.returns
-returns c = balances-run
