@@ -20,6 +20,7 @@ use Rattle.bank_model.specs.Due.{Task, has_number, last_day, is_to_post, may_pos
 use Rattle.bank_model.specs.Rules.{raised, state_after, IsLegal, post_event, spawn_or_post, due}
 use Rattle.bank_model.specs.DueRun.{after_events, AreDue, run_length, IsDueRun}
 use Rattle.bank_model.proofs.SetupWords.{some_is}
+use Rattle.bank_rules.proofs.Lists.{all_append}
 use Rattle.bank_rules.proofs.PendingLemmas.{IsHere, all_here}
 
 -- ---- the first of some tasks is one of them
@@ -53,10 +54,6 @@ change_makes last entries (NewModel row) = task_makes last entries row.id (date_
 change_makes last entries (SetModel row also) = tt
 change_makes last entries (DropModel id also) = tt
 change_makes last entries (NewMail mail) = tt
-
-all_append : {X : Type 0} (P : X → Type 0) (xs ys : List X) → AllByRecursion P xs → AllByRecursion P ys → AllByRecursion P (xs ++ ys)
-all_append P [] ys first second = second
-all_append P (x ∷ xs) ys first second = (first.0, all_append P xs ys first.1 second)
 
 all_make : (last : Day) (all entries : List Entry) → AllByRecursion (Makes last all) (flat_map (λ (entry : Entry). makes last all entry.change) entries)
 all_make last all [] = tt

@@ -1,3 +1,4 @@
+pub mod Lists
 pub mod AccountPlaces
 pub mod LedgerSteps
 pub mod SeriesLemmas

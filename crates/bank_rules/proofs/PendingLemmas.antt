@@ -15,6 +15,7 @@ use Rattle.bank_model.specs.Deeds.{object_of, next_entry, entries_behind}
 use Rattle.bank_model.specs.Rules.{with_entries}
 use Rattle.bank_rules.specs.Standing.{IsSoundState, IsLawful}
 use Rattle.bank_rules.specs.Next.{IsNext, AreNext}
+use Rattle.bank_rules.proofs.Lists.{all_append, all_filter}
 use Rattle.bank_rules.proofs.NextLemmas.{row_of-named}
 use Rattle.bank_rules.proofs.StandingLemmas.{AreLawfulAt, sound_more}
 use Rattle.std.proofs.lemmas.List.{get_or_at}
@@ -72,29 +73,17 @@ made_here all (SetModel row also) = tt
 made_here all (DropModel id also) = tt
 made_here all (NewMail mail) = tt
 
-all_append : {X : Type 0} (P : X → Type 0) (xs ys : List X) → AllByRecursion P xs → AllByRecursion P ys → AllByRecursion P (xs ++ ys)
-all_append P [] ys first second = second
-all_append P (x ∷ xs) ys first second = (first.0, all_append P xs ys first.1 second)
-
 all_made : (all entries : List Entry) → AllByRecursion (λ (row : TransferRow). row_of row.id all ≡ Some row) (flat_map (λ (entry : Entry). made_in all entry.change) entries)
 all_made all [] = tt
 all_made all (entry ∷ entries) = all_append _ (made_in all entry.change) _ (made_here all entry.change) (all_made all entries)
-
-kept : {X : Type 0} (P Q : X → Type 0) (p : X → Bool) (xs : List X) → ((x : X) → P x → p x ≡ true → Q x) → AllByRecursion P xs → AllByRecursion Q (filter p xs)
-kept P Q p [] step all = tt
-kept {X} P Q p (x ∷ xs) step all =
-    (elim (p x) as (λ b. p x ≡ b → AllByRecursion Q (cond b (x ∷ filter p xs) (filter p xs))) [
-      | true ↦ (λ is. (step x all.0 is, kept P Q p xs step all.1))
-      | false ↦ (λ is. kept P Q p xs step all.1)
-    ]) refl
 
 -- each waits, is the row of its transfer, and is of the recurring transfer
 pub waiting_here : (id : ℕ) (entries : List Entry) → AllByRecursion (λ (row : TransferRow). IsHere entries row × (row.model ≡ id)) (waiting_of id entries)
 unfolding waiting_of all_waiting
 waiting_here id entries =
-    kept (IsHere entries) (λ (row : TransferRow). IsHere entries row × (row.model ≡ id)) (λ (row : TransferRow). eqb row.model id) _
+    all_filter (IsHere entries) (λ (row : TransferRow). IsHere entries row × (row.model ≡ id)) (λ (row : TransferRow). eqb row.model id) _
     (λ row here same. (here, eqb-true row.model id same))
-    (kept (λ (row : TransferRow). row_of row.id entries ≡ Some row) (IsHere entries) (λ (row : TransferRow). is_waiting row.code) _ (λ row is waits. (is, waits)) (all_made entries entries))
+    (all_filter (λ (row : TransferRow). row_of row.id entries ≡ Some row) (IsHere entries) (λ (row : TransferRow). is_waiting row.code) _ (λ row is waits. (is, waits)) (all_made entries entries))
 
 -- ---- their ids rise
 
@@ -166,7 +155,7 @@ rise_all all (entry ∷ entries) count new =
     rise_more all count entry.change (made_by all entries) new.0 rest.0 rest.1
 
 filter_all : {X : Type 0} (P : X → Type 0) (p : X → Bool) (xs : List X) → AllByRecursion P xs → AllByRecursion P (filter p xs)
-filter_all P p xs all = kept P P p xs (λ x here is. here) all
+filter_all P p xs all = all_filter P P p xs (λ x here is. here) all
 
 filter_rise : (p : TransferRow → Bool) (rows : List TransferRow) → Rise rows → Rise (filter p rows)
 filter_rise p [] rise = tt
@@ -176,13 +165,19 @@ filter_rise p (row ∷ rows) rise =
       | false ↦ filter_rise p rows rise.1
     ]
 
-pub waiting_rise : (entries : List Entry) → AreLawfulAt entries → Rise (all_waiting entries)
+new_rise : (entries : List Entry) → AreNewAt 0 entries → Rise (all_waiting entries)
 unfolding all_waiting
-waiting_rise entries lawful = filter_rise (λ (row : TransferRow). is_waiting row.code) _ (rise_all entries entries 0 (new_behind [] entries lawful)).1
+new_rise entries new = filter_rise (λ (row : TransferRow). is_waiting row.code) _ (rise_all entries entries 0 new).1
+
+pub waiting_rise : (entries : List Entry) → AreLawfulAt entries → Rise (all_waiting entries)
+waiting_rise entries lawful = new_rise entries (new_behind [] entries lawful)
+
+pub new_of_rise : (id : ℕ) (entries : List Entry) → AreNewAt 0 entries → Rise (waiting_of id entries)
+unfolding waiting_of
+new_of_rise id entries new = filter_rise (λ (row : TransferRow). eqb row.model id) (all_waiting entries) (new_rise entries new)
 
 pub waiting_of_rise : (id : ℕ) (entries : List Entry) → AreLawfulAt entries → Rise (waiting_of id entries)
-unfolding waiting_of
-waiting_of_rise id entries lawful = filter_rise (λ (row : TransferRow). eqb row.model id) (all_waiting entries) (waiting_rise entries lawful)
+waiting_of_rise id entries lawful = new_of_rise id entries (new_behind [] entries lawful)
 
 -- ---- no two are of one transfer
 
@@ -202,4 +197,8 @@ waiting_own id entries lawful = rise_own (waiting_of id entries) (waiting_of_ris
 pub all_here : (entries : List Entry) → AllByRecursion (IsHere entries) (all_waiting entries)
 unfolding all_waiting
 all_here entries =
-    kept (λ (row : TransferRow). row_of row.id entries ≡ Some row) (IsHere entries) (λ (row : TransferRow). is_waiting row.code) _ (λ row is waits. (is, waits)) (all_made entries entries)
+    all_filter (λ (row : TransferRow). row_of row.id entries ≡ Some row) (IsHere entries) (λ (row : TransferRow). is_waiting row.code) _ (λ row is waits. (is, waits)) (all_made entries entries)
+
+pub waiting_wait : (id : ℕ) (entries : List Entry) → AllByRecursion (IsHere entries) (waiting_of id entries)
+unfolding waiting_of
+waiting_wait id entries = all_filter (IsHere entries) (IsHere entries) (λ (row : TransferRow). eqb row.model id) (all_waiting entries) (λ row here same. here) (all_here entries)

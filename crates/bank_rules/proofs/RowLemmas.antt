@@ -229,7 +229,7 @@ row_of-new count id entries made less =
 
 -- ---- recurring transfers that an entry has made
 
-abbrev IsModelNamed : ℕ → Option ModelRow → Type 0
+abbrev pub IsModelNamed : ℕ → Option ModelRow → Type 0
 IsModelNamed id None = Unit {0}
 IsModelNamed id (Some row) = row.id ≡ id
 
@@ -286,10 +286,13 @@ named_of : (id : ℕ) (found : Option ModelRow) (row : ModelRow) → IsModelName
 named_of id None row named is = cc
 named_of id (Some held) row named is = let e : held ≡ row = cc in sym (ap (λ (r : ModelRow). r.id) e) ∙ named
 
+pub model_of-id : (id : ℕ) (entries : List Entry) → IsModelNamed id (model_of id entries)
+unfolding model_of
+model_of-id id entries = model_fold_named id None entries tt
+
 -- a row that is found has the id that is looked for
 pub model_of-named : (id : ℕ) (entries : List Entry) (row : ModelRow) → model_of id entries ≡ Some row → row.id ≡ id
-unfolding model_of
-model_of-named id entries row found = named_of id _ row (model_fold_named id None entries tt) found
+model_of-named id entries row found = named_of id (model_of id entries) row (model_of-id id entries) found
 
 -- no recurring transfer has the id 0
 pub model_of-0 : (count : ℕ) (entries : List Entry) → AreMade count entries → model_of 0 entries ≡ None

@@ -77,6 +77,24 @@ lasts_through setup Known P S (stage ∷ more) step may known holds =
 pub lasts : (setup : Setup) (Known : Stage → Type 0) (P : State → Type 0) (S T : State) → Lasts setup Known P → Leads setup Known S T → P S → P T
 lasts setup Known P S T step leads holds = subst P leads.after (lasts_through setup Known P S leads.stages step leads.may leads.known holds)
 
+-- ---- what is known of any deed of a user
+
+abbrev pub IsKnownUser : (Stage → Type 0) → UserId → Moment → Type 0
+IsKnownUser Known user at = (only : Option AcctId) (trnuid : List ℕ) (what : Deed) → Known (deed user only at trnuid what)
+
+pub each_deed : (Known : Stage → Type 0) (user : UserId) (at : Moment) (deeds : List (List ℕ × Deed)) → IsKnownUser Known user at → AllByRecursion (IsKnownDeed Known user at) deeds
+each_deed Known user at [] known = tt
+each_deed Known user at (one ∷ deeds) known = (λ only. known only one.0 one.1, each_deed Known user at deeds known)
+
+pub each_ask : (Known : Stage → Type 0) (user : UserId) (at : Moment) (ask : Ask) → IsKnownUser Known user at → IsKnownAsk Known user at ask
+each_ask Known user at (Statement trnuid name period) known = tt
+each_ask Known user at (One trnuid what) known = λ only. known only trnuid what
+each_ask Known user at (Sync ask) known = each_deed Known user at ask.deeds known
+
+pub each_asks : (Known : Stage → Type 0) (user : UserId) (at : Moment) (asks : List Ask) → IsKnownUser Known user at → AllByRecursion (IsKnownAsk Known user at) asks
+each_asks Known user at [] known = tt
+each_asks Known user at (ask ∷ asks) known = (each_ask Known user at ask known, each_asks Known user at asks known)
+
 -- ---- deeds and synchronisations
 
 pub leads_deeds : (setup : Setup) (Known : Stage → Type 0) (S : State) (user : UserId) (only : Option AcctId) (at : Moment) (deeds : List (List ℕ × Deed)) → AllByRecursion (IsKnownDeed Known user at) deeds → Leads setup Known S (deed_answers setup S user only at deeds).after
@@ -86,12 +104,12 @@ leads_deeds setup Known S user only at (one ∷ deeds) known =
     let next : State = (deed_answer setup S user only at one.0 one.1).after in
     leads_on setup Known S next _ (leads_once setup Known S (deed user only at one.0 one.1) tt (known.0 only)) (leads_deeds setup Known next user only at deeds known.1)
 
-leads_unless : (setup : Setup) (Known : Stage → Type 0) (S : State) (user : UserId) (at : Moment) (ask : SyncAsk) (code : Option ℕ) → AllByRecursion (IsKnownDeed Known user at) ask.deeds → Leads setup Known S (deeds_or_rejection setup S user at ask code).after
+pub leads_unless : (setup : Setup) (Known : Stage → Type 0) (S : State) (user : UserId) (at : Moment) (ask : SyncAsk) (code : Option ℕ) → AllByRecursion (IsKnownDeed Known user at) ask.deeds → Leads setup Known S (deeds_or_rejection setup S user at ask code).after
 unfolding deeds_or_rejection
 leads_unless setup Known S user at ask None known = leads_deeds setup Known S user (account_about setup user ask.object) at ask.deeds known
 leads_unless setup Known S user at ask (Some code) known = leads_nowhere setup Known S
 
-leads_sync : (setup : Setup) (Known : Stage → Type 0) (S : State) (user : UserId) (at : Moment) (ask : SyncAsk) (found : Option ObjectId) → AllByRecursion (IsKnownDeed Known user at) ask.deeds → Leads setup Known S (sync_on setup S user at ask found).after
+pub leads_sync : (setup : Setup) (Known : Stage → Type 0) (S : State) (user : UserId) (at : Moment) (ask : SyncAsk) (found : Option ObjectId) → AllByRecursion (IsKnownDeed Known user at) ask.deeds → Leads setup Known S (sync_on setup S user at ask found).after
 unfolding sync_on
 leads_sync setup Known S user at ask None known = leads_nowhere setup Known S
 leads_sync setup Known S user at ask (Some object) known = leads_unless setup Known S user at ask (rejection ask.reject (newest object S.entries) ask.kind) known
@@ -121,19 +139,6 @@ IsDeedStage (post at id) = ⊥
 IsDeedStage (spawn id place) = ⊥
 IsDeedStage (letter user at subject body) = ⊥
 
-are_deeds : (user : UserId) (at : Moment) (deeds : List (List ℕ × Deed)) → AllByRecursion (IsKnownDeed IsDeedStage user at) deeds
-are_deeds user at [] = tt
-are_deeds user at (one ∷ deeds) = (λ only. tt, are_deeds user at deeds)
-
-are_deeds_asked : (user : UserId) (at : Moment) (ask : Ask) → IsKnownAsk IsDeedStage user at ask
-are_deeds_asked user at (Statement trnuid name period) = tt
-are_deeds_asked user at (One trnuid what) = λ only. tt
-are_deeds_asked user at (Sync ask) = are_deeds user at ask.deeds
-
-are_all_deeds : (user : UserId) (at : Moment) (asks : List Ask) → AllByRecursion (IsKnownAsk IsDeedStage user at) asks
-are_all_deeds user at [] = tt
-are_all_deeds user at (ask ∷ asks) = (are_deeds_asked user at ask, are_all_deeds user at asks)
-
 kept_stage : (setup : Setup) (kept : List KeptReply) → Lasts setup IsDeedStage (λ (S : State). S.kept ≡ kept)
 unfolding deed_answer
 kept_stage setup kept S (day at) may known same = absurd known
@@ -146,7 +151,7 @@ kept_stage setup kept S (letter user at subject body) may known same = absurd kn
 pub kept-asks : (setup : Setup) (S : State) (user : UserId) (at : Moment) (asks : List Ask) → (ask_answers setup S user at asks).after.kept ≡ S.kept
 kept-asks setup S user at asks =
     lasts setup IsDeedStage (λ (T : State). T.kept ≡ S.kept) S (ask_answers setup S user at asks).after (kept_stage setup S.kept)
-    (leads_asks setup IsDeedStage S user at asks (are_all_deeds user at asks)) refl
+    (leads_asks setup IsDeedStage S user at asks (each_asks IsDeedStage user at asks (λ only trnuid what. tt))) refl
 
 -- ---- files
 
@@ -167,12 +172,15 @@ leads_or setup Known S user at file (Some reply) is known named = leads_nowhere 
 
 -- ---- any event
 
--- The stages of which a step is made.
-pub leads_step : (setup : Setup) (Known : Stage → Type 0) (S : State) (at : Moment) (event : Event) → IsLegal setup S at event → IsKnownEvent Known at event → Leads setup Known S (state_after setup S at event)
+pub leads_file : (setup : Setup) (Known : Stage → Type 0) (S : State) (at : Moment) (user : UserId) (file : RequestFile) → IsKnownEvent Known at (File user file) → Leads setup Known S (state_after setup S at (File user file))
 unfolding file_outcome
-leads_step setup Known S at (File user file) legal known =
+leads_file setup Known S at user file known =
     leads_on setup Known S (raised S at) _ (leads_once setup Known S (day at) tt known.0)
     (leads_or setup Known (raised S at) user at file (kept_for (raised S at) user file.newer) refl known.1 known.2)
+
+-- The stages of which a step is made.
+pub leads_step : (setup : Setup) (Known : Stage → Type 0) (S : State) (at : Moment) (event : Event) → IsLegal setup S at event → IsKnownEvent Known at event → Leads setup Known S (state_after setup S at event)
+leads_step setup Known S at (File user file) legal known = leads_file setup Known S at user file known
 leads_step setup Known S at (Post id) legal known =
     leads_on setup Known S (raised S at) _ (leads_once setup Known S (day at) tt known.0) (leads_once setup Known (raised S at) (post at id) legal known.1)
 leads_step setup Known S at (Spawn id place) legal known =

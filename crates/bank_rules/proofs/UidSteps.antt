@@ -33,7 +33,8 @@ use Rattle.bank_model.specs.Rules.{raised, ask_answer, ask_answers, state_after,
 use Rattle.bank_rules.specs.Stages.{Stage, day, deed, names, post, spawn, letter, after_stage, IsKnownDeed, IsKnownAsk, IsKnownEvent}
 use Rattle.bank_rules.specs.Runs.{Happening, after_all, AreLegal}
 use Rattle.bank_rules.specs.Uids.{asker, is_used_by, AddsByUids, AllAddByUids}
-use Rattle.bank_rules.proofs.StageLemmas.{Lasts, lasts, leads_deeds, leads_ask, leads_asks, leads_step}
+use Rattle.bank_rules.proofs.Lists.{all_append}
+use Rattle.bank_rules.proofs.StageLemmas.{Lasts, lasts, each_deed, each_ask, each_asks, leads_deeds, leads_ask, leads_asks, leads_step}
 use Rattle.bank_rules.proofs.StateLemmas.{IsAllowed-from_code, unused-from_code}
 
 -- ---- the uids of a deed's entries
@@ -113,10 +114,6 @@ by_last user first last (entry ∷ entries) all = (either all.0, by_last user fi
     either (inl own) = inl own
     either (inr used) = inr (used_last user entry.trnuid first last used)
 
-all_both : {X : Type 0} (P : X → Type 0) (xs ys : List X) → AllByRecursion P xs → AllByRecursion P ys → AllByRecursion P (xs ++ ys)
-all_both P [] ys one two = two
-all_both P (x ∷ xs) ys one two = (one.0, all_both P xs ys one.1 two)
-
 still_unused : (before first last : List UsedPair) → AllByRecursion (λ (pair : UsedPair). is_used pair.user pair.trnuid (before ++ first) ≡ false) last → AllByRecursion (λ (pair : UsedPair). is_used pair.user pair.trnuid before ≡ false) last
 still_unused before first [] all = tt
 still_unused before first (pair ∷ last) all =
@@ -138,8 +135,8 @@ adds_on user S T U first last = record {
   pairs = first.pairs ++ last.pairs;
   entries = last.entries ∙ ap (λ (l : List Entry). l ++ last.added) first.entries ∙ append_assoc S.entries first.added last.added;
   used = last.used ∙ ap (λ (l : List UsedPair). l ++ last.pairs) first.used ∙ append_assoc S.used first.pairs last.pairs;
-  uids = all_both (IsByUid user (first.pairs ++ last.pairs)) first.added last.added (by_first user first.pairs last.pairs first.added first.uids) (by_last user first.pairs last.pairs last.added last.uids);
-  unused = all_both (λ (pair : UsedPair). is_used pair.user pair.trnuid S.used ≡ false) first.pairs last.pairs first.unused
+  uids = all_append (IsByUid user (first.pairs ++ last.pairs)) first.added last.added (by_first user first.pairs last.pairs first.added first.uids) (by_last user first.pairs last.pairs last.added last.uids);
+  unused = all_append (λ (pair : UsedPair). is_used pair.user pair.trnuid S.used ≡ false) first.pairs last.pairs first.unused
       (still_unused S.used first.pairs last.pairs (subst (λ (l : List UsedPair). AllByRecursion (λ (pair : UsedPair). is_used pair.user pair.trnuid l ≡ false) last.pairs) first.used last.unused));
 }
 
@@ -226,21 +223,8 @@ adds_stage setup asked S (letter user at subject body) known = adds_own asked S 
 adds_lasts : (setup : Setup) (asked : Option UserId) (S : State) → Lasts setup (IsAskedBy asked) (AddsByUids asked S)
 adds_lasts setup asked S T stage may known adds = adds_on asked S T (after_stage setup T stage) adds (adds_stage setup asked T stage known)
 
-asked_deeds : (user : UserId) (at : Moment) (deeds : List (List ℕ × Deed)) → AllByRecursion (IsKnownDeed (IsAskedBy (Some user)) user at) deeds
-asked_deeds user at [] = tt
-asked_deeds user at (one ∷ deeds) = (λ only. refl, asked_deeds user at deeds)
-
-asked_ask : (user : UserId) (at : Moment) (ask : Ask) → IsKnownAsk (IsAskedBy (Some user)) user at ask
-asked_ask user at (Statement trnuid name period) = tt
-asked_ask user at (One trnuid what) = λ only. refl
-asked_ask user at (Sync ask) = asked_deeds user at ask.deeds
-
-asked_asks : (user : UserId) (at : Moment) (asks : List Ask) → AllByRecursion (IsKnownAsk (IsAskedBy (Some user)) user at) asks
-asked_asks user at [] = tt
-asked_asks user at (ask ∷ asks) = (asked_ask user at ask, asked_asks user at asks)
-
 asked_event : (at : Moment) (event : Event) → IsKnownEvent (IsAskedBy (asker event)) at event
-asked_event at (File user file) = (tt, asked_asks user at file.asks, λ reply. tt)
+asked_event at (File user file) = (tt, each_asks (IsAskedBy (Some user)) user at file.asks (λ only trnuid what. refl), λ reply. tt)
 asked_event at (Post id) = (tt, tt)
 asked_event at (Spawn id place) = (tt, tt)
 asked_event at (Letter user subject body) = (tt, tt)
@@ -248,17 +232,17 @@ asked_event at (Letter user subject body) = (tt, tt)
 pub adds_deeds : (setup : Setup) (S : State) (user : UserId) (only : Option AcctId) (at : Moment) (deeds : List (List ℕ × Deed)) → AddsByUids (Some user) S (deed_answers setup S user only at deeds).after
 adds_deeds setup S user only at deeds =
     lasts setup (IsAskedBy (Some user)) (AddsByUids (Some user) S) S _ (adds_lasts setup (Some user) S)
-    (leads_deeds setup (IsAskedBy (Some user)) S user only at deeds (asked_deeds user at deeds)) (adds_nothing (Some user) S S refl refl)
+    (leads_deeds setup (IsAskedBy (Some user)) S user only at deeds (each_deed (IsAskedBy (Some user)) user at deeds (λ only trnuid what. refl))) (adds_nothing (Some user) S S refl refl)
 
 pub adds_ask : (setup : Setup) (S : State) (user : UserId) (at : Moment) (ask : Ask) → AddsByUids (Some user) S (ask_answer setup S user at ask).after
 adds_ask setup S user at ask =
     lasts setup (IsAskedBy (Some user)) (AddsByUids (Some user) S) S _ (adds_lasts setup (Some user) S)
-    (leads_ask setup (IsAskedBy (Some user)) S user at ask (asked_ask user at ask)) (adds_nothing (Some user) S S refl refl)
+    (leads_ask setup (IsAskedBy (Some user)) S user at ask (each_ask (IsAskedBy (Some user)) user at ask (λ only trnuid what. refl))) (adds_nothing (Some user) S S refl refl)
 
 pub adds_asks : (setup : Setup) (S : State) (user : UserId) (at : Moment) (asks : List Ask) → AddsByUids (Some user) S (ask_answers setup S user at asks).after
 adds_asks setup S user at asks =
     lasts setup (IsAskedBy (Some user)) (AddsByUids (Some user) S) S _ (adds_lasts setup (Some user) S)
-    (leads_asks setup (IsAskedBy (Some user)) S user at asks (asked_asks user at asks)) (adds_nothing (Some user) S S refl refl)
+    (leads_asks setup (IsAskedBy (Some user)) S user at asks (each_asks (IsAskedBy (Some user)) user at asks (λ only trnuid what. refl))) (adds_nothing (Some user) S S refl refl)
 
 pub adds_step : (setup : Setup) (S : State) (at : Moment) (event : Event) → IsLegal setup S at event → AddsByUids (asker event) S (state_after setup S at event)
 adds_step setup S at event legal =

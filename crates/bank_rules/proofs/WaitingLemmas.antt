@@ -19,6 +19,7 @@ use Rattle.bank_transfers.specs.Growth.{row_after}
 use Rattle.bank_transfers.proofs.GrowthLemmas.{row_of-push}
 use Rattle.bank_rules.specs.Standing.{IsOfWaiting, IsLawful, IsNumbered, IsOfMade}
 use Rattle.bank_rules.specs.Pending.{ids_of, waits_for, id_new, ids_new}
+use Rattle.bank_rules.proofs.Lists.{all_append}
 use Rattle.bank_rules.proofs.NextLemmas.{row_of-named}
 use Rattle.bank_rules.proofs.StandingLemmas.{AreLawfulAt}
 use Rattle.bank_rules.proofs.OnceLemmas.{made_before}
@@ -123,10 +124,6 @@ filter_twice p q (id ∷ ids) step = twice (p id) (q id) refl refl (filter_twice
     twice false true is other rest = absurd (let here = step.0 other in cc)
     twice false false is other rest = rest
 
-append_all : {X : Type 0} (P : X → Type 0) (xs ys : List X) → AllByRecursion P xs → AllByRecursion P ys → AllByRecursion P (xs ++ ys)
-append_all P [] ys first second = second
-append_all P (x ∷ xs) ys first second = (first.0, append_all P xs ys first.1 second)
-
 -- it waited before where it waits behind more entries
 abbrev HasWaited : ℕ → List Entry → List Entry → ℕ → Type 0
 HasWaited model before entries id = waits_for model (row_of id (before ++ entries)) ≡ true → waits_for model (row_of id before) ≡ true
@@ -143,7 +140,7 @@ change_waited model before entries (NewMail mail) made lawful = tt
 all_waited : (model : ℕ) (before entries some : List Entry) → AllByRecursion (IsNumbered (length before)) some → AreLawfulAt (before ++ entries) → AllByRecursion (HasWaited model before entries) (ids_new some)
 all_waited model before entries [] made lawful = tt
 all_waited model before entries (entry ∷ some) made lawful =
-    append_all (HasWaited model before entries) (id_new entry.change) (ids_new some) (change_waited model before entries entry.change made.0 lawful) (all_waited model before entries some made.1 lawful)
+    all_append (HasWaited model before entries) (id_new entry.change) (ids_new some) (change_waited model before entries entry.change made.0 lawful) (all_waited model before entries some made.1 lawful)
 
 -- Those that wait behind a draft: of those that waited before, and of those that it made.
 pub waiting_drafted : (model : ℕ) (before entries : List Entry) → AllByRecursion (IsNumbered (length before)) before → AreLawfulAt (before ++ entries) → filter (λ (id : ℕ). waits_for model (row_of id (before ++ entries))) (ids_of (waiting_of model before)) ++ filter (λ (id : ℕ). waits_for model (row_of id (before ++ entries))) (ids_new entries) ≡ ids_of (waiting_of model (before ++ entries))
