@@ -66,7 +66,7 @@ pub settled_fields : (covered : Bool) (at : Moment) (row : TransferRow) → ((se
 unfolding settled_row
 settled_fields covered at row = (refl, refl, refl, refl, refl, refl)
 
-settled_open : (covered : Bool) → is_cancelled (cond covered Posted NoFunds) ≡ false
+pub settled_open : (covered : Bool) → is_cancelled (cond covered Posted NoFunds) ≡ false
 settled_open true = refl
 settled_open false = refl
 

@@ -1,9 +1,7 @@
 -- Transfers that wait, and rows that are told to a client, stand in rising id.
-use Rattle.std.proofs.Common.{◌≡◌, ℕ, zero, suc, add-one, ◌+◌, ◌<◌, ◌≤◌, ◌⊎◌, inl, inr, Bool, true, false, cond, List, [], ◌∷◌, ◌++◌, map, length, length-append, take, get_or, Option, None, Some, refl, sym, ap, ◌∙◌, subst, append_assoc, arith}
+use Rattle.std.proofs.Common.{◌≡◌, ℕ, zero, suc, add-one, ◌+◌, ◌<◌, ◌⊎◌, inl, inr, Bool, true, false, cond, List, [], ◌∷◌, ◌++◌, map, length, get_or, Option, None, Some, refl, sym, ap, ◌∙◌, subst, append_assoc, arith}
 use Rattle.std.specs.List.{AllByRecursion, flat_map}
 use Rattle.std.specs.List.Sorted.{IsStrictlyIncreasing}
-use Rattle.std.proofs.lemmas.List.{get_or_at}
-use Rattle.std.proofs.Math.Seq.{take-append_seam}
 use Rattle.ofx_types.specs.declared.number.ObjectId.{ObjectId}
 use Rattle.ofx_types.specs.declared.transfer.TransferRow.{TransferRow}
 use Rattle.ofx_types.specs.declared.transfer.Change.{Change}
@@ -15,7 +13,6 @@ use Rattle.bank_model.specs.Models.{model_of, is_model_dropped}
 use Rattle.bank_model.specs.Judging.{is_cancelled}
 use Rattle.bank_model.specs.Objects.{belongs_to, history_of}
 use Rattle.bank_model.specs.Sync.{standing_transfer, standing_model, standing_in, standing}
-use Rattle.bank_rules.specs.Standing.{IsLawful}
 use Rattle.bank_rules.specs.Rising.{id_told, ids_told}
 use Rattle.bank_rules.proofs.RowLemmas.{model_of-named}
 use Rattle.bank_rules.proofs.NextLemmas.{row_of-named}

@@ -10,13 +10,9 @@ use Rattle.ofx_types.specs.declared.number.UserId.{UserId}
 use Rattle.ofx_types.specs.declared.number.Moment.{Moment}
 use Rattle.ofx_types.specs.declared.transfer.Deed.{Deed}
 use Rattle.ofx_types.specs.SyncForm.{object_family}
-use Rattle.ofx_types.specs.declared.number.ObjectId.{ObjectId}
 use Rattle.ofx_types.specs.declared.transfer.Family.{Family}
-use Rattle.ofx_types.specs.declared.sync.SyncAsk.{SyncAsk}
 use Rattle.ofx_types.specs.declared.request.Ask.{Ask}
 use Rattle.ofx_types.specs.declared.request.Ask.TheVariants.{Statement, One, Sync}
-use Rattle.ofx_types.specs.declared.request.RequestFile.{RequestFile}
-use Rattle.bank_model.specs.declared.once.UsedPair.{UsedPair}
 use Rattle.bank_model.specs.declared.once.KeptReply.{KeptReply}
 use Rattle.bank_model.specs.declared.setup.Setup.{Setup}
 use Rattle.bank_model.specs.declared.event.State.{State}
@@ -24,14 +20,12 @@ use Rattle.bank_model.specs.declared.event.Event.{Event}
 use Rattle.bank_model.specs.declared.event.Event.TheVariants.{File, Post, Spawn, Letter}
 use Rattle.bank_model.specs.SetupForm.{IsWithinLimits}
 use Rattle.bank_model.specs.Once.{is_used, is_named, reply_kept, released}
-use Rattle.bank_model.specs.Deeds.{judged, done, is_full, unless_full, code_of, used_up, mail_object, answer_with, deed_answer}
+use Rattle.bank_model.specs.Deeds.{judged, done, is_full, unless_full, code_of, mail_object, answer_with, deed_answer}
 use Rattle.bank_model.specs.declared.entry.Entry.{Entry}
 use Rattle.bank_model.specs.Ledger.{row_of}
-use Rattle.bank_model.specs.Objects.{account_about, object_named, newest}
-use Rattle.bank_model.specs.Sync.{rejection, deed_answers, deeds_or_rejection, sync_on, sync_answer}
 use Rattle.bank_model.specs.Due.{has_number, may_post, posts, may_spawn, spawns}
-use Rattle.bank_model.specs.Rules.{with_entries, raised, ask_answer, ask_answers, release, keep, with_kept, kept_for, new_outcome, outcome_or_kept, file_outcome, letter, letter_entry, state_after, IsLegal}
-use Rattle.bank_model.specs.Sound.{IsSoundDeed, IsSoundPair, IsSoundSync, IsSoundAsk}
+use Rattle.bank_model.specs.Rules.{with_entries, raised, ask_answer, ask_answers, release, keep, kept_for, letter, letter_entry, state_after, IsLegal}
+use Rattle.bank_model.specs.Sound.{IsSoundDeed, IsSoundPair, IsSoundAsk}
 use Rattle.once_records.specs.RecordsView.{UsedOnce, KeptOnce}
 use Rattle.once_records.proofs.OnceLemmas.{UsedOnce-push, KeptOnce-push, KeptOnce-released}
 use Rattle.bank_rules.specs.Standing.{IsSoundState}
@@ -40,7 +34,7 @@ use Rattle.bank_rules.specs.Next.{IsNext, AreNext, ExtendsTo}
 use Rattle.bank_rules.specs.Stages.{Stage, after_stage, MayCome, Leads, IsKnownDeed, IsKnownAsk, IsKnownEvent, IsSoundStage}
 use Rattle.bank_rules.specs.Stages as stages
 use Rattle.bank_rules.proofs.StageLemmas.{Lasts, lasts, leads_ask, leads_asks, leads_step}
-use Rattle.bank_rules.proofs.StandingLemmas.{sound_more, sound_all}
+use Rattle.bank_rules.proofs.StandingLemmas.{sound_all}
 use Rattle.bank_rules.proofs.NextLemmas.{mail_next}
 use Rattle.bank_rules.proofs.DoneLemmas.{deed_done, all_next}
 use Rattle.bank_rules.proofs.EventLemmas.{few_number, to_post, post_entry, post_next, post_entries, to_spawn, spawn_entry, spawn_next, spawn_entries, date_known}

@@ -1,6 +1,6 @@
 -- A transfer, or a recurring transfer, with which nothing is wrong gets code 0 and its entry.
-use Rattle.std.proofs.Common.{◌≡◌, ◌≢◌, ℕ, ◌+◌, ◌<◌, ◌≤◌, Bool, true, false, not, ◌&&◌, cond, eqb, ltb, List, [], ◌∷◌, ◌++◌, length, map, Option, None, Some, ℤ, ◌≤ℤ◌, refl, sym, ap, ◌∙◌, subst, append_assoc, arith}
-use Rattle.std.specs.Prelude.{is_some, int_le}
+use Rattle.std.proofs.Common.{◌≡◌, ℕ, ◌+◌, ◌≤◌, Bool, true, false, not, ◌&&◌, cond, List, [], ◌∷◌, ◌++◌, length, Option, None, Some, ℤ, ◌≤ℤ◌, refl, sym, ap, ◌∙◌, subst, append_assoc, arith}
+use Rattle.std.specs.Prelude.{is_some}
 use Rattle.std.proofs.lemmas.Bool.{le-ltb}
 use Rattle.std.proofs.lemmas.Int.{ints}
 use Rattle.ofx_types.specs.AccountForm.{same_account}
@@ -23,10 +23,8 @@ use Rattle.ofx_types.specs.declared.sync.ObjectName.{ObjectName}
 use Rattle.ofx_types.specs.declared.sync.ObjectName.TheVariants as objects
 use Rattle.ofx_types.specs.declared.sync.SyncAsk.{SyncAsk}
 use Rattle.ofx_types.specs.declared.request.Ask.{Ask}
-use Rattle.ofx_types.specs.declared.request.Ask.TheVariants.{Statement, One, Sync}
+use Rattle.ofx_types.specs.declared.request.Ask.TheVariants.{One, Sync}
 use Rattle.ofx_types.specs.declared.request.RequestFile.{RequestFile}
-use Rattle.ofx_types.specs.declared.reply.AskReply.{AskReply}
-use Rattle.ofx_types.specs.declared.reply.AskReply.TheVariants as replies
 use Rattle.bank_model.specs.declared.entry.Entry.{Entry}
 use Rattle.bank_model.specs.declared.setup.Setup.{Setup}
 use Rattle.bank_model.specs.declared.event.State.{State}
@@ -34,12 +32,12 @@ use Rattle.bank_model.specs.declared.event.Event.TheVariants.{File}
 use Rattle.bank_model.specs.SetupLookups.{account_of, own_account, if_owned, is_owner}
 use Rattle.bank_model.specs.Ledger.{balance, is_covered}
 use Rattle.bank_model.specs.Judging.{Refusal, refused, first_of, is_only, is_own, is_own_account, is_destination, is_positive, is_due, is_after, transfer_code, model_code}
-use Rattle.bank_model.specs.Deeds.{DeedAnswer, balance_if_any, source_balance, intra_of, recurring_of, letters_of, object_of, model_object_of, judged, done, is_full, unless_full, first_change, code_of, after_deed, answer_with, deed_answer}
+use Rattle.bank_model.specs.Deeds.{DeedAnswer, balance_if_any, source_balance, intra_of, recurring_of, letters_of, judged, done, is_full, unless_full, first_change, code_of, after_deed, answer_with, deed_answer}
 use Rattle.bank_model.specs.Objects.{account_about, numbered, object_named, newest}
 use Rattle.bank_model.specs.Sync.{DeedAnswers, SyncAnswer, told_as, rejection, deed_answers, deeds_or_rejection, history_told, sync_on, sync_answer}
 use Rattle.bank_model.specs.Once.{is_used}
 use Rattle.bank_model.specs.Rules.{AskAnswer, AskAnswers, Outcome, raised, ask_answer, ask_answers, reply_file, kept_for, new_outcome, outcome_or_kept, file_outcome, state_after, answer_to}
-use Rattle.bank_rules.specs.Taken.{HasTerms, MayTransfer, MayRecur, transfer_entry, recurring_entry, taken_with, reached, Tells, TakesInStep}
+use Rattle.bank_rules.specs.Taken.{MayTransfer, MayRecur, transfer_entry, recurring_entry, taken_with, reached, Tells, TakesInStep}
 use Rattle.bank_rules.proofs.DeedLemmas.{taken_entry, transfer_entries, model_entry, model_entries}
 use Rattle.bank_rules.proofs.RunLaws.{kept_for-raised}
 use Rattle.bank_rules.proofs.UidSteps.{adds_deeds, adds_asks}

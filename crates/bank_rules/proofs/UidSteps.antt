@@ -15,7 +15,6 @@ use Rattle.ofx_types.specs.declared.transfer.Deed.TheVariants.{Transfer, ModifyT
 use Rattle.ofx_types.specs.declared.recurring.ModelRow.{ModelRow}
 use Rattle.ofx_types.specs.declared.number.Day.{Day}
 use Rattle.ofx_types.specs.declared.request.Ask.{Ask}
-use Rattle.ofx_types.specs.declared.request.Ask.TheVariants.{Statement, One, Sync}
 use Rattle.bank_model.specs.declared.entry.Entry.{Entry}
 use Rattle.bank_model.specs.declared.once.UsedPair.{UsedPair}
 use Rattle.bank_model.specs.declared.setup.Setup.{Setup}
@@ -26,16 +25,16 @@ use Rattle.bank_model.proofs.SetupWords.{bytes_eq_self}
 use Rattle.bank_model.specs.Ledger.{row_of}
 use Rattle.bank_model.specs.Models.{model_of, waiting_of}
 use Rattle.bank_model.specs.Due.{posts, place_date, spawns_on, spawns}
-use Rattle.bank_model.specs.Deeds.{entry_on, entries_behind, if_pending, model_entries_on, done, code_of, answer_with, deed_answer}
+use Rattle.bank_model.specs.Deeds.{entry_on, entries_behind, if_pending, model_entries_on, done, code_of, deed_answer}
 use Rattle.bank_model.specs.Once.{is_pair, is_used}
 use Rattle.bank_model.specs.Sync.{deed_answers}
 use Rattle.bank_model.specs.Rules.{raised, ask_answer, ask_answers, state_after, IsLegal}
-use Rattle.bank_rules.specs.Stages.{Stage, day, deed, names, post, spawn, letter, after_stage, IsKnownDeed, IsKnownAsk, IsKnownEvent}
-use Rattle.bank_rules.specs.Runs.{Happening, after_all, AreLegal}
+use Rattle.bank_rules.specs.Stages.{Stage, day, deed, names, post, spawn, letter, after_stage, IsKnownEvent}
+use Rattle.bank_rules.specs.Runs.{Happening, AreLegal}
 use Rattle.bank_rules.specs.Uids.{asker, is_used_by, AddsByUids, AllAddByUids}
 use Rattle.bank_rules.proofs.Lists.{all_append}
 use Rattle.bank_rules.proofs.StageLemmas.{Lasts, lasts, each_deed, each_ask, each_asks, leads_deeds, leads_ask, leads_asks, leads_step}
-use Rattle.bank_rules.proofs.StateLemmas.{IsAllowed-from_code, unused-from_code}
+use Rattle.bank_rules.proofs.StateLemmas.{unused-from_code}
 
 -- ---- the uids of a deed's entries
 

@@ -1,5 +1,5 @@
 -- Transfers and recurring transfers that a bank has to take, and how a file's step takes them.
-use Rattle.std.specs.Prelude.{◌≡◌, ℕ, ◌+◌, ◌≤◌, true, false, ◌≤ℤ◌, List, [], ◌∷◌, ◌++◌, length, Option, Some, is_some}
+use Rattle.std.specs.Prelude.{◌≡◌, ℕ, ◌+◌, ◌≤◌, true, false, ◌≤ℤ◌, List, [], ◌∷◌, ◌++◌, length, Some, is_some}
 use Rattle.ofx_types.specs.AccountForm.{same_account}
 use Rattle.ofx_types.specs.ReplyForm.{reply_text}
 use Rattle.ofx_types.specs.declared.number.AcctId.{AcctId}
