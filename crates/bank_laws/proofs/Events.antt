@@ -139,7 +139,7 @@ grows_letter setup S user at subject body may =
 pub grows_raised : (setup : Setup) (S : State) (at : Moment) → Grows setup S (raised S at)
 grows_raised setup S at = grows_same setup S (raised S at) refl
 
-grows_stage : (setup : Setup) (S : State) (stage : Stage) → MayCome setup S stage → Grows setup S (after_stage setup S stage)
+pub grows_stage : (setup : Setup) (S : State) (stage : Stage) → MayCome setup S stage → Grows setup S (after_stage setup S stage)
 grows_stage setup S (stages.day at) may = grows_raised setup S at
 grows_stage setup S (stages.deed user only at trnuid what) may = grows_deed setup S user only at trnuid what
 grows_stage setup S (stages.names user older newer reply) may = grows_same setup S _ refl

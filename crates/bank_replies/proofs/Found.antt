@@ -13,9 +13,9 @@ use Rattle.bank_model.specs.declared.setup.Setup.{Setup}
 use Rattle.bank_model.specs.Ledger.{row_in, if_named, or_before, last_row, is_dropped, with_code, row_of}
 use Rattle.bank_model.specs.Models.{model_in, if_model_named, or_model_before, model_of, waiting_of}
 use Rattle.msg_bank.specs.Sound.{IsSoundId, IsSoundInfo, IsSoundMoment, IsSoundModelRow}
-use Rattle.bank_laws.proofs.Waiting.{IsHere, waiting_here}
+use Rattle.bank_rules.proofs.PendingLemmas.{IsHere, waiting_wait}
 use Rattle.bank_replies.specs.Telling.{IsToldChange, IsToldEntry}
-use Rattle.bank_replies.proofs.Lists.{all_step}
+use Rattle.bank_rules.proofs.Lists.{all_step}
 
 -- A row that may be told, unless it is cancelled.
 pub record IsKnownRow (row : TransferRow) : Type 0 where
@@ -68,7 +68,7 @@ known_row setup id entries row all found = subst (λ (r : Option TransferRow). I
 -- the transfers that wait for a recurring one
 pub waiting_known : (setup : Setup) (id : ℕ) (entries : List Entry) → AllByRecursion (IsToldEntry setup) entries → AllByRecursion (λ (row : TransferRow). IsKnownRow row × IsHere entries row) (waiting_of id entries)
 waiting_known setup id entries all =
-    all_step (IsHere entries) (λ (row : TransferRow). IsKnownRow row × IsHere entries row) (waiting_of id entries) (λ row here. (known_row setup row.id entries row all here.0, here)) (waiting_here id entries)
+    all_step (IsHere entries) (λ (row : TransferRow). IsKnownRow row × IsHere entries row) (waiting_of id entries) (λ row here. (known_row setup row.id entries row all here.0, here)) (waiting_wait id entries)
 
 -- ---- recurring transfers
 

@@ -39,14 +39,14 @@ IsDay-of_moment (negsuc at) moment = (omega (arith, ints), omega (arith, ints))
 pub IsDay-max : (a b : ℤ) → IsDay a → IsDay b → IsDay (int_max a b)
 IsDay-max a b first second = (omega (arith, ints, clamps), omega (arith, ints, clamps))
 
-IsMoment-midnight : (day : ℤ) → IsDay day → IsMoment (midnight day)
+pub IsMoment-midnight : (day : ℤ) → IsDay day → IsMoment (midnight day)
 IsMoment-midnight day is = (omega (arith, ints), omega (arith, ints))
 
-IsDay-due : (due : Option Day) (day : Day) → IfSome due (λ (d : Day). IsDay d.0) → IsDay day.0 → IsDay (unwrap_or due day).0
+pub IsDay-due : (due : Option Day) (day : Day) → IfSome due (λ (d : Day). IsDay d.0) → IsDay day.0 → IsDay (unwrap_or due day).0
 IsDay-due None day due known = known
 IsDay-due (Some d) day due known = due
 
-stamp_is : (due : Bool) (at : Moment) (day : ℤ) → IsMoment at.0 → IsDay day → IsMoment (cond due at (record { 0 = midnight day })).0
+pub stamp_is : (due : Bool) (at : Moment) (day : ℤ) → IsMoment at.0 → IsDay day → IsMoment (cond due at (record { 0 = midnight day })).0
 stamp_is true at day moment known = moment
 stamp_is false at day moment known = IsMoment-midnight day known
 
