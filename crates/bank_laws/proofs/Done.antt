@@ -1,10 +1,9 @@
 -- The entries of a deed that isn't refused follow those before them.
-use Rattle.std.proofs.Common.{◌≡◌, ℕ, ◌+◌, Bool, true, false, cond, List, [], ◌∷◌, ◌++◌, length, Option, Some, refl, sym, ap, ◌∙◌, subst}
+use Rattle.std.proofs.Common.{◌≡◌, ℕ, ◌+◌, Bool, true, false, List, [], ◌∷◌, ◌++◌, length, Option, Some, refl, sym, ap, ◌∙◌, subst}
 use Rattle.ofx_types.specs.declared.number.AcctId.{AcctId}
 use Rattle.ofx_types.specs.declared.number.UserId.{UserId}
 use Rattle.ofx_types.specs.declared.number.Day.{Day}
 use Rattle.ofx_types.specs.declared.number.Moment.{Moment}
-use Rattle.ofx_types.specs.declared.transfer.XferCode.TheVariants.{Waiting, Posted}
 use Rattle.ofx_types.specs.declared.transfer.XferInfo.{XferInfo}
 use Rattle.ofx_types.specs.declared.transfer.TransferRow.{TransferRow}
 use Rattle.ofx_types.specs.declared.transfer.Deed.{Deed}
@@ -19,12 +18,12 @@ use Rattle.bank_model.specs.declared.event.State.{State}
 use Rattle.bank_model.specs.SetupLookups.{account_of}
 use Rattle.bank_model.specs.Ledger.{row_of}
 use Rattle.bank_model.specs.Models.{model_of, is_model_dropped, waiting_of}
-use Rattle.bank_model.specs.Judging.{is_due, is_cancelled}
+use Rattle.bank_model.specs.Judging.{is_due}
 use Rattle.bank_model.specs.Deeds.{source_balance, judged, object_of, model_object_of, new_row, changed_row, new_model, changed_model, next_entry, entries_behind, if_pending, model_entries_on, done}
 use Rattle.bank_laws.specs.Histories.{MaySay, AllFollow}
 use Rattle.bank_rules.proofs.RowLemmas.{model_of-named}
 use Rattle.bank_rules.proofs.NextLemmas.{row_of-named}
-use Rattle.bank_rules.proofs.DeedLemmas.{modify_entries, cancel_entries}
+use Rattle.bank_rules.proofs.DeedLemmas.{new_open, modify_entries, cancel_entries}
 use Rattle.bank_rules.proofs.DoneLemmas.{with_new_terms, dropping}
 use Rattle.bank_laws.proofs.Verdicts.{IsFree, IsModelFree, free_to_modify, free_to_cancel, own_transfer, free_model_to_modify, free_model_to_cancel, own_model, own_letter}
 use Rattle.bank_laws.proofs.Places.{IsKnown, own_known, at_transfers, at_recurring, at_letters, mail_place}
@@ -48,13 +47,9 @@ cancel_model_entries setup S user at trnuid id also row found =
 
 -- ---- what they may say
 
-new_kept : (due : Bool) → is_cancelled (cond due Posted Waiting) ≡ false
-new_kept true = refl
-new_kept false = refl
-
 new_says : (setup : Setup) (before : List Entry) (at : Moment) (day : Day) (info : XferInfo) → IsKnown setup (account_of setup info.from) → MaySay setup before (object_of setup info.from) (NewTransfer (new_row (length before + 1) at day info))
 unfolding new_row
-new_says setup before at day info known = (refl, new_kept (is_due info day), refl, at_transfers setup (account_of setup info.from) known)
+new_says setup before at day info known = (refl, new_open (is_due info day), refl, at_transfers setup (account_of setup info.from) known)
 
 changed_says : (setup : Setup) (user : UserId) (only : Option AcctId) (before : List Entry) (id : ℕ) (day : Day) (info : XferInfo) (free : IsFree setup user only (row_of id before)) → MaySay setup before (object_of setup free.row.from) (SetTransfer (changed_row day info free.row))
 unfolding changed_row

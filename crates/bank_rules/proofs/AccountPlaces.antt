@@ -56,7 +56,7 @@ same_account-self a = rw (bytes_eq_self a.bank, bytes_eq_self a.number, bytes_eq
 
 -- ---- places
 
-slice_get-below : {X : Type 0} (xs : List X) (i : ℕ) (x : X) → slice_get xs i ≡ Some x → i < length xs
+pub slice_get-below : {X : Type 0} (xs : List X) (i : ℕ) (x : X) → slice_get xs i ≡ Some x → i < length xs
 slice_get-below [] i x found = absurd cc
 slice_get-below (y ∷ xs) zero x found = omega arith
 slice_get-below (y ∷ xs) (suc i) x found = let less = slice_get-below xs i x found in omega arith

@@ -48,7 +48,8 @@ new_waits : (number id : ℕ) (at : Moment) (day : Day) (info : XferInfo) → is
 unfolding new_row
 new_waits number id at day info due = ap (λ (b : Bool). cond (is_posted (cond b Posted Waiting)) (record { number = number; row = new_row id at day info } ∷ []) []) due
 
-new_open : (due : Bool) → is_cancelled (cond due Posted Waiting) ≡ false
+-- a new transfer isn't cancelled, whether it is due or not
+pub new_open : (due : Bool) → is_cancelled (cond due Posted Waiting) ≡ false
 new_open true = refl
 new_open false = refl
 

@@ -1,5 +1,5 @@
 -- Transfers that wait, and rows that are told to a client, stand in rising id.
-use Rattle.std.proofs.Common.{◌≡◌, ℕ, zero, suc, add-one, ◌+◌, ◌<◌, ◌⊎◌, inl, inr, Bool, true, false, cond, List, [], ◌∷◌, ◌++◌, map, length, get_or, Option, None, Some, refl, sym, ap, ◌∙◌, subst, append_assoc, arith}
+use Rattle.std.proofs.Common.{◌≡◌, ℕ, zero, suc, add-one, ◌+◌, ◌<◌, ◌⊎◌, inl, inr, Bool, true, false, cond, List, [], ◌∷◌, ◌++◌, length, get_or, Option, None, Some, refl, sym, ap, ◌∙◌, subst, append_assoc, arith}
 use Rattle.std.specs.List.{AllByRecursion, flat_map}
 use Rattle.std.specs.List.Sorted.{IsStrictlyIncreasing}
 use Rattle.ofx_types.specs.declared.number.ObjectId.{ObjectId}
@@ -13,6 +13,7 @@ use Rattle.bank_model.specs.Models.{model_of, is_model_dropped}
 use Rattle.bank_model.specs.Judging.{is_cancelled}
 use Rattle.bank_model.specs.Objects.{belongs_to, history_of}
 use Rattle.bank_model.specs.Sync.{standing_transfer, standing_model, standing_in, standing}
+use Rattle.bank_rules.specs.Pending.{ids_of}
 use Rattle.bank_rules.specs.Rising.{id_told, ids_told}
 use Rattle.bank_rules.proofs.RowLemmas.{model_of-named}
 use Rattle.bank_rules.proofs.NextLemmas.{row_of-named}
@@ -36,9 +37,6 @@ increasing : (ids : List ℕ) → AreRising ids → IsStrictlyIncreasing ids
 increasing ids rise k below = subst (λ (n : ℕ). get_or ids k 0 < get_or ids n 0) (sym (add-one k)) (rise_at ids rise k (omega arith))
 
 -- ---- transfers that wait
-
-abbrev ids_of : List TransferRow → List ℕ
-ids_of rows = map (λ (row : TransferRow). row.id) rows
 
 above_rows : (id : ℕ) (rows : List TransferRow) → AllByRecursion (λ (other : TransferRow). id < other.id) rows → AllByRecursion (λ (other : ℕ). id < other) (ids_of rows)
 above_rows id [] all = tt

@@ -14,13 +14,13 @@ use Rattle.bank_model.specs.declared.setup.Setup.{Setup}
 use Rattle.bank_model.specs.declared.event.State.{State}
 use Rattle.bank_model.specs.declared.event.Event.{Event}
 use Rattle.bank_model.specs.declared.event.Event.TheVariants.{File, Post, Spawn, Letter}
-use Rattle.bank_model.specs.SetupForm.{IsWithinLimits, openings}
+use Rattle.bank_model.specs.SetupForm.{IsWithinLimits}
 use Rattle.bank_model.specs.Once.{is_named, reply_kept, released}
 use Rattle.bank_model.specs.Rules.{Outcome, opening_state, raised, ask_answers, reply_file, release, keep, kept_for, new_outcome, outcome_or_kept, file_outcome, state_after, answer_to}
 use Rattle.bank_model.proofs.SetupWords.{bytes_eq_is, bytes_eq_self}
-use Rattle.bank_transfers.specs.Together.{balances}
 use Rattle.bank_transfers.proofs.TogetherLemmas.{balances_stay}
 use Rattle.bank_rules.specs.Standing.{IsSoundState}
+use Rattle.bank_rules.specs.Books.{AreBooksRight}
 use Rattle.bank_rules.specs.Next.{ExtendsTo}
 use Rattle.bank_rules.specs.Runs.{Happening, after_all, AreLegal, StaysKept, names_file, releases}
 use Rattle.bank_rules.proofs.StageLemmas.{kept-asks}
@@ -45,9 +45,14 @@ extends-run setup run within legal = extends_all setup opening_state opening_sta
 pub IsSoundState-run : (setup : Setup) (run : List Happening) → IsWithinLimits setup → AreLegal setup opening_state run → IsSoundState setup (after_all setup opening_state run)
 IsSoundState-run setup run within legal = (extends-run setup run within legal).sound
 
-pub balances-run : (setup : Setup) (run : List Happening) → IsWithinLimits setup → AreLegal setup opening_state run → balances setup (after_all setup opening_state run).entries ≡ openings setup.accounts
-balances-run setup run within legal =
-    balances_stay setup (after_all setup opening_state run).entries within (inside_all setup (after_all setup opening_state run).entries (IsSoundState-run setup run within legal).rows)
+-- The books of a sound state are right.
+pub books-sound : (setup : Setup) (S : State) → IsWithinLimits setup → IsSoundState setup S → AreBooksRight setup S
+books-sound setup S within sound = record {
+  uids = sound.used;
+  files = sound.kept;
+  money = balances_stay setup S.entries within (inside_all setup S.entries sound.rows);
+  covered = sound.covered;
+}
 
 -- ---- a file whose name is kept
 

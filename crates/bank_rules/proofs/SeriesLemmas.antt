@@ -19,6 +19,7 @@ use Rattle.bank_recur.proofs.GrowthLemmas.{model_of-push}
 use Rattle.bank_recur.proofs.SeriesDays.{series_rises}
 use Rattle.bank_rules.specs.Standing.{IsLawful, IsNextOf}
 use Rattle.bank_rules.specs.Series.{date_made, dates_made, AreOwnDates}
+use Rattle.bank_rules.proofs.StandingLemmas.{AreLawfulAt}
 
 -- ---- the dates of a series
 
@@ -98,10 +99,7 @@ dated_more id before entry some lawful dated =
 
 -- ---- all entries
 
-abbrev pub AreLawfulEach : List Entry → Type 0
-AreLawfulEach entries = (k : ℕ) (d : Entry) → k < length entries → IsLawful (take k entries) (get_or entries k d).change
-
-pub lawful_next : (before entries : List Entry) (entry : Entry) → AreLawfulEach (before ++ entry ∷ entries) → IsLawful before entry.change
+pub lawful_next : (before entries : List Entry) (entry : Entry) → AreLawfulAt (before ++ entry ∷ entries) → IsLawful before entry.change
 lawful_next before entries entry lawful =
     let size : length (before ++ entry ∷ entries) ≡ length before + length (entry ∷ entries) = length-append before (entry ∷ entries) in
     let here = lawful (length before) entry (omega (arith, size)) in
@@ -112,14 +110,14 @@ lawful_next before entries entry lawful =
 abbrev IsDated : ℕ → List Entry → Type 0
 IsDated id entries = AreDates (model_of id entries) (dates_made id entries)
 
-dated_behind : (id : ℕ) (before entries : List Entry) → 0 < id → IsDated id before → AreLawfulEach (before ++ entries) → IsDated id (before ++ entries)
+dated_behind : (id : ℕ) (before entries : List Entry) → 0 < id → IsDated id before → AreLawfulAt (before ++ entries) → IsDated id (before ++ entries)
 dated_behind id before [] some dated lawful = subst (IsDated id) (sym (append-nil before)) dated
 dated_behind id before (entry ∷ entries) some dated lawful =
     subst (IsDated id) (append_assoc before (entry ∷ []) entries)
     (dated_behind id (before ++ entry ∷ []) entries some (dated_more id before entry some (lawful_next before entries entry lawful) dated)
-    (subst AreLawfulEach (sym (append_assoc before (entry ∷ []) entries)) lawful))
+    (subst AreLawfulAt (sym (append_assoc before (entry ∷ []) entries)) lawful))
 
-pub are_dated : (id : ℕ) (entries : List Entry) → 0 < id → AreLawfulEach entries → AreDates (model_of id entries) (dates_made id entries)
+pub are_dated : (id : ℕ) (entries : List Entry) → 0 < id → AreLawfulAt entries → AreDates (model_of id entries) (dates_made id entries)
 are_dated id entries some lawful = dated_behind id [] entries some tt lawful
 
 -- ---- no two are the same

@@ -31,8 +31,18 @@ row_fold P id before [] all known = known
 row_fold P id before (entry ∷ entries) all known =
     row_fold P id (or_before before (if_named id (row_in entry.change))) entries all.1 (later P before (if_named id (row_in entry.change)) known (in_named P id (row_in entry.change) all.0))
 
-cancelled_sound : (setup : Setup) (dropped : Bool) (row : TransferRow) → IsSoundRow setup row → IsSoundRow setup (cond dropped (with_code Cancelled row) row)
-cancelled_sound setup true row sound = record {
+coded : (P : TransferRow → Type 0) → ((row : TransferRow) → P row → P (with_code Cancelled row)) → (dropped : Bool) (last : Option TransferRow) → IfSome last P → IfSome (option_map (λ (row : TransferRow). cond dropped (with_code Cancelled row) row) last) P
+coded P cancelled dropped None known = tt
+coded P cancelled true (Some row) known = cancelled row known
+coded P cancelled false (Some row) known = known
+
+-- What holds of each row that entries give, and of such a row that is cancelled, holds of the rows that are found.
+pub each_found : (P : TransferRow → Type 0) → ((row : TransferRow) → P row → P (with_code Cancelled row)) → (id : ℕ) (entries : List Entry) → AllByRecursion (λ (entry : Entry). IfSome (row_in entry.change) P) entries → IfSome (row_of id entries) P
+unfolding row_of last_row
+each_found P cancelled id entries all = coded P cancelled (is_dropped id entries) (last_row id entries) (row_fold P id None entries all tt)
+
+cancelled_sound : (setup : Setup) (row : TransferRow) → IsSoundRow setup row → IsSoundRow setup (with_code Cancelled row)
+cancelled_sound setup row sound = record {
   not_negative = sound.not_negative;
   amount = sound.amount;
   due = sound.due;
@@ -41,15 +51,9 @@ cancelled_sound setup true row sound = record {
   to = sound.to;
   apart = sound.apart;
 }
-cancelled_sound setup false row sound = sound
-
-coded : (setup : Setup) (dropped : Bool) (last : Option TransferRow) → IfSome last (IsSoundRow setup) → IfSome (option_map (λ (row : TransferRow). cond dropped (with_code Cancelled row) row) last) (IsSoundRow setup)
-coded setup dropped None known = tt
-coded setup dropped (Some row) known = cancelled_sound setup dropped row known
 
 all_sound : (setup : Setup) (id : ℕ) (entries : List Entry) → AllByRecursion (HasSoundRow setup) entries → IfSome (row_of id entries) (IsSoundRow setup)
-unfolding row_of last_row
-all_sound setup id entries all = coded setup (is_dropped id entries) (last_row id entries) (row_fold (IsSoundRow setup) id None entries all tt)
+all_sound setup id entries all = each_found (IsSoundRow setup) (cancelled_sound setup) id entries all
 
 pub row_sound : (setup : Setup) (S : State) (id : ℕ) (row : TransferRow) → IsSoundState setup S → row_of id S.entries ≡ Some row → IsSoundRow setup row
 row_sound setup S id row sound found = subst (λ (r : Option TransferRow). IfSome r (IsSoundRow setup)) found (all_sound setup id S.entries sound.rows)
@@ -69,9 +73,12 @@ model_fold P id before [] all known = known
 model_fold P id before (entry ∷ entries) all known =
     model_fold P id (or_model_before before (if_model_named id (model_in entry.change))) entries all.1 (later_model P before (if_model_named id (model_in entry.change)) known (in_model P id (model_in entry.change) all.0))
 
-pub models_sound : (setup : Setup) (id : ℕ) (entries : List Entry) → AllByRecursion (HasSoundModel setup) entries → IfSome (model_of id entries) (IsSoundModel setup)
+pub each_model_found : (P : ModelRow → Type 0) (id : ℕ) (entries : List Entry) → AllByRecursion (λ (entry : Entry). IfSome (model_in entry.change) P) entries → IfSome (model_of id entries) P
 unfolding model_of
-models_sound setup id entries all = model_fold (IsSoundModel setup) id None entries all tt
+each_model_found P id entries all = model_fold P id None entries all tt
+
+pub models_sound : (setup : Setup) (id : ℕ) (entries : List Entry) → AllByRecursion (HasSoundModel setup) entries → IfSome (model_of id entries) (IsSoundModel setup)
+models_sound setup id entries all = each_model_found (IsSoundModel setup) id entries all
 
 pub model_sound : (setup : Setup) (S : State) (id : ℕ) (row : ModelRow) → IsSoundState setup S → model_of id S.entries ≡ Some row → IsSoundModel setup row
 model_sound setup S id row sound found = subst (λ (r : Option ModelRow). IfSome r (IsSoundModel setup)) found (models_sound setup id S.entries sound.models)

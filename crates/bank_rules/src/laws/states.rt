@@ -18,6 +18,7 @@ ghost use Rattle.bank_model.specs.declared.entry.Entry.{Entry};
 ghost use Rattle.bank_model.specs.declared.event.Event.{Event};
 ghost use Rattle.bank_model.specs.declared.event.State.{State};
 ghost use Rattle.bank_model.specs.declared.setup.Setup.{Setup};
+ghost use Rattle.bank_rules.specs.Books.{AreBooksRight};
 ghost use Rattle.bank_rules.specs.Next.{ExtendsTo};
 ghost use Rattle.bank_rules.specs.Rising.{ids_told};
 ghost use Rattle.bank_rules.specs.Runs.{AreLegal, Happening, after_all};
@@ -34,6 +35,9 @@ pub fn every_state_is_sound()
         → Leads setup IsSoundStage S T → ExtendsTo setup S T }
     ensures ask { (setup : Setup) (S : State) (user : UserId) (at : Moment) (ask : Ask) → IsWithinLimits setup
         → IsSoundState setup S → IsMoment at.0 → IsSoundAsk ask → ExtendsTo setup S (ask_answer setup S user at ask).after }
+    ensures asks { (setup : Setup) (S : State) (user : UserId) (at : Moment) (asks : List Ask) → IsWithinLimits setup
+        → IsSoundState setup S → IsMoment at.0 → AllByRecursion IsSoundAsk asks
+        → ExtendsTo setup S (ask_answers setup S user at asks).after }
     ensures event { (setup : Setup) (S : State) (at : Moment) (event : Event) → IsWithinLimits setup → IsSoundState setup S
         → IsMoment at.0 → IsLegal setup S at event → ExtendsTo setup S (state_after setup S at event) }
     ensures run { (setup : Setup) (run : List Happening) → IsWithinLimits setup → AreLegal setup opening_state run
@@ -48,6 +52,13 @@ pub fn steps_are_made_of_stages()
         → AllByRecursion IsSoundAsk asks → Leads setup IsSoundStage S (ask_answers setup S user at asks).after }
     ensures event { (setup : Setup) (S : State) (at : Moment) (event : Event) → IsMoment at.0 → IsLegal setup S at event
         → Leads setup IsSoundStage S (state_after setup S at event) }
+{}
+
+/// The books of a bank are right in every sound state, so after any events from its opening.
+pub fn books_are_right()
+    ensures state { (setup : Setup) (S : State) → IsWithinLimits setup → IsSoundState setup S → AreBooksRight setup S }
+    ensures run { (setup : Setup) (run : List Happening) → IsWithinLimits setup → AreLegal setup opening_state run
+        → AreBooksRight setup (after_all setup opening_state run) }
 {}
 
 /// Entry i, from 1, has the number i.

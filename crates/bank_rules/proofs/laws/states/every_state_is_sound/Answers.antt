@@ -1,5 +1,5 @@
 use Rattle.bank_rules.proofs.OpeningLemmas.{IsSoundState-opening}
-use Rattle.bank_rules.proofs.StateLemmas.{stage_extends, extends_to, extends-ask, extends-step}
+use Rattle.bank_rules.proofs.StateLemmas.{stage_extends, extends_to, extends-ask, extends-asks, extends-step}
 use Rattle.bank_rules.proofs.RunLaws.{extends-run}
 use Rattle.bank_rules.proofs.laws.states.every_state_is_sound.Goals as goal
 
@@ -14,6 +14,9 @@ returns-clause-through c = extends_to
 
 pub returns-clause-ask : goal.returns-clause-ask
 returns-clause-ask c = extends-ask
+
+pub returns-clause-asks : goal.returns-clause-asks
+returns-clause-asks c = extends-asks
 
 pub returns-clause-event : goal.returns-clause-event
 returns-clause-event c = extends-step
