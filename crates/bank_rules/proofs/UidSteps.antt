@@ -28,12 +28,12 @@ use Rattle.bank_model.specs.Due.{posts, place_date, spawns_on, spawns}
 use Rattle.bank_model.specs.Deeds.{entry_on, entries_behind, if_pending, model_entries_on, done, code_of, deed_answer}
 use Rattle.bank_model.specs.Once.{is_pair, is_used}
 use Rattle.bank_model.specs.Sync.{deed_answers}
-use Rattle.bank_model.specs.Rules.{raised, ask_answer, ask_answers, state_after, IsLegal}
-use Rattle.bank_rules.specs.Stages.{Stage, day, deed, names, post, spawn, letter, after_stage, IsKnownEvent}
-use Rattle.bank_rules.specs.Runs.{Happening, AreLegal}
+use Rattle.bank_model.specs.Rules.{raised, ask_answer, ask_answers, state_after}
+use Rattle.bank_rules.specs.Stages.{Stage, day, deed, names, post, spawn, letter, after_stage}
+use Rattle.bank_rules.specs.Runs.{Happening}
 use Rattle.bank_rules.specs.Uids.{asker, is_used_by, AddsByUids, AllAddByUids}
 use Rattle.bank_rules.proofs.Lists.{all_append}
-use Rattle.bank_rules.proofs.StageLemmas.{Lasts, lasts, each_deed, each_ask, each_asks, leads_deeds, leads_ask, leads_asks, leads_step}
+use Rattle.bank_rules.proofs.StageLemmas.{Lasts, lasts, each_deed, each_ask, each_asks, leads_deeds, leads_ask, leads_asks, leads_file}
 use Rattle.bank_rules.proofs.StateLemmas.{unused-from_code}
 
 -- ---- the uids of a deed's entries
@@ -222,12 +222,6 @@ adds_stage setup asked S (letter user at subject body) known = adds_own asked S 
 adds_lasts : (setup : Setup) (asked : Option UserId) (S : State) → Lasts setup (IsAskedBy asked) (AddsByUids asked S)
 adds_lasts setup asked S T stage may known adds = adds_on asked S T (after_stage setup T stage) adds (adds_stage setup asked T stage known)
 
-asked_event : (at : Moment) (event : Event) → IsKnownEvent (IsAskedBy (asker event)) at event
-asked_event at (File user file) = (tt, each_asks (IsAskedBy (Some user)) user at file.asks (λ only trnuid what. refl), λ reply. tt)
-asked_event at (Post id) = (tt, tt)
-asked_event at (Spawn id place) = (tt, tt)
-asked_event at (Letter user subject body) = (tt, tt)
-
 pub adds_deeds : (setup : Setup) (S : State) (user : UserId) (only : Option AcctId) (at : Moment) (deeds : List (List ℕ × Deed)) → AddsByUids (Some user) S (deed_answers setup S user only at deeds).after
 adds_deeds setup S user only at deeds =
     lasts setup (IsAskedBy (Some user)) (AddsByUids (Some user) S) S _ (adds_lasts setup (Some user) S)
@@ -243,11 +237,19 @@ adds_asks setup S user at asks =
     lasts setup (IsAskedBy (Some user)) (AddsByUids (Some user) S) S _ (adds_lasts setup (Some user) S)
     (leads_asks setup (IsAskedBy (Some user)) S user at asks (each_asks (IsAskedBy (Some user)) user at asks (λ only trnuid what. refl))) (adds_nothing (Some user) S S refl refl)
 
-pub adds_step : (setup : Setup) (S : State) (at : Moment) (event : Event) → IsLegal setup S at event → AddsByUids (asker event) S (state_after setup S at event)
-adds_step setup S at event legal =
-    lasts setup (IsAskedBy (asker event)) (AddsByUids (asker event) S) S _ (adds_lasts setup (asker event) S)
-    (leads_step setup (IsAskedBy (asker event)) S at event legal (asked_event at event)) (adds_nothing (asker event) S S refl refl)
+adds_alone : (setup : Setup) (S : State) (at : Moment) (stage : Stage) → IsAskedBy None stage → AddsByUids None S (after_stage setup (raised S at) stage)
+adds_alone setup S at stage known =
+    adds_on None S (raised S at) (after_stage setup (raised S at) stage) (adds_nothing None S (raised S at) refl refl) (adds_stage setup None (raised S at) stage known)
 
-pub adds_run : (setup : Setup) (S : State) (run : List Happening) → AreLegal setup S run → AllAddByUids setup S run
-adds_run setup S [] legal = tt
-adds_run setup S (first ∷ more) legal = (adds_step setup S first.at first.event legal.0.1, adds_run setup (state_after setup S first.at first.event) more legal.1)
+pub adds_step : (setup : Setup) (S : State) (at : Moment) (event : Event) → AddsByUids (asker event) S (state_after setup S at event)
+adds_step setup S at (File user file) =
+    lasts setup (IsAskedBy (Some user)) (AddsByUids (Some user) S) S _ (adds_lasts setup (Some user) S)
+    (leads_file setup (IsAskedBy (Some user)) S at user file (tt, each_asks (IsAskedBy (Some user)) user at file.asks (λ only trnuid what. refl), λ reply. tt))
+    (adds_nothing (Some user) S S refl refl)
+adds_step setup S at (Post id) = adds_alone setup S at (post at id) tt
+adds_step setup S at (Spawn id place) = adds_alone setup S at (spawn id place) tt
+adds_step setup S at (Letter user subject body) = adds_alone setup S at (letter user at subject body) tt
+
+pub adds_run : (setup : Setup) (S : State) (run : List Happening) → AllAddByUids setup S run
+adds_run setup S [] = tt
+adds_run setup S (first ∷ more) = (adds_step setup S first.at first.event, adds_run setup (state_after setup S first.at first.event) more)

@@ -8,7 +8,7 @@ ghost use Rattle.ofx_types.specs.declared.request.Ask.{Ask};
 ghost use Rattle.ofx_types.specs.declared.transfer.Deed.{Deed};
 ghost use Rattle.bank_model.specs.Deeds.{deed_answer};
 ghost use Rattle.bank_model.specs.Once.{is_used};
-ghost use Rattle.bank_model.specs.Rules.{IsLegal, ask_answer, opening_state, state_after};
+ghost use Rattle.bank_model.specs.Rules.{ask_answer, opening_state, state_after};
 ghost use Rattle.bank_model.specs.SetupForm.{IsWithinLimits};
 ghost use Rattle.bank_model.specs.declared.event.Event.{Event};
 ghost use Rattle.bank_model.specs.declared.event.State.{State};
@@ -46,7 +46,7 @@ pub fn entries_use_up_a_uid()
 pub fn entries_come_with_their_uid()
     ensures ask { (setup : Setup) (S : State) (user : UserId) (at : Moment) (ask : Ask)
         → AddsByUids (Some user) S (ask_answer setup S user at ask).after }
-    ensures event { (setup : Setup) (S : State) (at : Moment) (event : Event) → IsLegal setup S at event
+    ensures event { (setup : Setup) (S : State) (at : Moment) (event : Event)
         → AddsByUids (asker event) S (state_after setup S at event) }
-    ensures run { (setup : Setup) (S : State) (run : List Happening) → AreLegal setup S run → AllAddByUids setup S run }
+    ensures run { (setup : Setup) (S : State) (run : List Happening) → AllAddByUids setup S run }
 {}
