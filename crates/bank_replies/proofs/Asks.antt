@@ -25,7 +25,6 @@ use Rattle.bank_model.specs.Rules.{statement_reply, ask_answer, ask_answers}
 use Rattle.bank_model.specs.Sound as file
 use Rattle.ofx_file.specs.Written.{IsSoundAskReply}
 use Rattle.bank_replies.specs.Texts.{HasAskTexts}
-use Rattle.bank_replies.specs.Telling.{IsTellable}
 use Rattle.bank_replies.proofs.Values.{uid_within}
 use Rattle.bank_replies.proofs.States.{tellable_ask}
 use Rattle.bank_replies.proofs.Answers.{MayAsk, may_still, deed_sound}

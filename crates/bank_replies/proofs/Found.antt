@@ -1,7 +1,7 @@
 -- The rows that are found in a history may be told.
-use Rattle.std.proofs.Common.{◌≡◌, ℕ, Bool, true, false, cond, eqb, List, [], ◌∷◌, fold, Option, None, Some, subst}
+use Rattle.std.proofs.Common.{◌≡◌, ℕ, List, Option, Some, subst}
 use Rattle.std.specs.List.{AllByRecursion}
-use Rattle.std.specs.Option.{IfSome, option_map}
+use Rattle.std.specs.Option.{IfSome}
 use Rattle.ofx_types.specs.TransferForm.{info_of}
 use Rattle.ofx_types.specs.declared.transfer.TransferRow.{TransferRow}
 use Rattle.ofx_types.specs.declared.transfer.XferCode.TheVariants.{Cancelled}
@@ -10,8 +10,8 @@ use Rattle.ofx_types.specs.declared.transfer.Change.TheVariants.{NewTransfer, Se
 use Rattle.ofx_types.specs.declared.recurring.ModelRow.{ModelRow}
 use Rattle.bank_model.specs.declared.entry.Entry.{Entry}
 use Rattle.bank_model.specs.declared.setup.Setup.{Setup}
-use Rattle.bank_model.specs.Ledger.{row_in, if_named, or_before, last_row, is_dropped, with_code, row_of}
-use Rattle.bank_model.specs.Models.{model_in, if_model_named, or_model_before, model_of, waiting_of}
+use Rattle.bank_model.specs.Ledger.{row_in, with_code, row_of}
+use Rattle.bank_model.specs.Models.{model_in, model_of, waiting_of}
 use Rattle.msg_bank.specs.Sound.{IsSoundId, IsSoundInfo, IsSoundMoment, IsSoundModelRow}
 use Rattle.bank_rules.proofs.SoundFound.{each_found, each_model_found}
 use Rattle.bank_rules.proofs.PendingLemmas.{IsHere, waiting_wait}

@@ -10,7 +10,7 @@ use Rattle.ofx_types.specs.declared.transfer.TransferRow.{TransferRow}
 use Rattle.ofx_types.specs.declared.recurring.Recur.{Recur}
 use Rattle.ofx_types.specs.declared.recurring.ModelRow.{ModelRow}
 use Rattle.bank_model.specs.Models.{is_waiting}
-use Rattle.bank_model.specs.Judging.{is_cancelled, is_due, due_day}
+use Rattle.bank_model.specs.Judging.{is_due, due_day}
 use Rattle.bank_model.specs.Deeds.{new_row, changed_row, new_model, changed_model, with_terms}
 use Rattle.bank_model.specs.Due.{settled_row, spawned_row}
 use Rattle.bank_model.specs.Recurrence.{kth_date}
@@ -18,7 +18,6 @@ use Rattle.bank_recur.proofs.SeriesDays.{few_places}
 use Rattle.msg_bank.specs.Sound.{IsSoundId, IsSoundInfo, IsSoundRecur, IsSoundModelRow}
 use Rattle.bank_replies.specs.Telling.{IsToldRow}
 use Rattle.bank_rules.proofs.RowLemmas.{IsMoment-midnight, IsDay-due, stamp_is}
-use Rattle.bank_rules.proofs.NextLemmas.{not_cancelled}
 use Rattle.bank_replies.proofs.Found.{IsKnownRow}
 
 -- ---- codes

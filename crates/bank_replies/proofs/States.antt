@@ -37,7 +37,7 @@ use Rattle.bank_laws.specs.Histories.{IsInOrder}
 use Rattle.bank_laws.proofs.Events.{order_opening, grows_raised, grows_stage}
 use Rattle.bank_rules.proofs.Lists.{all_append}
 use Rattle.bank_laws.proofs.Places.{at_intra}
-use Rattle.bank_replies.specs.Texts.{HasDeedTexts, HasPairTexts, HasAskTexts, HasTexts, HasEventTexts}
+use Rattle.bank_replies.specs.Texts.{HasDeedTexts, HasPairTexts, HasAskTexts, HasEventTexts}
 use Rattle.bank_replies.specs.Telling.{IsToldEntry, IsTellable}
 use Rattle.bank_replies.proofs.Values.{uid_within, text_within, zero_within, bank_within}
 use Rattle.bank_replies.proofs.Words.{user_within}
