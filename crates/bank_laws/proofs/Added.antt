@@ -35,9 +35,11 @@ use Rattle.bank_model.specs.Sync.{refused_with, is_newest, token_of, unless_newe
 use Rattle.bank_model.specs.Sound.{IsSoundPair, IsSoundSync}
 use Rattle.bank_model.specs.Stores.{Row, changed, change_done, applied}
 use Rattle.bank_laws.proofs.Numbers.{history_of-append, history_of-none}
-use Rattle.bank_laws.proofs.Verdicts.{free_to_modify, free_to_cancel, own_transfer, free_model_to_modify, free_model_to_cancel, own_model, own_letter, allowed_by_code}
-use Rattle.bank_laws.proofs.Waiting.{with_new_terms, dropping}
-use Rattle.bank_laws.proofs.Done.{modify_entries, cancel_entries, along, modify_model_entries, cancel_model_entries}
+use Rattle.bank_laws.proofs.Verdicts.{free_to_modify, free_to_cancel, own_transfer, free_model_to_modify, free_model_to_cancel, own_model, own_letter}
+use Rattle.bank_rules.proofs.DoneLemmas.{with_new_terms, dropping}
+use Rattle.bank_rules.proofs.DeedLemmas.{modify_entries, cancel_entries}
+use Rattle.bank_rules.proofs.StateLemmas.{IsAllowed-from_code}
+use Rattle.bank_laws.proofs.Done.{along, modify_model_entries, cancel_model_entries}
 use Rattle.bank_laws.proofs.Changes.{fold_entries, fold_entries-append, applied-append}
 
 -- The entries that are added, of which those of the object say what the replies tell.
@@ -218,7 +220,7 @@ answers_add setup S user at name object (deed ∷ deeds) is sound =
     let code : ℕ = code_of setup S user (account_about setup user name) at deed.0 deed.1 in
     let mid : State = (answer_with setup S user at deed.0 deed.1 code).after in
     adds_both (object_family name) object S.entries mid.entries _ _ _
-    (deed_adds setup S user at deed.0 deed.1 (object_family name) object code (λ none. placed_named setup S user at deed.0 deed.1 name object is sound.0.2 (allowed_by_code setup S user (account_about setup user name) at deed.0 deed.1 none).judged))
+    (deed_adds setup S user at deed.0 deed.1 (object_family name) object code (λ none. placed_named setup S user at deed.0 deed.1 name object is sound.0.2 (IsAllowed-from_code setup S user (account_about setup user name) at deed.0 deed.1 none).judged))
     (answers_add setup mid user at name object deeds is sound.1)
 
 rejected_tell : (family : Family) (code : ℕ) (deeds : List (List ℕ × Deed)) (rows : List Row) → code ≢ 0 → applied family rows (map (refused_with family code) deeds) ≡ rows

@@ -1,16 +1,15 @@
 -- The entries of a deed that isn't refused follow those before them.
-use Rattle.std.proofs.Common.{◌≡◌, ℕ, ◌+◌, Bool, true, false, cond, List, [], ◌∷◌, ◌++◌, length, Option, Some, refl, sym, ap, ◌∙◌, subst}
+use Rattle.std.proofs.Common.{◌≡◌, ℕ, ◌+◌, Bool, true, false, List, [], ◌∷◌, ◌++◌, length, Option, Some, refl, sym, ap, ◌∙◌, subst}
 use Rattle.ofx_types.specs.declared.number.AcctId.{AcctId}
 use Rattle.ofx_types.specs.declared.number.UserId.{UserId}
 use Rattle.ofx_types.specs.declared.number.Day.{Day}
 use Rattle.ofx_types.specs.declared.number.Moment.{Moment}
-use Rattle.ofx_types.specs.declared.transfer.XferCode.TheVariants.{Waiting, Posted}
 use Rattle.ofx_types.specs.declared.transfer.XferInfo.{XferInfo}
 use Rattle.ofx_types.specs.declared.transfer.TransferRow.{TransferRow}
 use Rattle.ofx_types.specs.declared.transfer.Deed.{Deed}
 use Rattle.ofx_types.specs.declared.transfer.Deed.TheVariants.{Transfer, ModifyTransfer, CancelTransfer, Model, ModifyModel, CancelModel, BankMail, Mail}
 use Rattle.ofx_types.specs.declared.transfer.Change.{Change}
-use Rattle.ofx_types.specs.declared.transfer.Change.TheVariants.{NewTransfer, SetTransfer, DropTransfer, NewModel, SetModel, DropModel}
+use Rattle.ofx_types.specs.declared.transfer.Change.TheVariants.{NewTransfer, SetTransfer, NewModel, SetModel, DropModel}
 use Rattle.ofx_types.specs.declared.recurring.ModelRow.{ModelRow}
 use Rattle.ofx_types.specs.declared.recurring.Recur.{Recur}
 use Rattle.bank_model.specs.declared.entry.Entry.{Entry}
@@ -19,24 +18,18 @@ use Rattle.bank_model.specs.declared.event.State.{State}
 use Rattle.bank_model.specs.SetupLookups.{account_of}
 use Rattle.bank_model.specs.Ledger.{row_of}
 use Rattle.bank_model.specs.Models.{model_of, is_model_dropped, waiting_of}
-use Rattle.bank_model.specs.Judging.{is_due, is_cancelled}
-use Rattle.bank_model.specs.Deeds.{source_balance, judged, object_of, model_object_of, new_row, changed_row, new_model, changed_model, next_entry, entry_on, entries_behind, if_pending, model_entries_on, done}
+use Rattle.bank_model.specs.Judging.{is_due}
+use Rattle.bank_model.specs.Deeds.{source_balance, judged, object_of, model_object_of, new_row, changed_row, new_model, changed_model, next_entry, entries_behind, if_pending, model_entries_on, done}
 use Rattle.bank_laws.specs.Histories.{MaySay, AllFollow}
-use Rattle.bank_laws.proofs.Growth.{row_of-id, row_of-named, model_of-id, model_of-named}
+use Rattle.bank_rules.proofs.RowLemmas.{model_of-named}
+use Rattle.bank_rules.proofs.NextLemmas.{row_of-named}
+use Rattle.bank_rules.proofs.DeedLemmas.{new_open, modify_entries, cancel_entries}
+use Rattle.bank_rules.proofs.DoneLemmas.{with_new_terms, dropping}
 use Rattle.bank_laws.proofs.Verdicts.{IsFree, IsModelFree, free_to_modify, free_to_cancel, own_transfer, free_model_to_modify, free_model_to_cancel, own_model, own_letter}
 use Rattle.bank_laws.proofs.Places.{IsKnown, own_known, at_transfers, at_recurring, at_letters, mail_place}
-use Rattle.bank_laws.proofs.Waiting.{IsWay, LeavesRows, with_new_terms, dropping, changing_way, dropping_way, waiting_follow}
+use Rattle.bank_laws.proofs.Waiting.{IsWay, LeavesRows, changing_way, dropping_way, waiting_follow}
 
 -- ---- the entries
-
-pub modify_entries : (setup : Setup) (S : State) (user : UserId) (at : Moment) (trnuid : List ℕ) (id : ℕ) (info : XferInfo) (row : TransferRow) → row_of id S.entries ≡ Some row → done setup S user at trnuid (ModifyTransfer id info) ≡ next_entry S (object_of setup row.from) trnuid (SetTransfer (changed_row S.day info row)) ∷ []
-unfolding done
-modify_entries setup S user at trnuid id info row found =
-    ap (λ (r : Option TransferRow). entry_on setup S trnuid r (λ held. SetTransfer (changed_row S.day info held))) found
-
-pub cancel_entries : (setup : Setup) (S : State) (user : UserId) (at : Moment) (trnuid : List ℕ) (id : ℕ) (row : TransferRow) → row_of id S.entries ≡ Some row → done setup S user at trnuid (CancelTransfer id) ≡ next_entry S (object_of setup row.from) trnuid (DropTransfer id) ∷ []
-unfolding done
-cancel_entries setup S user at trnuid id row found = ap (λ (r : Option TransferRow). entry_on setup S trnuid r (λ held. DropTransfer id)) found
 
 -- the entries of transfers that go along
 abbrev pub along : Setup → State → (TransferRow → Change) → Bool → ℕ → List Entry
@@ -54,18 +47,14 @@ cancel_model_entries setup S user at trnuid id also row found =
 
 -- ---- what they may say
 
-new_kept : (due : Bool) → is_cancelled (cond due Posted Waiting) ≡ false
-new_kept true = refl
-new_kept false = refl
-
 new_says : (setup : Setup) (before : List Entry) (at : Moment) (day : Day) (info : XferInfo) → IsKnown setup (account_of setup info.from) → MaySay setup before (object_of setup info.from) (NewTransfer (new_row (length before + 1) at day info))
 unfolding new_row
-new_says setup before at day info known = (refl, new_kept (is_due info day), refl, at_transfers setup (account_of setup info.from) known)
+new_says setup before at day info known = (refl, new_open (is_due info day), refl, at_transfers setup (account_of setup info.from) known)
 
 changed_says : (setup : Setup) (user : UserId) (only : Option AcctId) (before : List Entry) (id : ℕ) (day : Day) (info : XferInfo) (free : IsFree setup user only (row_of id before)) → MaySay setup before (object_of setup free.row.from) (SetTransfer (changed_row day info free.row))
 unfolding changed_row
 changed_says setup user only before id day info free =
-    let same = row_of-named id (row_of id before) free.row (row_of-id id before) free.is in
+    let same = row_of-named id before free.row free.is in
     (record { row = free.row; found = ap (λ (n : ℕ). row_of n before) same ∙ free.is; waits = free.waits; here = refl }, refl, refl, refl)
 
 new_model_says : (setup : Setup) (before : List Entry) (day : Day) (recur : Recur) (info : XferInfo) → IsKnown setup (account_of setup info.from) → MaySay setup before (model_object_of setup info.from) (NewModel (new_model (length before + 1) day recur info))
@@ -75,7 +64,7 @@ new_model_says setup before day recur info known = (refl, refl, at_recurring set
 changed_model_says : (setup : Setup) (user : UserId) (only : Option AcctId) (before : List Entry) (id : ℕ) (day : Day) (recur : Recur) (info : XferInfo) (also : Bool) (free : IsModelFree setup user only (model_of id before) (is_model_dropped id before)) → MaySay setup before (model_object_of setup free.row.from) (SetModel (changed_model day recur info free.row) also)
 unfolding changed_model
 changed_model_says setup user only before id day recur info also free =
-    let same = model_of-named id (model_of id before) free.row (model_of-id id before) free.is in
+    let same = model_of-named id before free.row free.is in
     (record { row = free.row; found = ap (λ (n : ℕ). model_of n before) same ∙ free.is; goes_on = ap (λ (n : ℕ). is_model_dropped n before) same ∙ free.goes_on; here = refl }, refl)
 
 along_follow : (setup : Setup) (S : State) (change : TransferRow → Change) (entry : Entry) (also : Bool) (id : ℕ) → IsWay setup change → LeavesRows entry.change → AllFollow setup [] S.entries → AllFollow setup (S.entries ++ entry ∷ []) (along setup S change also id)

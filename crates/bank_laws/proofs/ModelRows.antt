@@ -17,7 +17,9 @@ use Rattle.bank_model.specs.Objects.{history_of}
 use Rattle.bank_model.specs.Stores.{Row, model_row, id_of, changed}
 use Rattle.bank_laws.specs.Histories.{GoesOn, MaySay, Follows, AllFollow}
 use Rattle.bank_laws.proofs.Lists.{cond_same}
-use Rattle.bank_laws.proofs.Growth.{model_after, is_model_dropped-push, model_of-push, model_of-none, is_model_dropped-none, HasModelId, model_of-id}
+use Rattle.bank_recur.proofs.GrowthLemmas.{is_model_dropped-push}
+use Rattle.bank_rules.proofs.RowLemmas.{IsModelNamed, model_of-id}
+use Rattle.bank_laws.proofs.Growth.{model_after, model_of-push, model_of-none, is_model_dropped-none}
 use Rattle.bank_laws.proofs.Numbers.{by_entries}
 use Rattle.bank_laws.proofs.Changes.{fold_entries, fold_entries-append}
 use Rattle.bank_laws.proofs.Rows.{HasIds, looked}
@@ -55,7 +57,7 @@ pub record AreKnown (setup : Setup) (entries : List Entry) : Type 0 where
 
 -- ---- a row has its id
 
-has_id_found : (j : ℕ) (dropped : Bool) (found : Option ModelRow) → HasModelId j found → IfSome (found_of dropped found) (λ (row : Row). id_of row ≡ Some j)
+has_id_found : (j : ℕ) (dropped : Bool) (found : Option ModelRow) → IsModelNamed j found → IfSome (found_of dropped found) (λ (row : Row). id_of row ≡ Some j)
 has_id_found j dropped None has = tt
 has_id_found j true (Some row) has = tt
 has_id_found j false (Some row) has = ap (λ (n : ℕ). Some n) has

@@ -1,6 +1,6 @@
 -- Where entries stand, and that objects of two families are two.
-use Rattle.std.proofs.Common.{◌≡◌, ℕ, zero, suc, ◌*◌, ◌<◌, ◌≤◌, Bool, true, false, cond, nat_lt, List, [], ◌∷◌, length, Option, None, Some, refl, sym, ap, subst, arith}
-use Rattle.std.specs.List.{slice_get, position_or_len}
+use Rattle.std.proofs.Common.{◌≡◌, ℕ, ◌*◌, ◌<◌, ◌≤◌, Bool, true, false, cond, nat_lt, length, Option, None, Some, refl, sym, ap, subst, arith}
+use Rattle.std.specs.List.{position_or_len}
 use Rattle.std.specs.Option.{option_map}
 use Rattle.std.proofs.lemmas.Bool.{and_parts, ltb-true}
 use Rattle.ofx_types.specs.AccountForm.{same_account}
@@ -20,21 +20,17 @@ use Rattle.bank_model.specs.SetupLookups.{account_of, line_at, names_owner, is_o
 use Rattle.bank_model.specs.Judging.{is_only, is_own_account}
 use Rattle.bank_model.specs.Deeds.{intra_of, recurring_of, letters_of, mail_object, object_of}
 use Rattle.bank_model.specs.Objects.{numbered, object_named}
+use Rattle.bank_rules.proofs.AccountPlaces.{slice_get-below}
 use Rattle.bank_laws.specs.Places.{IsPlaceOf}
 
 -- ---- accounts that are a user's
-
-get_below : {X : Type 0} (xs : List X) (i : ℕ) (x : X) → slice_get xs i ≡ Some x → i < length xs
-get_below [] i x found = absurd cc
-get_below (y ∷ xs) zero x found = omega arith
-get_below (y ∷ xs) (suc i) x found = let less = get_below xs i x found in omega arith
 
 owned_below : (setup : Setup) (user : UserId) (account : AcctId) → is_owner setup user account ≡ true → account.0 < length setup.accounts
 owned_below setup user account owns = by_line (line_at setup account) refl owns
   where
     by_line : (line : Option AccountLine) → line_at setup account ≡ line → names_owner user line ≡ true → account.0 < length setup.accounts
     by_line None is names = absurd cc
-    by_line (Some line) is names = get_below setup.accounts account.0 line is
+    by_line (Some line) is names = slice_get-below setup.accounts account.0 line is
 
 -- an account of the setup
 pub record IsKnown (setup : Setup) (found : Option AcctId) : Type 0 where

@@ -18,7 +18,8 @@ use Rattle.bank_model.specs.Objects.{history_of}
 use Rattle.bank_model.specs.Sync.{standing_transfer, standing_model, standing_in, standing}
 use Rattle.bank_model.specs.Stores.{Row, transfer_row, model_row, put, changed}
 use Rattle.bank_laws.specs.Histories.{AllFollow}
-use Rattle.bank_laws.proofs.Growth.{HasId, row_of-id, HasModelId, model_of-id}
+use Rattle.bank_transfers.proofs.GrowthLemmas.{HasId, row_of-id}
+use Rattle.bank_rules.proofs.RowLemmas.{IsModelNamed, model_of-id}
 use Rattle.bank_laws.proofs.Changes.{fold_entries}
 use Rattle.bank_laws.proofs.Rows.{put_found, stood, stood_looked}
 use Rattle.bank_laws.proofs.Acts.{made_id, ids_made}
@@ -67,7 +68,7 @@ transfer_one all rows (NewMail mail) = refl
 
 -- ---- recurring transfers
 
-put_model : (rows : List Row) (id : ℕ) (dropped : Bool) (found : Option ModelRow) → HasModelId id found → fold (changed families.RecIntra) rows (standing_model dropped found) ≡ put_found id (models.found_of dropped found) rows
+put_model : (rows : List Row) (id : ℕ) (dropped : Bool) (found : Option ModelRow) → IsModelNamed id found → fold (changed families.RecIntra) rows (standing_model dropped found) ≡ put_found id (models.found_of dropped found) rows
 unfolding changed
 put_model rows id dropped None has = refl
 put_model rows id true (Some row) has = refl

@@ -7,7 +7,7 @@ use Rattle.std.proofs.lemmas.Bool.{eqb-true, eqb-false, eq-eqb, ne_eqb, lt-ltb}
 use Rattle.std.proofs.lemmas.List.{append-nil}
 use Rattle.std.proofs.lemmas.List.Elements.{filter-append}
 use Rattle.ofx_types.specs.declared.transfer.TransferRow.{TransferRow}
-use Rattle.bank_laws.proofs.Lists.{all_append}
+use Rattle.bank_rules.proofs.Lists.{all_append}
 use Rattle.bank_model.specs.Stores.{Row, transfer_row, model_row, mail_row, id_of, is_id, has_id, is_less, is_below, put, take_out, model_if_named}
 
 -- ---- ids

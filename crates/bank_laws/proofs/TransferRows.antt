@@ -18,9 +18,11 @@ use Rattle.bank_model.specs.Objects.{history_of}
 use Rattle.bank_model.specs.Stores.{Row, transfer_row, id_of, put, with_model, model_among, changed}
 use Rattle.bank_laws.specs.Histories.{Waits, MaySay, Follows, AllFollow}
 use Rattle.bank_laws.proofs.Lists.{cond_same}
-use Rattle.bank_laws.proofs.Growth.{row_after, is_dropped-push, row_of-push, row_of-none, is_dropped-none, HasId, row_of-id}
+use Rattle.bank_transfers.specs.Growth.{row_after}
+use Rattle.bank_transfers.proofs.GrowthLemmas.{is_dropped-push, row_of-push, HasId, row_of-id}
+use Rattle.bank_laws.proofs.Growth.{row_of-none, is_dropped-none}
 use Rattle.bank_laws.proofs.Numbers.{by_entries}
-use Rattle.bank_laws.proofs.Verdicts.{open_waits}
+use Rattle.bank_rules.proofs.Verdicts.{open_waits}
 use Rattle.bank_laws.proofs.Changes.{fold_entries, fold_entries-append}
 use Rattle.bank_laws.proofs.Rows.{HasIds, looked, model_in_place}
 use Rattle.bank_laws.proofs.Acts.{Act, made, given, gone, nothing, acted, ids_made, home_after, found_after, Fits, IsStep, Stands, history_push, stands_more, stands_none, rows_more}

@@ -1,24 +1,17 @@
--- What holds of a deed whose code is 0.
-use Rattle.std.proofs.Common.{◌≡◌, ◌≢◌, ℕ, ◌+◌, ◌≤◌, Bool, true, false, not, cond, eqb, List, ◌∷◌, length, Option, None, Some, ℤ, refl, arith}
-use Rattle.std.proofs.lemmas.Bool.{eqb-true, eq-eqb, ltb-false}
+-- Whose the accounts are of a deed whose code is 0, and what is free to be changed or cancelled.
+use Rattle.std.proofs.Common.{◌≡◌, ◌≢◌, ℕ, Bool, true, false, not, cond, List, ◌∷◌, Option, None, Some, ℤ, refl, arith}
 use Rattle.ofx_types.specs.declared.number.AcctId.{AcctId}
 use Rattle.ofx_types.specs.declared.number.UserId.{UserId}
 use Rattle.ofx_types.specs.declared.number.Day.{Day}
-use Rattle.ofx_types.specs.declared.number.Moment.{Moment}
 use Rattle.ofx_types.specs.declared.account.AcctName.{AcctName}
 use Rattle.ofx_types.specs.declared.mail.MailText.{MailText}
 use Rattle.ofx_types.specs.declared.transfer.TransferRow.{TransferRow}
 use Rattle.ofx_types.specs.declared.transfer.XferInfo.{XferInfo}
-use Rattle.ofx_types.specs.declared.transfer.XferCode.{XferCode}
-use Rattle.ofx_types.specs.declared.transfer.XferCode.TheVariants.{Waiting, Posted, NoFunds, Cancelled}
-use Rattle.ofx_types.specs.declared.transfer.Deed.{Deed}
 use Rattle.ofx_types.specs.declared.recurring.ModelRow.{ModelRow}
 use Rattle.bank_model.specs.declared.setup.Setup.{Setup}
-use Rattle.bank_model.specs.declared.event.State.{State}
-use Rattle.bank_model.specs.Once.{is_used}
 use Rattle.bank_model.specs.Models.{is_waiting}
 use Rattle.bank_model.specs.Judging.{Refusal, refused, first_of, is_own, is_cancelled, is_closed, row_code, model_row_code, transfer_code, modify_code, cancel_code, model_code, model_modify_code, model_cancel_code, bank_mail_code}
-use Rattle.bank_model.specs.Deeds.{judged, done, is_full, unless_full, code_of}
+use Rattle.bank_rules.proofs.Verdicts.{waits_open}
 
 -- ---- a table in which nothing holds
 
@@ -29,18 +22,6 @@ no_refusal false code rest some none = (refl, none)
 own_first : (own : Bool) (code rest : ℕ) → code ≢ 0 → cond (not own) code rest ≡ 0 → (own ≡ true) × (rest ≡ 0)
 own_first true code rest some none = (refl, none)
 own_first false code rest some none = absurd (some none)
-
-waits_open : (code : XferCode) → is_cancelled code ≡ false → is_closed code ≡ false → is_waiting code ≡ true
-waits_open Waiting here unclosed = refl
-waits_open Posted here unclosed = cc
-waits_open NoFunds here unclosed = cc
-waits_open Cancelled here unclosed = cc
-
-pub open_waits : (code : XferCode) → is_waiting code ≡ true → is_cancelled code ≡ false
-open_waits Waiting waits = refl
-open_waits Posted waits = cc
-open_waits NoFunds waits = cc
-open_waits Cancelled waits = cc
 
 -- ---- transfers
 
@@ -104,26 +85,3 @@ own_model setup user only info day none = (own_first (is_own setup user only inf
 pub own_letter : (setup : Setup) (user : UserId) (only : Option AcctId) (about : AcctName) (mail : MailText) → bank_mail_code setup user only about mail ≡ 0 → is_own setup user only about ≡ true
 unfolding bank_mail_code
 own_letter setup user only about mail none = (own_first (is_own setup user only about) 2003 _ (λ (e : 2003 ≡ 0). omega arith) none).0
-
--- ---- the code of a deed
-
-full_code : (full : Bool) (code : ℕ) (zero : Bool) → eqb code 0 ≡ zero → cond zero (cond full 2000 0) code ≡ 0 → (code ≡ 0) × (full ≡ false)
-full_code true code true is none = absurd (omega (arith, none))
-full_code false code true is none = (eqb-true code 0 is, refl)
-full_code full code false is none = let same : eqb code 0 ≡ true = eq-eqb code 0 none in cc
-
-code_parts : (used full : Bool) (code : ℕ) → cond used 2019 (unless_full full code) ≡ 0 → (used ≡ false) × (code ≡ 0) × (full ≡ false)
-code_parts true full code none = absurd (omega (arith, none))
-code_parts false full code none = let parts = full_code full code (eqb code 0) refl none in (refl, parts.0, parts.1)
-
--- a deed with code 0 is judged so, and its entries aren't too many
-pub record IsAllowed (setup : Setup) (S : State) (user : UserId) (only : Option AcctId) (at : Moment) (trnuid : List ℕ) (deed : Deed) : Type 0 where
-  pub judged : judged setup S user only deed ≡ 0
-  pub few : length S.entries + length (done setup S user at trnuid deed) ≤ setup.entries
-
-pub allowed_by_code : (setup : Setup) (S : State) (user : UserId) (only : Option AcctId) (at : Moment) (trnuid : List ℕ) (deed : Deed) → code_of setup S user only at trnuid deed ≡ 0 → IsAllowed setup S user only at trnuid deed
-unfolding code_of
-allowed_by_code setup S user only at trnuid deed none =
-    let count : ℕ = length S.entries + length (done setup S user at trnuid deed) in
-    let parts = code_parts (is_used user trnuid S.used) (is_full setup count) (judged setup S user only deed) none in
-    record { judged = parts.1; few = ltb-false setup.entries count parts.2 }

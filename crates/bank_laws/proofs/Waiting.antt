@@ -1,9 +1,9 @@
 -- The transfers that wait and go along with a deed on their recurring transfer: each entry follows those before it.
-use Rattle.std.proofs.Common.{◌≡◌, ◌≢◌, ℕ, ◌+◌, ◌<◌, ◌≤◌, Bool, true, false, cond, eqb, List, [], ◌∷◌, ◌++◌, filter, length, length-append, codes, Option, None, Some, refl, sym, ap, ◌∙◌, subst, arith}
-use Rattle.std.specs.Prelude.{option_to_list}
-use Rattle.std.specs.List.{AllByRecursion, flat_map}
+use Rattle.std.proofs.Common.{◌≡◌, ◌≢◌, ℕ, ◌+◌, ◌<◌, Bool, cond, eqb, List, [], ◌∷◌, ◌++◌, length, length-append, codes, Option, Some, refl, sym, ap, ◌∙◌, subst, arith}
+use Rattle.std.specs.List.{AllByRecursion}
 use Rattle.std.specs.Option.{option_map}
 use Rattle.std.proofs.lemmas.Bool.{eqb-true, false_from_ne_true}
+use Rattle.ofx_types.specs.declared.number.ObjectId.{ObjectId}
 use Rattle.ofx_types.specs.declared.transfer.TransferRow.{TransferRow}
 use Rattle.ofx_types.specs.declared.transfer.XferInfo.{XferInfo}
 use Rattle.ofx_types.specs.declared.transfer.XferCode.TheVariants.{Cancelled}
@@ -12,105 +12,35 @@ use Rattle.ofx_types.specs.declared.transfer.Change.TheVariants.{NewTransfer, Se
 use Rattle.bank_model.specs.declared.entry.Entry.{Entry}
 use Rattle.bank_model.specs.declared.setup.Setup.{Setup}
 use Rattle.bank_model.specs.Ledger.{with_code, is_dropped, row_of}
-use Rattle.bank_model.specs.Models.{is_waiting, made_in, all_waiting, waiting_of}
+use Rattle.bank_model.specs.Models.{waiting_of}
 use Rattle.bank_model.specs.Deeds.{object_of, with_terms, entries_behind}
 use Rattle.bank_laws.specs.Histories.{MaySay, AllFollow}
-use Rattle.bank_laws.proofs.Lists.{all_append}
-use Rattle.bank_laws.proofs.Growth.{row_after, row_of-push, row_of-id, row_of-named}
-use Rattle.bank_laws.proofs.Verdicts.{open_waits}
+use Rattle.bank_transfers.specs.Growth.{row_after}
+use Rattle.bank_transfers.proofs.GrowthLemmas.{row_of-push}
+use Rattle.bank_rules.proofs.Verdicts.{open_waits}
+use Rattle.bank_rules.proofs.PendingLemmas.{IsHere, IsNewAt, AreNewAt, Rise, new_of_rise, waiting_wait}
+use Rattle.bank_rules.proofs.DoneLemmas.{with_new_terms, dropping}
 
--- a row is the one of its transfer, which waits
-abbrev pub IsHere : List Entry → TransferRow → Type 0
-IsHere entries row = (row_of row.id entries ≡ Some row) × (is_waiting row.code ≡ true)
+-- ---- what is new has the number of its entry
 
--- Each id is below those behind it.
+says_new : (setup : Setup) (before : List Entry) (object : ObjectId) (change : Change) → MaySay setup before object change → IsNewAt (length before) change
+says_new setup before object (NewTransfer row) says = says.0
+says_new setup before object (SetTransfer row) says = tt
+says_new setup before object (DropTransfer id) says = tt
+says_new setup before object (NewModel row) says = says.0
+says_new setup before object (SetModel row also) says = tt
+says_new setup before object (DropModel id also) says = tt
+says_new setup before object (NewMail mail) says = tt
+
+follow_new : (setup : Setup) (before entries : List Entry) → AllFollow setup before entries → AreNewAt (length before) entries
+follow_new setup before [] follow = tt
+follow_new setup before (entry ∷ entries) follow = (
+  says_new setup before entry.object entry.change follow.0.says,
+  subst (λ (n : ℕ). AreNewAt n entries) (length-append before (entry ∷ [])) (follow_new setup (before ++ entry ∷ []) entries follow.1),
+)
+
 abbrev AreAbove : ℕ → List TransferRow → Type 0
 AreAbove n rows = AllByRecursion (λ (row : TransferRow). n < row.id) rows
-
-abbrev Rise : List TransferRow → Type 0
-Rise [] = Unit {0}
-Rise (row ∷ rows) = AreAbove row.id rows × Rise rows
-
--- ---- the rows that wait
-
-here_of : (entries : List Entry) (found : Option TransferRow) (id : ℕ) → row_of id entries ≡ found → AllByRecursion (λ (row : TransferRow). row_of row.id entries ≡ Some row) (option_to_list found)
-here_of entries None id is = tt
-here_of entries (Some row) id is =
-    (ap (λ (n : ℕ). row_of n entries) (row_of-named id (row_of id entries) row (row_of-id id entries) is) ∙ is, tt)
-
-made_here : (all : List Entry) (change : Change) → AllByRecursion (λ (row : TransferRow). row_of row.id all ≡ Some row) (made_in all change)
-made_here all (NewTransfer row) = here_of all (row_of row.id all) row.id refl
-made_here all (SetTransfer row) = tt
-made_here all (DropTransfer id) = tt
-made_here all (NewModel row) = tt
-made_here all (SetModel row also) = tt
-made_here all (DropModel id also) = tt
-made_here all (NewMail mail) = tt
-
-abbrev made_by : List Entry → List Entry → List TransferRow
-made_by all entries = flat_map (λ (entry : Entry). made_in all entry.change) entries
-
-all_made : (all entries : List Entry) → AllByRecursion (λ (row : TransferRow). row_of row.id all ≡ Some row) (made_by all entries)
-all_made all [] = tt
-all_made all (entry ∷ entries) = all_append _ (made_in all entry.change) _ (made_here all entry.change) (all_made all entries)
-
-kept : {X : Type 0} (P Q : X → Type 0) (p : X → Bool) (xs : List X) → ((x : X) → P x → p x ≡ true → Q x) → AllByRecursion P xs → AllByRecursion Q (filter p xs)
-kept P Q p [] step all = tt
-kept {X} P Q p (x ∷ xs) step all =
-    (elim (p x) as (λ b. p x ≡ b → AllByRecursion Q (cond b (x ∷ filter p xs) (filter p xs))) [
-      | true ↦ (λ is. (step x all.0 is, kept P Q p xs step all.1))
-      | false ↦ (λ is. kept P Q p xs step all.1)
-    ]) refl
-
-pub waiting_here : (id : ℕ) (entries : List Entry) → AllByRecursion (IsHere entries) (waiting_of id entries)
-unfolding waiting_of all_waiting
-waiting_here id entries =
-    kept (IsHere entries) (IsHere entries) (λ (row : TransferRow). eqb row.model id) _ (λ row here same. here)
-    (kept (λ (row : TransferRow). row_of row.id entries ≡ Some row) (IsHere entries) (λ (row : TransferRow). is_waiting row.code) _ (λ row is waits. (is, waits)) (all_made entries entries))
-
--- ---- their ids rise
-
-above_less : (m n : ℕ) (rows : List TransferRow) → m ≤ n → AreAbove n rows → AreAbove m rows
-above_less m n [] less all = tt
-above_less m n (row ∷ rows) less all = (let here = all.0 in omega arith, above_less m n rows less all.1)
-
-one_more : (all : List Entry) (count : ℕ) (found : Option TransferRow) (id : ℕ) (rows : List TransferRow) → row_of id all ≡ found → id ≡ count + 1 → AreAbove (count + 1) rows → Rise rows → AreAbove count (option_to_list found ++ rows) × Rise (option_to_list found ++ rows)
-one_more all count None id rows is new over rise = (above_less count (count + 1) rows (omega arith) over, rise)
-one_more all count (Some row) id rows is new over rise =
-    let same : row.id ≡ count + 1 = row_of-named id (row_of id all) row (row_of-id id all) is ∙ new in
-    ((omega arith, above_less count (count + 1) rows (omega arith) over), (subst (λ (n : ℕ). AreAbove n rows) (sym same) over, rise))
-
-rise_more : (setup : Setup) (all before : List Entry) (entry : Entry) (rows : List TransferRow) (change : Change) → MaySay setup before entry.object change → AreAbove (length before + 1) rows → Rise rows → AreAbove (length before) (made_in all change ++ rows) × Rise (made_in all change ++ rows)
-rise_more setup all before entry rows (NewTransfer row) says over rise = one_more all (length before) (row_of row.id all) row.id rows refl says.0 over rise
-rise_more setup all before entry rows (SetTransfer row) says over rise = (above_less (length before) (length before + 1) rows (omega arith) over, rise)
-rise_more setup all before entry rows (DropTransfer id) says over rise = (above_less (length before) (length before + 1) rows (omega arith) over, rise)
-rise_more setup all before entry rows (NewModel row) says over rise = (above_less (length before) (length before + 1) rows (omega arith) over, rise)
-rise_more setup all before entry rows (SetModel row also) says over rise = (above_less (length before) (length before + 1) rows (omega arith) over, rise)
-rise_more setup all before entry rows (DropModel id also) says over rise = (above_less (length before) (length before + 1) rows (omega arith) over, rise)
-rise_more setup all before entry rows (NewMail mail) says over rise = (above_less (length before) (length before + 1) rows (omega arith) over, rise)
-
-rise_all : (setup : Setup) (all before entries : List Entry) → AllFollow setup before entries → AreAbove (length before) (made_by all entries) × Rise (made_by all entries)
-rise_all setup all before [] follow = (tt, tt)
-rise_all setup all before (entry ∷ entries) follow =
-    let rest = rise_all setup all (before ++ entry ∷ []) entries follow.1 in
-    rise_more setup all before entry (made_by all entries) entry.change follow.0.says
-    (subst (λ (n : ℕ). AreAbove n (made_by all entries)) (length-append before (entry ∷ [])) rest.0) rest.1
-
-filter_above : (n : ℕ) (p : TransferRow → Bool) (rows : List TransferRow) → AreAbove n rows → AreAbove n (filter p rows)
-filter_above n p rows all = kept (λ (row : TransferRow). n < row.id) (λ (row : TransferRow). n < row.id) p rows (λ row here is. here) all
-
-filter_rise : (p : TransferRow → Bool) (rows : List TransferRow) → Rise rows → Rise (filter p rows)
-filter_rise p [] rise = tt
-filter_rise p (row ∷ rows) rise =
-    elim (p row) as (λ b. Rise (cond b (row ∷ filter p rows) (filter p rows))) [
-      | true ↦ (filter_above row.id p rows rise.0, filter_rise p rows rise.1)
-      | false ↦ filter_rise p rows rise.1
-    ]
-
-waiting_rise : (setup : Setup) (id : ℕ) (entries : List Entry) → AllFollow setup [] entries → Rise (waiting_of id entries)
-unfolding waiting_of all_waiting
-waiting_rise setup id entries follow =
-    filter_rise (λ (row : TransferRow). eqb row.model id) _ (filter_rise (λ (row : TransferRow). is_waiting row.code) _ (rise_all setup entries [] entries follow).1)
 
 -- ---- one behind another
 
@@ -136,12 +66,6 @@ behind_follow setup change before count (row ∷ more) way is here rise =
     )
 
 -- ---- the two ways
-
-abbrev pub with_new_terms : XferInfo → TransferRow → Change
-with_new_terms info row = SetTransfer (with_terms info row)
-
-abbrev pub dropping : TransferRow → Change
-dropping row = DropTransfer row.id
 
 changing : (setup : Setup) (info : XferInfo) (before : List Entry) (row : TransferRow) → IsHere before row → MaySay setup before (object_of setup row.from) (with_new_terms info row)
 unfolding with_terms
@@ -184,4 +108,4 @@ here_behind before entry (row ∷ rows) leaves here =
 pub waiting_follow : (setup : Setup) (change : TransferRow → Change) (before : List Entry) (entry : Entry) (id : ℕ) → IsWay setup change → LeavesRows entry.change → AllFollow setup [] before → AllFollow setup (before ++ entry ∷ []) (entries_behind setup (length before + 1) change (waiting_of id before))
 waiting_follow setup change before entry id way leaves follow =
     behind_follow setup change (before ++ entry ∷ []) (length before + 1) (waiting_of id before) way (sym (length-append before (entry ∷ [])))
-    (here_behind before entry (waiting_of id before) leaves (waiting_here id before)) (waiting_rise setup id before follow)
+    (here_behind before entry (waiting_of id before) leaves (waiting_wait id before)) (new_of_rise id before (follow_new setup [] before follow))

@@ -23,8 +23,8 @@ use Rattle.bank_model.specs.Deeds.{done, code_of, added, first_change, after_dee
 use Rattle.bank_model.specs.Sync.{told_as, refused_with, deed_answers}
 use Rattle.bank_model.specs.Sound as file
 use Rattle.bank_laws.proofs.Events.{Grows, grows_deed}
-use Rattle.bank_laws.proofs.Lists.{all_append}
-use Rattle.bank_laws.proofs.Verdicts.{allowed_by_code}
+use Rattle.bank_rules.proofs.Lists.{all_append}
+use Rattle.bank_rules.proofs.StateLemmas.{IsAllowed-from_code}
 use Rattle.msg_parts.specs.Sound.{IsTextWithin, mail_family, family_of_change}
 use Rattle.msg_sync.specs.Sound.{IsSoundAnswer, IsSoundToldIn}
 use Rattle.bank_replies.specs.Texts.{HasDeedTexts, HasPairTexts}
@@ -80,7 +80,7 @@ may_still setup S T user at may tellable = record { within = may.within; tellabl
 
 allowed_begins : (setup : Setup) (S : State) (user : UserId) (only : Option AcctId) (at : Moment) (trnuid : List ℕ) (deed : Deed) → MayAsk setup S user at → file.IsSoundDeed deed → HasDeedTexts deed → IsTextWithin 36 trnuid → code_of setup S user only at trnuid deed ≡ 0 → Begins setup (family_of deed) (done setup S user at trnuid deed)
 allowed_begins setup S user only at trnuid deed may sound texts uid none =
-    let allowed = allowed_by_code setup S user only at trnuid deed none in
+    let allowed = IsAllowed-from_code setup S user only at trnuid deed none in
     done_begins setup S user only at trnuid deed may.within may.tellable may.moment may.known sound texts uid allowed.judged allowed.few
 
 added_told : (setup : Setup) (S : State) (user : UserId) (at : Moment) (trnuid : List ℕ) (deed : Deed) (code : ℕ) → (code ≡ 0 → Begins setup (family_of deed) (done setup S user at trnuid deed)) → AllByRecursion (IsToldEntry setup) (added setup S user at trnuid deed code)
@@ -120,20 +120,15 @@ deed_sound setup S user only at trnuid deed may sound texts uid =
 
 -- ---- deeds one after another
 
-pub record AreAnswered (setup : Setup) (family : Family) (replies : List DeedReply) (after : State) : Type 0 where
-  pub sound : AllByRecursion (IsSoundToldIn family) replies
-  pub tellable : IsTellable setup after
-
-pub deeds_sound : (setup : Setup) (S : State) (user : UserId) (only : Option AcctId) (at : Moment) (family : Family) (deeds : List (List ℕ × Deed)) → MayAsk setup S user at → AllByRecursion (file.IsSoundPair family) deeds → AllByRecursion HasPairTexts deeds → AreAnswered setup family (deed_answers setup S user only at deeds).replies (deed_answers setup S user only at deeds).after
+pub deeds_sound : (setup : Setup) (S : State) (user : UserId) (only : Option AcctId) (at : Moment) (family : Family) (deeds : List (List ℕ × Deed)) → MayAsk setup S user at → AllByRecursion (file.IsSoundPair family) deeds → AllByRecursion HasPairTexts deeds → AllByRecursion (IsSoundToldIn family) (deed_answers setup S user only at deeds).replies
 unfolding deed_answers
-deeds_sound setup S user only at family [] may sound texts = record { sound = tt; tellable = may.tellable }
+deeds_sound setup S user only at family [] may sound texts = tt
 deeds_sound setup S user only at family (deed ∷ deeds) may sound texts =
     let uid = uid_within deed.0 texts.0.0 in
     let next : State = (deed_answer setup S user only at deed.0 deed.1).after in
     let here = deed_sound setup S user only at deed.0 deed.1 may sound.0.1 texts.0.1 uid in
     let after = tellable_deed setup S user only at deed.0 deed.1 may sound.0.1 texts.0.1 uid in
-    let rest = deeds_sound setup next user only at family deeds (may_still setup S next user at may after) sound.1 texts.1 in
-    record { sound = ((here.0, here.1 ∙ sound.0.2), rest.sound); tellable = rest.tellable }
+    ((here.0, here.1 ∙ sound.0.2), deeds_sound setup next user only at family deeds (may_still setup S next user at may after) sound.1 texts.1)
 
 -- deeds that are refused with all others
 pub all_refused : (family : Family) (code : ℕ) (deeds : List (List ℕ × Deed)) → code ≢ 0 → code ≤ 65535 → AllByRecursion HasPairTexts deeds → AllByRecursion (IsSoundToldIn family) (map (refused_with family code) deeds)

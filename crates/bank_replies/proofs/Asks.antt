@@ -1,4 +1,4 @@
--- The answers to asks are sound, and the history may be told behind them.
+-- The answers to asks are sound.
 use Rattle.std.proofs.Common.{◌≡◌, ℕ, ◌≤◌, Bool, false, List, [], ◌∷◌, map, Option, None, Some, unsigned_abs, refl, sym, ap, ◌∙◌}
 use Rattle.std.specs.List.{AllByRecursion}
 use Rattle.ofx_types.specs.PrintedFile.{is_mail_ask}
@@ -25,17 +25,11 @@ use Rattle.bank_model.specs.Rules.{statement_reply, ask_answer, ask_answers}
 use Rattle.bank_model.specs.Sound as file
 use Rattle.ofx_file.specs.Written.{IsSoundAskReply}
 use Rattle.bank_replies.specs.Texts.{HasAskTexts}
-use Rattle.bank_replies.specs.Telling.{IsTellable}
 use Rattle.bank_replies.proofs.Values.{uid_within}
-use Rattle.bank_replies.proofs.Answers.{MayAsk, may_still, tellable_deed, deed_sound}
-use Rattle.bank_replies.proofs.Syncs.{sync_sound, tellable_sync}
+use Rattle.bank_replies.proofs.States.{tellable_ask}
+use Rattle.bank_replies.proofs.Answers.{MayAsk, may_still, deed_sound}
+use Rattle.bank_replies.proofs.Syncs.{sync_sound}
 use Rattle.bank_replies.proofs.Statements.{statement_sound}
-
-pub tellable_ask : (setup : Setup) (S : State) (user : UserId) (at : Moment) (ask : Ask) → MayAsk setup S user at → file.IsSoundAsk ask → HasAskTexts ask → IsTellable setup (ask_answer setup S user at ask).after
-unfolding ask_answer
-tellable_ask setup S user at (Statement trnuid name period) may sound texts = may.tellable
-tellable_ask setup S user at (One trnuid deed) may sound texts = tellable_deed setup S user None at trnuid deed may sound.1 texts.1 (uid_within trnuid texts.0)
-tellable_ask setup S user at (Sync ask) may sound texts = tellable_sync setup S user at ask may sound texts.0 texts.1
 
 -- No balance is above what can be printed.
 abbrev pub AreSmall : Setup → State → Type 0
@@ -47,13 +41,6 @@ ask_sound setup S user at (Statement trnuid name period) may small sound texts =
     statement_sound setup S at trnuid name period (own_account setup user name) may.within may.tellable may.moment small (uid_within trnuid texts.0) sound.1 texts.1 sound.2
 ask_sound setup S user at (One trnuid deed) may small sound texts = (deed_sound setup S user None at trnuid deed may sound.1 texts.1 (uid_within trnuid texts.0)).0
 ask_sound setup S user at (Sync ask) may small sound texts = sync_sound setup S user at ask may sound texts.0 texts.1
-
-pub tellable_asks : (setup : Setup) (S : State) (user : UserId) (at : Moment) (asks : List Ask) → MayAsk setup S user at → AllByRecursion file.IsSoundAsk asks → AllByRecursion HasAskTexts asks → IsTellable setup (ask_answers setup S user at asks).after
-unfolding ask_answers
-tellable_asks setup S user at [] may sound texts = may.tellable
-tellable_asks setup S user at (ask ∷ asks) may sound texts =
-    let next : State = (ask_answer setup S user at ask).after in
-    tellable_asks setup next user at asks (may_still setup S next user at may (tellable_ask setup S user at ask may sound.0 texts.0)) sound.1 texts.1
 
 -- What each ask keeps, and what keeps the balances small, does so for all.
 pub asks_sound : (setup : Setup) (Q : State → Type 0) (S : State) (user : UserId) (at : Moment) (asks : List Ask) → ((T : State) → Q T → AreSmall setup T) → ((T : State) (ask : Ask) → Q T → file.IsSoundAsk ask → Q (ask_answer setup T user at ask).after) → MayAsk setup S user at → Q S → AllByRecursion file.IsSoundAsk asks → AllByRecursion HasAskTexts asks → AllByRecursion IsSoundAskReply (ask_answers setup S user at asks).replies

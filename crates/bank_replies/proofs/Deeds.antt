@@ -28,8 +28,10 @@ use Rattle.bank_model.specs.Sound as file
 use Rattle.bank_laws.specs.Places.{IsPlaceOf}
 use Rattle.bank_laws.proofs.Verdicts.{free_to_modify, free_to_cancel, free_model_to_modify, free_model_to_cancel, own_model, own_letter}
 use Rattle.bank_laws.proofs.Places.{own_known, at_intra, at_recurring, at_letters}
-use Rattle.bank_laws.proofs.Waiting.{IsHere, with_new_terms, dropping}
-use Rattle.bank_laws.proofs.Done.{along, modify_entries, cancel_entries, modify_model_entries, cancel_model_entries}
+use Rattle.bank_rules.proofs.PendingLemmas.{IsHere}
+use Rattle.bank_rules.proofs.DeedLemmas.{modify_entries, cancel_entries}
+use Rattle.bank_rules.proofs.DoneLemmas.{with_new_terms, dropping}
+use Rattle.bank_laws.proofs.Done.{along, modify_model_entries, cancel_model_entries}
 use Rattle.msg_parts.specs.Sound.{IsTextWithin, IsSoundAccount, family_of_change}
 use Rattle.msg_deed.specs.Sound.{IsSoundInfo}
 use Rattle.msg_mail.specs.MailSound.{IsSoundMail, IsSoundMailRow}

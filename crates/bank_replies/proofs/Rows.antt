@@ -10,23 +10,17 @@ use Rattle.ofx_types.specs.declared.transfer.TransferRow.{TransferRow}
 use Rattle.ofx_types.specs.declared.recurring.Recur.{Recur}
 use Rattle.ofx_types.specs.declared.recurring.ModelRow.{ModelRow}
 use Rattle.bank_model.specs.Models.{is_waiting}
-use Rattle.bank_model.specs.Judging.{is_cancelled, is_due, due_day}
+use Rattle.bank_model.specs.Judging.{is_due, due_day}
 use Rattle.bank_model.specs.Deeds.{new_row, changed_row, new_model, changed_model, with_terms}
 use Rattle.bank_model.specs.Due.{settled_row, spawned_row}
 use Rattle.bank_model.specs.Recurrence.{kth_date}
 use Rattle.bank_recur.proofs.SeriesDays.{few_places}
 use Rattle.msg_deed.specs.Sound.{IsSoundId, IsSoundInfo, IsSoundRecur, IsSoundModelRow}
 use Rattle.bank_replies.specs.Telling.{IsToldRow}
-use Rattle.bank_replies.proofs.Days.{due_is, midnight_is, stamp_is}
+use Rattle.bank_rules.proofs.RowLemmas.{IsMoment-midnight, IsDay-due, stamp_is}
 use Rattle.bank_replies.proofs.Found.{IsKnownRow}
 
 -- ---- codes
-
-pub told_code : (code : XferCode) → is_cancelled code ≡ false → code ≢ Cancelled
-told_code Waiting stands = λ same. cc
-told_code Posted stands = λ same. cc
-told_code NoFunds stands = λ same. cc
-told_code Cancelled stands = cc
 
 waiting_told : (code : XferCode) → is_waiting code ≡ true → code ≢ Cancelled
 waiting_told Waiting waits = λ same. cc
@@ -47,7 +41,7 @@ settled_told false = λ same. cc
 pub new_row_told : (id : ℕ) (at : Moment) (day : Day) (info : XferInfo) → IsSoundId id → IsMoment at.0 → IsDay day.0 → IsSoundInfo info → IsToldRow (new_row id at day info)
 unfolding new_row
 new_row_told id at day info known moment business sound =
-    let due : IsDay (due_day info day).0 = due_is info.due day sound.due business in (
+    let due : IsDay (due_day info day).0 = IsDay-due info.due day sound.due business in (
       record {
         id = known;
         info = record { from = sound.from; to = sound.to; amount = sound.amount; due = due };
@@ -60,12 +54,12 @@ new_row_told id at day info known moment business sound =
 pub changed_row_told : (day : Day) (info : XferInfo) (row : TransferRow) → IsDay day.0 → IsSoundInfo info → IsKnownRow row → IsToldRow (changed_row day info row)
 unfolding changed_row
 changed_row_told day info row business sound known =
-    let due : IsDay (due_day info day).0 = due_is info.due day sound.due business in (
+    let due : IsDay (due_day info day).0 = IsDay-due info.due day sound.due business in (
       record {
         id = known.id;
         info = record { from = known.info.from; to = sound.to; amount = sound.amount; due = due };
         told = waiting_told Waiting refl;
-        stamp = midnight_is (due_day info day).0 due;
+        stamp = IsMoment-midnight (due_day info day).0 due;
       },
       known.model,
     )
@@ -94,7 +88,7 @@ spawned_told id date row known day sound = (
     id = known;
     info = record { from = sound.info.from; to = sound.info.to; amount = sound.info.amount; due = day };
     told = waiting_told Waiting refl;
-    stamp = midnight_is date.0 day;
+    stamp = IsMoment-midnight date.0 day;
   },
   sound.id,
 )
@@ -110,7 +104,7 @@ unfolding new_model
 new_model_told id day recur info known business often sound = record {
   id = known;
   recur = often;
-  info = record { from = sound.from; to = sound.to; amount = sound.amount; due = due_is info.due day sound.due business };
+  info = record { from = sound.from; to = sound.to; amount = sound.amount; due = IsDay-due info.due day sound.due business };
 }
 
 pub changed_model_told : (day : Day) (recur : Recur) (info : XferInfo) (row : ModelRow) → IsDay day.0 → IsSoundRecur recur → IsSoundInfo info → IsSoundModelRow row → IsSoundModelRow (changed_model day recur info row)
@@ -118,5 +112,5 @@ unfolding changed_model
 changed_model_told day recur info row business often sound known = record {
   id = known.id;
   recur = often;
-  info = record { from = known.info.from; to = sound.to; amount = sound.amount; due = due_is info.due day sound.due business };
+  info = record { from = known.info.from; to = sound.to; amount = sound.amount; due = IsDay-due info.due day sound.due business };
 }

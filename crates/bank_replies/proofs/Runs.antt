@@ -16,16 +16,17 @@ use Rattle.bank_model.specs.SetupForm.{IsWithinLimits}
 use Rattle.bank_model.specs.Once.{is_named, reply_kept}
 use Rattle.bank_model.specs.Rules.{opening_state, raised, ask_answers, release, keep, kept_for, new_outcome, outcome_or_kept, file_outcome, state_after, answer_to, IsLegal}
 use Rattle.bank_model.specs.Sound as file
-use Rattle.bank_core.specs.Standing.{IsSoundState}
-use Rattle.bank_core.specs.Runs.{Happening, after_all, AreLegal}
-use Rattle.bank_core.proofs.StateLemmas.{IsSoundState-step, kept-asks}
-use Rattle.bank_core.proofs.RunLaws.{IsSoundState-run}
-use Rattle.bank_laws.proofs.Lists.{all_append}
+use Rattle.bank_rules.specs.Standing.{IsSoundState}
+use Rattle.bank_rules.specs.Runs.{Happening, after_all, AreLegal}
+use Rattle.bank_rules.proofs.StageLemmas.{kept-asks}
+use Rattle.bank_rules.proofs.StateLemmas.{IsSoundState-step}
+use Rattle.bank_rules.proofs.RunLaws.{IsSoundState-run}
+use Rattle.bank_rules.proofs.Lists.{all_append}
 use Rattle.ofx_file.specs.Written.{RepliesReadBack}
 use Rattle.bank_replies.specs.Texts.{HasTexts, HasEventTexts}
 use Rattle.bank_replies.specs.Telling.{IsTellable}
 use Rattle.bank_replies.specs.Replies.{new_reply, IsReply, HaveTexts}
-use Rattle.bank_replies.proofs.Lists.{all_filter}
+use Rattle.bank_rules.proofs.Lists.{all_filter}
 use Rattle.bank_replies.proofs.SoundReplies.{new_sound}
 use Rattle.bank_replies.proofs.States.{tellable_opening, tellable_step}
 

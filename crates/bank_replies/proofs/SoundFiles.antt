@@ -20,7 +20,7 @@ use Rattle.msg_sync.specs.Sound.{IsSoundTransaction, IsSoundKind, IsSoundIn}
 use Rattle.ofx_file.specs.Written.{IsSoundAsk, IsSoundFile}
 use Rattle.bank_replies.specs.Texts.{HasDeedTexts, HasPairTexts, HasAskTexts}
 use Rattle.bank_replies.specs.Requests.{HasKindText, HasTokenText, HasAllTexts}
-use Rattle.bank_replies.proofs.Lists.{all_both}
+use Rattle.bank_rules.proofs.Lists.{all_both}
 use Rattle.bank_replies.proofs.SoundReplies.{version_is}
 use Rattle.bank_replies.proofs.Values.{text_within, uid_within, account_sound, info_sound, mail_sound, object_sound}
 

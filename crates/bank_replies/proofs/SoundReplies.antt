@@ -26,9 +26,9 @@ use Rattle.bank_model.specs.Objects.{object_named, newest}
 use Rattle.bank_model.specs.Polls.{is_poll_ask, is_unnamed, are_polls, is_poll, told_token, newest_if_any, poll_answer, poll_reply}
 use Rattle.bank_model.specs.Rules.{raised, ask_answers, reply_file, kept_for, new_outcome, outcome_or_kept, file_outcome, answer_to, denial}
 use Rattle.bank_model.specs.Sound as file
-use Rattle.bank_core.specs.Standing.{IsSoundState}
-use Rattle.bank_core.proofs.StateLemmas.{IsSoundState-raised, IsSoundState-ask}
-use Rattle.bank_core.proofs.MoneyLemmas.{balance-most}
+use Rattle.bank_rules.specs.Standing.{IsSoundState}
+use Rattle.bank_rules.proofs.StateLemmas.{IsSoundState-raised, IsSoundState-ask}
+use Rattle.bank_rules.proofs.MoneyLemmas.{balance-most}
 use Rattle.msg_sync.specs.Sound.{IsSoundSyncReply}
 use Rattle.ofx_file.specs.Written.{IsSoundAskReply, IsSoundReplyFile}
 use Rattle.bank_replies.specs.Texts.{HasAskTexts, HasTexts}

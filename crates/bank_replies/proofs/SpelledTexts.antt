@@ -28,7 +28,7 @@ use Rattle.ofx_types.specs.declared.sync.ObjectName.TheVariants as objects
 use Rattle.ofx_types.specs.declared.request.Ask.{Ask}
 use Rattle.ofx_types.specs.declared.request.Ask.TheVariants.{Statement, One, Sync}
 use Rattle.ofx_types.specs.declared.request.RequestFile.{RequestFile}
-use Rattle.bank_laws.proofs.Lists.{all_append}
+use Rattle.bank_rules.proofs.Lists.{all_append}
 use Rattle.bank_replies.specs.Texts.{HasAccountTexts, HasInfoTexts, HasMailTexts, HasDeedTexts, HasPairTexts, HasObjectTexts, HasAskTexts, HasTexts}
 
 -- ---- single texts

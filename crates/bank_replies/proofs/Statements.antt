@@ -24,7 +24,7 @@ use Rattle.msg_statement.specs.Sound.{IsSoundLine, IsSoundList}
 use Rattle.ofx_file.specs.Written.{IsSoundAskReply}
 use Rattle.bank_replies.specs.Texts.{HasAccountTexts}
 use Rattle.bank_replies.specs.Telling.{IsToldEntry, IsTellable}
-use Rattle.bank_replies.proofs.Lists.{all_filter, all_map, all_flat, all_both}
+use Rattle.bank_rules.proofs.Lists.{all_filter, all_map, all_flat, all_both}
 use Rattle.bank_replies.proofs.Values.{account_sound}
 use Rattle.bank_replies.proofs.Found.{IsKnownRow, row_known}
 

@@ -10,7 +10,14 @@ use Rattle.ofx_types.specs.declared.number.UserId.{UserId}
 use Rattle.ofx_types.specs.TextRules.{IsText}
 use Rattle.ofx_types.specs.declared.transfer.TransferRow.{TransferRow}
 use Rattle.ofx_types.specs.declared.recurring.ModelRow.{ModelRow}
-use Rattle.ofx_types.specs.declared.request.RequestFile.{RequestFile}
+use Rattle.ofx_types.specs.SyncForm.{object_family}
+use Rattle.ofx_types.specs.declared.transfer.Deed.{Deed}
+use Rattle.ofx_types.specs.declared.transfer.Family.{Family}
+use Rattle.ofx_types.specs.declared.sync.SyncAsk.{SyncAsk}
+use Rattle.ofx_types.specs.declared.request.Ask.{Ask}
+use Rattle.ofx_types.specs.declared.request.Ask.TheVariants.{Statement, One, Sync}
+use Rattle.msg_parts.specs.Sound.{IsTextWithin}
+use Rattle.bank_model.specs.Sync.{deeds_or_rejection}
 use Rattle.bank_model.specs.declared.entry.Entry.{Entry}
 use Rattle.bank_model.specs.declared.setup.Setup.{Setup}
 use Rattle.bank_model.specs.declared.event.State.{State}
@@ -21,21 +28,23 @@ use Rattle.bank_model.specs.Ledger.{row_of}
 use Rattle.bank_model.specs.Models.{model_of}
 use Rattle.bank_model.specs.Deeds.{is_full}
 use Rattle.bank_model.specs.Due.{has_number, posts, has_cover, place_date, spawns_on, spawns}
-use Rattle.bank_model.specs.Rules.{opening_state, raised, kept_for, new_outcome, outcome_or_kept, file_outcome, letter_entry, state_after, IsLegal}
+use Rattle.bank_model.specs.Rules.{opening_state, raised, ask_answer, letter_entry, state_after, IsLegal}
 use Rattle.bank_model.specs.Sound as file
+use Rattle.bank_rules.specs.Stages.{Stage, after_stage, MayCome, Leads, IsKnownDeed, IsKnownAsk, IsKnownEvent}
+use Rattle.bank_rules.specs.Stages as stages
+use Rattle.bank_rules.proofs.StageLemmas.{lasts, leads_unless, leads_ask, leads_step}
 use Rattle.bank_laws.specs.Histories.{IsInOrder}
-use Rattle.bank_laws.proofs.Events.{order_step, order_opening, grows_raised}
-use Rattle.bank_laws.proofs.Lists.{all_append}
+use Rattle.bank_laws.proofs.Events.{order_opening, grows_raised, grows_stage}
+use Rattle.bank_rules.proofs.Lists.{all_append}
 use Rattle.bank_laws.proofs.Places.{at_intra}
-use Rattle.bank_replies.specs.Texts.{HasTexts, HasEventTexts}
+use Rattle.bank_replies.specs.Texts.{HasDeedTexts, HasPairTexts, HasAskTexts, HasEventTexts}
 use Rattle.bank_replies.specs.Telling.{IsToldEntry, IsTellable}
-use Rattle.bank_replies.proofs.Values.{text_within, zero_within, bank_within}
+use Rattle.bank_replies.proofs.Values.{uid_within, text_within, zero_within, bank_within}
 use Rattle.bank_replies.proofs.Words.{user_within}
-use Rattle.bank_replies.proofs.Days.{day_of_moment, later_day}
+use Rattle.bank_rules.proofs.RowLemmas.{IsDay-of_moment, IsDay-max}
 use Rattle.bank_replies.proofs.Found.{known_row, known_model}
 use Rattle.bank_replies.proofs.Rows.{settled_told_row, spawned_told, date_is}
-use Rattle.bank_replies.proofs.Answers.{MayAsk}
-use Rattle.bank_replies.proofs.Asks.{tellable_asks}
+use Rattle.bank_replies.proofs.Answers.{MayAsk, tellable_deed}
 
 pub tellable_opening : (setup : Setup) → IsTellable setup opening_state
 tellable_opening setup = record { order = order_opening setup; entries = tt; day = (omega (arith, ints), omega (arith, ints)) }
@@ -44,7 +53,7 @@ pub tellable_raised : (setup : Setup) (S : State) (at : Moment) → IsTellable s
 tellable_raised setup S at tellable moment = record {
   order = (grows_raised setup S at).order tellable.order;
   entries = tellable.entries;
-  day = later_day S.day.0 (day_of at.0) tellable.day (day_of_moment at.0 moment);
+  day = IsDay-max S.day.0 (day_of at.0) tellable.day (IsDay-of_moment at.0 moment);
 }
 
 -- What is left for the next entry is a number of ten digits.
@@ -53,26 +62,6 @@ next_id setup S within has =
     let few = ltb-false setup.entries (length S.entries + 1) (not-true (is_full setup (length S.entries + 1)) has) in
     let most = within.lines.entries_high in
     omega arith
-
--- ---- files
-
-tellable_new : (setup : Setup) (S : State) (user : UserId) (at : Moment) (sent : RequestFile) → MayAsk setup S user at → file.IsSound sent → HasTexts sent → IsTellable setup (new_outcome setup S user at sent).after
-unfolding new_outcome
-tellable_new setup S user at sent may sound texts =
-    let answered = tellable_asks setup S user at sent.asks may sound.asks texts.asks in
-    record {
-      order = record { few = answered.order.few; follow = answered.order.follow };
-      entries = answered.entries;
-      day = answered.day;
-    }
-
-tellable_or : (setup : Setup) (S : State) (user : UserId) (at : Moment) (sent : RequestFile) (kept : Option (List ℕ)) → MayAsk setup S user at → file.IsSound sent → HasTexts sent → IsTellable setup (outcome_or_kept setup S user at sent kept).after
-tellable_or setup S user at sent None may sound texts = tellable_new setup S user at sent may sound texts
-tellable_or setup S user at sent (Some reply) may sound texts = may.tellable
-
-tellable_file : (setup : Setup) (S : State) (user : UserId) (at : Moment) (sent : RequestFile) → MayAsk setup S user at → file.IsSound sent → HasTexts sent → IsTellable setup (file_outcome setup S user at sent).after
-unfolding file_outcome
-tellable_file setup S user at sent may sound texts = tellable_or setup S user at sent (kept_for S user sent.newer) may sound texts
 
 -- ---- what the bank does by itself
 
@@ -124,22 +113,77 @@ with_more setup S T more order are same tellable told = record {
   day = subst (λ (day : Day). IsDay day.0) (sym same) tellable.day;
 }
 
+-- ---- stages
+
+-- A moment lies in the years 1900 to 9999, and what a user of the setup asks is sound and has texts.
+abbrev pub IsToldStage : Setup → Stage → Type 0
+IsToldStage setup (stages.day at) = IsMoment at.0
+IsToldStage setup (stages.deed user only at trnuid what) =
+    IsMoment at.0 × (user.0 < length setup.users) × file.IsSoundDeed what × HasDeedTexts what × IsTextWithin 36 trnuid
+IsToldStage setup (stages.names user older newer reply) = Unit {0}
+IsToldStage setup (stages.post at id) = IsMoment at.0
+IsToldStage setup (stages.spawn id place) = Unit {0}
+IsToldStage setup (stages.letter user at subject body) =
+    IsMoment at.0 × (user.0 < length setup.users) × file.HasLength 64 subject × file.HasLength 10000 body × IsText subject × IsText body
+
+order_after : (setup : Setup) (S : State) (stage : Stage) → MayCome setup S stage → IsTellable setup S → IsInOrder setup (after_stage setup S stage)
+order_after setup S stage may tellable = (grows_stage setup S stage may).order tellable.order
+
+tellable_stage : (setup : Setup) (S : State) (stage : Stage) → IsWithinLimits setup → MayCome setup S stage → IsToldStage setup stage → IsTellable setup S → IsTellable setup (after_stage setup S stage)
+unfolding spawns
+tellable_stage setup S (stages.day at) within may known tellable = tellable_raised setup S at tellable known
+tellable_stage setup S (stages.deed user only at trnuid what) within may known tellable =
+    tellable_deed setup S user only at trnuid what (record { within = within; tellable = tellable; moment = known.0; known = known.1 }) known.2 known.3 known.4
+tellable_stage setup S (stages.names user older newer reply) within may known tellable =
+    record { order = order_after setup S (stages.names user older newer reply) may tellable; entries = tellable.entries; day = tellable.day }
+tellable_stage setup S (stages.post at id) within may known tellable =
+    with_more setup S _ (posts setup S at (row_of id S.entries)) (order_after setup S (stages.post at id) may tellable) refl refl tellable
+    (posts_told setup S at id (row_of id S.entries) refl within tellable known)
+tellable_stage setup S (stages.spawn id place) within may known tellable =
+    let both = and_parts _ (has_number setup S) may in
+    with_more setup S _ (spawns setup S id place) (order_after setup S (stages.spawn id place) may tellable) refl refl tellable
+    (spawns_told setup S id place (model_of id S.entries) (place_date (model_of id S.entries) place) refl refl within tellable (next_id setup S within both.1))
+tellable_stage setup S (stages.letter user at subject body) within may known tellable =
+    with_more setup S _ (letter_entry setup S user at subject body ∷ []) (order_after setup S (stages.letter user at subject body) may tellable) refl refl tellable
+    (letter_told setup S user at subject body within known.0 known.1 known.2 known.3 known.4 known.5, tt)
+
+tellable_to : (setup : Setup) (S T : State) → IsWithinLimits setup → IsTellable setup S → Leads setup (IsToldStage setup) S T → IsTellable setup T
+tellable_to setup S T within tellable leads =
+    lasts setup (IsToldStage setup) (IsTellable setup) S T (λ U stage may known holds. tellable_stage setup U stage within may known holds) leads tellable
+
+-- ---- asks
+
+told_deeds : (setup : Setup) (user : UserId) (at : Moment) (family : Family) (deeds : List (List ℕ × Deed)) → IsMoment at.0 → user.0 < length setup.users → AllByRecursion (file.IsSoundPair family) deeds → AllByRecursion HasPairTexts deeds → AllByRecursion (IsKnownDeed (IsToldStage setup) user at) deeds
+told_deeds setup user at family [] moment known sound texts = tt
+told_deeds setup user at family (deed ∷ deeds) moment known sound texts =
+    (λ only. (moment, known, sound.0.1, texts.0.1, uid_within deed.0 texts.0.0), told_deeds setup user at family deeds moment known sound.1 texts.1)
+
+told_ask : (setup : Setup) (user : UserId) (at : Moment) (ask : Ask) → IsMoment at.0 → user.0 < length setup.users → file.IsSoundAsk ask → HasAskTexts ask → IsKnownAsk (IsToldStage setup) user at ask
+told_ask setup user at (Statement trnuid name period) moment known sound texts = tt
+told_ask setup user at (One trnuid deed) moment known sound texts = λ only. (moment, known, sound.1, texts.1, uid_within trnuid texts.0)
+told_ask setup user at (Sync ask) moment known sound texts = told_deeds setup user at (object_family ask.object) ask.deeds moment known sound.deeds texts.1
+
+told_asks : (setup : Setup) (user : UserId) (at : Moment) (asks : List Ask) → IsMoment at.0 → user.0 < length setup.users → AllByRecursion file.IsSoundAsk asks → AllByRecursion HasAskTexts asks → AllByRecursion (IsKnownAsk (IsToldStage setup) user at) asks
+told_asks setup user at [] moment known sound texts = tt
+told_asks setup user at (ask ∷ asks) moment known sound texts = (told_ask setup user at ask moment known sound.0 texts.0, told_asks setup user at asks moment known sound.1 texts.1)
+
+pub tellable_unless : (setup : Setup) (S : State) (user : UserId) (at : Moment) (ask : SyncAsk) (code : Option ℕ) → MayAsk setup S user at → file.IsSoundSync ask → AllByRecursion HasPairTexts ask.deeds → IsTellable setup (deeds_or_rejection setup S user at ask code).after
+tellable_unless setup S user at ask code may sound texts =
+    tellable_to setup S _ may.within may.tellable
+    (leads_unless setup (IsToldStage setup) S user at ask code (told_deeds setup user at (object_family ask.object) ask.deeds may.moment may.known sound.deeds texts))
+
+pub tellable_ask : (setup : Setup) (S : State) (user : UserId) (at : Moment) (ask : Ask) → MayAsk setup S user at → file.IsSoundAsk ask → HasAskTexts ask → IsTellable setup (ask_answer setup S user at ask).after
+tellable_ask setup S user at ask may sound texts =
+    tellable_to setup S _ may.within may.tellable (leads_ask setup (IsToldStage setup) S user at ask (told_ask setup user at ask may.moment may.known sound texts))
+
 -- ---- any event
 
+told_event : (setup : Setup) (S : State) (at : Moment) (event : Event) → IsMoment at.0 → IsLegal setup S at event → HasEventTexts event → IsKnownEvent (IsToldStage setup) at event
+told_event setup S at (File user sent) moment legal texts = (moment, told_asks setup user at sent.asks moment legal.0 legal.1.asks texts.asks, λ reply. tt)
+told_event setup S at (Post id) moment legal texts = (moment, moment)
+told_event setup S at (Spawn id place) moment legal texts = (moment, tt)
+told_event setup S at (Letter user subject body) moment legal texts = (moment, (moment, legal.0, legal.1, legal.2, texts.0, texts.1))
+
 pub tellable_step : (setup : Setup) (S : State) (at : Moment) (event : Event) → IsWithinLimits setup → IsTellable setup S → IsMoment at.0 → IsLegal setup S at event → HasEventTexts event → IsTellable setup (state_after setup S at event)
-unfolding spawns
-tellable_step setup S at (File user sent) within tellable moment legal texts =
-    tellable_file setup (raised S at) user at sent (record { within = within; tellable = tellable_raised setup S at tellable moment; moment = moment; known = legal.0 }) legal.1 texts
-tellable_step setup S at (Post id) within tellable moment legal texts =
-    let now = tellable_raised setup S at tellable moment in
-    with_more setup (raised S at) (state_after setup S at (Post id)) (posts setup (raised S at) at (row_of id S.entries)) (order_step setup S at (Post id) tellable.order legal) refl refl now
-    (posts_told setup (raised S at) at id (row_of id S.entries) refl within now moment)
-tellable_step setup S at (Spawn id place) within tellable moment legal texts =
-    let now = tellable_raised setup S at tellable moment in
-    let both = and_parts _ (has_number setup (raised S at)) legal in
-    with_more setup (raised S at) (state_after setup S at (Spawn id place)) (spawns setup (raised S at) id place) (order_step setup S at (Spawn id place) tellable.order legal) refl refl now
-    (spawns_told setup (raised S at) id place (model_of id S.entries) (place_date (model_of id S.entries) place) refl refl within now (next_id setup (raised S at) within both.1))
-tellable_step setup S at (Letter user subject body) within tellable moment legal texts =
-    let now = tellable_raised setup S at tellable moment in
-    with_more setup (raised S at) (state_after setup S at (Letter user subject body)) (letter_entry setup (raised S at) user at subject body ∷ []) (order_step setup S at (Letter user subject body) tellable.order legal) refl refl now
-    (letter_told setup (raised S at) user at subject body within moment legal.0 legal.1 legal.2 texts.0 texts.1, tt)
+tellable_step setup S at event within tellable moment legal texts =
+    tellable_to setup S _ within tellable (leads_step setup (IsToldStage setup) S at event legal (told_event setup S at event moment legal texts))

@@ -27,19 +27,20 @@ use Rattle.bank_model.specs.Objects.{account_about, object_named, belongs_to, hi
 use Rattle.bank_model.specs.Sync.{token_of, is_lost, told_as, is_above, entries_above, told_entry, standing_transfer, standing_model, standing_in, standing, history_told, is_newest, unless_newest, rejection, deeds_or_rejection, sync_on, sync_answer}
 use Rattle.bank_model.specs.Sound as file
 use Rattle.bank_laws.specs.Places.{IsPlaceOf}
-use Rattle.bank_laws.proofs.Lists.{all_append}
+use Rattle.bank_rules.proofs.Lists.{all_append}
 use Rattle.bank_laws.proofs.Numbers.{newest_few}
 use Rattle.bank_laws.proofs.Places.{one_family, named_place}
 use Rattle.msg_parts.specs.Sound.{IsTextWithin, family_of_change}
 use Rattle.msg_sync.specs.Sound.{IsSoundToldIn, IsSoundSyncReply}
 use Rattle.bank_replies.specs.Texts.{HasObjectTexts, HasPairTexts}
 use Rattle.bank_replies.specs.Telling.{IsToldChange, IsToldEntry, IsTellable}
-use Rattle.bank_replies.proofs.Lists.{all_filter, all_map, all_flat}
+use Rattle.bank_rules.proofs.Lists.{all_filter, all_map, all_flat}
 use Rattle.bank_replies.proofs.Values.{object_sound, zero_within}
 use Rattle.bank_replies.proofs.Words.{token_within}
 use Rattle.bank_replies.proofs.Found.{known_row, known_model}
-use Rattle.bank_replies.proofs.Rows.{told_code}
-use Rattle.bank_replies.proofs.Answers.{MayAsk, AreAnswered, told_sound, all_refused, deeds_sound}
+use Rattle.bank_rules.proofs.NextLemmas.{not_cancelled}
+use Rattle.bank_replies.proofs.States.{tellable_unless}
+use Rattle.bank_replies.proofs.Answers.{MayAsk, told_sound, all_refused, deeds_sound}
 
 -- ---- the history of an object
 
@@ -77,7 +78,7 @@ transfer_in setup id family entries (Some row) is all same = by_code (is_cancell
     by_code true here = tt
     by_code false here =
         let known = known_row setup id entries row all is in
-        (((record { id = known.id; info = known.info; told = told_code row.code here; stamp = known.stamp }, known.model), same), tt)
+        (((record { id = known.id; info = known.info; told = not_cancelled row.code here; stamp = known.stamp }, known.model), same), tt)
 
 model_in : (setup : Setup) (id : ℕ) (family : Family) (entries : List Entry) (gone : Bool) (found : Option ModelRow) → model_of id entries ≡ found → AllByRecursion (IsToldEntry setup) entries → families.RecIntra ≡ family → AllByRecursion (IsChangeIn family) (standing_model gone found)
 model_in setup id family entries gone None is all same = tt
@@ -133,12 +134,12 @@ rejected : (reject : Bool) (number : ℕ) (kind : SyncKind) → IfSome (rejectio
 rejected true number kind = missed kind number
 rejected false number kind = tt
 
-done_or_rejected : (setup : Setup) (S : State) (user : UserId) (at : Moment) (ask : SyncAsk) (code : Option ℕ) → IfSome code IsRefusal → MayAsk setup S user at → file.IsSoundSync ask → AllByRecursion HasPairTexts ask.deeds → AreAnswered setup (object_family ask.object) (deeds_or_rejection setup S user at ask code).replies (deeds_or_rejection setup S user at ask code).after
+done_or_rejected : (setup : Setup) (S : State) (user : UserId) (at : Moment) (ask : SyncAsk) (code : Option ℕ) → IfSome code IsRefusal → MayAsk setup S user at → file.IsSoundSync ask → AllByRecursion HasPairTexts ask.deeds → AllByRecursion (IsSoundToldIn (object_family ask.object)) (deeds_or_rejection setup S user at ask code).replies
 unfolding deeds_or_rejection
 done_or_rejected setup S user at ask None refusal may sound texts =
     deeds_sound setup S user (account_about setup user ask.object) at (object_family ask.object) ask.deeds may sound.deeds texts
 done_or_rejected setup S user at ask (Some code) refusal may sound texts =
-    record { sound = all_refused (object_family ask.object) code ask.deeds refusal.0 refusal.1 texts; tellable = may.tellable }
+    all_refused (object_family ask.object) code ask.deeds refusal.0 refusal.1 texts
 
 -- ---- the answer
 
@@ -149,38 +150,25 @@ token_few setup S object within tellable =
     let limit = within.lines.entries_high in
     omega arith
 
-pub record IsSyncAnswered (setup : Setup) (S : State) (user : UserId) (at : Moment) (ask : SyncAsk) (found : Option ObjectId) : Type 0 where
-  pub sound : IsSoundSyncReply (sync_on setup S user at ask found).reply
-  pub tellable : IsTellable setup (sync_on setup S user at ask found).after
-
-sync_answered : (setup : Setup) (S : State) (user : UserId) (at : Moment) (ask : SyncAsk) (found : Option ObjectId) → object_named setup user ask.object ≡ found → MayAsk setup S user at → file.IsSoundSync ask → HasObjectTexts ask.object → AllByRecursion HasPairTexts ask.deeds → IsSyncAnswered setup S user at ask found
+on_sound : (setup : Setup) (S : State) (user : UserId) (at : Moment) (ask : SyncAsk) (found : Option ObjectId) → object_named setup user ask.object ≡ found → MayAsk setup S user at → file.IsSoundSync ask → HasObjectTexts ask.object → AllByRecursion HasPairTexts ask.deeds → IsSoundSyncReply (sync_on setup S user at ask found).reply
 unfolding sync_on
-sync_answered setup S user at ask None is may sound object texts = record {
-  sound = record {
-    object = object_sound ask.object sound.object object;
-    token = zero_within 64 (omega arith);
-    replies = all_refused (object_family ask.object) 2003 ask.deeds (λ (none : 2003 ≡ 0). omega arith) (omega arith) texts;
-  };
-  tellable = may.tellable;
+on_sound setup S user at ask None is may sound object texts = record {
+  object = object_sound ask.object sound.object object;
+  token = zero_within 64 (omega arith);
+  replies = all_refused (object_family ask.object) 2003 ask.deeds (λ (none : 2003 ≡ 0). omega arith) (omega arith) texts;
 }
-sync_answered setup S user at ask (Some found) is may sound object texts =
+on_sound setup S user at ask (Some found) is may sound object texts =
     let code : Option ℕ = rejection ask.reject (newest found S.entries) ask.kind in
     let done = done_or_rejected setup S user at ask code (rejected ask.reject (newest found S.entries) ask.kind) may sound texts in
+    let tellable = tellable_unless setup S user at ask code may sound texts in
     let told = history_in setup user ask found S.entries is may.tellable.entries in
     record {
-      sound = record {
-        object = object_sound ask.object sound.object object;
-        token = token_within (newest found (deeds_or_rejection setup S user at ask code).after.entries) (token_few setup (deeds_or_rejection setup S user at ask code).after found may.within done.tellable);
-        replies = all_append (IsSoundToldIn (object_family ask.object)) (history_told setup.window found (object_family ask.object) S.entries ask.kind) (deeds_or_rejection setup S user at ask code).replies
-            (told_in setup (object_family ask.object) found S.entries ask.kind may.tellable.entries told) done.sound;
-      };
-      tellable = done.tellable;
+      object = object_sound ask.object sound.object object;
+      token = token_within (newest found (deeds_or_rejection setup S user at ask code).after.entries) (token_few setup (deeds_or_rejection setup S user at ask code).after found may.within tellable);
+      replies = all_append (IsSoundToldIn (object_family ask.object)) (history_told setup.window found (object_family ask.object) S.entries ask.kind) (deeds_or_rejection setup S user at ask code).replies
+          (told_in setup (object_family ask.object) found S.entries ask.kind may.tellable.entries told) done;
     }
 
 pub sync_sound : (setup : Setup) (S : State) (user : UserId) (at : Moment) (ask : SyncAsk) → MayAsk setup S user at → file.IsSoundSync ask → HasObjectTexts ask.object → AllByRecursion HasPairTexts ask.deeds → IsSoundSyncReply (sync_answer setup S user at ask).reply
 unfolding sync_answer
-sync_sound setup S user at ask may sound object texts = (sync_answered setup S user at ask (object_named setup user ask.object) refl may sound object texts).sound
-
-pub tellable_sync : (setup : Setup) (S : State) (user : UserId) (at : Moment) (ask : SyncAsk) → MayAsk setup S user at → file.IsSoundSync ask → HasObjectTexts ask.object → AllByRecursion HasPairTexts ask.deeds → IsTellable setup (sync_answer setup S user at ask).after
-unfolding sync_answer
-tellable_sync setup S user at ask may sound object texts = (sync_answered setup S user at ask (object_named setup user ask.object) refl may sound object texts).tellable
+sync_sound setup S user at ask may sound object texts = on_sound setup S user at ask (object_named setup user ask.object) refl may sound object texts

@@ -10,7 +10,7 @@ use Rattle.ofx_types.specs.declared.reply.ReplyFile.{ReplyFile}
 use Rattle.bank_model.specs.declared.setup.Setup.{Setup}
 use Rattle.bank_model.specs.declared.event.State.{State}
 use Rattle.bank_model.specs.Rules.{raised, ask_answers, reply_file}
-use Rattle.bank_core.specs.Runs.{Happening}
+use Rattle.bank_rules.specs.Runs.{Happening}
 use Rattle.ofx_file.specs.Written.{wire_file}
 use Rattle.bank_replies.specs.Texts.{HasEventTexts}
 

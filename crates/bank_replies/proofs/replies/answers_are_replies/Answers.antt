@@ -1,5 +1,5 @@
 use Rattle.bank_model.specs.Rules.{opening_state}
-use Rattle.bank_core.specs.Runs.{after_all}
+use Rattle.bank_rules.specs.Runs.{after_all}
 use Rattle.bank_replies.proofs.SoundReplies.{poll_sound}
 use Rattle.bank_replies.proofs.Runs.{told_run, run_answer}
 use Rattle.bank_replies.proofs.replies.answers_are_replies.Goals as goal

@@ -1,5 +1,4 @@
-use Rattle.bank_replies.proofs.Asks.{tellable_ask}
-use Rattle.bank_replies.proofs.States.{tellable_opening, tellable_raised, tellable_step}
+use Rattle.bank_replies.proofs.States.{tellable_opening, tellable_raised, tellable_ask, tellable_step}
 use Rattle.bank_replies.proofs.told_states.told_states_last.Goals as goal
 
 pub returns-clause-opening : goal.returns-clause-opening

@@ -1,0 +1,81 @@
+-- What an entry that may come next gives to transfers and to recurring transfers, behind the entries of a sound state.
+use Rattle.std.proofs.Common.{◌≡◌, ◌≢◌, ℕ, ◌+◌, ◌≤◌, Bool, true, false, List, length, Option, None, Some, refl, ap, ◌∙◌, arith}
+use Rattle.std.specs.Prelude.{is_some}
+use Rattle.std.specs.Option.{option_map}
+use Rattle.ofx_types.specs.Printable.{IsPrintableRow}
+use Rattle.ofx_types.specs.declared.number.Day.{Day}
+use Rattle.ofx_types.specs.declared.transfer.TransferRow.{TransferRow}
+use Rattle.ofx_types.specs.declared.transfer.XferCode.{XferCode}
+use Rattle.ofx_types.specs.declared.transfer.XferCode.TheVariants.{Waiting, Posted, NoFunds, Cancelled}
+use Rattle.ofx_types.specs.declared.transfer.Change.TheVariants.{NewTransfer, SetTransfer, DropTransfer, NewModel, SetModel, DropModel}
+use Rattle.ofx_types.specs.declared.recurring.ModelRow.{ModelRow}
+use Rattle.bank_model.specs.declared.entry.Entry.{Entry}
+use Rattle.bank_model.specs.declared.setup.Setup.{Setup}
+use Rattle.bank_model.specs.declared.event.State.{State}
+use Rattle.bank_model.specs.Ledger.{is_dropped, with_code, row_of}
+use Rattle.bank_model.specs.Models.{model_of, next_place}
+use Rattle.bank_model.specs.Judging.{is_cancelled}
+use Rattle.bank_model.specs.Due.{place_date}
+use Rattle.bank_transfers.specs.TransfersView.{GivesRow, waits}
+use Rattle.bank_recur.specs.ModelsView.{GivesModel, Cancels, IsMadeBy, LeavesModels}
+use Rattle.bank_rules.specs.Standing.{IsSoundState, IsOfWaiting, IsNextOf, IsLawful}
+use Rattle.bank_rules.proofs.Verdicts.{open_waits}
+use Rattle.bank_rules.proofs.RowLemmas.{is_dropped-new, row_of-new, model_of-new, model_of-0, is_dropped-open}
+use Rattle.bank_rules.proofs.SoundFound.{models_sound}
+use Rattle.bank_rules.proofs.StandingLemmas.{place_most}
+
+-- ---- transfers
+
+pub uncancelled : (code : XferCode) → code ≢ Cancelled → is_cancelled code ≡ false
+uncancelled Waiting other = refl
+uncancelled Posted other = refl
+uncancelled NoFunds other = refl
+uncancelled Cancelled other = absurd (other refl)
+
+pub new_given : (setup : Setup) (S : State) (row : TransferRow) → IsSoundState setup S → IsLawful S.entries (NewTransfer row) → IsPrintableRow row → GivesRow S.entries (NewTransfer row) row
+new_given setup S row sound lawful told =
+    let id : row.id ≡ length S.entries + 1 = lawful.0 in (
+      (refl, uncancelled row.code told.told, is_dropped-new (length S.entries) row.id S.entries sound.made (omega arith)),
+      λ waiting. row_of-new (length S.entries) row.id S.entries sound.made (omega arith),
+    )
+
+found_set : (entries : List Entry) (row : TransferRow) (found : Option TransferRow) → row_of row.id entries ≡ found → IsOfWaiting row found → (is_dropped row.id entries ≡ false) × (waits found ≡ true)
+found_set entries row None is of = absurd of
+found_set entries row (Some held) is of = (is_dropped-open row.id entries held is (open_waits held.code of.0), of.0)
+
+pub set_given : (setup : Setup) (S : State) (row : TransferRow) → IsLawful S.entries (SetTransfer row) → IsPrintableRow row → GivesRow S.entries (SetTransfer row) row
+set_given setup S row lawful told =
+    let found = found_set S.entries row (row_of row.id S.entries) refl lawful in
+    ((refl, uncancelled row.code told.told, found.0), λ waiting. found.1)
+
+pub dropped_given : (S : State) (id : ℕ) (found : TransferRow) → row_of id S.entries ≡ Some found → GivesRow S.entries (DropTransfer id) (with_code Cancelled found)
+dropped_given S id found there = ap (option_map (with_code Cancelled)) there
+
+-- ---- the recurring transfers that transfers leave, or that make them
+
+-- a transfer that a user asked for
+pub asked_leaves : (setup : Setup) (S : State) (row : TransferRow) → IsSoundState setup S → row.model ≡ 0 → LeavesModels S.entries (NewTransfer row)
+asked_leaves setup S row sound none = ap (λ (n : ℕ). model_of n S.entries) none ∙ model_of-0 (length S.entries) S.entries sound.made
+
+dated_there : (found : Option ModelRow) (place : ℕ) (date : Day) → place_date found place ≡ Some date → is_some found ≡ true
+dated_there None place date is = cc
+dated_there (Some row) place date is = refl
+
+-- the next transfer of a recurring one
+pub made_given : (S : State) (row : TransferRow) → IsNextOf S.entries row → IsMadeBy S.entries (NewTransfer row) row.model
+made_given S row next = (refl, dated_there (model_of row.model S.entries) (next_place row.model S.entries) row.due next.0)
+
+-- its place has one more behind it
+pub made_below : (setup : Setup) (S : State) (row : TransferRow) → IsSoundState setup S → IsNextOf S.entries row → next_place row.model S.entries ≤ 2958463
+made_below setup S row sound next = place_most setup (model_of row.model S.entries) (next_place row.model S.entries) row.due (models_sound setup row.model S.entries sound.models) next.0
+
+-- ---- recurring transfers
+
+pub new_model_given : (setup : Setup) (S : State) (row : ModelRow) → IsSoundState setup S → IsLawful S.entries (NewModel row) → GivesModel S.entries (NewModel row) row
+new_model_given setup S row sound lawful = let id : row.id ≡ length S.entries + 1 = lawful in (refl, model_of-new (length S.entries) row.id S.entries sound.made (omega arith))
+
+pub set_model_given : (S : State) (row : ModelRow) (also : Bool) → IsLawful S.entries (SetModel row also) → GivesModel S.entries (SetModel row also) row
+set_model_given S row also lawful = (refl, lawful.0.0)
+
+pub model_cancelled : (S : State) (id : ℕ) (also : Bool) → IsLawful S.entries (DropModel id also) → Cancels S.entries (DropModel id also) id
+model_cancelled S id also lawful = (refl, lawful.0)

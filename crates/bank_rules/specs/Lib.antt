@@ -1,0 +1,11 @@
+pub mod Standing
+pub mod Next
+pub mod Stages
+pub mod Runs
+pub mod Uids
+pub mod Books
+pub mod Pending
+pub mod Series
+pub mod Rising
+pub mod Taken
+pub mod DueFirst
