@@ -8,13 +8,13 @@ ghost use Rattle.ofx_file.specs.SoundFiles.{SpelledFilesAreSound};
 ghost use Rattle.ofx_file.specs.Printable.{SoundFilesArePrintable, SpelledRepliesArePrintable};
 ghost use Rattle.ofx_file.specs.Written.{FilesReadBack, RepliesReadBack};
 
-use msg_statement::{
-    statement_faults_have_places, statement_replies_are_found, statement_replies_read_back,
-    statement_reply_faults_have_places, statements_are_found, statements_read_back,
-};
 use msg_mail::{
     signon_faults_have_places, signon_replies_are_found, signon_replies_read_back,
     signon_reply_faults_have_places, signons_are_found, signons_read_back,
+};
+use msg_statement::{
+    statement_faults_have_places, statement_replies_are_found, statement_replies_read_back,
+    statement_reply_faults_have_places, statements_are_found, statements_read_back,
 };
 use msg_sync::{
     sync_faults_have_places, sync_replies_are_found, sync_replies_read_back,
