@@ -20,6 +20,7 @@ pub use fault::{Failed, FetchFault, PutFault};
 pub use keeper::Keeper;
 pub use memory::clock::MemClock;
 pub use memory::keeper::MemKeeper;
+pub use memory::schedule::Schedule;
 pub use memory::sink::MemSink;
 pub use memory::source::MemSource;
 pub use sink::Sink;

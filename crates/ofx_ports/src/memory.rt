@@ -2,6 +2,6 @@
 
 pub mod clock;
 pub mod keeper;
-mod schedule;
+pub mod schedule;
 pub mod sink;
 pub mod source;

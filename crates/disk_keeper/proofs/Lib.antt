@@ -1,0 +1,9 @@
+pub mod FileLemmas
+pub mod DiskLemmas
+pub mod Bodies
+pub mod Gates
+pub mod Moments
+pub mod Walks
+pub mod Passes
+pub mod Keepings
+pub mod CrashLemmas

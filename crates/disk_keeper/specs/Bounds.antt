@@ -1,0 +1,23 @@
+-- Where gates stand within a file, also one that isn't told.
+use Rattle.std.specs.Prelude.{◌≡◌, ℕ, ◌+◌, ◌<◌, ◌≤◌, ◌^◌}
+use Rattle.disk_keeper.specs.declared.reading.Gate.{Gate}
+use Rattle.disk_keeper.specs.declared.reading.Found.{Found}
+use Rattle.disk_keeper.specs.declared.reading.Found.TheVariants.{End, NoMark, Past}
+use Rattle.disk_keeper.specs.declared.reading.Step.{Step}
+use Rattle.disk_keeper.specs.declared.reading.Step.TheVariants.{Next, Last, Cut}
+
+-- A gate has its place within the file, behind the mark and at least one byte for each record.
+pub record IsWithin (gate : Gate) (size : ℕ) : Type 0 where
+  pub place : gate.place < size
+  pub most : gate.place < 2 ^ 63
+  pub few : gate.records + 8 ≤ gate.place
+
+abbrev pub StepsWithin : Gate → ℕ → Step → Type 0
+StepsWithin gate size (Next next) = (next.place ≤ size) × (gate.place < next.place) × (next.records + 8 ≤ next.place)
+StepsWithin gate size Last = Unit {0}
+StepsWithin gate size Cut = Unit {0}
+
+abbrev pub FoundWithin : ℕ → Found → Type 0
+FoundWithin size (End gate) = IsWithin gate size
+FoundWithin size NoMark = Unit {0}
+FoundWithin size (Past number) = Unit {0}

@@ -1,0 +1,12 @@
+pub mod Disk
+pub mod File
+pub mod Layout
+pub mod Appending
+pub mod Reading
+pub mod Bounds
+pub mod Standing
+pub mod Opening
+pub mod Memory
+pub mod FileOnDisk
+pub mod Passing
+pub mod Keeping

@@ -1,0 +1,30 @@
+//! What of an append isn't settled.
+
+ghost use Rattle.std.specs.Prelude.{◌≡◌};
+
+use crate::reading::OPEN;
+
+/// How far an append came that failed and isn't settled.
+#[derive(Clone, Copy, Debug)]
+pub enum Begun {
+    /// There is none.
+    Nothing,
+    /// To its body.
+    Body,
+    /// To its gate. The gate behind the record is at this place.
+    Opening(u64),
+}
+
+impl Begun {
+    ghost use Rattle.disk_keeper.specs.Keeping.{opened_by};
+
+    /// The gate behind the record, where the gate in front of it was found to be this one and the record stands.
+    pub fn opened(self, gate: u8) -> Option<u64>
+        ensures { result ≡ opened_by self gate }
+    {
+        match self {
+            Begun::Opening(next) if gate == OPEN => Some(next),
+            _ => None,
+        }
+    }
+}
