@@ -1,4 +1,4 @@
-"""Files of records, made by the stock SQLite, with records in the coding of the second reading in cases/reference/."""
+"""Files of records, made by the stock SQLite or for `disk:PATH`, with records in the coding of the second reading in cases/reference/."""
 import os
 import sqlite3
 import sys
@@ -8,6 +8,7 @@ from datetime import datetime
 from samples import ROOT
 
 sys.path.append(os.path.join(ROOT, "cases"))
+from written.disk_file import file_of
 from written.record_file import INSERT, TABLE
 from reference.events import File, Letter
 from reference.header import Header
@@ -33,6 +34,12 @@ def make_file(path, kind, count):
         database.execute("BEGIN")
         database.executemany(INSERT, ((number, KINDS[kind](number)) for number in range(1, count + 1)))
         database.execute("COMMIT")
+
+
+def make_disk_file(path, kind, count):
+    """The same records in a file for `disk:PATH`."""
+    with open(path, "wb") as f:
+        f.write(file_of([KINDS[kind](number) for number in range(1, count + 1)]))
 
 
 def file(asks, name=None):

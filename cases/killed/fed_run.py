@@ -10,8 +10,8 @@ import time
 from killed.stream import Wrong
 from written.frames import answers
 
-MOST_SECONDS = 20
-MOST_SECONDS_TO_DIE = 5
+MOST_SECONDS = 20  # from the start or from what was read last
+MOST_SECONDS_TO_DIE = 60  # a process that waits for its disk can't die before that answers
 ONE_PAGE = 4096  # the least that a pipe holds
 LOOK = 0.002  # seconds
 LOOKS_ASLEEP = 5
@@ -22,8 +22,8 @@ class Run:
     """A run of the program that has been given its whole input, and waits for more of it until it is closed. No file
     may have more bytes than the room. A narrow run has to wait until somebody reads once it has written a page."""
 
-    def __init__(self, program, folder, at, stream, room=UNLIMITED, is_narrow=False):
-        words = [program, "answer", "setup", "records", "--at", at.strftime("%Y%m%d%H%M%S")]
+    def __init__(self, program, folder, at, stream, room=UNLIMITED, is_narrow=False, records="records"):
+        words = [program, "answer", "setup", records, "--at", at.strftime("%Y%m%d%H%M%S")]
         pipes = {"stdin": subprocess.PIPE, "stdout": subprocess.PIPE, "stderr": subprocess.PIPE, "bufsize": 0}
         # What restores signals would have a write past the room end the program.
         self.child = subprocess.Popen(words, cwd=folder, restore_signals=False, preexec_fn=limit(room), **pipes)
@@ -41,15 +41,19 @@ class Run:
         ready, _, _ = select.select([self.child.stdout], [], [], max(0, seconds))
         more = os.read(self.child.stdout.fileno(), 1 << 20) if ready else b""
         self.written += more
+        if more:
+            self.end = max(self.end, time.monotonic() + MOST_SECONDS)
         return bool(more)
 
     def wait_for(self, count):
         """Waits for so many answers. A run that says nothing more in time is killed."""
         while len(whole(answers(self.written))) < count:
             if not self.read(self.end - time.monotonic()):
+                state = state_of(self.child.pid)
                 status, told = self.kill() if time.monotonic() >= self.end else self.close()
                 count = len(whole(answers(self.written)))
-                raise Wrong("%d answers came, and no more: status %d with %r" % (count, status, told[:80]))
+                raise Wrong("%d answers came, and no more, and the program was in state %s%s: status %d with %r" % (
+                    count, state, ", waiting for a disk" * (state == "D"), status, told[:80]))
 
     def wait_until_asleep(self):
         """Waits, reading nothing, until the program sleeps for some looks in a row, as it does where it waits for its

@@ -11,10 +11,11 @@ from written.frames import DUE, answers, difference
 
 
 class Witness:
-    """A bank of the second reading, to which happens what has landed."""
+    """A bank of the second reading, to which happens what has landed. What landed last may be taken back by the next
+    start where `may_go_back` says so."""
 
-    def __init__(self, setup_text):
-        self.setup = read_setup(setup_text)
+    def __init__(self, setup_text, may_go_back):
+        self.setup, self.may_go_back = read_setup(setup_text), may_go_back
         self.bank = opened(self.setup, [])
         self.figures = Counter()
         self.is_unsettled = False  # whether the next start may take back what landed last
@@ -33,7 +34,8 @@ class Witness:
         cut = written[len(b"".join(got)):]
         # An answer is begun once its records are kept for good. And what the start of a run found is what it goes on
         # with; but a run that has written nothing may have been killed before it found anything.
-        self.is_unsettled = not cut if more else self.is_unsettled and not written
+        is_unsettled = not cut if more else self.is_unsettled and not written
+        self.is_unsettled = self.may_go_back and is_unsettled
         if len(got) < len(frames) and (more or cut):
             self.land(at, frames[len(got)], more, cut)
         if records != self.bank.records:

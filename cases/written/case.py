@@ -10,25 +10,27 @@
     frames   in place of input and output: a list of pairs, the pieces of a frame and those of the answer that it gets
     status   the status that is wanted; without it 0
     note     the first line of the error stream that is wanted; without it the stream is empty
-    given    what the file of records is before the run (record_file.py says what it may be); without it it is what the
+    given    what the file of records is before the run (given.py says what it may be); without it it is what the
              run before has left, and there is none at first
     held     true where another program has that file open meanwhile
+    barred   true where the program may neither read nor write that file
     records  the records in that file in the end, in hex as they are given, with `*` for each digit of a moment that is
              the clock's; without it no run adds anything to the file
-    runs     a list of runs over the one file of records, one after the other. Each has the parts above but for name and
-             records; what it lacks of them is that of the case. Without words they are
+    disk     true where that file is one of `disk:PATH`, and RECORDS stands for that word; false where it can be none
+    runs     a list of runs over the one file of records, one after the other. Each has the parts above but for name,
+             disk and records; what it lacks of them is that of the case. Without words they are
              answer SETUP RECORDS --at 20240131120000
 """
 import json
 import os
 
+from written.given import Given
 from written.pieces import sample, whole
-from written.record_file import Given
 
 ANSWERS = os.path.join(os.path.dirname(os.path.abspath(__file__)), "..", "answers")
 WORDS = ["answer", "SETUP", "-", "--at", "20240131120000"]
 WORDS_OVER_FILE = ["answer", "SETUP", "RECORDS", "--at", "20240131120000"]
-OF_THE_CASE = ("name", "records", "runs")
+OF_THE_CASE = ("name", "records", "disk", "runs")
 
 
 def path_of(name):
@@ -51,12 +53,12 @@ class Run:
         self.asked_words = parts.get("words", words or WORDS)
 
     def words(self, **paths):
-        """The words, with these paths in place of their names."""
+        """The words, with these in place of their names."""
         return [paths[word] if word in paths else word.encode("latin-1") for word in self.asked_words]
 
     def is_over_file(self):
         """Whether it runs over the case's file of records, and can open it."""
-        return self.asked_words[2:3] == ["RECORDS"] and not self.is_held()
+        return self.asked_words[2:3] == ["RECORDS"] and not self.is_held() and not self.is_barred()
 
     def reads_clock(self):
         """Whether its moments are the clock's."""
@@ -86,6 +88,9 @@ class Run:
     def is_held(self):
         return self.parts.get("held", False)
 
+    def is_barred(self):
+        return self.parts.get("barred", False)
+
 
 class Case:
     def __init__(self, line):
@@ -103,6 +108,18 @@ class Case:
 
     def records(self):
         return self.parts.get("records")
+
+    def is_on_disk(self):
+        """Whether its file of records is one of `disk:PATH`."""
+        return self.parts.get("disk", False)
+
+    def can_be_on_disk(self):
+        """Whether its file of records is one of `disk:PATH`, or can as well be one."""
+        if "disk" in self.parts:
+            return self.is_on_disk()
+        runs = self.runs()
+        return any("RECORDS" in run.asked_words for run in runs) and not any(
+            run.given().is_of_sqlite() for run in runs if run.given() is not None)
 
 
 def read_cases(name):

@@ -1,81 +1,25 @@
-"""Files of records, as `ofxbank` makes them: SQLite files with one table, in which each record has a row.
-
-What a case gives as such a file is one of these:
-
-    [RECORD, ..]            a file with these records, numbered from 1
-    {"rows": [ROW, ..]}     a file with these rows, each a number and a RECORD, or a number and {"text": TEXT}
-    {"cut": [[RECORD, ..], BYTES]}
-                            a file with these records, of which only so many bytes are left
-    {"database": [SQL, ..]} a database that these statements make
-    {"bytes": PIECES}       a file of these bytes
-    {"folder": 1}           a folder
-
-A RECORD is in hex, or a list of parts in hex, of which one in a list with a number stands so many times.
-"""
+"""Files of records, as `ofxbank` makes them: SQLite files with one table, in which each record has a row."""
 import os
 import shutil
 import sqlite3
 import tempfile
 from contextlib import closing, contextmanager
 
-from written.frames import place
-from written.pieces import whole
-
 TABLE = "CREATE TABLE records (number INTEGER PRIMARY KEY, bytes BLOB NOT NULL) STRICT"
 # A table for rows that TABLE refuses; it gets the text of TABLE behind them.
 LOOSE_TABLE = "CREATE TABLE records (number INTEGER PRIMARY KEY, bytes)"
 INSERT = "INSERT INTO records VALUES (?, ?)"
+FRONT = b""  # of the word that names such a file
 BESIDE = ("", "-wal", "-journal")  # the file, and what SQLite keeps beside it
 
 # Where the moment stands in a record, and what stands there in hex where it is the clock's.
 MOMENT, CLOCKS = slice(2, 10), "*" * 16
 
 
-class Given:
-    """What a case gives as a file of records."""
-
-    def __init__(self, what):
-        self.kind, self.what = ("records", what) if isinstance(what, list) else next(iter(what.items()))
-
-    def make(self, path):
-        """Makes it at this path, where nothing is."""
-        if self.kind == "folder":
-            os.mkdir(path)
-        elif self.kind == "bytes":
-            with open(path, "wb") as f:
-                f.write(whole(self.what))
-        elif self.kind == "cut":
-            records, size = self.what
-            Given(records).make(path)
-            os.truncate(path, size)
-        elif self.kind == "database":
-            with closing(sqlite3.connect(path)) as database:
-                database.executescript(";".join(self.what))
-        else:
-            write_rows(path, self.rows())
-
-    def rows(self):
-        """Pairs of a number and bytes, or a text that stands in place of bytes."""
-        numbered = enumerate(self.what, 1) if self.kind == "records" else self.what
-        return [(number, one["text"] if isinstance(one, dict) else bytes.fromhex(digits_of(one)))
-                for number, one in numbered]
-
-    def records(self):
-        """The records from the first on, up to one that can't be read, which is None. In what is no file of records
-        that is the first."""
-        if self.kind not in ("records", "rows"):
-            return [] if self.kind == "bytes" and not whole(self.what) else [None]
-        rows, found = dict(self.rows()), []
-        while len(found) < max(rows, default=0) and None not in found:
-            one = rows.get(len(found) + 1)
-            found.append(one if isinstance(one, bytes) else None)
-        return found
-
-
-def digits_of(record):
-    """The hex of a RECORD in one piece."""
-    parts = [record] if isinstance(record, str) else record
-    return "".join(part if isinstance(part, str) else part[0] * part[1] for part in parts)
+def make_database(path, statements):
+    """Makes a database by these statements."""
+    with closing(sqlite3.connect(path)) as database:
+        database.executescript(";".join(statements))
 
 
 def write_rows(path, rows):
@@ -96,7 +40,7 @@ def remove(path):
     if os.path.isdir(path):
         os.rmdir(path)
     for one in files_of(path):
-        if os.path.exists(one):
+        if os.path.lexists(one):
             os.remove(one)
 
 
@@ -156,14 +100,3 @@ def moment_of(record):
 def in_hex(record, at_the_clock=False):
     digits = record.hex()
     return digits[:4] + CLOCKS + digits[20:] if at_the_clock else digits
-
-
-def unlike(kept, wanted):
-    """In which record those that are kept are unlike the wanted ones, in words. Nothing where they are the same."""
-    wanted = list(map(digits_of, wanted))
-    kept = [in_hex(one, CLOCKS in want) for one, want in zip(kept, wanted)] + [one.hex() for one in kept[len(wanted):]]
-    number = place(kept, wanted)
-    if kept == wanted:
-        return []
-    one, want = ("".join(some[number:number + 1]) or "none" for some in (kept, wanted))
-    return ["record %d is %s, wanted %s" % (number + 1, one, want)]

@@ -30,7 +30,7 @@ def outcome_of(run, kept):
 def others(run):
     """The records at another path. They can't be read where another program has the case's file open, where it is the
     path of the setup, and where it is none or in a folder that isn't there; otherwise there are none."""
-    word = "".join(run.asked_words[2:3]).strip()
+    word = "".join(run.asked_words[2:3]).strip().removeprefix("disk:")
     return [None] if word in ("RECORDS", "SETUP", "") or "/" in word else []
 
 

@@ -1,6 +1,6 @@
 -- Accounts that are held: found by their numbers, and given other balances.
 use Rattle.std.proofs.Common.{◌≡◌, ℕ, zero, suc, ◌+◌, ◌<◌, ◌==◌, Bool, true, false, cond, eqb, List, [], ◌∷◌, ◌++◌, length, length-append, Option, None, Some, map, take, drop, refl, ap, ◌∙◌, sym, arith, get_or}
-use Rattle.std.proofs.lemmas.Bool.{eq-eqb}
+use Rattle.std.proofs.lemmas.Bool.{eq-eqb, eqb-true}
 use Rattle.std.proofs.lemmas.List.{map-append, take-append-drop}
 use Rattle.std.proofs.lemmas.Grind.{common_steps}
 use Rattle.std.proofs.Math.ListN.{get_or-append}
@@ -10,7 +10,9 @@ use Rattle.std.specs.Option.{option_map}
 use Rattle.ofx_types.specs.declared.number.AcctId.{AcctId}
 use Rattle.ofx_types.specs.declared.number.Cents.{Cents}
 use Rattle.bank_accounts.specs.AccountView.{AccountView}
-use Rattle.bank_accounts.specs.HeldAccounts.{NumbersRise, balance_held, IsHeld, set_if_named, with_amount, settled}
+use Rattle.bank_accounts.specs.BalancesView.{amount_given}
+use Rattle.bank_accounts.specs.declared.balances.Balance.{Balance}
+use Rattle.bank_accounts.specs.HeldAccounts.{NumbersRise, balance_held, IsHeld, with_amount, settled}
 
 abbrev number_of : AccountView → AcctId
 number_of account = account.number
@@ -84,31 +86,12 @@ keeps_with_amount : (account : AccountView) (amount : Option Cents) → rank_of 
 keeps_with_amount account None = refl
 keeps_with_amount account (Some amount) = refl
 
-keeps_cond : (b : Bool) (account : AccountView) (amount : Cents) → rank_of (cond b (record { number = account.number; balance = amount }) account) ≡ rank_of account
-keeps_cond true account amount = refl
-keeps_cond false account amount = refl
+pub rising_settled : (given : List Balance) (xs ys : List AccountView) (i n : ℕ) → NumbersRise xs → ys ≡ map (settled given) (take i xs) ++ drop i xs → n ≡ length xs → NumbersRise (take n (ys ++ drop (length ys) xs))
+rising_settled given xs ys i n =
+    rising_through (settled given) (λ account. keeps_with_amount account (amount_given given account.number)) xs ys i n
 
-pub rising_set : (number : AcctId) (amount : Cents) (xs ys : List AccountView) (i n : ℕ) → NumbersRise xs → ys ≡ map (set_if_named number amount) (take i xs) ++ drop i xs → n ≡ length xs → NumbersRise (take n (ys ++ drop (length ys) xs))
-rising_set number amount xs ys i n =
-    rising_through (set_if_named number amount) (λ account. keeps_cond (rank_of account == number.0) account amount) xs ys i n
-
-pub rising_settled : (others : List AccountView) (xs ys : List AccountView) (i n : ℕ) → NumbersRise xs → ys ≡ map (settled others) (take i xs) ++ drop i xs → n ≡ length xs → NumbersRise (take n (ys ++ drop (length ys) xs))
-rising_settled others xs ys i n =
-    rising_through (settled others) (λ account. keeps_with_amount account (balance_held others account.number)) xs ys i n
-
--- an account that isn't among accounts isn't among others of the same numbers
-pub balance_held-numbers : (xs ys : List AccountView) (number : AcctId) → map number_of xs ≡ map number_of ys → balance_held xs number ≡ None → balance_held ys number ≡ None
-balance_held-numbers xs [] number same none = refl
-balance_held-numbers [] (y ∷ ys) number same none = cc
-balance_held-numbers (x ∷ xs) (y ∷ ys) number same none =
-    let both : number_of x ∷ map number_of xs ≡ number_of y ∷ map number_of ys = same in
-    let first : number_of x ≡ number_of y = cc in
-    let more : map number_of xs ≡ map number_of ys = cc in
-    let here : eqb x.number.0 number.0 ≡ eqb y.number.0 number.0 = ap (λ (n : AcctId). eqb n.0 number.0) first in
-    still_none (eqb x.number.0 number.0) (eqb y.number.0 number.0) x y (find (λ (held : AccountView). eqb held.number.0 number.0) xs) (find (λ (held : AccountView). eqb held.number.0 number.0) ys) here
-    (balance_held-numbers xs ys number more) none
-  where
-    still_none : (b d : Bool) (x y : AccountView) (rest other : Option AccountView) → b ≡ d → (option_map amount_of rest ≡ None → option_map amount_of other ≡ None) → option_map amount_of (cond b (Some x) rest) ≡ None → option_map amount_of (cond d (Some y) other) ≡ None
-    still_none true d x y rest other same later none = cc
-    still_none false true x y rest other same later none = cc
-    still_none false false x y rest other same later none = later none
+-- where no account came to another balance, all have what they had
+pub settled_none : (given : List Balance) (accounts : List AccountView) → eqb (length given) 0 ≡ true → accounts ≡ map (settled given) accounts
+settled_none [] [] none = refl
+settled_none [] (account ∷ accounts) none = ap (λ (l : List AccountView). account ∷ l) (settled_none [] accounts none)
+settled_none (balance ∷ given) accounts none = absurd (let empty : length (balance ∷ given) ≡ 0 = eqb-true (length (balance ∷ given)) 0 none in omega arith)

@@ -1,11 +1,13 @@
 -- Lists of accounts, as they are held while an event is answered.
-use Rattle.std.specs.Prelude.{◌≡◌, ◌==◌, if◌then◌else◌, List, map, Option, None, Some, All, Contains}
+use Rattle.std.specs.Prelude.{◌≡◌, ◌==◌, List, map, Option, None, Some, All, Contains}
 use Rattle.std.specs.List.{find}
 use Rattle.std.specs.List.Sorted.{IsStrictlyIncreasing}
 use Rattle.std.specs.Option.{option_map, IfSome}
 use Rattle.ofx_types.specs.declared.number.AcctId.{AcctId}
 use Rattle.ofx_types.specs.declared.number.Cents.{Cents}
 use Rattle.bank_accounts.specs.AccountView.{AccountView}
+use Rattle.bank_accounts.specs.BalancesView.{amount_given}
+use Rattle.bank_accounts.specs.declared.balances.Balance.{Balance}
 
 -- The numbers of the accounts rise.
 abbrev pub NumbersRise : List AccountView → Type 0
@@ -24,18 +26,13 @@ IsHeld accounts number = Contains (map (λ (account : AccountView). account.numb
 abbrev pub AreHeld : List AccountView → List (Option AcctId) → Type 0
 AreHeld accounts named = All (λ (entry : Option AcctId). IfSome entry (IsHeld accounts)) named
 
--- An account with another balance, where it has that number.
-abbrev pub set_if_named : AcctId → Cents → AccountView → AccountView
-set_if_named number amount account =
-    if account.number.0 == number.0 then record { number = account.number; balance = amount } else account
-
 abbrev pub with_amount : AccountView → Option Cents → AccountView
 with_amount account None = account
 with_amount account (Some amount) = record { number = account.number; balance = amount }
 
--- An account with the balance that it has among others, where it is one of them.
-abbrev pub settled : List AccountView → AccountView → AccountView
-settled others account = with_amount account (balance_held others account.number)
+-- An account with the balance that it came to, where it came to another one.
+abbrev pub settled : List Balance → AccountView → AccountView
+settled given account = with_amount account (amount_given given account.number)
 
 -- The accounts have the same numbers in the same order.
 abbrev pub HaveSameNumbers : List AccountView → List AccountView → Type 0

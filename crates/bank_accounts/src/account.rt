@@ -2,7 +2,7 @@
 
 ghost use Rattle.std.specs.Prelude.{◌≡◌, pos, ◌≤ℤ◌};
 
-use ofx_types::{AcctId, Cents, Duplicate, OutOfMemory};
+use ofx_types::{AcctId, Cents};
 use std::marker::Model;
 
 /// An account of a bank: its number and its balance in cents.
@@ -48,14 +48,5 @@ impl Account {
         ensures { self.new ≡ record { number = self.old.number; balance = amount } }
     {
         self.amount = amount;
-    }
-}
-
-impl Duplicate for Account {
-    fn copy(&self) -> Result<Account, OutOfMemory> {
-        Ok(Account {
-            number: self.number,
-            amount: self.amount,
-        })
     }
 }

@@ -1,12 +1,12 @@
 //! The accounts that are held while an event is answered.
 
-ghost use Rattle.std.specs.Prelude.{◌≡◌, ◌∷◌, ◌++◌, [], map, pos, ◌≤ℤ◌, OnOk, IfErr, OnErr, IfSome, IfNone};
+ghost use Rattle.std.specs.Prelude.{◌≡◌, ◌∷◌, ◌++◌, [], map, OnOk, IfErr, OnErr, IfSome, IfNone};
 ghost use Rattle.bank_accounts.specs.HeldAccounts.{NumbersRise, balance_held, settled};
-ghost use Rattle.bank_accounts.specs.HeldAccounts as changes;
 ghost use Rattle.bank_accounts.specs.declared.held.HeldFault.TheVariants.{NoMemory};
 
 use crate::account::Account;
-use ofx_types::{AcctId, Cents, Duplicate, OutOfMemory};
+use crate::balances::Balances;
+use ofx_types::{AcctId, Cents};
 use std::alloc::Global;
 use std::marker::Model;
 
@@ -33,6 +33,17 @@ impl Model for Held {
 pub enum HeldFault {
     /// Memory was refused. Here is the account again.
     NoMemory(Account),
+}
+
+impl HeldFault {
+    /// The account that wasn't taken.
+    pub fn into_account(self) -> Account
+        ensures { self ≡ NoMemory result }
+    {
+        match self {
+            HeldFault::NoMemory(account) => account,
+        }
+    }
 }
 
 impl Held {
@@ -72,6 +83,7 @@ impl Held {
     pub fn pop(&mut self) -> Option<Account>
         ensures last { IfSome result (λ account. self.old ≡ self.new ++ account ∷ []) }
         ensures none { IfNone result ((self.old ≡ []) × (self.new ≡ [])) }
+        ensures rising { NumbersRise self.old }
     {
         self.accounts.pop()
     }
@@ -94,49 +106,23 @@ impl Held {
             .map(|account| account.balance())
     }
 
-    /// Gives the account of that number another balance, 0 or more. Where it isn't held, nothing changes. Takes no
-    /// memory.
-    pub fn set(&mut self, number: AcctId, amount: Cents)
-        requires { pos 0 ≤ℤ amount.0 }
-        ensures { self.new ≡ map (changes.set_if_named number amount) self.old }
+    /// Gives each account the balance that it came to, where it came to another one. Takes no memory.
+    pub fn settle(&mut self, balances: &Balances)
+        ensures { self.new ≡ map (settled balances.now.given) self.old }
     {
+        if balances.is_empty() {
+            return;
+        }
         for account in self.accounts.iter_mut() {
-            set_if_named(account, number, amount);
-        }
-    }
-
-    /// Gives each account the balance that it has among the others, where it is one of them. Takes no memory.
-    pub fn settle(&mut self, others: &Held)
-        ensures { self.new ≡ map (settled others.now) self.old }
-    {
-        for account in self.accounts.iter_mut() {
-            settle_one(account, others);
+            settle_one(account, balances);
         }
     }
 }
 
-impl Duplicate for Held {
-    fn copy(&self) -> Result<Held, OutOfMemory> {
-        let mut copies = Vec::with_capacity(*self.accounts.allocator(), self.accounts.len())?;
-        for account in &self.accounts {
-            copies.push(account.copy()?)?;
-        }
-        Ok(Held { accounts: copies })
-    }
-}
-
-fn set_if_named(account: &mut Account, number: AcctId, amount: Cents)
-    ensures { account.new ≡ changes.set_if_named number amount account.old }
+fn settle_one(account: &mut Account, balances: &Balances)
+    ensures { account.new ≡ settled balances.now.given account.old }
 {
-    if account.number().0 == number.0 {
-        account.set(amount);
-    }
-}
-
-fn settle_one(account: &mut Account, others: &Held)
-    ensures { account.new ≡ settled others.now account.old }
-{
-    if let Some(amount) = others.balance(account.number()) {
+    if let Some(amount) = balances.get(account.number()) {
         account.set(amount);
     }
 }

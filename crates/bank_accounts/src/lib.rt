@@ -1,10 +1,12 @@
-//! Accounts with their running balances, and those that are held while an event is answered.
+//! Accounts with their running balances, those that are held while an event is answered, and the balances that they come to.
 #![tactic(auto)]
 
 mod account;
+mod balances;
 mod held;
-#[cfg(test)]
-mod tests;
+mod home;
 
 pub use account::Account;
+pub use balances::{Balance, Balances};
 pub use held::{Held, HeldFault};
+pub use home::Home;

@@ -3,7 +3,6 @@ use Rattle.std.proofs.Common.{◌≡◌, ℕ, zero, suc, ◌+◌, ◌<◌, ◌�
 use Rattle.std.proofs.lemmas.List.{append-nil, get_or_append_left, get_or-append-add}
 use Rattle.std.specs.List.{All, AllByRecursion, Contains, flat_map}
 use Rattle.std.specs.Option.{IfSome}
-use Rattle.ofx_types.specs.Calendar.{IsMoment}
 use Rattle.ofx_types.specs.declared.number.AcctId.{AcctId}
 use Rattle.ofx_types.specs.declared.number.UserId.{UserId}
 use Rattle.ofx_types.specs.declared.number.Moment.{Moment}
@@ -11,14 +10,9 @@ use Rattle.ofx_types.specs.declared.request.Ask.{Ask}
 use Rattle.ofx_types.specs.declared.reply.AskReply.{AskReply}
 use Rattle.bank_model.specs.declared.setup.Setup.{Setup}
 use Rattle.bank_model.specs.declared.event.State.{State}
-use Rattle.bank_model.specs.SetupForm.{IsWithinLimits}
-use Rattle.bank_model.specs.Rules.{ask_answer, ask_answers, named_by}
-use Rattle.bank_model.specs.Sound.{IsSoundAsk}
+use Rattle.bank_model.specs.Rules.{ask_answer, ask_answers}
 use Rattle.bank_accounts.specs.AccountView.{AccountView}
-use Rattle.bank_accounts.specs.HeldAccounts.{AreHeld, HaveSameNumbers}
-use Rattle.bank_core.specs.Standing.{IsSoundState}
-use Rattle.bank_core.specs.DraftView.{DraftView, IsSameFile}
-use Rattle.bank_core.proofs.StateLemmas.{IsSoundState-ask}
+use Rattle.bank_accounts.specs.HeldAccounts.{AreHeld}
 
 -- ---- the accounts that one ask names
 
@@ -41,16 +35,9 @@ held_at names accounts [] k d held below = absurd (omega arith)
 held_at names accounts (x ∷ xs) zero d held below = AreHeld-front accounts (names x) (flat_map names xs) held
 held_at names accounts (x ∷ xs) (suc k) d held below = held_at names accounts xs k d (AreHeld-rest accounts (names x) (flat_map names xs) held) (omega arith)
 
--- the same accounts are held
-pub AreHeld-numbers : (accounts others : List AccountView) (named : List (Option AcctId)) → HaveSameNumbers others accounts → AreHeld accounts named → AreHeld others named
-AreHeld-numbers accounts others named same held =
-    subst (λ (numbers : List AcctId). All (λ (entry : Option AcctId). IfSome entry (λ n. Contains numbers n)) named) (sym same) held
-
 -- Where the accounts that all name are held, those that one names are.
-pub AreHeld-one : {X : Type 0} (names : X → List (Option AcctId)) (accounts others : List AccountView) (xs : List X) (k : ℕ) (x : X) → AreHeld accounts (flat_map names xs) → HaveSameNumbers others accounts → k < length xs → x ≡ get_or xs k x → AreHeld others (names x)
-AreHeld-one names accounts others xs k x held same below is =
-    AreHeld-numbers accounts others (names x) same
-    (subst (λ y. AreHeld accounts (names y)) (sym is) (held_at names accounts xs k x held below))
+pub AreHeld-one : {X : Type 0} (names : X → List (Option AcctId)) (accounts : List AccountView) (xs : List X) (k : ℕ) (x : X) → AreHeld accounts (flat_map names xs) → k < length xs → x ≡ get_or xs k x → AreHeld accounts (names x)
+AreHeld-one names accounts xs k x held below is = subst (λ y. AreHeld accounts (names y)) (sym is) (held_at names accounts xs k x held below)
 
 pub all_by_index : {X : Type 0} (P : X → Type 0) (xs : List X) (k : ℕ) (d : X) → AllByRecursion P xs → k < length xs → P (get_or xs k d)
 all_by_index P [] k d all below = absurd (omega arith)
@@ -107,19 +94,6 @@ replies_more setup S next user at asks k ask all replies more reply below is is_
 pub after_more : (setup : Setup) (S next : State) (user : UserId) (at : Moment) (asks : List Ask) (k : ℕ) (ask : Ask) (all : State) → k < length asks → ask ≡ get_or asks k ask → next ≡ (ask_answer setup S user at ask).after → all ≡ (ask_answers setup S user at (drop k asks)).after → all ≡ (ask_answers setup next user at (drop (k + 1) asks)).after
 after_more setup S next user at asks k ask all below is is_next so_far =
     left_more (λ (T : State) l. (ask_answers setup T user at l).after) S next asks k ask all below is (step_after setup S next user at ask (drop (k + 1) asks) is_next) so_far
-
-pub sound_more_ask : (setup : Setup) (S next : State) (user : UserId) (at : Moment) (asks : List Ask) (k : ℕ) (ask : Ask) → IsWithinLimits setup → IsMoment at.0 → AllByRecursion IsSoundAsk asks → IsSoundState setup S → k < length asks → ask ≡ get_or asks k ask → next ≡ (ask_answer setup S user at ask).after → IsSoundState setup next
-sound_more_ask setup S next user at asks k ask within moment known sound below is is_next =
-    let here : IsSoundAsk ask = subst IsSoundAsk (sym is) (all_by_index IsSoundAsk asks k ask known below) in
-    subst (IsSoundState setup) (sym is_next) (IsSoundState-ask setup S user at ask within sound moment here)
-
-pub same_file_more : (old mid new : DraftView) → IsSameFile old mid → IsSameFile mid new → IsSameFile old new
-same_file_more old mid new first second = record {
-  user = second.user ∙ first.user;
-  at = second.at ∙ first.at;
-  day = second.day ∙ first.day;
-  numbers = second.numbers ∙ first.numbers;
-}
 
 -- ---- no ask left
 

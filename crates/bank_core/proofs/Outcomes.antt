@@ -25,25 +25,46 @@ use Rattle.bank_model.specs.declared.entry.Entry.{Entry}
 use Rattle.bank_model.specs.Rules.{Outcome, with_entries, unasked, raised, ask_answers, reply_file, release, keep, with_kept, kept_for, outcome_with, new_outcome, outcome_or_kept, file_outcome, letter_entry, step, state_after, answer_to, named_by, named_by_row, named, IsLegal}
 use Rattle.bank_accounts.specs.AccountView.{AccountView}
 use Rattle.bank_accounts.specs.HeldAccounts.{AreHeld}
-use Rattle.bank_core.specs.Balanced.{AreBalanced}
-use Rattle.bank_core.specs.BookView.{PreparedView, Room, HasRoom}
-use Rattle.bank_core.specs.Standing.{IsSoundState}
-use Rattle.bank_core.specs.DraftView.{DraftView, pair_of, drafted, prepared_after, IsDraft, IsPrepared, HasAdded, IsSameFile}
-use Rattle.bank_core.proofs.DraftLemmas.{empty_draft, IsDraft-none}
-use Rattle.bank_core.proofs.DeedAnswers.{same_state}
-use Rattle.bank_core.proofs.EventLemmas.{few_number}
-use Rattle.bank_core.proofs.StateLemmas.{IsSoundState-raised, IsSoundState-step, absent-release}
+use Rattle.bank_rules.specs.Standing.{IsSoundState}
+use Rattle.bank_rules.proofs.EventLemmas.{few_number}
+use Rattle.bank_rules.proofs.StateLemmas.{IsSoundState-raised, IsSoundState-step, absent-release}
+use Rattle.bank_ledger.specs.LedgerView.{Room}
+use Rattle.bank_ledger.specs.DraftView.{AddedView, DraftView, pair_of, with_added, IsAdded, AreGiven, drafted, IsSameFile, HasAdded, IsAddedBy}
+use Rattle.bank_ledger.proofs.StateParts.{same_state}
+use Rattle.bank_ledger.proofs.DraftStates.{drafted-added, added_as}
+use Rattle.bank_core.specs.BookView.{PreparedView, HasRoom}
+use Rattle.bank_core.specs.Preparing.{prepared_after, IsPrepared}
 
-abbrev pub started : State → UserId → Moment → List AccountView → DraftView
-started S user at accounts = empty_draft user at (raised S at).day accounts
+abbrev pub started : Setup → State → List AccountView → UserId → Moment → DraftView
+started setup S held user at = record { setup = setup; before = S; held = held; user = user; at = at; day = (raised S at).day; entries = []; uids = [] }
 
 -- A draft in which nothing is added yet makes the raised state.
-pub drafted-started : (S : State) (user : UserId) (at : Moment) (accounts : List AccountView) → drafted S (started S user at accounts) ≡ raised S at
-drafted-started S user at accounts = same_state _ _ _ _ S.kept (raised S at).day (raised S at).day (append-nil S.entries) (append-nil S.used) refl
+pub drafted-started : (setup : Setup) (S : State) (held : List AccountView) (user : UserId) (at : Moment) → drafted (started setup S held user at) ≡ raised S at
+drafted-started setup S held user at = same_state _ _ _ _ _ _ _ _ (append-nil S.entries) (append-nil S.used) refl refl
 
-pub IsSoundState-started : (setup : Setup) (S : State) (user : UserId) (at : Moment) (accounts : List AccountView) → IsSoundState setup S → IsMoment at.0 → IsSoundState setup (drafted S (started S user at accounts))
-IsSoundState-started setup S user at accounts sound moment =
-    subst (IsSoundState setup) (sym (drafted-started S user at accounts)) (IsSoundState-raised setup S at sound moment)
+-- What a draft adds makes the state that it makes.
+added_state : (draft : DraftView) (added : AddedView) → IsAddedBy draft added → with_added draft.before added ≡ drafted draft
+added_state draft added by =
+    same_state _ _ _ _ _ _ _ _ (ap (λ (l : List Entry). draft.before.entries ++ l) by.entries)
+    (ap (λ (u : UserId). draft.before.used ++ map (pair_of u) added.uids) by.user ∙ ap (λ (l : List (List ℕ)). draft.before.used ++ map (pair_of draft.user) l) by.uids)
+    refl by.day
+
+-- What a draft of a state adds to it.
+pub record IsAddedTo (setup : Setup) (S : State) (draft : DraftView) (added : AddedView) : Type 0 where
+  pub user : added.user ≡ draft.user
+  pub rows : IsAdded S added
+  pub balances : AreGiven setup S added
+  pub state : with_added S added ≡ drafted draft
+
+pub IsAddedTo-of : (setup : Setup) (S : State) (old draft : DraftView) (added : AddedView) → old.setup ≡ setup → old.before ≡ S → IsSameFile old draft → IsAddedBy draft added → IsAddedTo setup S draft added
+IsAddedTo-of setup S old draft added is_setup is_before same by =
+    let before : draft.before ≡ S = same.before ∙ is_before in
+    record {
+      user = by.user;
+      rows = subst (λ (T : State). IsAdded T added) before by.rows;
+      balances = subst (λ (T : State). AreGiven setup T added) before (subst (λ (s : Setup). AreGiven s draft.before added) (same.setup ∙ is_setup) by.balances);
+      state = ap (λ (T : State). with_added T added) (sym before) ∙ added_state draft added by;
+    }
 
 kept_for-raised : (S : State) (user : UserId) (at : Moment) (newer : Option (List ℕ)) → kept_for (raised S at) user newer ≡ kept_for S user newer
 kept_for-raised S user at None = refl
@@ -63,19 +84,19 @@ same_prepared : (setup : Setup) (S : State) (event : Event) (after other : State
 same_prepared setup S event after other reply told is_after is_reply =
     ap (λ (T : State). prepared_with setup S event T reply) is_after ∙ ap (prepared_with setup S event other) is_reply
 
-pub IsPrepared-again : (setup : Setup) (S : State) (draft : DraftView) (user : UserId) (at : Moment) (accounts : List AccountView) (bytes : List ℕ) → draft ≡ started S user at accounts → IsSoundState setup S → IsMoment at.0 → AreBalanced setup S accounts → IsPrepared setup S draft None None bytes
-IsPrepared-again setup S draft user at accounts bytes is sound moment balanced =
-    subst (λ (d : DraftView). IsPrepared setup S d None None bytes) (sym is) (record {
-      draft_of = IsDraft-none setup S user at (raised S at).day accounts balanced;
-      sound = IsSoundState-started setup S user at accounts sound moment;
-      absent = tt;
-    })
+pub IsPrepared-again : (setup : Setup) (S : State) (held : List AccountView) (user : UserId) (at : Moment) (draft : DraftView) (added : AddedView) (bytes : List ℕ) → draft ≡ started setup S held user at → IsAddedTo setup S draft added → IsSoundState setup S → IsMoment at.0 → IsPrepared setup S added None None bytes
+IsPrepared-again setup S held user at draft added bytes is to sound moment = record {
+  rows = to.rows;
+  balances = to.balances;
+  sound = subst (IsSoundState setup) (sym (to.state ∙ ap drafted is ∙ drafted-started setup S held user at)) (IsSoundState-raised setup S at sound moment);
+  absent = tt;
+}
 
-pub again_is : (setup : Setup) (S : State) (event : Event) (draft : DraftView) (user : UserId) (at : Moment) (accounts : List AccountView) (file : RequestFile) (bytes reply told : List ℕ) → event ≡ File user file → draft ≡ started S user at accounts → kept_for S user file.newer ≡ Some reply → told ≡ reply → prepared_with setup S event (prepared_after S draft None None bytes) told ≡ prepared_with setup S event (state_after setup S at event) (answer_to setup S at event)
-again_is setup S event draft user at accounts file bytes reply told is_file is kept same =
+pub again_is : (setup : Setup) (S : State) (event : Event) (held : List AccountView) (user : UserId) (at : Moment) (draft : DraftView) (added : AddedView) (file : RequestFile) (bytes reply told : List ℕ) → event ≡ File user file → draft ≡ started setup S held user at → IsAddedTo setup S draft added → kept_for S user file.newer ≡ Some reply → told ≡ reply → prepared_with setup S event (prepared_after S added None None bytes) told ≡ prepared_with setup S event (state_after setup S at event) (answer_to setup S at event)
+again_is setup S event held user at draft added file bytes reply told is_file is to kept same =
     let outcome : step setup S at event ≡ record { reply = reply; after = raised S at } = ap (step setup S at) is_file ∙ again_outcome setup S user at file reply kept in
     same_prepared setup S event _ _ told _
-    (ap (λ (d : DraftView). prepared_after S d None None bytes) is ∙ drafted-started S user at accounts ∙ sym (ap (λ (o : Outcome). o.after) outcome))
+    (to.state ∙ ap drafted is ∙ drafted-started setup S held user at ∙ sym (ap (λ (o : Outcome). o.after) outcome))
     (same ∙ sym (ap (λ (o : Outcome). o.reply) outcome))
 
 -- ---- a file that is answered anew
@@ -90,26 +111,28 @@ same_keep user None reply copy kept same = refl
 same_keep user (Some newer) reply copy kept same = ap (λ (bytes : List ℕ). kept ++ record { user = user; file = newer; reply = bytes } ∷ []) (same refl)
 
 -- what is known when the asks of a file are answered and the reply is printed
-pub record IsAnswered (setup : Setup) (S : State) (user : UserId) (at : Moment) (accounts : List AccountView) (file : RequestFile) (draft : DraftView) (reply copy : List ℕ) : Type 0 where
-  pub same : IsSameFile (started S user at accounts) draft
-  pub after : drafted S draft ≡ (ask_answers setup (raised S at) user at file.asks).after
+pub record IsAnswered (setup : Setup) (S : State) (user : UserId) (at : Moment) (file : RequestFile) (added : AddedView) (reply copy : List ℕ) : Type 0 where
+  pub asked_by : added.user ≡ user
+  pub rows : IsAdded S added
+  pub balances : AreGiven setup S added
+  pub after : with_added S added ≡ (ask_answers setup (raised S at) user at file.asks).after
   pub told : reply ≡ reply_text (reply_file at file (ask_answers setup (raised S at) user at file.asks).replies)
   pub copied : is_some file.newer ≡ true → copy ≡ reply
 
-pub anew_after : (setup : Setup) (S : State) (user : UserId) (at : Moment) (accounts : List AccountView) (file : RequestFile) (draft : DraftView) (reply copy : List ℕ) → kept_for S user file.newer ≡ None → IsAnswered setup S user at accounts file draft reply copy → prepared_after S draft file.older file.newer copy ≡ state_after setup S at (File user file)
-anew_after setup S user at accounts file draft reply copy absent answered =
+pub anew_after : (setup : Setup) (S : State) (user : UserId) (at : Moment) (file : RequestFile) (added : AddedView) (reply copy : List ℕ) → kept_for S user file.newer ≡ None → IsAnswered setup S user at file added reply copy → prepared_after S added file.older file.newer copy ≡ state_after setup S at (File user file)
+anew_after setup S user at file added reply copy absent answered =
     let after : State = (ask_answers setup (raised S at) user at file.asks).after in
     let outcome = anew_outcome setup S user at file absent in
-    ap (λ (u : UserId). with_kept (drafted S draft) (keep u file.newer copy (release u file.older S.kept))) answered.same.user
-    ∙ ap (λ (kept : List KeptReply). with_kept (drafted S draft) kept) (same_keep user file.newer reply copy (release user file.older S.kept) answered.copied)
+    ap (λ (u : UserId). with_kept (with_added S added) (keep u file.newer copy (release u file.older S.kept))) answered.asked_by
+    ∙ ap (λ (kept : List KeptReply). with_kept (with_added S added) kept) (same_keep user file.newer reply copy (release user file.older S.kept) answered.copied)
     ∙ ap (λ (T : State). with_kept T (keep user file.newer reply (release user file.older T.kept))) answered.after
     ∙ ap (λ (bytes : List ℕ). with_kept after (keep user file.newer bytes (release user file.older after.kept))) answered.told
     ∙ sym (ap (λ (o : Outcome). o.after) outcome)
 
-pub anew_is : (setup : Setup) (S : State) (event : Event) (user : UserId) (at : Moment) (accounts : List AccountView) (file : RequestFile) (draft : DraftView) (reply copy : List ℕ) → event ≡ File user file → kept_for S user file.newer ≡ None → IsAnswered setup S user at accounts file draft reply copy → prepared_with setup S event (prepared_after S draft file.older file.newer copy) reply ≡ prepared_with setup S event (state_after setup S at event) (answer_to setup S at event)
-anew_is setup S event user at accounts file draft reply copy is_file absent answered =
+pub anew_is : (setup : Setup) (S : State) (event : Event) (user : UserId) (at : Moment) (file : RequestFile) (added : AddedView) (reply copy : List ℕ) → event ≡ File user file → kept_for S user file.newer ≡ None → IsAnswered setup S user at file added reply copy → prepared_with setup S event (prepared_after S added file.older file.newer copy) reply ≡ prepared_with setup S event (state_after setup S at event) (answer_to setup S at event)
+anew_is setup S event user at file added reply copy is_file absent answered =
     same_prepared setup S event _ _ reply _
-    (anew_after setup S user at accounts file draft reply copy absent answered ∙ sym (ap (state_after setup S at) is_file))
+    (anew_after setup S user at file added reply copy absent answered ∙ sym (ap (state_after setup S at) is_file))
     (answered.told ∙ sym (ap (λ (o : Outcome). o.reply) (anew_outcome setup S user at file absent)) ∙ sym (ap (answer_to setup S at) is_file))
 
 absent_named : (S : State) (user other : UserId) (older newer : Option (List ℕ)) → other ≡ user → kept_for S user newer ≡ None → IfSome newer (λ (file : List ℕ). reply_kept other file (release other older S.kept) ≡ None)
@@ -117,64 +140,46 @@ absent_named S user other older None same absent = tt
 absent_named S user other older (Some file) same absent =
     subst (λ (u : UserId). reply_kept u file (release u older S.kept) ≡ None) (sym same) (absent-release user user file older S.kept absent)
 
-pub IsPrepared-anew : (setup : Setup) (S : State) (event : Event) (user : UserId) (at : Moment) (accounts : List AccountView) (file : RequestFile) (draft : DraftView) (reply copy : List ℕ) → event ≡ File user file → IsWithinLimits setup → IsSoundState setup S → IsMoment at.0 → IsLegal setup S at event → kept_for S user file.newer ≡ None → IsAnswered setup S user at accounts file draft reply copy → IsDraft setup S draft → IsPrepared setup S draft file.older file.newer copy
-IsPrepared-anew setup S event user at accounts file draft reply copy is_file within sound moment legal absent answered is = record {
-  draft_of = is;
-  sound = subst (IsSoundState setup) (sym (anew_after setup S user at accounts file draft reply copy absent answered)) (IsSoundState-step setup S at (File user file) within sound moment (subst (IsLegal setup S at) is_file legal));
-  absent = absent_named S user draft.user file.older file.newer answered.same.user absent;
+pub IsPrepared-anew : (setup : Setup) (S : State) (event : Event) (user : UserId) (at : Moment) (file : RequestFile) (added : AddedView) (reply copy : List ℕ) → event ≡ File user file → IsWithinLimits setup → IsSoundState setup S → IsMoment at.0 → IsLegal setup S at event → kept_for S user file.newer ≡ None → IsAnswered setup S user at file added reply copy → IsPrepared setup S added file.older file.newer copy
+IsPrepared-anew setup S event user at file added reply copy is_file within sound moment legal absent answered = record {
+  rows = answered.rows;
+  balances = answered.balances;
+  sound = subst (IsSoundState setup) (sym (anew_after setup S user at file added reply copy absent answered)) (IsSoundState-step setup S at (File user file) within sound moment (subst (IsLegal setup S at) is_file legal));
+  absent = absent_named S user added.user file.older file.newer answered.asked_by absent;
 }
 
 -- ---- the asks of a file that is answered anew
 
-pub asks_replies-are : (setup : Setup) (S : State) (user : UserId) (at : Moment) (accounts : List AccountView) (draft : DraftView) (asks items : List Ask) (replies : List AskReply) → draft ≡ started S user at accounts → items ≡ asks → replies ≡ (ask_answers setup (drafted S draft) draft.user draft.at items).replies → replies ≡ (ask_answers setup (raised S at) user at asks).replies
-asks_replies-are setup S user at accounts draft asks items replies is are replied =
+pub asks_replies-are : (setup : Setup) (S : State) (held : List AccountView) (user : UserId) (at : Moment) (draft : DraftView) (asks items : List Ask) (replies : List AskReply) → draft ≡ started setup S held user at → items ≡ asks → replies ≡ (ask_answers draft.setup (drafted draft) draft.user draft.at items).replies → replies ≡ (ask_answers setup (raised S at) user at asks).replies
+asks_replies-are setup S held user at draft asks items replies is are replied =
     replied
-    ∙ ap (λ (l : List Ask). (ask_answers setup (drafted S draft) draft.user draft.at l).replies) are
-    ∙ ap (λ (d : DraftView). (ask_answers setup (drafted S d) d.user d.at asks).replies) is
-    ∙ ap (λ (T : State). (ask_answers setup T user at asks).replies) (drafted-started S user at accounts)
+    ∙ ap (λ (l : List Ask). (ask_answers draft.setup (drafted draft) draft.user draft.at l).replies) are
+    ∙ ap (λ (d : DraftView). (ask_answers d.setup (drafted d) d.user d.at asks).replies) is
+    ∙ ap (λ (T : State). (ask_answers setup T user at asks).replies) (drafted-started setup S held user at)
 
-pub asks_after-is : (setup : Setup) (S next : State) (user : UserId) (at : Moment) (accounts : List AccountView) (draft : DraftView) (asks items : List Ask) → draft ≡ started S user at accounts → items ≡ asks → next ≡ (ask_answers setup (drafted S draft) draft.user draft.at items).after → next ≡ (ask_answers setup (raised S at) user at asks).after
-asks_after-is setup S next user at accounts draft asks items is are after =
+asks_after-is : (setup : Setup) (S next : State) (held : List AccountView) (user : UserId) (at : Moment) (draft : DraftView) (asks items : List Ask) → draft ≡ started setup S held user at → items ≡ asks → next ≡ (ask_answers draft.setup (drafted draft) draft.user draft.at items).after → next ≡ (ask_answers setup (raised S at) user at asks).after
+asks_after-is setup S next held user at draft asks items is are after =
     after
-    ∙ ap (λ (l : List Ask). (ask_answers setup (drafted S draft) draft.user draft.at l).after) are
-    ∙ ap (λ (d : DraftView). (ask_answers setup (drafted S d) d.user d.at asks).after) is
-    ∙ ap (λ (T : State). (ask_answers setup T user at asks).after) (drafted-started S user at accounts)
+    ∙ ap (λ (l : List Ask). (ask_answers draft.setup (drafted draft) draft.user draft.at l).after) are
+    ∙ ap (λ (d : DraftView). (ask_answers d.setup (drafted d) d.user d.at asks).after) is
+    ∙ ap (λ (T : State). (ask_answers setup T user at asks).after) (drafted-started setup S held user at)
 
-pub named_asks : (setup : Setup) (S : State) (accounts others : List AccountView) (event : Event) (user : UserId) (file : RequestFile) (items : List Ask) → event ≡ File user file → items ≡ file.asks → others ≡ accounts → AreHeld accounts (named setup S event) → AreHeld others (flat_map (named_by setup) items)
-named_asks setup S accounts others event user file items is are same held =
-    let asked : AreHeld accounts (flat_map (named_by setup) file.asks) = subst (λ (e : Event). AreHeld accounts (named setup S e)) is held in
-    rw (same, are) asked
+pub named_asks : (setup : Setup) (S : State) (held : List AccountView) (event : Event) (user : UserId) (at : Moment) (draft : DraftView) (file : RequestFile) (items : List Ask) → event ≡ File user file → items ≡ file.asks → draft ≡ started setup S held user at → AreHeld held (named setup S event) → AreHeld draft.held (flat_map (named_by draft.setup) items)
+named_asks setup S held event user at draft file items is are started_is named_held =
+    let asked : AreHeld held (flat_map (named_by setup) file.asks) = subst (λ (e : Event). AreHeld held (named setup S e)) is named_held in
+    rw (started_is, are) asked
 
-pub answered_of : (setup : Setup) (S : State) (user : UserId) (at : Moment) (accounts : List AccountView) (file : RequestFile) (draft more : DraftView) (items : List Ask) (replies : List AskReply) (reply : ReplyFile) (told copy : List ℕ) → draft ≡ started S user at accounts → items ≡ file.asks → IsSameFile draft more → drafted S more ≡ (ask_answers setup (drafted S draft) draft.user draft.at items).after → replies ≡ (ask_answers setup (drafted S draft) draft.user draft.at items).replies → reply ≡ reply_file at file replies → told ≡ reply_text reply → (is_some file.newer ≡ true → copy ≡ told) → IsAnswered setup S user at accounts file more told copy
-answered_of setup S user at accounts file draft more items replies reply told copy is are same after replied is_reply is_told copied = record {
-  same = subst (λ (d : DraftView). IsSameFile d more) is same;
-  after = asks_after-is setup S (drafted S more) user at accounts draft file.asks items is are after;
-  told = is_told ∙ ap reply_text (is_reply ∙ ap (reply_file at file) (asks_replies-are setup S user at accounts draft file.asks items replies is are replied));
-  copied = copied;
-}
-
--- ---- events that nobody asks for
-
-pub unasked_after : (setup : Setup) (S : State) (at : Moment) (accounts : List AccountView) (draft more : DraftView) (user : UserId) (entries : List Entry) → draft ≡ started S user at accounts → HasAdded setup S draft more entries → drafted S more ≡ with_entries (raised S at) entries
-unasked_after setup S at accounts draft more user entries is has =
-    let added : more.entries ≡ entries = has.entries ∙ ap (λ (d : DraftView). d.entries ++ entries) is in
-    let uids : more.uids ≡ [] = has.uids ∙ ap (λ (d : DraftView). d.uids) is in
-    let day : more.day ≡ (raised S at).day = has.day ∙ ap (λ (d : DraftView). d.day) is in
-    same_state _ _ _ _ S.kept more.day (raised S at).day (ap (λ (l : List Entry). S.entries ++ l) added) (ap (λ (l : List (List ℕ)). S.used ++ map (pair_of more.user) l) uids ∙ append-nil S.used) day
-
--- What is prepared of an event that adds entries alone.
-pub IsPrepared-unasked : (setup : Setup) (S : State) (at : Moment) (accounts : List AccountView) (draft more : DraftView) (user : UserId) (entries : List Entry) (bytes : List ℕ) → draft ≡ started S user at accounts → HasAdded setup S draft more entries → IsSoundState setup (with_entries (raised S at) entries) → IsPrepared setup S more None None bytes
-IsPrepared-unasked setup S at accounts draft more user entries bytes is has sound = record {
-  draft_of = has.draft;
-  sound = subst (IsSoundState setup) (sym (unasked_after setup S at accounts draft more user entries is has)) sound;
-  absent = tt;
-}
-
-pub unasked_is : (setup : Setup) (S : State) (event : Event) (at : Moment) (accounts : List AccountView) (draft more : DraftView) (user : UserId) (entries : List Entry) (kept told : List ℕ) → draft ≡ started S user at accounts → HasAdded setup S draft more entries → step setup S at event ≡ unasked (raised S at) entries → told ≡ [] → prepared_with setup S event (prepared_after S more None None kept) told ≡ prepared_with setup S event (state_after setup S at event) (answer_to setup S at event)
-unasked_is setup S event at accounts draft more user entries kept told is has does none =
-    same_prepared setup S event _ _ told _
-    (unasked_after setup S at accounts draft more user entries is has ∙ sym (ap (λ (o : Outcome). o.after) does))
-    (none ∙ sym (ap (λ (o : Outcome). o.reply) does))
+pub answered_of : (setup : Setup) (S : State) (held : List AccountView) (user : UserId) (at : Moment) (file : RequestFile) (draft more : DraftView) (added : AddedView) (items : List Ask) (replies : List AskReply) (reply : ReplyFile) (told copy : List ℕ) → draft ≡ started setup S held user at → items ≡ file.asks → IsSameFile draft more → IsAddedBy more added → drafted more ≡ (ask_answers draft.setup (drafted draft) draft.user draft.at items).after → replies ≡ (ask_answers draft.setup (drafted draft) draft.user draft.at items).replies → reply ≡ reply_file at file replies → told ≡ reply_text reply → (is_some file.newer ≡ true → copy ≡ told) → IsAnswered setup S user at file added told copy
+answered_of setup S held user at file draft more added items replies reply told copy is are same by after replied is_reply is_told copied =
+    let to = IsAddedTo-of setup S draft more added (ap (λ (d : DraftView). d.setup) is) (ap (λ (d : DraftView). d.before) is) same by in
+    record {
+      asked_by = to.user ∙ same.user ∙ ap (λ (d : DraftView). d.user) is;
+      rows = to.rows;
+      balances = to.balances;
+      after = to.state ∙ asks_after-is setup S (drafted more) held user at draft file.asks items is are after;
+      told = is_told ∙ ap reply_text (is_reply ∙ ap (reply_file at file) (asks_replies-are setup S held user at draft file.asks items replies is are replied));
+      copied = copied;
+    }
 
 -- ---- room for what is added
 
@@ -189,79 +194,73 @@ HasRoom-added room before after entries count uids are counted used in_entries i
       files = in_files;
     }
 
--- ---- what is known of a draft of an event that nobody asks for
-
-pub moment_started : (S : State) (user : UserId) (at : Moment) (accounts : List AccountView) (draft : DraftView) → draft ≡ started S user at accounts → IsMoment at.0 → IsMoment draft.at.0
-moment_started S user at accounts draft is moment = subst (λ (d : DraftView). IsMoment d.at.0) (sym is) moment
-
-pub sound_started : (setup : Setup) (S : State) (user : UserId) (at : Moment) (accounts : List AccountView) (draft : DraftView) → draft ≡ started S user at accounts → IsSoundState setup S → IsMoment at.0 → IsSoundState setup (drafted S draft)
-sound_started setup S user at accounts draft is sound moment =
-    subst (λ (d : DraftView). IsSoundState setup (drafted S d)) (sym is) (IsSoundState-started setup S user at accounts sound moment)
-
-pub draft_started : (setup : Setup) (S : State) (user : UserId) (at : Moment) (accounts : List AccountView) (draft : DraftView) → draft ≡ started S user at accounts → AreBalanced setup S accounts → IsDraft setup S draft
-draft_started setup S user at accounts draft is balanced =
-    subst (IsDraft setup S) (sym is) (IsDraft-none setup S user at (raised S at).day accounts balanced)
-
-drafted_is : (S : State) (user : UserId) (at : Moment) (accounts : List AccountView) (draft : DraftView) → draft ≡ started S user at accounts → drafted S draft ≡ raised S at
-drafted_is S user at accounts draft is = ap (drafted S) is ∙ drafted-started S user at accounts
-
-pub may_post_started : (setup : Setup) (S : State) (event : Event) (user : UserId) (at : Moment) (accounts : List AccountView) (draft : DraftView) (id : ℕ) → draft ≡ started S user at accounts → event ≡ Post id → IsLegal setup S at event → may_post setup (drafted S draft) (row_of id (drafted S draft).entries) ≡ true
-may_post_started setup S event user at accounts draft id is is_event legal =
-    subst (λ (T : State). may_post setup T (row_of id T.entries) ≡ true) (sym (drafted_is S user at accounts draft is)) (subst (IsLegal setup S at) is_event legal)
-
-pub may_spawn_started : (setup : Setup) (S : State) (event : Event) (user : UserId) (at : Moment) (accounts : List AccountView) (draft : DraftView) (id place : ℕ) → draft ≡ started S user at accounts → event ≡ Spawn id place → IsLegal setup S at event → may_spawn setup (drafted S draft) id place ≡ true
-may_spawn_started setup S event user at accounts draft id place is is_event legal =
-    subst (λ (T : State). may_spawn setup T id place ≡ true) (sym (drafted_is S user at accounts draft is)) (subst (IsLegal setup S at) is_event legal)
-
-pub named_started : (setup : Setup) (S : State) (event : Event) (user : UserId) (at : Moment) (accounts : List AccountView) (draft : DraftView) (id : ℕ) → draft ≡ started S user at accounts → event ≡ Post id → AreHeld accounts (named setup S event) → AreHeld draft.accounts (named_by_row setup (row_of id (drafted S draft).entries))
-named_started setup S event user at accounts draft id is is_event held =
-    subst (λ (T : State). AreHeld draft.accounts (named_by_row setup (row_of id T.entries))) (sym (drafted_is S user at accounts draft is))
-    (subst (λ (d : DraftView). AreHeld d.accounts (named_by_row setup (row_of id S.entries))) (sym is) (subst (λ (e : Event). AreHeld accounts (named setup S e)) is_event held))
-
-post_step : (setup : Setup) (S : State) (event : Event) (user : UserId) (at : Moment) (accounts : List AccountView) (draft : DraftView) (id : ℕ) → draft ≡ started S user at accounts → event ≡ Post id → step setup S at event ≡ unasked (raised S at) (posts setup (drafted S draft) draft.at (row_of id (drafted S draft).entries))
-post_step setup S event user at accounts draft id is is_event =
-    ap (step setup S at) is_event
-    ∙ sym (ap (λ (T : State). unasked (raised S at) (posts setup T draft.at (row_of id T.entries))) (drafted_is S user at accounts draft is) ∙ ap (λ (d : DraftView). unasked (raised S at) (posts setup (raised S at) d.at (row_of id S.entries))) is)
-
-spawn_step : (setup : Setup) (S : State) (event : Event) (user : UserId) (at : Moment) (accounts : List AccountView) (draft : DraftView) (id place : ℕ) → draft ≡ started S user at accounts → event ≡ Spawn id place → step setup S at event ≡ unasked (raised S at) (spawns setup (drafted S draft) id place)
-spawn_step setup S event user at accounts draft id place is is_event =
-    ap (step setup S at) is_event
-    ∙ sym (ap (λ (T : State). unasked (raised S at) (spawns setup T id place)) (drafted_is S user at accounts draft is))
-
-letter_step : (setup : Setup) (S : State) (event : Event) (user writer : UserId) (at : Moment) (accounts : List AccountView) (draft : DraftView) (subject body : List ℕ) → draft ≡ started S writer at accounts → event ≡ Letter user subject body → step setup S at event ≡ unasked (raised S at) (letter_entry setup (drafted S draft) user draft.at subject body ∷ [])
-letter_step setup S event user writer at accounts draft subject body is is_event =
-    ap (step setup S at) is_event
-    ∙ sym (ap (λ (T : State). unasked (raised S at) (letter_entry setup T user draft.at subject body ∷ [])) (drafted_is S writer at accounts draft is) ∙ ap (λ (d : DraftView). unasked (raised S at) (letter_entry setup (raised S at) user d.at subject body ∷ [])) is)
-
--- a letter that may be written
-pub letter_few : (setup : Setup) (S : State) (event : Event) (user writer : UserId) (at : Moment) (accounts : List AccountView) (draft : DraftView) (subject body : List ℕ) → draft ≡ started S writer at accounts → event ≡ Letter user subject body → IsLegal setup S at event → length (drafted S draft).entries + 1 ≤ setup.entries
-letter_few setup S event user writer at accounts draft subject body is is_event legal =
-    let may = subst (IsLegal setup S at) is_event legal in
-    subst (λ (T : State). length T.entries + 1 ≤ setup.entries) (sym (drafted_is S writer at accounts draft is)) (few_number setup (raised S at) may.3)
-
-pub letter_known : (setup : Setup) (S : State) (event : Event) (user : UserId) (at : Moment) (subject body : List ℕ) → event ≡ Letter user subject body → IsLegal setup S at event → user.0 < length setup.users
-letter_known setup S event user at subject body is_event legal = (subst (IsLegal setup S at) is_event legal).0
+-- ---- events that nobody asks for
 
 -- What is prepared of such an event, and that it is the event's.
-pub record IsUnasked (setup : Setup) (S : State) (event : Event) (at : Moment) (more : DraftView) (kept told : List ℕ) : Type 0 where
-  pub prepared : IsPrepared setup S more None None kept
-  pub is : prepared_with setup S event (prepared_after S more None None kept) told ≡ prepared_with setup S event (state_after setup S at event) (answer_to setup S at event)
+pub record IsUnasked (setup : Setup) (S : State) (event : Event) (at : Moment) (added : AddedView) (kept told : List ℕ) : Type 0 where
+  pub prepared : IsPrepared setup S added None None kept
+  pub is : prepared_with setup S event (prepared_after S added None None kept) told ≡ prepared_with setup S event (state_after setup S at event) (answer_to setup S at event)
 
-unasked_of : (setup : Setup) (S : State) (event : Event) (user : UserId) (at : Moment) (accounts : List AccountView) (draft more : DraftView) (entries : List Entry) (kept told : List ℕ) → draft ≡ started S user at accounts → step setup S at event ≡ unasked (raised S at) entries → HasAdded setup S draft more entries → told ≡ [] → IsWithinLimits setup → IsSoundState setup S → IsMoment at.0 → IsLegal setup S at event → IsUnasked setup S event at more kept told
-unasked_of setup S event user at accounts draft more entries kept told is does has none within sound moment legal = record {
-  prepared = IsPrepared-unasked setup S at accounts draft more user entries kept is has
-      (subst (IsSoundState setup) (ap (λ (o : Outcome). o.after) does) (IsSoundState-step setup S at event within sound moment legal));
-  is = unasked_is setup S event at accounts draft more user entries kept told is has does none;
-}
+unasked_of : (setup : Setup) (S : State) (event : Event) (held : List AccountView) (user : UserId) (at : Moment) (draft more : DraftView) (added : AddedView) (entries : List Entry) (kept told : List ℕ) → draft ≡ started setup S held user at → step setup S at event ≡ unasked (raised S at) entries → HasAdded draft more entries → IsAddedBy more added → told ≡ [] → IsWithinLimits setup → IsSoundState setup S → IsMoment at.0 → IsLegal setup S at event → IsUnasked setup S event at added kept told
+unasked_of setup S event held user at draft more added entries kept told is does has by none within sound moment legal =
+    let to = IsAddedTo-of setup S draft more added (ap (λ (d : DraftView). d.setup) is) (ap (λ (d : DraftView). d.before) is) has.same by in
+    let after : with_added S added ≡ with_entries (raised S at) entries =
+    to.state ∙ drafted-added draft more entries has ∙ ap (λ (T : State). with_entries T entries) (ap drafted is ∙ drafted-started setup S held user at) in
+    record {
+      prepared = record {
+        rows = to.rows;
+        balances = to.balances;
+        sound = subst (IsSoundState setup) (sym after) (subst (IsSoundState setup) (ap (λ (o : Outcome). o.after) does) (IsSoundState-step setup S at event within sound moment legal));
+        absent = tt;
+      };
+      is = same_prepared setup S event _ _ told _ (after ∙ sym (ap (λ (o : Outcome). o.after) does)) (none ∙ sym (ap (λ (o : Outcome). o.reply) does));
+    }
 
-pub unasked_post : (setup : Setup) (S : State) (event : Event) (user : UserId) (at : Moment) (accounts : List AccountView) (draft more : DraftView) (id : ℕ) (kept told : List ℕ) → draft ≡ started S user at accounts → event ≡ Post id → HasAdded setup S draft more (posts setup (drafted S draft) draft.at (row_of id (drafted S draft).entries)) → told ≡ [] → IsWithinLimits setup → IsSoundState setup S → IsMoment at.0 → IsLegal setup S at event → IsUnasked setup S event at more kept told
-unasked_post setup S event user at accounts draft more id kept told is is_event has none within sound moment legal =
-    unasked_of setup S event user at accounts draft more _ kept told is (post_step setup S event user at accounts draft id is is_event) has none within sound moment legal
+drafted_is : (setup : Setup) (S : State) (held : List AccountView) (user : UserId) (at : Moment) (draft : DraftView) → draft ≡ started setup S held user at → drafted draft ≡ raised S at
+drafted_is setup S held user at draft is = ap drafted is ∙ drafted-started setup S held user at
 
-pub unasked_spawn : (setup : Setup) (S : State) (event : Event) (user : UserId) (at : Moment) (accounts : List AccountView) (draft more : DraftView) (id place : ℕ) (kept told : List ℕ) → draft ≡ started S user at accounts → event ≡ Spawn id place → HasAdded setup S draft more (spawns setup (drafted S draft) id place) → told ≡ [] → IsWithinLimits setup → IsSoundState setup S → IsMoment at.0 → IsLegal setup S at event → IsUnasked setup S event at more kept told
-unasked_spawn setup S event user at accounts draft more id place kept told is is_event has none within sound moment legal =
-    unasked_of setup S event user at accounts draft more _ kept told is (spawn_step setup S event user at accounts draft id place is is_event) has none within sound moment legal
+-- posting
 
-pub unasked_letter : (setup : Setup) (S : State) (event : Event) (user writer : UserId) (at : Moment) (accounts : List AccountView) (draft more : DraftView) (subject body : List ℕ) (kept told : List ℕ) → draft ≡ started S writer at accounts → event ≡ Letter user subject body → HasAdded setup S draft more (letter_entry setup (drafted S draft) user draft.at subject body ∷ []) → told ≡ [] → IsWithinLimits setup → IsSoundState setup S → IsMoment at.0 → IsLegal setup S at event → IsUnasked setup S event at more kept told
-unasked_letter setup S event user writer at accounts draft more subject body kept told is is_event has none within sound moment legal =
-    unasked_of setup S event writer at accounts draft more _ kept told is (letter_step setup S event user writer at accounts draft subject body is is_event) has none within sound moment legal
+pub may_post_started : (setup : Setup) (S : State) (event : Event) (held : List AccountView) (user : UserId) (at : Moment) (draft : DraftView) (id : ℕ) → draft ≡ started setup S held user at → event ≡ Post id → IsLegal setup S at event → may_post draft.setup (drafted draft) (row_of id (drafted draft).entries) ≡ true
+may_post_started setup S event held user at draft id is is_event legal =
+    subst (λ (d : DraftView). may_post d.setup (drafted d) (row_of id (drafted d).entries) ≡ true) (sym is)
+    (subst (λ (T : State). may_post setup T (row_of id T.entries) ≡ true) (sym (drafted-started setup S held user at)) (subst (IsLegal setup S at) is_event legal))
+
+pub named_started : (setup : Setup) (S : State) (event : Event) (held : List AccountView) (user : UserId) (at : Moment) (draft : DraftView) (id : ℕ) → draft ≡ started setup S held user at → event ≡ Post id → AreHeld held (named setup S event) → AreHeld draft.held (named_by_row draft.setup (row_of id (drafted draft).entries))
+named_started setup S event held user at draft id is is_event named_held =
+    subst (λ (d : DraftView). AreHeld d.held (named_by_row d.setup (row_of id (drafted d).entries))) (sym is)
+    (subst (λ (T : State). AreHeld held (named_by_row setup (row_of id T.entries))) (sym (drafted-started setup S held user at)) (subst (λ (e : Event). AreHeld held (named setup S e)) is_event named_held))
+
+pub unasked_post : (setup : Setup) (S : State) (event : Event) (held : List AccountView) (user : UserId) (at : Moment) (draft more : DraftView) (added : AddedView) (id : ℕ) (kept told : List ℕ) → draft ≡ started setup S held user at → event ≡ Post id → HasAdded draft more (posts draft.setup (drafted draft) draft.at (row_of id (drafted draft).entries)) → IsAddedBy more added → told ≡ [] → IsWithinLimits setup → IsSoundState setup S → IsMoment at.0 → IsLegal setup S at event → IsUnasked setup S event at added kept told
+unasked_post setup S event held user at draft more added id kept told is is_event has by none within sound moment legal =
+    unasked_of setup S event held user at draft more added (posts setup (raised S at) at (row_of id S.entries)) kept told is (ap (step setup S at) is_event)
+    (added_as draft more _ _ (ap (λ (d : DraftView). posts d.setup (drafted draft) d.at (row_of id (drafted draft).entries)) is ∙ ap (λ (T : State). posts setup T at (row_of id T.entries)) (drafted_is setup S held user at draft is)) has) by none within sound moment legal
+
+-- making the next transfer
+
+pub may_spawn_started : (setup : Setup) (S : State) (event : Event) (held : List AccountView) (user : UserId) (at : Moment) (draft : DraftView) (id place : ℕ) → draft ≡ started setup S held user at → event ≡ Spawn id place → IsLegal setup S at event → may_spawn draft.setup (drafted draft) id place ≡ true
+may_spawn_started setup S event held user at draft id place is is_event legal =
+    subst (λ (d : DraftView). may_spawn d.setup (drafted d) id place ≡ true) (sym is)
+    (subst (λ (T : State). may_spawn setup T id place ≡ true) (sym (drafted-started setup S held user at)) (subst (IsLegal setup S at) is_event legal))
+
+pub unasked_spawn : (setup : Setup) (S : State) (event : Event) (held : List AccountView) (user : UserId) (at : Moment) (draft more : DraftView) (added : AddedView) (id place : ℕ) (kept told : List ℕ) → draft ≡ started setup S held user at → event ≡ Spawn id place → HasAdded draft more (spawns draft.setup (drafted draft) id place) → IsAddedBy more added → told ≡ [] → IsWithinLimits setup → IsSoundState setup S → IsMoment at.0 → IsLegal setup S at event → IsUnasked setup S event at added kept told
+unasked_spawn setup S event held user at draft more added id place kept told is is_event has by none within sound moment legal =
+    unasked_of setup S event held user at draft more added (spawns setup (raised S at) id place) kept told is (ap (step setup S at) is_event)
+    (added_as draft more _ _ (ap (λ (d : DraftView). spawns d.setup (drafted draft) id place) is ∙ ap (λ (T : State). spawns setup T id place) (drafted_is setup S held user at draft is)) has) by none within sound moment legal
+
+-- letters
+
+pub letter_few : (setup : Setup) (S : State) (event : Event) (held : List AccountView) (user writer : UserId) (at : Moment) (draft : DraftView) (subject body : List ℕ) → draft ≡ started setup S held writer at → event ≡ Letter user subject body → IsLegal setup S at event → length (drafted draft).entries + 1 ≤ draft.setup.entries
+letter_few setup S event held user writer at draft subject body is is_event legal =
+    let may = subst (IsLegal setup S at) is_event legal in
+    subst (λ (d : DraftView). length (drafted d).entries + 1 ≤ d.setup.entries) (sym is)
+    (subst (λ (T : State). length T.entries + 1 ≤ setup.entries) (sym (drafted-started setup S held writer at)) (few_number setup (raised S at) may.3))
+
+pub letter_known : (setup : Setup) (S : State) (event : Event) (held : List AccountView) (user writer : UserId) (at : Moment) (draft : DraftView) (subject body : List ℕ) → draft ≡ started setup S held writer at → event ≡ Letter user subject body → IsLegal setup S at event → user.0 < length draft.setup.users
+letter_known setup S event held user writer at draft subject body is is_event legal =
+    subst (λ (d : DraftView). user.0 < length d.setup.users) (sym is) (subst (IsLegal setup S at) is_event legal).0
+
+pub unasked_letter : (setup : Setup) (S : State) (event : Event) (held : List AccountView) (user writer : UserId) (at : Moment) (draft more : DraftView) (added : AddedView) (subject body : List ℕ) (kept told : List ℕ) → draft ≡ started setup S held writer at → event ≡ Letter user subject body → HasAdded draft more (letter_entry draft.setup (drafted draft) user draft.at subject body ∷ []) → IsAddedBy more added → told ≡ [] → IsWithinLimits setup → IsSoundState setup S → IsMoment at.0 → IsLegal setup S at event → IsUnasked setup S event at added kept told
+unasked_letter setup S event held user writer at draft more added subject body kept told is is_event has by none within sound moment legal =
+    unasked_of setup S event held writer at draft more added (letter_entry setup (raised S at) user at subject body ∷ []) kept told is (ap (step setup S at) is_event)
+    (added_as draft more _ _ (ap (λ (d : DraftView). letter_entry d.setup (drafted draft) user d.at subject body ∷ []) is ∙ ap (λ (T : State). letter_entry setup T user at subject body ∷ []) (drafted_is setup S held writer at draft is)) has) by none within sound moment legal

@@ -1,11 +1,11 @@
 -- The replies to sound files may be printed.
-use Rattle.std.proofs.Common.{◌≡◌, ◌≢◌, ℕ, rules, Bool, true, false, cond, eqb, List, [], ◌∷◌, ◌++◌, Option, None, Some, map, filter, codes, refl, sym, ap, ◌∙◌, subst, arith}
+use Rattle.std.proofs.Common.{◌≡◌, ◌≢◌, ℕ, rules, Bool, true, false, cond, eqb, List, [], ◌∷◌, ◌++◌, Option, None, Some, map, filter, codes, refl, sym, ◌∙◌, subst, arith}
 use Rattle.std.specs.Prelude.{unwrap_or, negsuc, ◌&&◌}
 use Rattle.std.specs.Option.{IfSome}
 use Rattle.std.specs.List.{AllByRecursion, flat_map}
 use Rattle.std.proofs.lemmas.Bool.{eqb-true, eq-eqb, true≢false}
 use Rattle.ofx_types.specs.Calendar.{IsMoment}
-use Rattle.ofx_types.specs.Printable.{IsPrintable, IsPrintableReply, IsPrintableList, IsPrintableChange, IsPrintableRow, HasChangeByCode}
+use Rattle.ofx_types.specs.Printable.{IsPrintable, IsPrintableReply, IsPrintableList, IsPrintableChange, HasChangeByCode}
 use Rattle.ofx_types.specs.declared.number.AcctId.{AcctId}
 use Rattle.ofx_types.specs.declared.number.UserId.{UserId}
 use Rattle.ofx_types.specs.declared.number.Moment.{Moment}
@@ -25,8 +25,6 @@ use Rattle.ofx_types.specs.declared.request.RequestFile.{RequestFile}
 use Rattle.ofx_types.specs.declared.reply.StatementLine.{StatementLine}
 use Rattle.ofx_types.specs.declared.transfer.Deed.{Deed}
 use Rattle.ofx_types.specs.declared.transfer.TransferRow.{TransferRow}
-use Rattle.ofx_types.specs.declared.transfer.XferCode.{XferCode}
-use Rattle.ofx_types.specs.declared.transfer.XferCode.TheVariants.{Cancelled}
 use Rattle.ofx_types.specs.declared.transfer.Change.{Change}
 use Rattle.ofx_types.specs.declared.transfer.Change.TheVariants.{NewTransfer, SetTransfer, DropTransfer, NewModel, SetModel, DropModel, NewMail}
 use Rattle.bank_model.specs.declared.entry.Entry.{Entry}
@@ -43,14 +41,11 @@ use Rattle.bank_model.specs.Sync.{token_of, is_lost, told_as, is_above, entries_
 use Rattle.bank_model.specs.Rules.{asked_list, list_of, statement_reply, ask_answer, ask_answers, reply_file}
 use Rattle.bank_model.specs.Sound.{IsSoundAsk, IsSoundDeed, IsSoundPair, IsSoundSync, IsSoundPeriod}
 use Rattle.bank_model.specs.Models.{model_of, is_model_dropped}
-use Rattle.bank_core.specs.declared.effect.Effect.{Effect}
-use Rattle.bank_core.specs.declared.effect.Effect.TheVariants.{Row, Made, Model, NoModel}
-use Rattle.bank_core.specs.Standing.{IsSoundRow, HasSoundRow, MayBeTold, IsSoundState}
-use Rattle.bank_core.specs.DraftView.{IsNext}
-use Rattle.bank_core.proofs.TellingLemmas.{not_cancelled, told_next}
-use Rattle.bank_core.proofs.DoneLemmas.{IsDone, deed_done}
-use Rattle.bank_core.proofs.SoundFound.{row_sound, model_sound}
-use Rattle.bank_core.proofs.StateLemmas.{IsAllowed-from_code, IsSoundState-deed, IsSoundState-ask}
+use Rattle.bank_rules.specs.Standing.{IsSoundRow, HasSoundRow, MayBeTold, IsSoundState}
+use Rattle.bank_rules.proofs.NextLemmas.{not_cancelled}
+use Rattle.bank_rules.proofs.DoneLemmas.{IsDone, deed_done}
+use Rattle.bank_rules.proofs.SoundFound.{row_sound, model_sound}
+use Rattle.bank_rules.proofs.StateLemmas.{IsAllowed-from_code, IsSoundState-deed, IsSoundState-ask}
 
 -- ---- statements
 
@@ -121,7 +116,7 @@ printable_statement setup S at trnuid name period (Some account) good lawful sou
 printable_done : (setup : Setup) (S : State) (entries : List Entry) → IsDone setup S entries → HasChangeByCode 0 (first_change entries)
 printable_done setup S entries does =
     subst (λ (l : List Entry). HasChangeByCode 0 (first_change l)) (sym does.are)
-    (refl, told_next setup S does.entry does.effect does.next)
+    (refl, does.next.told)
 
 printable_coded : (setup : Setup) (S : State) (code : ℕ) (zero : Bool) (entries : List Entry) → eqb code 0 ≡ zero → (code ≡ 0 → IsDone setup S entries) → HasChangeByCode code (first_change (cond zero entries []))
 printable_coded setup S code true entries is does =

@@ -2,7 +2,6 @@
 use Rattle.std.proofs.Common.{◌≡◌, ℕ, ◌+◌, ◌<◌, ◌≤◌, Bool, List, [], ◌∷◌, ◌++◌, length, drop, get_or, Option, Some, refl, sym, ap, ◌∙◌, subst}
 use Rattle.std.specs.List.{AllByRecursion}
 use Rattle.std.specs.Fmt.{decimal}
-use Rattle.ofx_types.specs.Calendar.{IsMoment}
 use Rattle.ofx_types.specs.declared.number.AcctId.{AcctId}
 use Rattle.ofx_types.specs.declared.number.UserId.{UserId}
 use Rattle.ofx_types.specs.declared.number.Moment.{Moment}
@@ -16,13 +15,10 @@ use Rattle.ofx_types.specs.declared.transfer.DeedReply.{DeedReply}
 use Rattle.ofx_types.specs.declared.transfer.Family.{Family}
 use Rattle.bank_model.specs.declared.setup.Setup.{Setup}
 use Rattle.bank_model.specs.declared.event.State.{State}
-use Rattle.bank_model.specs.SetupForm.{IsWithinLimits}
 use Rattle.bank_model.specs.Deeds.{deed_answer}
 use Rattle.bank_model.specs.Objects.{newest}
 use Rattle.bank_model.specs.Sync.{is_lost, history_told, rejection, deed_answers, deeds_or_rejection, sync_on}
 use Rattle.bank_model.specs.Sound.{IsSoundDeed, IsSoundPair}
-use Rattle.bank_core.specs.Standing.{IsSoundState}
-use Rattle.bank_core.proofs.StateLemmas.{IsSoundState-deed}
 use Rattle.bank_core.proofs.AskAnswers.{all_by_index, told_more, left_more, told_end, left_end}
 
 pub sound_deeds : (family : Family) (deeds : List (List ℕ × Deed)) → AllByRecursion (IsSoundPair family) deeds → AllByRecursion (λ (deed : List ℕ × Deed). IsSoundDeed deed.1) deeds
@@ -56,10 +52,6 @@ deeds_after_more setup S next user only at deeds k deed all below is is_next so_
 pub deed_here : (deeds : List (List ℕ × Deed)) (k : ℕ) (deed : List ℕ × Deed) → AllByRecursion (λ (d : List ℕ × Deed). IsSoundDeed d.1) deeds → k < length deeds → deed ≡ get_or deeds k deed → IsSoundDeed deed.1
 deed_here deeds k deed known below is =
     subst (λ (d : List ℕ × Deed). IsSoundDeed d.1) (sym is) (all_by_index (λ (d : List ℕ × Deed). IsSoundDeed d.1) deeds k deed known below)
-
-pub sound_more_deed : (setup : Setup) (S next : State) (user : UserId) (only : Option AcctId) (at : Moment) (deeds : List (List ℕ × Deed)) (k : ℕ) (deed : List ℕ × Deed) → IsWithinLimits setup → IsMoment at.0 → AllByRecursion (λ (d : List ℕ × Deed). IsSoundDeed d.1) deeds → IsSoundState setup S → k < length deeds → deed ≡ get_or deeds k deed → next ≡ (deed_answer setup S user only at deed.0 deed.1).after → IsSoundState setup next
-sound_more_deed setup S next user only at deeds k deed within moment known sound below is is_next =
-    subst (IsSoundState setup) (sym is_next) (IsSoundState-deed setup S user only at deed.0 deed.1 within sound moment (deed_here deeds k deed known below is))
 
 pub deed_replies_end : (setup : Setup) (S : State) (user : UserId) (only : Option AcctId) (at : Moment) (deeds : List (List ℕ × Deed)) (k : ℕ) (all replies : List DeedReply) → length deeds ≤ k → all ≡ replies ++ (deed_answers setup S user only at (drop k deeds)).replies → replies ≡ all
 deed_replies_end setup S user only at deeds k all replies past so_far =

@@ -3,24 +3,12 @@ use Rattle.std.specs.Prelude.{ℕ, ◌+◌, ◌<◌, ◌≤◌, List, length}
 use Rattle.bank_model.specs.declared.setup.Setup.{Setup}
 use Rattle.bank_model.specs.declared.event.State.{State}
 use Rattle.bank_model.specs.declared.event.Event.{Event}
+use Rattle.bank_ledger.specs.LedgerView.{Room}
 
 -- A book is of a setup, and stands in a state.
 pub record BookView : Type 0 where
   pub setup : Setup
   pub state : State
-
--- For how many more there is room: entries, their transfers and recurring transfers, used uids and kept replies.
-pub record Room : Type 0 where
-  pub entries : ℕ
-  pub transfers : ℕ
-  pub models : ℕ
-  pub pairs : ℕ
-  pub files : ℕ
-
--- The state of a book and the room that is reserved in it.
-pub record LedgerView : Type 0 where
-  pub state : State
-  pub room : Room
 
 -- A book with the room that is reserved in it.
 pub record ReservedBook : Type 0 where
@@ -43,3 +31,11 @@ pub record HasRoom (room : Room) (before after : State) : Type 0 where
   pub models : length after.entries ≤ length before.entries + room.models
   pub pairs : length after.used ≤ length before.used + room.pairs
   pub files : 0 < room.files
+
+-- No room that was made is lost.
+pub record KeepsRoom (before after : Room) : Type 0 where
+  pub entries : before.entries ≤ after.entries
+  pub transfers : before.transfers ≤ after.transfers
+  pub models : before.models ≤ after.models
+  pub pairs : before.pairs ≤ after.pairs
+  pub files : before.files ≤ after.files

@@ -1,14 +1,3 @@
-pub mod Balanced
 pub mod BookView
-pub mod DraftView
-pub mod Effects
-pub mod Postings
-pub mod Standing
-pub mod Runs
-pub mod Books
+pub mod Preparing
 pub mod Opened
-pub mod Pending
-pub mod Telling
-pub mod Naming
-pub mod Series
-pub mod DueFirst

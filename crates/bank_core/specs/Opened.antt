@@ -3,7 +3,7 @@ use Rattle.std.specs.Prelude.{◌≡◌, ℕ, ◌<◌, List, length, slice_index
 use Rattle.bank_model.specs.declared.setup.Setup.{Setup}
 use Rattle.bank_model.specs.Rules.{opening_state}
 use Rattle.bank_accounts.specs.AccountView.{AccountView}
-use Rattle.bank_core.specs.Balanced.{AreBalanced}
+use Rattle.bank_ledger.specs.Balanced.{AreBalanced}
 
 -- There is one account for each account line. They are numbered from 0 in their order, and each has its balance of
 -- the opening state.

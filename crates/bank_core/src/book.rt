@@ -12,15 +12,15 @@ ghost use Rattle.ofx_types.specs.Calendar.{IsMoment};
 ghost use Rattle.bank_model.specs.SetupForm.{IsWithinLimits};
 ghost use Rattle.bank_model.specs.Rules.{IsLegal, opening_state, state_after, answer_to, named};
 ghost use Rattle.bank_accounts.specs.HeldAccounts.{AreHeld, HaveSameNumbers};
-ghost use Rattle.bank_core.specs.Balanced.{AreBalanced};
-ghost use Rattle.bank_core.specs.BookView.{HasRoom};
+ghost use Rattle.bank_ledger.specs.Balanced.{AreBalanced};
+ghost use Rattle.bank_core.specs.BookView.{HasRoom, KeepsRoom};
 ghost use Rattle.bank_core.specs.Opened.{AreOpened};
-ghost use Rattle.bank_core.specs.Standing.{IsSoundState};
+ghost use Rattle.bank_rules.specs.Standing.{IsSoundState};
 
-use crate::ledger::Ledger;
 use crate::opening::opened_accounts;
 use crate::prepared::Prepared;
 use bank_accounts::{Account, Held};
+use bank_ledger::Ledger;
 use bank_model::{Event, Printer, Setup};
 use ofx_types::{Moment, OutOfMemory};
 use std::alloc::Global;
@@ -37,7 +37,7 @@ pub struct Book<P: Printer> {
 impl<P: Printer> Model for Book<P> {
     ghost use Rattle.bank_model.specs.SetupForm.{IsWithinLimits};
     ghost use Rattle.bank_core.specs.BookView.{ReservedBook};
-    ghost use Rattle.bank_core.specs.Standing.{IsSoundState};
+    ghost use Rattle.bank_rules.specs.Standing.{IsSoundState};
 
     ghost Value = { ReservedBook };
 
@@ -117,6 +117,7 @@ impl<P: Printer> Book<P> {
         ensures reply { IfOk result (λ prepared.
             prepared.reply ≡ answer_to self.old.setup self.old.state at event.now) }
         ensures room { IfOk result (λ prepared. HasRoom self.new.room self.old.state prepared.after) }
+        ensures room_stays { KeepsRoom self.old.room self.new.room }
     {
         let prepared = self.prepare_event(alloc, held, event, at)?;
         let entries = room_for(prepared.entries().len())?;

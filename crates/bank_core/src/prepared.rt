@@ -2,14 +2,13 @@
 
 ghost use Rattle.std.specs.Prelude.{◌≡◌, ◌+◌, ◌++◌, [], length};
 ghost use Rattle.bank_accounts.specs.HeldAccounts.{HaveSameNumbers};
-ghost use Rattle.bank_core.specs.Balanced.{AreBalanced};
+ghost use Rattle.bank_rules.specs.Standing.{IsSoundState};
+ghost use Rattle.bank_ledger.specs.Balanced.{AreBalanced};
 ghost use Rattle.bank_core.specs.BookView.{HasRoom};
-ghost use Rattle.bank_core.specs.DraftView.{prepared_after, IsPrepared};
-ghost use Rattle.bank_core.specs.Standing.{IsSoundState};
+ghost use Rattle.bank_core.specs.Preparing.{prepared_after, IsPrepared};
 
-use crate::draft::Draft;
-use crate::ledger::Ledger;
 use bank_accounts::Held;
+use bank_ledger::{Additions, Ledger};
 use bank_model::{Entry, Event, Setup};
 use ofx_types::FileUid;
 use std::alloc::Global;
@@ -31,7 +30,7 @@ pub struct Prepared {
     setup: Snapshot<Setup>,
     before: Snapshot<Ledger>,
     event: Snapshot<Event>,
-    draft: Draft,
+    added: Additions,
     older: Option<FileUid>,
     newer: Option<FileUid>,
     kept: Vec<u8>,
@@ -40,7 +39,7 @@ pub struct Prepared {
 
 impl Model for Prepared {
     ghost use Rattle.bank_core.specs.BookView.{PreparedView};
-    ghost use Rattle.bank_core.specs.DraftView.{prepared_after, IsPrepared};
+    ghost use Rattle.bank_core.specs.Preparing.{prepared_after, IsPrepared};
 
     ghost Value = { PreparedView };
 
@@ -48,11 +47,11 @@ impl Model for Prepared {
       setup = p.setup.value;
       before = p.before.value.state;
       event = p.event.value;
-      after = prepared_after p.before.value.state p.draft p.older p.newer p.kept.items;
+      after = prepared_after p.before.value.state p.added p.older p.newer p.kept.items;
       reply = p.told.items;
     } };
 
-    ghost invariant = { λ p. IsPrepared p.setup.value p.before.value.state p.draft p.older p.newer p.kept.items };
+    ghost invariant = { λ p. IsPrepared p.setup.value p.before.value.state p.added p.older p.newer p.kept.items };
 }
 
 impl ReplyBytes {
@@ -69,22 +68,22 @@ impl ReplyBytes {
 }
 
 impl Prepared {
-    /// What a draft of a book makes, with the names of the file before whose reply was received and of this file.
+    /// What an event adds to a book, with the names of the file before whose reply was received and of this file.
     pub(crate) fn new(
         setup: &Setup,
         before: &Ledger,
         event: &Event,
-        draft: Draft,
+        added: Additions,
         older: Option<FileUid>,
         newer: Option<FileUid>,
         reply: ReplyBytes,
     ) -> Prepared
-        requires { IsPrepared setup.now before.now.state draft older newer reply.kept.items }
+        requires { IsPrepared setup.now before.now.state added older newer reply.kept.items }
         ensures { result ≡ record {
           setup = setup.now;
           before = before.now.state;
           event = event.now;
-          after = prepared_after before.now.state draft older newer reply.kept.items;
+          after = prepared_after before.now.state added older newer reply.kept.items;
           reply = reply.told.items;
         } }
     {
@@ -92,7 +91,7 @@ impl Prepared {
             setup: Snapshot::of(setup),
             before: Snapshot::of(before),
             event: Snapshot::of(event),
-            draft,
+            added,
             older,
             newer,
             kept: reply.kept,
@@ -111,14 +110,14 @@ impl Prepared {
     pub fn entries(&self) -> &[Entry]
         ensures { self.now.after.entries ≡ self.now.before.entries ++ result.now }
     {
-        self.draft.entries()
+        self.added.entries()
     }
 
     /// How many uids the event uses up.
     pub(crate) fn uid_count(&self) -> usize
         ensures { length self.now.after.used ≡ length self.now.before.used + result }
     {
-        self.draft.uid_count()
+        self.added.uid_count()
     }
 
     /// Takes the step: the ledger takes in what is added, and the accounts have their new balances. Gives the bytes
@@ -133,15 +132,11 @@ impl Prepared {
         ensures balanced { AreBalanced self.setup self.after held.new }
         ensures reply { result.items ≡ self.reply }
     {
-        held.settle(self.draft.accounts());
-        let user = self.draft.user();
-        let day = self.draft.day();
-        let (entries, effects, uids) = self.draft.into_parts();
-        ledger.add_all(entries, effects);
-        ledger.use_up_all(user, uids);
+        held.settle(self.added.balances());
+        let user = self.added.user();
+        ledger.take(self.added);
         ledger.release(user, &self.older);
         ledger.keep(user, self.newer, self.kept);
-        ledger.set_day(day);
         self.told
     }
 }

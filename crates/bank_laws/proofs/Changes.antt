@@ -10,10 +10,10 @@ use Rattle.ofx_types.specs.declared.transfer.Change.TheVariants.{NewTransfer, Se
 use Rattle.ofx_types.specs.declared.transfer.DeedReply.{DeedReply}
 use Rattle.ofx_types.specs.declared.transfer.Family.{Family}
 use Rattle.ofx_types.specs.declared.transfer.Family.TheVariants as families
+use Rattle.ofx_types.specs.Wire.{wire_change, wire}
 use Rattle.bank_model.specs.declared.entry.Entry.{Entry}
 use Rattle.bank_model.specs.Sync.{told_as, told_entry}
 use Rattle.bank_model.specs.Stores.{Row, changed, change_done, applied}
-use Rattle.bank_laws.specs.Told.{wired_change, wired_reply}
 
 abbrev pub fold_entries : Family → List Row → List Entry → List Row
 fold_entries family rows entries = fold (λ (held : List Row) (entry : Entry). changed family held entry.change) rows entries
@@ -22,7 +22,7 @@ pub fold_entries-append : (family : Family) (rows : List Row) (xs ys : List Entr
 fold_entries-append family rows xs ys = fold-append (λ (held : List Row) (entry : Entry). changed family held entry.change) rows xs ys
 
 -- what the wire leaves out isn't looked at
-wire_same : (family : Family) (rows : List Row) (change : Change) → changed family rows (wired_change change) ≡ changed family rows change
+wire_same : (family : Family) (rows : List Row) (change : Change) → changed family rows (wire_change change) ≡ changed family rows change
 unfolding changed
 wire_same family rows (NewTransfer row) = refl
 wire_same families.Intra rows (SetTransfer row) = refl
@@ -35,19 +35,19 @@ wire_same family rows (SetModel row pending) = refl
 wire_same family rows (DropModel id pending) = refl
 wire_same family rows (NewMail row) = refl
 
-wired_option : (family : Family) (rows : List Row) (change : Option Change) → fold (changed family) rows (option_to_list (option_map wired_change change)) ≡ fold (changed family) rows (option_to_list change)
+wired_option : (family : Family) (rows : List Row) (change : Option Change) → fold (changed family) rows (option_to_list (option_map wire_change change)) ≡ fold (changed family) rows (option_to_list change)
 wired_option family rows None = refl
 wired_option family rows (Some change) = wire_same family rows change
 
-wired_done : (family : Family) (rows : List Row) (change : Option Change) (done : Bool) → fold (changed family) rows (cond done (option_to_list (option_map wired_change change)) []) ≡ fold (changed family) rows (cond done (option_to_list change) [])
+wired_done : (family : Family) (rows : List Row) (change : Option Change) (done : Bool) → fold (changed family) rows (cond done (option_to_list (option_map wire_change change)) []) ≡ fold (changed family) rows (cond done (option_to_list change) [])
 wired_done family rows change true = wired_option family rows change
 wired_done family rows change false = refl
 
-pub applied_wired : (family : Family) (rows : List Row) (replies : List DeedReply) → applied family rows (map wired_reply replies) ≡ applied family rows replies
+pub applied_wired : (family : Family) (rows : List Row) (replies : List DeedReply) → applied family rows (map wire replies) ≡ applied family rows replies
 applied_wired family rows [] = refl
 applied_wired family rows (reply ∷ more) =
-    fold-append (changed family) rows (change_done (wired_reply reply)) (flat_map change_done (map wired_reply more))
-    ∙ ap (λ held. fold (changed family) held (flat_map change_done (map wired_reply more))) (wired_done family rows reply.change (eqb reply.code 0))
+    fold-append (changed family) rows (change_done (wire reply)) (flat_map change_done (map wire more))
+    ∙ ap (λ held. fold (changed family) held (flat_map change_done (map wire more))) (wired_done family rows reply.change (eqb reply.code 0))
     ∙ applied_wired family (fold (changed family) rows (change_done reply)) more
     ∙ sym (fold-append (changed family) rows (change_done reply) (flat_map change_done more))
 

@@ -17,8 +17,8 @@ use Rattle.bank_model.specs.declared.entry.Entry.{Entry}
 use Rattle.bank_model.specs.declared.setup.Setup.{Setup}
 use Rattle.bank_model.specs.declared.event.State.{State}
 use Rattle.bank_model.specs.Objects.{belongs_to, object_named, history_of}
-use Rattle.bank_model.specs.Stores.{Row, mail_row, changed, is_up_to, rows_up_to}
-use Rattle.bank_laws.specs.Entered.{entered, rows_entered}
+use Rattle.bank_model.specs.Stores.{Row, mail_row, changed, is_up_to, entered, rows_entered}
+use Rattle.bank_laws.specs.Folding.{rows_up_to}
 use Rattle.bank_laws.specs.Places.{IsPlaceOf, mail_family}
 use Rattle.bank_laws.specs.Histories.{Follows, AllFollow, IsInOrder}
 use Rattle.bank_laws.proofs.Acts.{acted, ids_made, history_push}

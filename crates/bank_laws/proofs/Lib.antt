@@ -20,3 +20,4 @@ pub mod Events
 pub mod Refreshing
 pub mod Taking
 pub mod EnteredRows
+pub mod Named

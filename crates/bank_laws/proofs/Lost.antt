@@ -2,6 +2,7 @@
 use Rattle.std.proofs.Common.{◌≡◌, ℕ, ◌≤◌, inl, inr, Bool, true, false, ◌||◌, cond, nat_lt, List, [], Some, refl, sym, ap, ◌∙◌}
 use Rattle.std.specs.Prelude.{unwrap_or}
 use Rattle.std.proofs.lemmas.Bool.{true≢false, le-ltb}
+use Rattle.ofx_types.specs.SyncForm.{object_family}
 use Rattle.ofx_types.specs.declared.number.ObjectId.{ObjectId}
 use Rattle.ofx_types.specs.declared.number.UserId.{UserId}
 use Rattle.ofx_types.specs.declared.number.Moment.{Moment}
@@ -9,39 +10,41 @@ use Rattle.ofx_types.specs.declared.sync.SyncKind.{SyncKind}
 use Rattle.ofx_types.specs.declared.sync.SyncKind.TheVariants.{After, TokenOnly, Refresh}
 use Rattle.ofx_types.specs.declared.sync.SyncAsk.{SyncAsk}
 use Rattle.ofx_types.specs.declared.sync.SyncReply.{SyncReply}
+use Rattle.ofx_types.specs.Wire.{wire_sync}
 use Rattle.bank_model.specs.declared.entry.Entry.{Entry}
 use Rattle.bank_model.specs.declared.setup.Setup.{Setup}
 use Rattle.bank_model.specs.declared.event.State.{State}
 use Rattle.bank_model.specs.Objects.{object_named, newest, floor}
 use Rattle.bank_model.specs.Sync.{token_of, is_lost_at, is_lost, sync_on, sync_answer}
-use Rattle.bank_model.specs.Stores.{Row, Store, IsRight, applied, with_rows, marked_lost, taken}
-use Rattle.bank_laws.specs.Told.{wired, store_after}
+use Rattle.bank_model.specs.Stores.{Row, Store, applied, with_rows, marked_lost, taken}
+use Rattle.bank_laws.specs.Folding.{IsFolded}
+use Rattle.bank_laws.specs.Told.{store_after}
 
 marked : (store : Store) (token : ℕ) (rows : List Row) (lost : Bool) → (cond lost (marked_lost store) (with_rows store token rows)).is_lost ≡ lost
 marked store token rows true = refl
 marked store token rows false = refl
 
-kept_family : (store : Store) (token : ℕ) (rows : List Row) (lost : Bool) → (cond lost (marked_lost store) (with_rows store token rows)).family ≡ store.family
-kept_family store token rows true = refl
-kept_family store token rows false = refl
+kept_name : (store : Store) (token : ℕ) (rows : List Row) (lost : Bool) → (cond lost (marked_lost store) (with_rows store token rows)).name ≡ store.name
+kept_name store token rows true = refl
+kept_name store token rows false = refl
 
 pub lost_after : (store : Store) (text : List ℕ) (reply : SyncReply) → (taken store (After text) reply).is_lost ≡ reply.lost
 unfolding taken
-lost_after store text reply = marked store (unwrap_or (token_of reply.token) 0) (applied store.family store.rows reply.replies) reply.lost
+lost_after store text reply = marked store (unwrap_or (token_of reply.token) 0) (applied (object_family store.name) store.rows reply.replies) reply.lost
 
 pub lost_refresh : (store : Store) (reply : SyncReply) → (taken store Refresh reply).is_lost ≡ reply.lost
 unfolding taken
-lost_refresh store reply = marked store (unwrap_or (token_of reply.token) 0) (applied store.family [] reply.replies) reply.lost
+lost_refresh store reply = marked store (unwrap_or (token_of reply.token) 0) (applied (object_family store.name) [] reply.replies) reply.lost
 
 pub same_token_only : (store : Store) (reply : SyncReply) → taken store TokenOnly reply ≡ store
 unfolding taken
 same_token_only store reply = refl
 
-pub family_taken : (store : Store) (kind : SyncKind) (reply : SyncReply) → (taken store kind reply).family ≡ store.family
+pub name_taken : (store : Store) (kind : SyncKind) (reply : SyncReply) → (taken store kind reply).name ≡ store.name
 unfolding taken
-family_taken store (After text) reply = kept_family store (unwrap_or (token_of reply.token) 0) (applied store.family store.rows reply.replies) reply.lost
-family_taken store TokenOnly reply = refl
-family_taken store Refresh reply = kept_family store (unwrap_or (token_of reply.token) 0) (applied store.family [] reply.replies) reply.lost
+name_taken store (After text) reply = kept_name store (unwrap_or (token_of reply.token) 0) (applied (object_family store.name) store.rows reply.replies) reply.lost
+name_taken store TokenOnly reply = refl
+name_taken store Refresh reply = kept_name store (unwrap_or (token_of reply.token) 0) (applied (object_family store.name) [] reply.replies) reply.lost
 
 -- ---- what the bank says
 
@@ -58,7 +61,7 @@ unfolding is_lost
 refresh_kept window object entries = refl
 
 -- a store that is right knows no token above the newest
-pub token_low : (store : Store) (object : ObjectId) (entries : List Entry) → store.is_lost ≡ false → IsRight store object entries → store.token ≤ newest object entries
+pub token_low : (store : Store) (object : ObjectId) (entries : List Entry) → store.is_lost ≡ false → IsFolded store object entries → store.token ≤ newest object entries
 token_low store object entries kept (inl lost) = absurd (true≢false (sym lost ∙ kept))
 token_low store object entries kept (inr right) = right.0
 
@@ -68,10 +71,10 @@ lost_at_floor window object entries text token read low =
     ap (is_lost_at window object entries) read
     ∙ ap (λ (b : Bool). b || nat_lt token (floor window object entries)) (le-ltb (newest object entries) token low)
 
-pub lost_below_floor : (setup : Setup) (S : State) (user : UserId) (at : Moment) (ask : SyncAsk) (object : ObjectId) (store : Store) (text : List ℕ) → object_named setup user ask.object ≡ Some object → ask.kind ≡ After text → token_of text ≡ Some store.token → store.is_lost ≡ false → IsRight store object S.entries → (store_after setup S user at ask store).is_lost ≡ nat_lt store.token (floor setup.window object S.entries)
-lost_below_floor setup S user at ask object store text named kind read kept right =
-    ap (λ (k : SyncKind). (taken store k (wired (sync_answer setup S user at ask).reply)).is_lost) kind
-    ∙ lost_after store text (wired (sync_answer setup S user at ask).reply)
+pub lost_below_floor : (setup : Setup) (S : State) (user : UserId) (at : Moment) (ask : SyncAsk) (object : ObjectId) (store : Store) (text : List ℕ) → object_named setup user ask.object ≡ Some object → ask.kind ≡ After text → token_of text ≡ Some store.token → store.token ≤ newest object S.entries → (store_after setup S user at ask store).is_lost ≡ nat_lt store.token (floor setup.window object S.entries)
+lost_below_floor setup S user at ask object store text named kind read low =
+    ap (λ (k : SyncKind). (taken store k (wire_sync (sync_answer setup S user at ask).reply)).is_lost) kind
+    ∙ lost_after store text (wire_sync (sync_answer setup S user at ask).reply)
     ∙ reply_lost setup S user at ask object named
     ∙ ap (is_lost setup.window object S.entries) kind
-    ∙ lost_at_floor setup.window object S.entries text store.token read (token_low store object S.entries kept right)
+    ∙ lost_at_floor setup.window object S.entries text store.token read low

@@ -10,7 +10,8 @@ use Rattle.bank_model.specs.declared.entry.Entry.{Entry}
 use Rattle.bank_model.specs.declared.setup.Setup.{Setup}
 use Rattle.bank_model.specs.Objects.{belongs_to, history_of, newest}
 use Rattle.bank_model.specs.Sync.{is_above}
-use Rattle.bank_model.specs.Stores.{Row, changed, is_up_to, rows_up_to}
+use Rattle.bank_model.specs.Stores.{Row, changed, is_up_to}
+use Rattle.bank_laws.specs.Folding.{rows_up_to}
 use Rattle.bank_laws.specs.Histories.{Follows, AllFollow}
 
 -- ---- parts of a history

@@ -4,6 +4,7 @@ use Rattle.std.specs.Fmt.{decimal}
 use Rattle.std.specs.Prelude.{unwrap_or}
 use Rattle.std.proofs.lemmas.Bool.{true≢false}
 use Rattle.ofx_types.specs.SyncForm.{object_family}
+use Rattle.ofx_types.specs.Wire.{wire, wire_sync}
 use Rattle.ofx_types.specs.declared.number.ObjectId.{ObjectId}
 use Rattle.ofx_types.specs.declared.number.UserId.{UserId}
 use Rattle.ofx_types.specs.declared.number.Moment.{Moment}
@@ -19,9 +20,10 @@ use Rattle.bank_model.specs.SetupForm.{IsWithinLimits}
 use Rattle.bank_model.specs.Objects.{object_named, history_of, newest}
 use Rattle.bank_model.specs.Sync.{token_of, is_lost, is_above, entries_above, told_as, told_entry, standing, history_told, rejection, deeds_or_rejection, SyncAnswer, sync_on, sync_answer}
 use Rattle.bank_model.specs.Sound.{IsSoundSync}
-use Rattle.bank_model.specs.Stores.{Row, Store, IsRight, is_up_to, rows_up_to, applied, with_rows, marked_lost, taken}
+use Rattle.bank_model.specs.Stores.{Row, Store, is_up_to, applied, with_rows, marked_lost, taken}
+use Rattle.bank_laws.specs.Folding.{IsFolded, rows_up_to}
 use Rattle.bank_laws.specs.Histories.{AllFollow, IsInOrder}
-use Rattle.bank_laws.specs.Told.{wired_reply, wired, store_after, bank_after}
+use Rattle.bank_laws.specs.Told.{store_after, bank_after}
 use Rattle.bank_laws.proofs.Numbers.{history_of-append, newest_few, history_rises, split_rising, all_up_to_last}
 use Rattle.bank_laws.proofs.Events.{grows_unless}
 use Rattle.bank_laws.proofs.Lost.{token_low, answer_named, lost_refresh, reply_lost, refresh_kept}
@@ -37,7 +39,7 @@ unfolding rows_up_to newest
 all_rows setup family object entries all = ap (fold_entries family []) (all_up_to_last 0 (history_of object entries) (history_rises setup object [] entries all))
 
 -- Where what is told of the history makes all rows of the state before, the replies make those of the state behind it.
-brought : (setup : Setup) (S T : State) (family : Family) (object : ObjectId) (rows : List Row) (told replies : List DeedReply) → IsInOrder setup T → applied family rows told ≡ fold_entries family [] (history_of object S.entries) → AddsTold family object S.entries T.entries replies → applied family rows (map wired_reply (told ++ replies)) ≡ rows_up_to family object (newest object T.entries) T.entries
+brought : (setup : Setup) (S T : State) (family : Family) (object : ObjectId) (rows : List Row) (told replies : List DeedReply) → IsInOrder setup T → applied family rows told ≡ fold_entries family [] (history_of object S.entries) → AddsTold family object S.entries T.entries replies → applied family rows (map wire (told ++ replies)) ≡ rows_up_to family object (newest object T.entries) T.entries
 brought setup S T family object rows told replies sound is adds =
     applied_wired family rows (told ++ replies)
     ∙ applied-append family rows told replies
@@ -51,10 +53,10 @@ at_most : (n m : ℕ) → n ≡ m → n ≤ m
 at_most n m is = omega arith
 
 -- a store with the newest token, and the rows that belong to it
-right_new : (store : Store) (object : ObjectId) (entries : List Entry) (rows : List Row) (token : ℕ) (lost : Bool) → token ≡ newest object entries → (lost ≡ false → rows ≡ rows_up_to store.family object (newest object entries) entries) → IsRight (cond lost (marked_lost store) (with_rows store token rows)) object entries
+right_new : (store : Store) (object : ObjectId) (entries : List Entry) (rows : List Row) (token : ℕ) (lost : Bool) → token ≡ newest object entries → (lost ≡ false → rows ≡ rows_up_to (object_family store.name) object (newest object entries) entries) → IsFolded (cond lost (marked_lost store) (with_rows store token rows)) object entries
 right_new store object entries rows token true is same = inl refl
 right_new store object entries rows token false is same =
-    inr (at_most token (newest object entries) is, same refl ∙ ap (λ (n : ℕ). rows_up_to store.family object n entries) (sym is))
+    inr (at_most token (newest object entries) is, same refl ∙ ap (λ (n : ℕ). rows_up_to (object_family store.name) object n entries) (sym is))
 
 token_new : (setup : Setup) (S : State) (object : ObjectId) → IsWithinLimits setup → IsInOrder setup S → unwrap_or (token_of (decimal (newest object S.entries))) 0 ≡ newest object S.entries
 token_new setup S object within sound = ap (λ (o : Option ℕ). unwrap_or o 0) (newest_read setup S object within sound)
@@ -73,7 +75,7 @@ adds_family setup S user at ask object family named known is =
 
 -- ---- a client that names its token
 
-right_rows : (store : Store) (object : ObjectId) (entries : List Entry) → store.is_lost ≡ false → IsRight store object entries → store.rows ≡ rows_up_to store.family object store.token entries
+right_rows : (store : Store) (object : ObjectId) (entries : List Entry) → store.is_lost ≡ false → IsFolded store object entries → store.rows ≡ rows_up_to (object_family store.name) object store.token entries
 right_rows store object entries kept (inl lost) = absurd (true≢false (sym lost ∙ kept))
 right_rows store object entries kept (inr right) = right.1
 
@@ -93,22 +95,22 @@ told_after window object told entries kind text token is read kept =
     ∙ ap (λ b. cond b [] (map (told_entry told) (entries_above (token_of text) (history_of object entries)))) (ap (is_lost window object entries) (sym is) ∙ kept)
     ∙ ap (λ (t : Option ℕ). map (told_entry told) (entries_above t (history_of object entries))) read
 
-right_on : (setup : Setup) (S : State) (user : UserId) (at : Moment) (ask : SyncAsk) (object : ObjectId) (store : Store) (text : List ℕ) → IsWithinLimits setup → IsInOrder setup S → IsSoundSync ask → object_named setup user ask.object ≡ Some object → store.family ≡ object_family ask.object → ask.kind ≡ After text → token_of text ≡ Some store.token → store.is_lost ≡ false → IsRight store object S.entries → IsRight (taken store (After text) (wired (sync_on setup S user at ask (Some object)).reply)) object (sync_on setup S user at ask (Some object)).after.entries
+right_on : (setup : Setup) (S : State) (user : UserId) (at : Moment) (ask : SyncAsk) (object : ObjectId) (store : Store) (text : List ℕ) → IsWithinLimits setup → IsInOrder setup S → IsSoundSync ask → object_named setup user ask.object ≡ Some object → (object_family store.name) ≡ object_family ask.object → ask.kind ≡ After text → token_of text ≡ Some store.token → store.is_lost ≡ false → IsFolded store object S.entries → IsFolded (taken store (After text) (wire_sync (sync_on setup S user at ask (Some object)).reply)) object (sync_on setup S user at ask (Some object)).after.entries
 unfolding sync_on taken
 right_on setup S user at ask object store text within sound known named family kind read kept right =
     let next : State = behind setup S user at ask object in
     let order = behind_order setup S user at ask object sound in
     right_new store object next.entries _ _ (is_lost setup.window object S.entries ask.kind)
     (token_new setup next object within order)
-    (λ here. brought setup S next store.family object store.rows (history_told setup.window object (object_family ask.object) S.entries ask.kind) _ order
-    (ap (applied store.family store.rows) (told_after setup.window object (object_family ask.object) S.entries ask.kind text store.token kind read here)
-    ∙ rows_behind setup store.family (object_family ask.object) object store.token S.entries store.rows sound.follow (right_rows store object S.entries kept right))
-    (adds_family setup S user at ask object store.family named known family))
+    (λ here. brought setup S next (object_family store.name) object store.rows (history_told setup.window object (object_family ask.object) S.entries ask.kind) _ order
+    (ap (applied (object_family store.name) store.rows) (told_after setup.window object (object_family ask.object) S.entries ask.kind text store.token kind read here)
+    ∙ rows_behind setup (object_family store.name) (object_family ask.object) object store.token S.entries store.rows sound.follow (right_rows store object S.entries kept right))
+    (adds_family setup S user at ask object (object_family store.name) named known family))
 
-pub right_by_token : (setup : Setup) (S : State) (user : UserId) (at : Moment) (ask : SyncAsk) (object : ObjectId) (store : Store) (text : List ℕ) → IsWithinLimits setup → IsInOrder setup S → IsSoundSync ask → object_named setup user ask.object ≡ Some object → store.family ≡ object_family ask.object → ask.kind ≡ After text → token_of text ≡ Some store.token → store.is_lost ≡ false → IsRight store object S.entries → IsRight (store_after setup S user at ask store) object (bank_after setup S user at ask).entries
+pub right_by_token : (setup : Setup) (S : State) (user : UserId) (at : Moment) (ask : SyncAsk) (object : ObjectId) (store : Store) (text : List ℕ) → IsWithinLimits setup → IsInOrder setup S → IsSoundSync ask → object_named setup user ask.object ≡ Some object → (object_family store.name) ≡ object_family ask.object → ask.kind ≡ After text → token_of text ≡ Some store.token → store.is_lost ≡ false → IsFolded store object S.entries → IsFolded (store_after setup S user at ask store) object (bank_after setup S user at ask).entries
 right_by_token setup S user at ask object store text within sound known named family kind read kept right =
-    subst (λ (k : SyncKind). IsRight (taken store k (wired (sync_answer setup S user at ask).reply)) object (sync_answer setup S user at ask).after.entries) (sym kind)
-    (subst (λ answer. IsRight (taken store (After text) (wired answer.reply)) object answer.after.entries) (sym (answer_named setup S user at ask object named))
+    subst (λ (k : SyncKind). IsFolded (taken store k (wire_sync (sync_answer setup S user at ask).reply)) object (sync_answer setup S user at ask).after.entries) (sym kind)
+    (subst (λ answer. IsFolded (taken store (After text) (wire_sync answer.reply)) object answer.after.entries) (sym (answer_named setup S user at ask object named))
     (right_on setup S user at ask object store text within sound known named family kind read kept right))
 
 -- ---- the new token
@@ -119,7 +121,7 @@ new_token store rows token false kept = refl
 
 abbrev HasNewest : Setup → Store → SyncKind → ObjectId → SyncAnswer → Type 0
 HasNewest setup store kind object answer =
-    (taken store kind (wired answer.reply)).is_lost ≡ false → (taken store kind (wired answer.reply)).token ≡ newest object answer.after.entries
+    (taken store kind (wire_sync answer.reply)).is_lost ≡ false → (taken store kind (wire_sync answer.reply)).token ≡ newest object answer.after.entries
 
 token_on : (setup : Setup) (S : State) (user : UserId) (at : Moment) (ask : SyncAsk) (object : ObjectId) (store : Store) (text : List ℕ) → IsWithinLimits setup → IsInOrder setup S → HasNewest setup store (After text) object (sync_on setup S user at ask (Some object))
 unfolding sync_on taken
@@ -134,7 +136,7 @@ token_by_token setup S user at ask object store text within sound named kind =
     (token_on setup S user at ask object store text within sound))
 
 -- the digits of a store's token stand for it
-pub text_of_token : (setup : Setup) (S : State) (object : ObjectId) (store : Store) → IsWithinLimits setup → IsInOrder setup S → store.is_lost ≡ false → IsRight store object S.entries → token_of (decimal store.token) ≡ Some store.token
+pub text_of_token : (setup : Setup) (S : State) (object : ObjectId) (store : Store) → IsWithinLimits setup → IsInOrder setup S → store.is_lost ≡ false → IsFolded store object S.entries → token_of (decimal store.token) ≡ Some store.token
 text_of_token setup S object store within sound kept right =
     let low = token_low store object S.entries kept right in
     let few = newest_few setup object S.entries sound.follow in
@@ -148,29 +150,29 @@ told_refresh : (window : ℕ) (object : ObjectId) (told : Family) (entries : Lis
 unfolding history_told
 told_refresh window object told entries kind is = ap (history_told window object told entries) is
 
-refresh_on : (setup : Setup) (S : State) (user : UserId) (at : Moment) (ask : SyncAsk) (object : ObjectId) (store : Store) → IsWithinLimits setup → IsInOrder setup S → IsSoundSync ask → object_named setup user ask.object ≡ Some object → store.family ≡ object_family ask.object → ask.kind ≡ Refresh → IsRight (taken store Refresh (wired (sync_on setup S user at ask (Some object)).reply)) object (sync_on setup S user at ask (Some object)).after.entries
+refresh_on : (setup : Setup) (S : State) (user : UserId) (at : Moment) (ask : SyncAsk) (object : ObjectId) (store : Store) → IsWithinLimits setup → IsInOrder setup S → IsSoundSync ask → object_named setup user ask.object ≡ Some object → (object_family store.name) ≡ object_family ask.object → ask.kind ≡ Refresh → IsFolded (taken store Refresh (wire_sync (sync_on setup S user at ask (Some object)).reply)) object (sync_on setup S user at ask (Some object)).after.entries
 unfolding sync_on taken
 refresh_on setup S user at ask object store within sound known named family kind =
     let next : State = behind setup S user at ask object in
     let order = behind_order setup S user at ask object sound in
     right_new store object next.entries _ _ (is_lost setup.window object S.entries ask.kind)
     (token_new setup next object within order)
-    (λ here. brought setup S next store.family object [] (history_told setup.window object (object_family ask.object) S.entries ask.kind) _ order
-    (ap (applied store.family []) (told_refresh setup.window object (object_family ask.object) S.entries ask.kind kind)
-    ∙ applied_changes store.family (object_family ask.object) (codes "0") [] (standing object S.entries)
-    ∙ standing_is_all setup store.family object S.entries sound.follow)
-    (adds_family setup S user at ask object store.family named known family))
+    (λ here. brought setup S next (object_family store.name) object [] (history_told setup.window object (object_family ask.object) S.entries ask.kind) _ order
+    (ap (applied (object_family store.name) []) (told_refresh setup.window object (object_family ask.object) S.entries ask.kind kind)
+    ∙ applied_changes (object_family store.name) (object_family ask.object) (codes "0") [] (standing object S.entries)
+    ∙ standing_is_all setup (object_family store.name) object S.entries sound.follow)
+    (adds_family setup S user at ask object (object_family store.name) named known family))
 
-pub right_by_refresh : (setup : Setup) (S : State) (user : UserId) (at : Moment) (ask : SyncAsk) (object : ObjectId) (store : Store) → IsWithinLimits setup → IsInOrder setup S → IsSoundSync ask → object_named setup user ask.object ≡ Some object → store.family ≡ object_family ask.object → ask.kind ≡ Refresh → IsRight (store_after setup S user at ask store) object (bank_after setup S user at ask).entries
+pub right_by_refresh : (setup : Setup) (S : State) (user : UserId) (at : Moment) (ask : SyncAsk) (object : ObjectId) (store : Store) → IsWithinLimits setup → IsInOrder setup S → IsSoundSync ask → object_named setup user ask.object ≡ Some object → (object_family store.name) ≡ object_family ask.object → ask.kind ≡ Refresh → IsFolded (store_after setup S user at ask store) object (bank_after setup S user at ask).entries
 right_by_refresh setup S user at ask object store within sound known named family kind =
-    subst (λ (k : SyncKind). IsRight (taken store k (wired (sync_answer setup S user at ask).reply)) object (sync_answer setup S user at ask).after.entries) (sym kind)
-    (subst (λ answer. IsRight (taken store Refresh (wired answer.reply)) object answer.after.entries) (sym (answer_named setup S user at ask object named))
+    subst (λ (k : SyncKind). IsFolded (taken store k (wire_sync (sync_answer setup S user at ask).reply)) object (sync_answer setup S user at ask).after.entries) (sym kind)
+    (subst (λ answer. IsFolded (taken store Refresh (wire_sync answer.reply)) object answer.after.entries) (sym (answer_named setup S user at ask object named))
     (refresh_on setup S user at ask object store within sound known named family kind))
 
 pub kept_by_refresh : (setup : Setup) (S : State) (user : UserId) (at : Moment) (ask : SyncAsk) (object : ObjectId) (store : Store) → object_named setup user ask.object ≡ Some object → ask.kind ≡ Refresh → (store_after setup S user at ask store).is_lost ≡ false
 kept_by_refresh setup S user at ask object store named kind =
-    ap (λ (k : SyncKind). (taken store k (wired (sync_answer setup S user at ask).reply)).is_lost) kind
-    ∙ lost_refresh store (wired (sync_answer setup S user at ask).reply)
+    ap (λ (k : SyncKind). (taken store k (wire_sync (sync_answer setup S user at ask).reply)).is_lost) kind
+    ∙ lost_refresh store (wire_sync (sync_answer setup S user at ask).reply)
     ∙ reply_lost setup S user at ask object named
     ∙ ap (is_lost setup.window object S.entries) kind
     ∙ refresh_kept setup.window object S.entries

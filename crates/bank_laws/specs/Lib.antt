@@ -1,4 +1,4 @@
 pub mod Places
 pub mod Histories
 pub mod Told
-pub mod Entered
+pub mod Folding

@@ -6,16 +6,8 @@ ghost use Rattle.bank_model.specs.Judging as rules;
 ghost use Rattle.bank_model.specs.Judging.{bank_mail_code, mail_code};
 
 use bank_model::Setup;
+use bank_model::codes::{ACCOUNT_NOT_FOUND, DONE, NOT_TO_BANK};
 use ofx_types::{AcctId, AcctName, MailText, UserId};
-
-/// Nothing is refused.
-const DONE: u16 = 0;
-
-/// The account isn't the user's.
-const ACCOUNT_NOT_FOUND: u16 = 2003;
-
-/// The mail isn't to the bank.
-const NOT_TO_BANK: u16 = 16501;
 
 /// The code of a mail about an account.
 ///

@@ -12,6 +12,3 @@ mod mails;
 pub use judging::{judge_bank_mail, judge_mail};
 pub use laws::others_leave_mails;
 pub use mails::Mails;
-
-#[cfg(test)]
-mod tests;

@@ -5,3 +5,6 @@ pub mod SetupParts
 pub mod SetupGrowth
 pub mod SetupSpelled
 pub mod SetupLaws
+mod DirectoryLaws
+pub mod SetupSignon
+mod NamingLemmas

@@ -1,7 +1,7 @@
 -- Users, kinds, owners and accounts: what is read of a line is spelled so, and what is spelled so is read.
 use Rattle.std.proofs.Common.{◌≡◌, ℕ, zero, suc, ◌^◌, ◌<◌, ◌⊎◌, Bool, true, false, cond, not, eqb, ◌==◌, List, [], ◌∷◌, ◌++◌, length, get_or, map, codes, Option, None, Some, ℤ, pos, negsuc, ◌≤ℤ◌, refl, sym, ap, ◌∙◌, subst, append_assoc, arith, inl, inr}
 use Rattle.std.specs.Fmt.{decimal, signed_decimal}
-use Rattle.std.specs.List.{AllByRecursion, IsDistinct, list_any, list_all, position_or_len}
+use Rattle.std.specs.List.{position, AllByRecursion, IsDistinct, list_any, list_all, position_or_len}
 use Rattle.std.specs.Str.{bytes_eq}
 use Rattle.std.proofs.lemmas.Bool.{not-false, not_from_true, not_from_false, or_parts, or_from, and_from, lt-ltb, ne_eqb}
 use Rattle.std.proofs.lemmas.List.{append-nil, map-append, length-map, get_or-map}
@@ -129,7 +129,8 @@ at_place (Some n) o h = ap (λ (u : UserId). Some u.0) (some_is (record { 0 = n 
 
 pub named_back : (users : List User) (name : List ℕ) (o : UserId) → user_named users name ≡ Some o → (o.0 < length users) × (name_of users o ≡ name)
 named_back users name o h =
-    let at = position-Some (λ (user : User). bytes_eq user.name name) users o.0 nobody (at_place _ o h) in
+    let found = unless_some (not (is_word_form name)) (user_at_place (position (λ (user : User). bytes_eq user.name name) users)) o h in
+    let at = position-Some (λ (user : User). bytes_eq user.name name) users o.0 nobody (at_place _ o found.1) in
     (at.0, name_is users o.0 at.0 ∙ bytes_eq_is _ _ at.1)
 
 apart : (name : List ℕ) (u : User) (us : List User) (i : ℕ) → i < length us → AllByRecursion (λ (v : User). bytes_eq u.name v.name ≡ false) us → bytes_eq u.name (get_or (map (λ (user : User). user.name) us) i []) ≡ false
@@ -146,8 +147,14 @@ place_there (u ∷ us) (suc i) d lt =
     let below : i < length us = omega (arith, lt) in
     rw (apart [] u us i below d.0, place_there us i d.1 below) (omega arith)
 
-pub named_there : (users : List User) (o : UserId) → IsDistinct (λ (a b : User). bytes_eq a.name b.name) users → o.0 < length users → user_named users (name_of users o) ≡ Some o
-named_there users o d lt = rw (place_there users o.0 d lt, lt-ltb _ _ lt) refl
+name_word : (users : List User) (i : ℕ) → AllByRecursion IsUser users → i < length users → IsWord (get_or (map (λ (user : User). user.name) users) i [])
+name_word [] i all lt = absurd (omega (arith, lt))
+name_word (u ∷ us) zero all lt = all.0.name
+name_word (u ∷ us) (suc i) all lt = name_word us i all.1 (omega (arith, lt))
+
+pub named_there : (users : List User) (o : UserId) → AllByRecursion IsUser users → IsDistinct (λ (a b : User). bytes_eq a.name b.name) users → o.0 < length users → user_named users (name_of users o) ≡ Some o
+named_there users o all d lt =
+    rw (not_from_true _ (word_passes (name_of users o) (name_word users o.0 all lt)), place_there users o.0 d lt, lt-ltb _ _ lt) refl
 
 -- owners are users, each once
 pub record AreOwners (users : List User) (owners : List UserId) : Type 0 where
@@ -170,20 +177,15 @@ owners_back users owners (name ∷ names) all good h =
     let front : map (name_of users) a.0 ≡ map (name_of users) owners ++ name ∷ [] = ap (map (name_of users)) (sym more) ∙ map-append (name_of users) owners (b.0 ∷ []) ∙ ap (λ (n : List ℕ). map (name_of users) owners ++ n ∷ []) named.1 in
     (rest.0 ∙ ap (λ (l : List (List ℕ)). l ++ names) front ∙ append_assoc (map (name_of users) owners) (name ∷ []) names, rest.1)
 
-pub owners_there : (users : List User) (owners more : List UserId) → IsDistinct (λ (a b : User). bytes_eq a.name b.name) users → AreOwners users (owners ++ more) → owners_from users owners (map (name_of users) more) ≡ Some (owners ++ more)
+pub owners_there : (users : List User) (owners more : List UserId) → AllByRecursion IsUser users → IsDistinct (λ (a b : User). bytes_eq a.name b.name) users → AreOwners users (owners ++ more) → owners_from users owners (map (name_of users) more) ≡ Some (owners ++ more)
 unfolding owners_from
-owners_there users owners [] names good = ap (λ (l : List UserId). Some l) (sym (append-nil owners))
-owners_there users owners (o ∷ os) names good =
+owners_there users owners [] all names good = ap (λ (l : List UserId). Some l) (sym (append-nil owners))
+owners_there users owners (o ∷ os) all names good =
     let user : o.0 < length users = all_at (λ (u : UserId). u.0 < length users) owners o os good.named in
     let new : is_listed o owners ≡ false = distinct_front (λ (u v : UserId). u.0 == v.0) owners o os good.once in
-    let one : owner_more users owners (name_of users o) ≡ Some (owners ++ o ∷ []) = rw (named_there users o names user, new) refl in
+    let one : owner_more users owners (name_of users o) ≡ Some (owners ++ o ∷ []) = rw (named_there users o all names user, new) refl in
     let grouped : (owners ++ o ∷ []) ++ os ≡ owners ++ o ∷ os = append_assoc owners (o ∷ []) os in
-    rw one (owners_there users (owners ++ o ∷ []) os names (subst (λ (l : List UserId). AreOwners users l) (sym grouped) good) ∙ ap (λ (l : List UserId). Some l) grouped)
-
-name_word : (users : List User) (i : ℕ) → AllByRecursion IsUser users → i < length users → IsWord (get_or (map (λ (user : User). user.name) users) i [])
-name_word [] i all lt = absurd (omega (arith, lt))
-name_word (u ∷ us) zero all lt = all.0.name
-name_word (u ∷ us) (suc i) all lt = name_word us i all.1 (omega (arith, lt))
+    rw one (owners_there users (owners ++ o ∷ []) os all names (subst (λ (l : List UserId). AreOwners users l) (sym grouped) good) ∙ ap (λ (l : List UserId). Some l) grouped)
 
 pub names_free : (mark : ℕ) (users : List User) (owners : List UserId) → mark < 33 → AllByRecursion IsUser users → AllByRecursion (λ (u : UserId). u.0 < length users) owners → AllByRecursion (λ word. is_free mark word ≡ true) (map (name_of users) owners)
 names_free mark users [] low all named = tt
@@ -260,7 +262,7 @@ unfolding account_at
 account_made bank number kind n owners users word small some all names good =
     let passes : not (is_word_form number) ≡ false = not_from_true _ (word_passes number word) in
     let again : words_of (line_of (map (name_of users) owners)) ≡ map (name_of users) owners = words_again (map (name_of users) owners) (omega (arith, some, length-map owners (name_of users))) (names_free 32 users owners (omega arith) all good.named) in
-    let read : owners_at users (line_of (map (name_of users) owners)) ≡ Some owners = ap (owners_from users []) again ∙ owners_there users [] owners names good in
+    let read : owners_at users (line_of (map (name_of users) owners)) ≡ Some owners = ap (owners_from users []) again ∙ owners_there users [] owners all names good in
     rw (
       cut_there 32 number (kind_word kind ++ 32 ∷ (decimal n ++ 32 ∷ line_of (map (name_of users) owners))) (word_free 32 number (omega arith) word),
       cut_there 32 (kind_word kind) (decimal n ++ 32 ∷ line_of (map (name_of users) owners)) (kind_free 32 kind (omega arith)),

@@ -17,3 +17,7 @@ pub mod Stores
 pub mod Due
 pub mod Rules
 pub mod DueRun
+pub mod Directory
+pub mod SetupKeys
+pub mod Naming
+pub mod Events

@@ -98,8 +98,9 @@ abbrev pub user_at_place : Option ℕ → Option UserId
 user_at_place None = None
 user_at_place (Some place) = Some (record { 0 = place })
 
+-- the user of that name, which is a word
 abbrev pub user_named : List User → List ℕ → Option UserId
-user_named users name = user_at_place (position (λ (user : User). bytes_eq user.name name) users)
+user_named users name = unless (not (is_word_form name)) (user_at_place (position (λ (user : User). bytes_eq user.name name) users))
 
 abbrev pub is_listed : UserId → List UserId → Bool
 is_listed owner owners = list_any (λ (other : UserId). other.0 == owner.0) owners

@@ -1,7 +1,9 @@
 -- What a client keeps of an object: a token and the rows that belong to it, and how a reply changes them.
-use Rattle.std.specs.Prelude.{◌≡◌, ℕ, ◌≤◌, ◌⊎◌, Bool, true, false, not, nat_lt, nat_le, ◌==◌, if◌then◌else◌, List, [], ◌∷◌, ◌++◌, filter, map, fold, Option, None, Some, is_some, unwrap_or, option_to_list}
+use Rattle.std.specs.Prelude.{◌≡◌, ℕ, ◌≤◌, ◌⊎◌, Bool, true, false, not, nat_lt, nat_le, ◌==◌, if◌then◌else◌, List, [], ◌∷◌, ◌++◌, filter, fold, Option, None, Some, is_some, unwrap_or, option_to_list}
 use Rattle.std.specs.List.{flat_map}
+use Rattle.ofx_types.specs.SyncForm.{object_family}
 use Rattle.ofx_types.specs.declared.number.ObjectId.{ObjectId}
+use Rattle.ofx_types.specs.declared.number.UserId.{UserId}
 use Rattle.ofx_types.specs.declared.transfer.TransferRow.{TransferRow}
 use Rattle.ofx_types.specs.declared.recurring.ModelRow.{ModelRow}
 use Rattle.ofx_types.specs.declared.mail.MailRow.{MailRow}
@@ -10,11 +12,13 @@ use Rattle.ofx_types.specs.declared.transfer.Change.TheVariants.{NewTransfer, Se
 use Rattle.ofx_types.specs.declared.transfer.DeedReply.{DeedReply}
 use Rattle.ofx_types.specs.declared.transfer.Family.{Family}
 use Rattle.ofx_types.specs.declared.transfer.Family.TheVariants as families
+use Rattle.ofx_types.specs.declared.sync.ObjectName.{ObjectName}
 use Rattle.ofx_types.specs.declared.sync.SyncKind.{SyncKind}
 use Rattle.ofx_types.specs.declared.sync.SyncKind.TheVariants.{After, TokenOnly, Refresh}
 use Rattle.ofx_types.specs.declared.sync.SyncReply.{SyncReply}
 use Rattle.bank_model.specs.declared.entry.Entry.{Entry}
-use Rattle.bank_model.specs.Objects.{history_of, newest}
+use Rattle.bank_model.specs.declared.setup.Setup.{Setup}
+use Rattle.bank_model.specs.Objects.{object_named, history_of, newest}
 use Rattle.bank_model.specs.Sync.{token_of}
 
 -- ---- rows
@@ -76,7 +80,39 @@ model_if_named id found (mail_row row) = found
 abbrev pub model_among : ℕ → List Row → ℕ
 model_among id rows = fold (model_if_named id) 0 rows
 
--- What a change does to the rows of an object of a family; a change of another family does nothing. A mail about an account is
+-- ---- the rows that entries make
+
+-- What an entry does to the rows of its object. What is new or changed has its row as it stands in the entry, what is cancelled
+-- has none, and a mail comes last.
+unfoldable pub entered : List Row → Change → List Row
+entered rows (NewTransfer row) = put row.id (transfer_row row) rows
+entered rows (SetTransfer row) = put row.id (transfer_row row) rows
+entered rows (DropTransfer id) = take_out id rows
+entered rows (NewModel row) = put row.id (model_row row) rows
+entered rows (SetModel row pending) = put row.id (model_row row) rows
+entered rows (DropModel id pending) = take_out id rows
+entered rows (NewMail row) = rows ++ mail_row row ∷ []
+
+abbrev pub is_up_to : ℕ → Entry → Bool
+is_up_to token entry = nat_le entry.number token
+
+-- The rows of an object up to a token: those that its entries up to there make, one after another.
+unfoldable pub rows_entered : ObjectId → ℕ → List Entry → List Row
+rows_entered object token entries =
+    fold (λ (rows : List Row) (entry : Entry). entered rows entry.change) [] (filter (is_up_to token) (history_of object entries))
+
+-- A name for which there is no object has no entries.
+abbrev pub newest_under : Option ObjectId → List Entry → ℕ
+newest_under None entries = 0
+newest_under (Some object) entries = newest object entries
+
+abbrev pub rows_under : Option ObjectId → ℕ → List Entry → List Row
+rows_under None token entries = []
+rows_under (Some object) token entries = rows_entered object token entries
+
+-- ---- the changes of a reply
+
+-- What a change does to the rows that a client has of an object of a family; a change of another family does nothing. A mail about an account is
 -- of the mail about it, any other mail of the user's other mail.
 unfoldable pub changed : Family → List Row → Change → List Row
 changed families.Intra rows (NewTransfer row) = put row.id (transfer_row row) rows
@@ -89,28 +125,22 @@ changed families.BankMail rows (NewMail row) = if is_some row.about then rows ++
 changed families.Mail rows (NewMail row) = if is_some row.about then rows else rows ++ mail_row row ∷ []
 changed family rows change = rows
 
--- The rows of an object up to a token: its entries up to there, one after another.
-abbrev pub is_up_to : ℕ → Entry → Bool
-is_up_to token entry = nat_le entry.number token
-
-unfoldable pub rows_up_to : Family → ObjectId → ℕ → List Entry → List Row
-rows_up_to family object token entries =
-    fold (λ (rows : List Row) (entry : Entry). changed family rows entry.change) [] (filter (is_up_to token) (history_of object entries))
-
 -- ---- stores
 
--- what a client keeps of an object
+-- what a client keeps of an object, under the name that it has for the client's user
 pub record Store : Type 0 where
-  pub family : Family
+  pub name : ObjectName
   pub token : ℕ
   pub is_lost : Bool
   pub rows : List Row
 
--- A store is right where it is marked lost, or holds the rows that belong to its token.
-abbrev pub IsRight : Store → ObjectId → List Entry → Type 0
-IsRight store object entries =
+-- A user's store is right where it is marked lost, or where its token is no newer than the object of its name and it holds the rows
+-- of this object up to its token.
+abbrev pub IsRight : Setup → UserId → Store → List Entry → Type 0
+IsRight setup user store entries =
     (store.is_lost ≡ true)
-    ⊎ ((store.token ≤ newest object entries) × (store.rows ≡ rows_up_to store.family object store.token entries))
+    ⊎ ((store.token ≤ newest_under (object_named setup user store.name) entries)
+    × (store.rows ≡ rows_under (object_named setup user store.name) store.token entries))
 
 -- the changes that were done, in order
 abbrev pub change_done : DeedReply → List Change
@@ -120,10 +150,10 @@ abbrev pub applied : Family → List Row → List DeedReply → List Row
 applied family rows replies = fold (changed family) rows (flat_map change_done replies)
 
 abbrev pub with_rows : Store → ℕ → List Row → Store
-with_rows store token rows = record { family = store.family; token = token; is_lost = false; rows = rows }
+with_rows store token rows = record { name = store.name; token = token; is_lost = false; rows = rows }
 
 abbrev pub marked_lost : Store → Store
-marked_lost store = record { family = store.family; token = store.token; is_lost = true; rows = store.rows }
+marked_lost store = record { name = store.name; token = store.token; is_lost = true; rows = store.rows }
 
 -- A reply to a client that asks for the token alone changes nothing. One that tells it that it has lost its place marks the
 -- store so. Any other brings the changes, to the rows that are there or to none where all was asked for, and a token.
@@ -131,7 +161,7 @@ unfoldable pub taken : Store → SyncKind → SyncReply → Store
 taken store TokenOnly reply = store
 taken store (After text) reply =
     if reply.lost then marked_lost store
-    else with_rows store (unwrap_or (token_of reply.token) 0) (applied store.family store.rows reply.replies)
+    else with_rows store (unwrap_or (token_of reply.token) 0) (applied (object_family store.name) store.rows reply.replies)
 taken store Refresh reply =
     if reply.lost then marked_lost store
-    else with_rows store (unwrap_or (token_of reply.token) 0) (applied store.family [] reply.replies)
+    else with_rows store (unwrap_or (token_of reply.token) 0) (applied (object_family store.name) [] reply.replies)

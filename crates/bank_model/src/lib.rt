@@ -5,16 +5,18 @@
 #![tactic(auto)]
 
 mod asked;
+pub mod codes;
+mod directory;
 mod entry;
 mod event;
+mod named;
 mod objects;
 mod once;
 mod printer;
 mod setup;
-#[cfg(test)]
-mod tests;
 
 pub use asked::{is_after, is_positive};
+pub use directory::{Directory, Keyed};
 pub use entry::Entry;
 pub use event::{Event, State};
 pub use objects::is_poll;

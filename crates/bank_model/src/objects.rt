@@ -1,12 +1,12 @@
 //! The objects that clients synchronise, and the files that ask for nothing but their newest tokens.
 
-ghost use Rattle.std.specs.Prelude.{◌≡◌, ◌<◌, ◌+◌, ◌*◌, length, Some, IfSome};
+ghost use Rattle.std.specs.Prelude.{◌≡◌, ◌<◌, ◌+◌, ◌*◌, true, is_some, length, Some, IfSome};
 ghost use Rattle.std.specs.List.{list_all};
 ghost use Rattle.std.specs.Option.{option_map};
 ghost use Rattle.bank_model.specs.SetupForm.{IsWithinLimits};
 ghost use Rattle.bank_model.specs.SetupLookups as lookups;
 ghost use Rattle.bank_model.specs.Deeds as deeds;
-ghost use Rattle.bank_model.specs.Objects.{object_named};
+ghost use Rattle.bank_model.specs.Objects.{account_about, object_named};
 ghost use Rattle.bank_model.specs.Polls as polls;
 
 use crate::setup::Setup;
@@ -27,6 +27,59 @@ impl Setup {
             ObjectName::RecIntra(account) => numbered(self.own_account(user, account), 1),
             ObjectName::BankMail(account) => numbered(self.own_account(user, account), 2),
             ObjectName::Mail => Some(self.mail_object(user)),
+        }
+    }
+
+    /// The account of that name, which the setup has. Takes no memory.
+    pub fn account_named(&self, name: &AcctName) -> AcctId
+        requires within { IsWithinLimits self.now }
+        requires there { is_some (lookups.account_of self.now name.now) ≡ true }
+        ensures { lookups.account_of self.now name.now ≡ Some result }
+    {
+        match self.account(name) {
+            Some(account) => account,
+            None => unreachable!(),
+        }
+    }
+
+    /// The object of the transfers out of the account of that name, which the setup has. Takes no memory.
+    pub fn object_of(&self, source: &AcctName) -> ObjectId
+        requires within { IsWithinLimits self.now }
+        requires there { is_some (lookups.account_of self.now source.now) ≡ true }
+        ensures { result ≡ deeds.object_of self.now source.now }
+    {
+        ObjectId(3 * self.account_named(source).0)
+    }
+
+    /// The object of the recurring transfers out of the account of that name, which the setup has. Takes no memory.
+    pub fn model_object_of(&self, source: &AcctName) -> ObjectId
+        requires within { IsWithinLimits self.now }
+        requires there { is_some (lookups.account_of self.now source.now) ≡ true }
+        ensures { result ≡ deeds.model_object_of self.now source.now }
+    {
+        ObjectId(3 * self.account_named(source).0 + 1)
+    }
+
+    /// The object of the mail about the account of that name, which the setup has. Takes no memory.
+    pub fn letter_object_of(&self, about: &AcctName) -> ObjectId
+        requires within { IsWithinLimits self.now }
+        requires there { is_some (lookups.account_of self.now about.now) ≡ true }
+        ensures { result ≡ deeds.letter_object_of self.now about.now }
+    {
+        ObjectId(3 * self.account_named(about).0 + 2)
+    }
+
+    /// The account of a user that an object is about. None where it is about none, or the account isn't the user's. Takes no
+    /// memory.
+    pub fn account_about(&self, user: UserId, object: &ObjectName) -> Option<AcctId>
+        requires within { IsWithinLimits self.now }
+        ensures { result ≡ account_about self.now user object.now }
+    {
+        match object {
+            ObjectName::Intra(account)
+            | ObjectName::RecIntra(account)
+            | ObjectName::BankMail(account) => self.own_account(user, account),
+            ObjectName::Mail => None,
         }
     }
 

@@ -2,12 +2,14 @@
 
 mod copies;
 mod draft;
+mod keys;
 mod lines;
 mod lookups;
 mod reading;
 mod words;
 
-use ofx_types::{AcctName, Cents, OutOfMemory, Sequence, Text, UserId};
+use crate::directory::Directory;
+use ofx_types::{AcctName, Cents, OutOfMemory, Text, UserId};
 pub use reading::{one_fault, one_setup};
 
 /// A user of the bank.
@@ -19,11 +21,11 @@ pub struct User {
     pub pass: Text,
 }
 
-/// The users, numbered from 0.
-pub type Users = Sequence<User>;
+/// The users, numbered from 0, with distinct names.
+pub type Users = Directory<User>;
 
-/// The users to whom an account belongs.
-pub type Owners = Sequence<UserId>;
+/// The users to whom an account belongs, each once.
+pub type Owners = Directory<UserId>;
 
 /// An account of the bank.
 #[derive(Debug, Drop)]
@@ -36,8 +38,8 @@ pub struct AccountLine {
     pub owners: Owners,
 }
 
-/// The accounts, numbered from 0.
-pub type Accounts = Sequence<AccountLine>;
+/// The accounts, numbered from 0, with distinct names.
+pub type Accounts = Directory<AccountLine>;
 
 /// What stays the same over a bank's life.
 #[derive(Debug, Drop)]

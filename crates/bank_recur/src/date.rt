@@ -7,8 +7,6 @@ ghost use Rattle.bank_model.specs.Recurrence as recurrence;
 ghost use Rattle.bank_model.specs.Recurrence.{if_in_calendar, after_months, kth_date};
 
 mod laws;
-#[cfg(test)]
-mod tests;
 
 use jiff_core::civil::Date;
 use jiff_span::date::add_months;
@@ -17,9 +15,6 @@ pub use laws::{
     series_rises,
 };
 use ofx_types::{Day, Freq};
-
-/// 31 December 9999.
-const LAST_DAY: i64 = 2_932_896;
 
 /// The last day of the first half of a month.
 const HALF: u8 = 15;
@@ -54,7 +49,7 @@ fn days_later(first: Day, days: u64) -> Option<Day>
     ensures { result ≡ if_in_calendar (first.0 +ℤ pos days) }
 {
     let day = first.0 as i64 + days as i64;
-    if day > LAST_DAY {
+    if day > i64::from(Day::LAST.0) {
         return None;
     }
     Some(Day(day as i32))

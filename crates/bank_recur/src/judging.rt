@@ -7,29 +7,12 @@ ghost use Rattle.bank_model.specs.SetupForm.{IsWithinLimits};
 ghost use Rattle.bank_model.specs.Judging as rules;
 ghost use Rattle.bank_model.specs.Judging.{refused, first_of, model_code, model_modify_code, model_cancel_code};
 
+use bank_model::codes::{
+    DATE_TOO_SOON, DESTINATION_NOT_FOUND, DONE, INVALID_AMOUNT, MODEL_ALREADY_CANCELED,
+    SOURCE_NOT_FOUND, UNKNOWN_MODEL_ID,
+};
 use bank_model::{Setup, is_after, is_positive};
 use ofx_types::{AcctId, AcctName, Day, ModelRow, UserId, XferInfo};
-
-/// Nothing is refused.
-const DONE: u16 = 0;
-
-/// The source isn't an account of the user, or isn't that of the recurring transfer.
-const SOURCE_NOT_FOUND: u16 = 2006;
-
-/// The destination isn't an account of the bank, or is the source.
-const DESTINATION_NOT_FOUND: u16 = 2009;
-
-/// The amount isn't positive.
-const INVALID_AMOUNT: u16 = 2012;
-
-/// The first day is absent, or isn't after the business day.
-const DATE_TOO_SOON: u16 = 2014;
-
-/// The recurring transfer is cancelled.
-const ALREADY_CANCELED: u16 = 10509;
-
-/// There is no recurring transfer with this id out of an account of the user.
-const UNKNOWN_MODEL_ID: u16 = 10518;
 
 /// The code of a recurring transfer that a user asks for on a business day.
 ///
@@ -142,7 +125,7 @@ fn standing_code(
         return UNKNOWN_MODEL_ID;
     }
     if cancelled {
-        return ALREADY_CANCELED;
+        return MODEL_ALREADY_CANCELED;
     }
     DONE
 }

@@ -21,6 +21,3 @@ pub use laws::{
     model_by_one_more, model_dropped_by_one_more, others_leave_models, place_by_one_more,
 };
 pub use models::Models;
-
-#[cfg(test)]
-mod tests;

@@ -7,16 +7,16 @@ use Rattle.bank_model.specs.declared.setup.Setup.{Setup}
 use Rattle.bank_model.specs.declared.event.State.{State}
 use Rattle.bank_model.specs.declared.event.Event.{Event}
 use Rattle.bank_model.specs.declared.event.Event.TheVariants.{File, Post, Spawn, Letter}
-use Rattle.event_codec.specs.Reading.{kept}
+use Rattle.bank_model.specs.Events.{IsSameEvent, without_signon}
 use Rattle.event_codec.specs.Records.{Codes}
 use Rattle.bank_replay.proofs.OneOpening.{AlikeLegal}
 
 -- A record codes one event at one moment, but for who signs on and by which password.
 abbrev pub OneCoding : Type 0
-OneCoding = (rec : List ℕ) (at at' : Moment) (event event' : Event) → Codes rec at event → Codes rec at' event' → (at ≡ at') × (kept event ≡ kept event')
+OneCoding = (rec : List ℕ) (at at' : Moment) (event event' : Event) → Codes rec at event → Codes rec at' event' → (at ≡ at') × IsSameEvent event event'
 
 -- What isn't kept of an event doesn't make it legal or illegal.
-legal_kept : (setup : Setup) (state : State) (at : Moment) (event : Event) → IsLegal setup state at event → IsLegal setup state at (kept event)
+legal_kept : (setup : Setup) (state : State) (at : Moment) (event : Event) → IsLegal setup state at event → IsLegal setup state at (without_signon event)
 unfolding is_poll
 legal_kept setup state at (File user file) (known, sound, no_poll) =
     (known, record { version = sound.version; few = sound.few; bank_first = sound.bank_first; asks = sound.asks }, no_poll)
@@ -24,7 +24,7 @@ legal_kept setup state at (Post id) legal = legal
 legal_kept setup state at (Spawn model place) legal = legal
 legal_kept setup state at (Letter user subject body) legal = legal
 
-legal_whole : (setup : Setup) (state : State) (at : Moment) (event : Event) → IsLegal setup state at (kept event) → IsLegal setup state at event
+legal_whole : (setup : Setup) (state : State) (at : Moment) (event : Event) → IsLegal setup state at (without_signon event) → IsLegal setup state at event
 unfolding is_poll
 legal_whole setup state at (File user file) (known, sound, no_poll) =
     (known, record { version = sound.version; few = sound.few; bank_first = sound.bank_first; asks = sound.asks }, no_poll)

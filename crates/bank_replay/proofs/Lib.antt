@@ -1,5 +1,4 @@
 pub mod Alike
-pub mod AtHand
 pub mod Exactness
 pub mod OneOpening
 pub mod RunLemmas

@@ -7,7 +7,7 @@ use Rattle.bank_model.specs.declared.event.State.{State}
 use Rattle.bank_model.specs.declared.event.Event.{Event}
 use Rattle.event_codec.specs.Reading.{IsRecordFault, fault_place}
 use Rattle.event_codec.specs.Records.{Codes, Reopens}
-use Rattle.event_codec.specs.declared.fault.RecordFault.{RecordFault}
+use Rattle.record_fields.specs.declared.fault.RecordFault.{RecordFault}
 use Rattle.bank_replay.specs.Laws.{OneWithoutForm, OneNotLegal, FormlessOrIllegal, FormlessOpenNothing, IllegalOpenNothing}
 use Rattle.bank_replay.specs.Opening.{HasNoForm}
 

@@ -1,6 +1,7 @@
 -- How a bank comes from one kept record to the next.
-use Rattle.std.proofs.Common.{◌≡◌, ℕ, ◌+◌, ◌-◌, ◌≤◌, List, [], ◌∷◌, ◌++◌, length, Option, None, Some, IfSome, Result, Err, IsErrOf, ◌⊎◌, inl, inr, arith, refl, sym, ap, ◌∙◌, length-append, append_assoc, append-nil}
+use Rattle.std.proofs.Common.{◌≡◌, ℕ, ◌+◌, ◌-◌, ◌≤◌, List, [], ◌∷◌, ◌++◌, length, Option, None, Some, IfSome, Result, Ok, Err, is_ok, IsErrOf, ◌⊎◌, inl, inr, arith, refl, sym, ap, ◌∙◌, length-append, append_assoc, append-nil}
 use Rattle.std.specs.Prelude.{slice_get}
+use Rattle.std.proofs.lemmas.Bool.{true≢false}
 use Rattle.ofx_ports.specs.Faults.{CountsFaults}
 use Rattle.ofx_ports.specs.Told.{Stays}
 use Rattle.ofx_ports.proofs.FaultLaws.{Rose-later}
@@ -137,4 +138,11 @@ pub counts_behind : {X Y : Type 0} (before mid now : ℕ) (fault other : OpenFau
 counts_behind {X = X} {Y = Y} before mid now fault other low counts = record {
   later = omega (arith, low, counts.later);
   cause = λ h. Rose-later before mid now low (counts.cause (fails_alike Y X fault other h));
+}
+
+-- a run that doesn't fail
+pub counts_done : {X : Type 0} (before now : ℕ) (opened : X) (other : OpenFault) → before ≤ now → CountsFaults before now (IsErrOf {T = X} (Ok opened) other)
+counts_done {X = X} before now opened other low = record {
+  later = low;
+  cause = λ h. absurd (true≢false (ap (λ (r : Result X OpenFault). is_ok r) h));
 }

@@ -4,7 +4,7 @@ use Rattle.bank_model.specs.SetupForm.{IsWithinLimits}
 use Rattle.bank_model.specs.Rules.{opening_state}
 use Rattle.bank_model.specs.declared.setup.Setup.{Setup}
 use Rattle.bank_model.specs.declared.event.State.{State}
-use Rattle.bank_core.specs.Books.{AreBooksRight}
+use Rattle.bank_rules.specs.Books.{AreBooksRight}
 use Rattle.event_codec.specs.Records.{Reopens}
 use Rattle.bank_replay.specs.Opening.{HasNoForm, IsNotLegal}
 use Rattle.bank_replay.specs.Runs.{AreRunTo}

@@ -1,16 +1,14 @@
 -- A bank that opens from its kept records, and why it doesn't.
-use Rattle.std.specs.Prelude.{◌≡◌, ℕ, ◌+◌, ◌<◌, List, ◌∷◌, ◌++◌, length, slice_index_or, Option, ⊤}
+use Rattle.std.specs.Prelude.{◌≡◌, ℕ, ◌+◌, List, ◌∷◌, ◌++◌, length, Option, ⊤}
 use Rattle.std.specs.Option.{IfSome}
 use Rattle.ofx_types.specs.declared.number.Moment.{Moment}
 use Rattle.bank_model.specs.Rules.{opening_state, IsLegal}
 use Rattle.bank_model.specs.declared.setup.Setup.{Setup}
 use Rattle.bank_model.specs.declared.event.State.{State}
 use Rattle.bank_model.specs.declared.event.Event.{Event}
-use Rattle.bank_accounts.specs.AccountView.{AccountView}
-use Rattle.bank_core.specs.Balanced.{AreBalanced}
 use Rattle.event_codec.specs.Reading.{IsRecordFault, fault_place}
 use Rattle.event_codec.specs.Records.{Codes, Reopens}
-use Rattle.event_codec.specs.declared.fault.RecordFault.{RecordFault}
+use Rattle.record_fields.specs.declared.fault.RecordFault.{RecordFault}
 use Rattle.bank_replay.specs.declared.fault.OpenFault.{OpenFault}
 use Rattle.bank_replay.specs.declared.fault.OpenFault.TheVariants.{Read, Record, Illegal, OutOfMemory}
 
@@ -20,13 +18,6 @@ pub record Stands (setup : Setup) (told : Option (List (List ℕ))) (state : Sta
   pub records : List (List ℕ)
   pub are_told : IfSome told (λ all. all ≡ records)
   pub reopens : Reopens setup opening_state records state
-
--- There is one account for each account line. They are numbered from 0 in their order, and each has its balance of the
--- state.
-pub record AreAccountsIn (setup : Setup) (state : State) (accounts : List AccountView) : Type 0 where
-  pub count : length accounts ≡ length setup.accounts
-  pub numbered : (k : ℕ) (d : AccountView) → k < length accounts → (slice_index_or accounts k d).number.0 ≡ k
-  pub balanced : AreBalanced setup state accounts
 
 -- Where the records are told, they begin with these, and this one is the next.
 abbrev pub BeginWith : Option (List (List ℕ)) → List (List ℕ) → List ℕ → Type 0

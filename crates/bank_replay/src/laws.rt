@@ -2,8 +2,10 @@
 
 ghost use Rattle.bank_replay.specs.Laws.{ReopeningsAreRuns, RunsReopen, ReopenedBooksAreRight, OneOpening, OneWithoutForm, OneNotLegal, FormlessOrIllegal, FormlessOpenNothing, IllegalOpenNothing};
 
-use bank_core::{files_are_kept_once, money_stays, no_account_is_overdrawn, uids_work_once};
-use event_codec::{
+use bank_rules::laws::files::files_are_kept_once;
+use bank_rules::laws::money::{money_stays, no_account_is_overdrawn};
+use bank_rules::laws::uids::uids_work_once;
+use event_codec::laws::{
     faults_code_nothing, one_coding, one_record_fault, one_reopening, reopening_goes_on,
 };
 

@@ -6,8 +6,6 @@ mod fault;
 mod laws;
 mod records;
 mod replay;
-#[cfg(test)]
-mod tests;
 
 pub use fault::OpenFault;
 pub use laws::{

@@ -7,16 +7,18 @@ ghost use Rattle.bank_model.specs.declared.event.State.{State};
 ghost use Rattle.bank_model.specs.Rules.{opening_state};
 ghost use Rattle.bank_model.specs.SetupForm.{IsWithinLimits};
 ghost use Rattle.event_codec.specs.Records.{Reopens};
-ghost use Rattle.bank_replay.specs.Opening.{Stands, AreAccountsIn, HasNoForm, IsNotLegal, HasCause};
+ghost use Rattle.bank_solo.specs.Solo.{AreAccountsIn};
+ghost use Rattle.bank_replay.specs.Opening.{Stands, HasNoForm, IsNotLegal, HasCause};
 ghost use Rattle.bank_replay.specs.Replay.{IsKept, IsNotTaken, IsOfTheOutside};
 
 use crate::fault::OpenFault;
 use crate::laws::{causes_open_nothing, one_cause, one_opening};
-use crate::replay::Replay;
+use crate::replay::take;
 use bank_accounts::Account;
 use bank_core::Book;
 use bank_model::{Printer, Setup};
-use event_codec::reopening_goes_on;
+use bank_solo::SoloBank;
+use event_codec::laws::reopening_goes_on;
 use ofx_ports::Keeper;
 use std::alloc::Global;
 
@@ -77,7 +79,7 @@ fn take_all<K: Keeper, P: Printer>(
     ensures faults { CountsFaults (K.faults keeper.old) (K.faults keeper.new) (IsErrOf result OpenFault.Read) }
 {
     reopening_goes_on();
-    let mut bank = Replay::begin(alloc, setup, printer)?;
+    let mut bank = SoloBank::begin(alloc, setup, printer)?;
     let mut rec = Vec::new(alloc);
     for before in 0..keeper.len() {
         take_kept(alloc, keeper, &mut bank, before + 1, &mut rec)?;
@@ -89,14 +91,16 @@ fn take_all<K: Keeper, P: Printer>(
 fn take_kept<K: Keeper, P: Printer>(
     alloc: Global,
     keeper: &mut K,
-    bank: &mut Replay<P>,
+    bank: &mut SoloBank<P>,
     number: u64,
     rec: &mut Vec<u8>,
 ) -> Result<(), OpenFault>
     requires settled { K.unsettled keeper.old ≡ false }
     requires first { 1 ≤ number }
     requires last { number ≤ K.size keeper.old }
+    requires home { bank.old.held ≡ [] }
     ensures setup { bank.new.setup ≡ bank.old.setup }
+    ensures home { bank.new.held ≡ [] }
     ensures kept { OnOk result (IsKept (K.records keeper.old) number rec.new.items) }
     ensures taken { OnOk result (Reopens bank.old.setup bank.old.state (rec.new.items ∷ []) bank.new.state) }
     ensures refused { IfErr result (λ fault. IsOfTheOutside fault
@@ -107,5 +111,5 @@ fn take_kept<K: Keeper, P: Printer>(
     ensures faults { CountsFaults (K.faults keeper.old) (K.faults keeper.new) (IsErrOf result OpenFault.Read) }
 {
     keeper.fetch(number, rec)?;
-    bank.take(alloc, number, rec)
+    take(alloc, bank, number, rec)
 }

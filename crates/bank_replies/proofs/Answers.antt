@@ -25,8 +25,8 @@ use Rattle.bank_model.specs.Sound as file
 use Rattle.bank_laws.proofs.Events.{Grows, grows_deed}
 use Rattle.bank_rules.proofs.Lists.{all_append}
 use Rattle.bank_rules.proofs.StateLemmas.{IsAllowed-from_code}
-use Rattle.msg_parts.specs.Sound.{IsTextWithin, mail_family, family_of_change}
-use Rattle.msg_sync.specs.Sound.{IsSoundAnswer, IsSoundToldIn}
+use Rattle.msg_parts.specs.SoundParts.{IsTextWithin, mail_family, family_of_change}
+use Rattle.msg_sync.specs.SoundSyncs.{IsSoundAnswer, IsSoundToldIn}
 use Rattle.bank_replies.specs.Texts.{HasDeedTexts, HasPairTexts}
 use Rattle.bank_replies.specs.Telling.{IsToldChange, IsToldEntry, IsTellable}
 use Rattle.bank_replies.proofs.Values.{uid_within}

@@ -32,9 +32,9 @@ use Rattle.bank_rules.proofs.PendingLemmas.{IsHere}
 use Rattle.bank_rules.proofs.DeedLemmas.{modify_entries, cancel_entries}
 use Rattle.bank_rules.proofs.DoneLemmas.{with_new_terms, dropping}
 use Rattle.bank_laws.proofs.Done.{along, modify_model_entries, cancel_model_entries}
-use Rattle.msg_parts.specs.Sound.{IsTextWithin, IsSoundAccount, family_of_change}
-use Rattle.msg_deed.specs.Sound.{IsSoundInfo}
-use Rattle.msg_mail.specs.MailSound.{IsSoundMail, IsSoundMailRow}
+use Rattle.msg_parts.specs.SoundParts.{IsTextWithin, IsSoundAccount, family_of_change}
+use Rattle.msg_deed.specs.SoundDeeds.{IsSoundInfo}
+use Rattle.msg_mail.specs.SoundMails.{IsSoundMail, IsSoundMailRow}
 use Rattle.bank_replies.specs.Texts.{HasDeedTexts}
 use Rattle.bank_replies.specs.Telling.{IsToldChange, IsToldEntry, IsTellable}
 use Rattle.bank_replies.proofs.Values.{account_sound, info_sound, mail_sound, zero_within}

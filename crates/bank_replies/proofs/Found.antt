@@ -14,8 +14,8 @@ use Rattle.bank_model.specs.Ledger.{row_in, with_code, row_of}
 use Rattle.bank_model.specs.Models.{model_in, model_of, waiting_of}
 use Rattle.bank_rules.proofs.SoundFound.{each_found, each_model_found}
 use Rattle.bank_rules.proofs.PendingLemmas.{IsHere, waiting_wait}
-use Rattle.msg_deed.specs.Sound.{IsSoundId, IsSoundInfo, IsSoundModelRow}
-use Rattle.msg_parts.specs.Sound.{IsSoundMoment}
+use Rattle.msg_deed.specs.SoundDeeds.{IsSoundId, IsSoundInfo, IsSoundModelRow}
+use Rattle.msg_parts.specs.SoundParts.{IsSoundMoment}
 use Rattle.bank_replies.specs.Telling.{IsToldChange, IsToldEntry}
 use Rattle.bank_rules.proofs.Lists.{all_step}
 

@@ -13,6 +13,5 @@ pub mod Asks
 pub mod SoundReplies
 pub mod Runs
 pub mod SpelledTexts
-pub mod Wired
 pub mod SoundFiles
 pub mod SpelledFiles

@@ -15,7 +15,7 @@ use Rattle.bank_model.specs.Deeds.{new_row, changed_row, new_model, changed_mode
 use Rattle.bank_model.specs.Due.{settled_row, spawned_row}
 use Rattle.bank_model.specs.Recurrence.{kth_date}
 use Rattle.bank_recur.proofs.SeriesDays.{few_places}
-use Rattle.msg_deed.specs.Sound.{IsSoundId, IsSoundInfo, IsSoundRecur, IsSoundModelRow}
+use Rattle.msg_deed.specs.SoundDeeds.{IsSoundId, IsSoundInfo, IsSoundRecur, IsSoundModelRow}
 use Rattle.bank_replies.specs.Telling.{IsToldRow}
 use Rattle.bank_rules.proofs.RowLemmas.{IsMoment-midnight, IsDay-due, stamp_is}
 use Rattle.bank_replies.proofs.Found.{IsKnownRow}

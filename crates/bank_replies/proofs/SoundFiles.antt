@@ -15,8 +15,8 @@ use Rattle.ofx_types.specs.declared.request.Ask.{Ask}
 use Rattle.ofx_types.specs.declared.request.Ask.TheVariants.{Statement, One, Sync}
 use Rattle.ofx_types.specs.declared.request.RequestFile.{RequestFile}
 use Rattle.bank_model.specs.Sound as file
-use Rattle.msg_statement.specs.Sound.{IsSoundPeriod}
-use Rattle.msg_sync.specs.Sound.{IsSoundTransaction, IsSoundKind, IsSoundIn}
+use Rattle.msg_statement.specs.SoundStatements.{IsSoundPeriod}
+use Rattle.msg_sync.specs.SoundSyncs.{IsSoundTransaction, IsSoundKind, IsSoundIn}
 use Rattle.ofx_file.specs.Written.{IsSoundAsk, IsSoundFile}
 use Rattle.bank_replies.specs.Texts.{HasDeedTexts, HasPairTexts, HasAskTexts}
 use Rattle.bank_replies.specs.Requests.{HasKindText, HasTokenText, HasAllTexts}

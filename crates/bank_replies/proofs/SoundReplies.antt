@@ -29,7 +29,7 @@ use Rattle.bank_model.specs.Sound as file
 use Rattle.bank_rules.specs.Standing.{IsSoundState}
 use Rattle.bank_rules.proofs.StateLemmas.{IsSoundState-raised, IsSoundState-ask}
 use Rattle.bank_rules.proofs.MoneyLemmas.{balance-most}
-use Rattle.msg_sync.specs.Sound.{IsSoundSyncReply}
+use Rattle.msg_sync.specs.SoundSyncs.{IsSoundSyncReply}
 use Rattle.ofx_file.specs.Written.{IsSoundAskReply, IsSoundReplyFile}
 use Rattle.bank_replies.specs.Texts.{HasAskTexts, HasTexts}
 use Rattle.bank_replies.specs.Telling.{IsTellable}

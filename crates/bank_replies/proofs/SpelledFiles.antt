@@ -15,7 +15,7 @@ use Rattle.ofx_types.specs.declared.request.Ask.{Ask}
 use Rattle.ofx_types.specs.declared.request.Ask.TheVariants.{Statement, One, Sync}
 use Rattle.ofx_types.specs.declared.request.RequestFile.{RequestFile}
 use Rattle.bank_rules.proofs.Lists.{all_append}
-use Rattle.msg_parts.specs.Sound.{IsTextWithin}
+use Rattle.msg_parts.specs.SoundParts.{IsTextWithin}
 use Rattle.bank_replies.specs.Requests.{HasKindText, HasTokenText, HasAllTexts}
 use Rattle.bank_replies.proofs.SpelledTexts.{text_in, each_has, file_uid_in, spelled_texts}
 

@@ -19,8 +19,8 @@ use Rattle.bank_model.specs.Ledger.{Posting, row_in, is_posted, posting_of, move
 use Rattle.bank_model.specs.Rules.{first_moment, list_of, asked_list, statement_reply}
 use Rattle.bank_model.specs.Sound as file
 use Rattle.bank_laws.specs.Histories.{AllFollow}
-use Rattle.msg_parts.specs.Sound.{IsTextWithin}
-use Rattle.msg_statement.specs.Sound.{IsSoundLine, IsSoundList}
+use Rattle.msg_parts.specs.SoundParts.{IsTextWithin}
+use Rattle.msg_statement.specs.SoundStatements.{IsSoundLine, IsSoundList}
 use Rattle.ofx_file.specs.Written.{IsSoundAskReply}
 use Rattle.bank_replies.specs.Texts.{HasAccountTexts}
 use Rattle.bank_replies.specs.Telling.{IsToldEntry, IsTellable}

@@ -16,7 +16,7 @@ use Rattle.ofx_types.specs.declared.transfer.Family.{Family}
 use Rattle.ofx_types.specs.declared.sync.SyncAsk.{SyncAsk}
 use Rattle.ofx_types.specs.declared.request.Ask.{Ask}
 use Rattle.ofx_types.specs.declared.request.Ask.TheVariants.{Statement, One, Sync}
-use Rattle.msg_parts.specs.Sound.{IsTextWithin}
+use Rattle.msg_parts.specs.SoundParts.{IsTextWithin}
 use Rattle.bank_model.specs.Sync.{deeds_or_rejection}
 use Rattle.bank_model.specs.declared.entry.Entry.{Entry}
 use Rattle.bank_model.specs.declared.setup.Setup.{Setup}

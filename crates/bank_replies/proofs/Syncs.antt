@@ -30,8 +30,8 @@ use Rattle.bank_laws.specs.Places.{IsPlaceOf}
 use Rattle.bank_rules.proofs.Lists.{all_append}
 use Rattle.bank_laws.proofs.Numbers.{newest_few}
 use Rattle.bank_laws.proofs.Places.{one_family, named_place}
-use Rattle.msg_parts.specs.Sound.{IsTextWithin, family_of_change}
-use Rattle.msg_sync.specs.Sound.{IsSoundToldIn, IsSoundSyncReply}
+use Rattle.msg_parts.specs.SoundParts.{IsTextWithin, family_of_change}
+use Rattle.msg_sync.specs.SoundSyncs.{IsSoundToldIn, IsSoundSyncReply}
 use Rattle.bank_replies.specs.Texts.{HasObjectTexts, HasPairTexts}
 use Rattle.bank_replies.specs.Telling.{IsToldChange, IsToldEntry, IsTellable}
 use Rattle.bank_rules.proofs.Lists.{all_filter, all_map, all_flat}

@@ -7,10 +7,10 @@ use Rattle.ofx_types.specs.declared.transfer.XferInfo.{XferInfo}
 use Rattle.ofx_types.specs.declared.sync.ObjectName.{ObjectName}
 use Rattle.ofx_types.specs.declared.sync.ObjectName.TheVariants as objects
 use Rattle.bank_model.specs.Sound as file
-use Rattle.msg_parts.specs.Sound.{IsTextWithin, IsSoundAccount}
-use Rattle.msg_deed.specs.Sound.{IsSoundInfo}
-use Rattle.msg_mail.specs.MailSound.{IsSoundMail}
-use Rattle.msg_sync.specs.Sound.{IsSoundObject}
+use Rattle.msg_parts.specs.SoundParts.{IsTextWithin, IsSoundAccount}
+use Rattle.msg_deed.specs.SoundDeeds.{IsSoundInfo}
+use Rattle.msg_mail.specs.SoundMails.{IsSoundMail}
+use Rattle.msg_sync.specs.SoundSyncs.{IsSoundObject}
 use Rattle.bank_replies.specs.Texts.{HasAccountTexts, HasInfoTexts, HasMailTexts, HasObjectTexts}
 
 pub text_within : (most : ℕ) (text : List ℕ) → file.HasLength most text → IsText text → IsTextWithin most text

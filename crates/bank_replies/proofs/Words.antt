@@ -13,7 +13,7 @@ use Rattle.bank_model.specs.declared.setup.Setup.{Setup}
 use Rattle.bank_model.specs.declared.setup.User.{User}
 use Rattle.bank_model.specs.SetupForm.{is_word_byte, IsWord, IsUser, IsWithinLimits}
 use Rattle.bank_model.specs.SetupLookups.{name_in, user_name}
-use Rattle.msg_parts.specs.Sound.{IsTextWithin}
+use Rattle.msg_parts.specs.SoundParts.{IsTextWithin}
 
 -- bytes of which none is white space or refused
 abbrev IsInk : List ℕ → Type 0

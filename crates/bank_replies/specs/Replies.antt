@@ -3,6 +3,7 @@ use Rattle.std.specs.Prelude.{◌≡◌, ℕ, List}
 use Rattle.std.specs.List.{AllByRecursion}
 use Rattle.ofx_types.specs.FileForm.{SpellsReply}
 use Rattle.ofx_types.specs.ReplyForm.{reply_text}
+use Rattle.ofx_types.specs.Wire.{wire_file}
 use Rattle.ofx_types.specs.declared.number.Moment.{Moment}
 use Rattle.ofx_types.specs.declared.number.UserId.{UserId}
 use Rattle.ofx_types.specs.declared.request.RequestFile.{RequestFile}
@@ -11,7 +12,6 @@ use Rattle.bank_model.specs.declared.setup.Setup.{Setup}
 use Rattle.bank_model.specs.declared.event.State.{State}
 use Rattle.bank_model.specs.Rules.{raised, ask_answers, reply_file}
 use Rattle.bank_rules.specs.Runs.{Happening}
-use Rattle.ofx_file.specs.Written.{wire_file}
 use Rattle.bank_replies.specs.Texts.{HasEventTexts}
 
 -- the reply to a file that is answered anew

@@ -7,7 +7,7 @@ use Rattle.ofx_types.specs.declared.sync.SyncKind.TheVariants.{After, TokenOnly,
 use Rattle.ofx_types.specs.declared.request.Ask.{Ask}
 use Rattle.ofx_types.specs.declared.request.Ask.TheVariants as asks
 use Rattle.ofx_types.specs.declared.request.RequestFile.{RequestFile}
-use Rattle.msg_parts.specs.Sound.{IsTextWithin}
+use Rattle.msg_parts.specs.SoundParts.{IsTextWithin}
 use Rattle.bank_replies.specs.Texts.{HasTexts}
 
 -- TOKEN of a synchronisation

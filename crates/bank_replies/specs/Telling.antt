@@ -7,9 +7,9 @@ use Rattle.ofx_types.specs.declared.transfer.Change.TheVariants.{NewTransfer, Se
 use Rattle.bank_model.specs.declared.entry.Entry.{Entry}
 use Rattle.bank_model.specs.declared.setup.Setup.{Setup}
 use Rattle.bank_model.specs.declared.event.State.{State}
-use Rattle.msg_parts.specs.Sound.{IsTextWithin, family_of_change}
-use Rattle.msg_deed.specs.Sound.{IsSoundId, IsSoundRow, IsSoundModelRow}
-use Rattle.msg_mail.specs.MailSound.{IsSoundMailRow}
+use Rattle.msg_parts.specs.SoundParts.{IsTextWithin, family_of_change}
+use Rattle.msg_deed.specs.SoundDeeds.{IsSoundId, IsSoundRow, IsSoundModelRow}
+use Rattle.msg_mail.specs.SoundMails.{IsSoundMailRow}
 use Rattle.bank_laws.specs.Places.{IsPlaceOf}
 use Rattle.bank_laws.specs.Histories.{IsInOrder}
 

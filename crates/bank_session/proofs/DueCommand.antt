@@ -8,41 +8,41 @@ use Rattle.ofx_types.specs.declared.told.Told.{Told}
 use Rattle.ofx_types.specs.declared.told.Note.TheVariants.{Plain}
 use Rattle.bank_model.specs.declared.setup.Setup.{Setup}
 use Rattle.bank_model.specs.declared.event.State.{State}
-use Rattle.bank_session.specs.Frames.{due_work}
-use Rattle.bank_session.specs.Answers.{KeptInVain}
+use Rattle.bank_frames.specs.Frames.{due_work}
+use Rattle.bank_session.specs.Answers.{IsPrefixKept}
 use Rattle.bank_session.specs.Outside.{Outside, outside}
 use Rattle.bank_session.specs.Stopping.{stop_of}
 use Rattle.bank_session.specs.DueEnd.{DueEnds}
 use Rattle.bank_session.specs.Run.{DueEndsWithBank, DueEndsSo, told_of, told}
 use Rattle.bank_session.specs.Exact.{GaveUpDue, RefusesDueSetup, RefusesRecord, RefusesIllegal, DoesAll, IsDueCommand}
-use Rattle.bank_session.specs.declared.undone.Undone.{Undone}
-use Rattle.bank_session.specs.declared.undone.Undone.TheVariants.{NoMemory, NotKept}
+use Rattle.bank_desk.specs.declared.fault.DeskFault.{DeskFault}
+use Rattle.bank_desk.specs.declared.fault.DeskFault.TheVariants.{NoMemory, AppendFailed}
 use Rattle.bank_session.specs.declared.stop.Stop.{Stop}
 use Rattle.bank_session.specs.declared.stop.Stop.TheVariants as stops
 use Rattle.bank_session.specs.OneBank.{OneBank}
 use Rattle.bank_session.proofs.Unopened.{OneSetup, Unopened, unopened, unopened_setup, unopened_record, unopened_illegal, unopened_otherwise, gave_up_otherwise, opens_or_gave_up, wider, status_is, unspelled_setup, IsBankOf, record_refused, illegal_refused}
 
 -- what was due isn't done, behind the clock's one answer
-pub due_undone : (setup : Setup) (start : State) (setup_left setup_left' left held : Option (List ℕ)) (setup_faults setup_faults' faults writes : ℕ) (records records' : Option (List (List ℕ))) (keeps keeps' : ℕ) (shown shown' : Option (List Moment)) (moment : Moment) (undone : Undone) →
-    Grows shown shown' (moment ∷ []) → ((kept : List (List ℕ)) × KeptInVain setup moment start due_work kept × Grows records records' kept) → (undone ≡ NotKept → Rose keeps keeps') →
+pub due_undone : (setup : Setup) (start : State) (setup_left setup_left' left held : Option (List ℕ)) (setup_faults setup_faults' faults writes : ℕ) (records records' : Option (List (List ℕ))) (keeps keeps' : ℕ) (shown shown' : Option (List Moment)) (moment : Moment) (undone : DeskFault) →
+    Grows shown shown' (moment ∷ []) → ((kept : List (List ℕ)) × IsPrefixKept setup moment start due_work kept × Grows records records' kept) → (undone ≡ AppendFailed → Rose keeps keeps') →
     DueEnds setup start (outside setup_left setup_faults left faults held writes records keeps shown) (outside setup_left' setup_faults' left faults held writes records' keeps' shown') (Err (stop_of undone))
-due_undone setup start setup_left setup_left' left held setup_faults setup_faults' faults writes records records' keeps keeps' shown shown' moment NoMemory told front rose = record {
+due_undone setup start setup_left setup_left' left held setup_faults setup_faults' faults writes records records' keeps keeps' shown shown' moment NoMemory told prefix rose = record {
   unread = Keeps-refl left;
   unwritten = Keeps-refl held;
   next = moment ∷ [];
   few = omega arith;
   moments = told;
-  records = front.0;
-  work = inr (moment, refl, front.1);
-  kept = front.2;
+  records = prefix.0;
+  work = inr (moment, refl, prefix.1);
+  kept = prefix.2;
 }
-due_undone setup start setup_left setup_left' left held setup_faults setup_faults' faults writes records records' keeps keeps' shown shown' moment NotKept told front rose = (
+due_undone setup start setup_left setup_left' left held setup_faults setup_faults' faults writes records records' keeps keeps' shown shown' moment AppendFailed told prefix rose = (
   record {
     moment = moment;
-    records = front.0;
-    work = front.1;
+    records = prefix.0;
+    work = prefix.1;
     unread = Keeps-refl left;
-    kept = front.2;
+    kept = prefix.2;
     unwritten = Keeps-refl held;
     moments = told;
   },

@@ -6,7 +6,7 @@ use Rattle.std.proofs.lemmas.List.{append_cancel_left, take_at}
 use Rattle.ofx_types.specs.declared.number.Moment.{Moment}
 use Rattle.bank_model.specs.declared.setup.Setup.{Setup}
 use Rattle.bank_model.specs.declared.event.State.{State}
-use Rattle.bank_session.specs.Frames.{Content, request, due_work, IsLength, frame, frame_head, frame_of, Fits, BeginsNoFrame}
+use Rattle.bank_frames.specs.Frames.{Content, request, due_work, IsLength, frame, frame_head, frame_of, Fits, BeginsNoFrame}
 use Rattle.bank_session.specs.Answers.{Turn, AreTurns, read_in}
 use Rattle.bank_session.specs.Determined.{AllFit, OneSplit, goes_on, falls_short, contents_of}
 use Rattle.bank_session.specs.RunEnd.{Taken, Finished, StoppedAtFrame}
@@ -17,11 +17,11 @@ use Rattle.ofx_types.specs.declared.told.Note.TheVariants.{Place}
 use Rattle.bank_session.specs.Exact.{GaveUp, RefusesSetup, RefusesRecord, RefusesIllegal, Gives, AnswersAll, RefusesFrame, IsRun}
 use Rattle.bank_session.specs.declared.stop.Stop.{Stop}
 use Rattle.bank_session.specs.declared.stop.Stop.TheVariants as stops
-use Rattle.bank_session.proofs.Agreement.{heads_agree, kinds_apart}
+use Rattle.bank_frames.proofs.Agreement.{heads_agree, kinds_apart}
 use Rattle.bank_session.specs.OneBank.{OneBank}
 use Rattle.bank_session.proofs.Unopened.{OneSetup, Unopened, unopened, unopened_setup, unopened_record, unopened_illegal, unopened_otherwise, opens_or_gave_up, or_gave_up, wider, unspelled_setup, IsBankOf, record_refused, illegal_refused}
 
--- two files in frames in front of the same bytes are one
+-- two files in frames before the same bytes are one
 one_frame : (a b x y : List ℕ) → IsLength (length a) → IsLength (length b) → frame a ++ x ≡ frame b ++ y → (a ≡ b) × (x ≡ y)
 one_frame a b x y small_a small_b e =
     let heads = heads_agree (length a) (length b) (a ++ x) (b ++ y) small_a small_b (sym (append_assoc (frame_head (length a)) a x) ∙ (e ∙ append_assoc (frame_head (length b)) b y)) in
@@ -58,20 +58,20 @@ turns_fit : (setup : Setup) (before after : State) (turns : List Turn) → AreTu
 turns_fit setup before after [] same = tt
 turns_fit setup before after (turn ∷ turns) (mid, fits, says, rest) = (fits, turns_fit setup mid after turns rest)
 
-behind_fits : (front more : List Content) → AllFit (front ++ more) → AllFit more
-behind_fits [] more fits = fits
-behind_fits (content ∷ front) more fits = behind_fits front more fits.1
+rest_fits : (prefix more : List Content) → AllFit (prefix ++ more) → AllFit more
+rest_fits [] more fits = fits
+rest_fits (content ∷ prefix) more fits = rest_fits prefix more fits.1
 
-nothing_behind : (front rest : List ℕ) → [] ≡ front ++ rest → rest ≡ []
-nothing_behind [] rest e = sym e
-nothing_behind (x ∷ front) rest e = cc
+nothing_after : (prefix rest : List ℕ) → [] ≡ prefix ++ rest → rest ≡ []
+nothing_after [] rest e = sym e
+nothing_after (x ∷ prefix) rest e = cc
 
 -- what is consumed of told bytes leaves told bytes
 left_told : (all taken : List ℕ) (coming : Option (List ℕ)) → Consumes (Some all) coming taken → (rest : List ℕ) × (coming ≡ Some rest) × (all ≡ taken ++ rest)
 left_told all taken None h = absurd h
 left_told all taken (Some rest) h = (rest, refl, h)
 
--- a frame in front of bytes begins them
+-- a frame before bytes begins them
 begun : (bytes : List ℕ) (content : Content) (rest tail : List ℕ) → BeginsNoFrame bytes → Fits content → bytes ≡ (frame_of content ++ rest) ++ tail → ⊥
 begun bytes content rest tail none fits e = none content (rest ++ tail) fits (e ∙ append_assoc (frame_of content) rest tail)
 
@@ -88,18 +88,18 @@ no_more_split : (contents : List Content) (turns : List Turn) (tail : List ℕ) 
 no_more_split contents turns tail fits few (goes_on [] same then) some more = some then
 no_more_split contents turns tail fits few (goes_on (m ∷ ms) same then) some (inl none) =
     let fits' : AllFit (contents_of turns ++ (m ∷ ms)) = subst AllFit same fits in
-    begun tail m (flat_map frame_of ms) [] none (behind_fits (contents_of turns) (m ∷ ms) fits').0 then
+    begun tail m (flat_map frame_of ms) [] none (rest_fits (contents_of turns) (m ∷ ms) fits').0 then
 no_more_split contents turns tail fits few (goes_on (m ∷ ms) same then) some (inr full) =
     omega (arith, few, full, ap length same, length-append (contents_of turns) (m ∷ ms), contents_counted turns)
-no_more_split contents turns tail fits few (falls_short more same then) some more' = some (nothing_behind (flat_map frame_of more) tail then)
+no_more_split contents turns tail fits few (falls_short more same then) some more' = some (nothing_after (flat_map frame_of more) tail then)
 
 -- nor does a run end where more is to come
 no_end_split : (contents : List Content) (turns : List Turn) (rest tail : List ℕ) → AllFit (contents_of turns) → length turns ≤ 1000000 → OneSplit contents (contents_of turns) rest tail → rest ≢ [] → (BeginsNoFrame rest ⊎ (length contents ≡ 1000000)) → tail ≡ [] → ⊥
-no_end_split contents turns rest tail fits few (goes_on more same then) some stuck end = some (nothing_behind (flat_map frame_of more) rest (sym end ∙ then))
+no_end_split contents turns rest tail fits few (goes_on more same then) some stuck end = some (nothing_after (flat_map frame_of more) rest (sym end ∙ then))
 no_end_split contents turns rest tail fits few (falls_short [] same then) some stuck end = some (then ∙ end)
 no_end_split contents turns rest tail fits few (falls_short (m ∷ ms) same then) some (inl none) end =
     let fits' : AllFit (contents ++ (m ∷ ms)) = subst AllFit same fits in
-    begun rest m (flat_map frame_of ms) tail none (behind_fits contents (m ∷ ms) fits').0 then
+    begun rest m (flat_map frame_of ms) tail none (rest_fits contents (m ∷ ms) fits').0 then
 no_end_split contents turns rest tail fits few (falls_short (m ∷ ms) same then) some (inr full) end =
     omega (arith, few, full, ap length same, length-append contents (m ∷ ms), contents_counted turns)
 
@@ -109,13 +109,13 @@ stuck_split : (contents : List Content) (turns : List Turn) (rest tail : List �
 stuck_split contents turns rest tail fits fits' few few' (goes_on [] same then) stuck stuck' = same ∙ append-nil (contents_of turns)
 stuck_split contents turns rest tail fits fits' few few' (goes_on (m ∷ ms) same then) stuck (inl none) =
     let more : AllFit (contents_of turns ++ (m ∷ ms)) = subst AllFit same fits in
-    absurd (begun tail m (flat_map frame_of ms) rest none (behind_fits (contents_of turns) (m ∷ ms) more).0 then)
+    absurd (begun tail m (flat_map frame_of ms) rest none (rest_fits (contents_of turns) (m ∷ ms) more).0 then)
 stuck_split contents turns rest tail fits fits' few few' (goes_on (m ∷ ms) same then) stuck (inr full) =
     absurd (omega (arith, few, full, ap length same, length-append (contents_of turns) (m ∷ ms), contents_counted turns))
 stuck_split contents turns rest tail fits fits' few few' (falls_short [] same then) stuck stuck' = sym (append-nil contents) ∙ sym same
 stuck_split contents turns rest tail fits fits' few few' (falls_short (m ∷ ms) same then) (inl none) stuck' =
     let more : AllFit (contents ++ (m ∷ ms)) = subst AllFit same fits' in
-    absurd (begun rest m (flat_map frame_of ms) tail none (behind_fits contents (m ∷ ms) more).0 then)
+    absurd (begun rest m (flat_map frame_of ms) tail none (rest_fits contents (m ∷ ms) more).0 then)
 stuck_split contents turns rest tail fits fits' few few' (falls_short (m ∷ ms) same then) (inr full) stuck' =
     absurd (omega (arith, few', full, ap length same, length-append contents (m ∷ ms), contents_counted turns))
 

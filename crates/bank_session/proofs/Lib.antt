@@ -1,18 +1,8 @@
 pub mod ToldLemmas
-pub mod Bounds
 pub mod Standing
-pub mod Lengths
-pub mod HeadLines
-pub mod Agreement
-pub mod Windows
-pub mod Coming
 pub mod MomentLemmas
 pub mod SetupSource
-pub mod Writing
 pub mod CommandWords
-pub mod DeskLemmas
-pub mod FileAnswers
-pub mod DueEvents
 pub mod TurnLemmas
 pub mod RunLemmas
 pub mod OpeningLemmas
@@ -23,3 +13,4 @@ pub mod DueCommand
 pub mod MailLemmas
 pub mod LineLemmas
 pub mod TurnEvents
+pub mod Answered

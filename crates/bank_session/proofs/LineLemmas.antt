@@ -16,10 +16,12 @@ use Rattle.ofx_types.specs.ReplyForm.{reply_text}
 use Rattle.std.specs.Fmt.{decimal}
 use Rattle.std.proofs.lemmas.Bool.{false≢true}
 use Rattle.std.proofs.lemmas.List.{append_cancel_left, append_cancel_right}
-use Rattle.bank_session.specs.Frames.{Content, request, due_work, frame, frame_head}
+use Rattle.bank_frames.specs.Frames.{Content, request, due_work, frame, frame_head}
 use Rattle.event_codec.specs.Coding.{coded}
-use Rattle.bank_session.specs.Keeping.{AreRecordsOf}
-use Rattle.bank_session.specs.Answers.{Says, SaysOfFile, due_line, IsSignedOn, IsRefused, fault_place, bad_line, AreTurns}
+use Rattle.bank_desk.specs.Keeping.{AreRecordsOf}
+use Rattle.bank_session.specs.Answers.{AnswersFrame, AnswersFile, AreTurns}
+use Rattle.bank_desk.specs.Answering.{IsSignedOn, IsRefused, fault_place}
+use Rattle.bank_frames.specs.Lines.{due_line, bad_line}
 use Rattle.bank_model.specs.DueRun.{after_events}
 use Rattle.bank_session.specs.Determined.{OneDueRun, OneLine, OneOutput, OneRefusal, RefusedIsUnanswered, RefusedIsUndenied, DeniedIsUnanswered, WhereAnswered, WherePolled, WhereDenied, WhereRefused, OnlyWhereRefused}
 
@@ -150,7 +152,7 @@ only_where_refused setup at before bytes records after printed (inr (inr (inr b)
 
 -- for the bytes of a file there is one line, one list of records, and one state behind it
 same_file_line : WhereAnswered → WherePolled → WhereDenied → WhereRefused → (setup : Setup) (at : Moment) (before : State) (bytes line line' : List ℕ) (records records' : List (List ℕ)) (after after' : State) →
-    SaysOfFile setup at before bytes line records after → SaysOfFile setup at before bytes line' records' after' → (line ≡ line') × (records ≡ records') × (after ≡ after')
+    AnswersFile setup at before bytes line records after → AnswersFile setup at before bytes line' records' after' → (line ≡ line') × (records ≡ records') × (after ≡ after')
 same_file_line answered polled denied refused setup at before bytes line line' records records' after after' says (inl b) =
     let there = answered setup at before bytes line records after b.file b.user says b.is_signed_on b.is_event in
     (there.0 ∙ sym b.reply, there.1 ∙ sym (one_record at _ records' b.kept), there.2 ∙ sym b.state)
@@ -189,8 +191,8 @@ same_output one setup before (t ∷ ts) [] after after' a b e m = cc
 same_output one setup before (t ∷ ts) (u ∷ us) after after' (mid, fits, says, rest) (mid', fits', says', rest') e m =
     let content : t.content ≡ u.content = same_head e in
     let moment : t.at ≡ u.at = same_head m in
-    let there : Says setup u.at before u.content t.line t.records mid =
-    subst (λ (at : Moment). Says setup at before u.content t.line t.records mid) moment (subst (λ (c : Content). Says setup t.at before c t.line t.records mid) content says) in
+    let there : AnswersFrame setup u.at before u.content t.line t.records mid =
+    subst (λ (at : Moment). AnswersFrame setup at before u.content t.line t.records mid) moment (subst (λ (c : Content). AnswersFrame setup t.at before c t.line t.records mid) content says) in
     let first = one setup u.at before u.content t.line u.line t.records u.records mid mid' there says' in
     let on : AreTurns setup mid us after' = subst (λ (s : State). AreTurns setup s us after') (sym first.2) rest' in
     let behind = same_output one setup mid ts us after after' rest on (same_tail e) (same_tail m) in

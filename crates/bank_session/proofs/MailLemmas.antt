@@ -1,11 +1,12 @@
 -- How the command `mail` ends, and exactly where.
-use Rattle.std.proofs.Common.{◌≡◌, ℕ, ◌≤◌, Bool, true, false, List, [], ◌∷◌, ◌++◌, length, Option, None, Some, OnOk, Result, Ok, Err, ◌⊎◌, inl, inr, arith, refl, sym, ap, ◌∙◌, subst, append-nil, length-append}
+use Rattle.std.proofs.Common.{◌≡◌, ℕ, ◌≤◌, Bool, true, false, List, [], ◌∷◌, ◌++◌, length, Option, None, Some, OnOk, Result, Ok, Err, inl, inr, arith, refl, sym, ap, ◌∙◌, subst, append-nil, length-append}
 use Rattle.std.specs.Prelude.{IfOk, IfErr}
 use Rattle.std.specs.Io.KnownBytes.{Keeps, IsAtEnd, prepend_known}
 use Rattle.std.proofs.KnownBytes.{Keeps-refl}
 use Rattle.std.proofs.lemmas.Bool.{false≢true}
 use Rattle.ofx_ports.specs.Faults.{Rose}
 use Rattle.ofx_ports.specs.Told.{Stays, Grows}
+use Rattle.ofx_ports.specs.Kept.{MayGrow}
 use Rattle.ofx_types.specs.declared.number.Moment.{Moment}
 use Rattle.ofx_types.specs.declared.number.UserId.{UserId}
 use Rattle.ofx_types.specs.declared.told.Told.{Told}
@@ -24,12 +25,13 @@ use Rattle.bank_session.specs.Letters.{IsBody, IsBodyOf, HasNoBody, IsNoBody, Re
 use Rattle.bank_session.specs.MailEnd.{StopsReading, LetterEnds, MailEnds}
 use Rattle.bank_session.specs.Run.{MailEndsSo, told_of, told}
 use Rattle.bank_session.specs.Exact.{GaveUp, RefusesSetup, RefusesRecord, RefusesIllegal, Brings, RefusesBody, RefusesUser, RefusesFull, WritesIt, IsMailCommand}
-use Rattle.bank_session.specs.declared.undone.Undone.{Undone}
-use Rattle.bank_session.specs.declared.undone.Undone.TheVariants.{NoMemory, NotKept}
+use Rattle.bank_desk.specs.declared.fault.DeskFault.{DeskFault}
+use Rattle.bank_desk.specs.declared.fault.DeskFault.TheVariants.{NoMemory, AppendFailed}
 use Rattle.bank_session.specs.declared.stop.LetterFault.TheVariants as faults
 use Rattle.bank_session.specs.declared.stop.Stop.{Stop}
 use Rattle.bank_session.specs.declared.stop.Stop.TheVariants as stops
 use Rattle.bank_session.specs.OneBank.{OneBank}
+use Rattle.bank_session.proofs.ToldLemmas.{landed_or_not}
 use Rattle.bank_session.proofs.Unopened.{OneSetup, Unopened, unopened, unopened_setup, unopened_record, unopened_illegal, unopened_otherwise, gave_up_otherwise, opens_or_gave_up, or_gave_up, wider, status_is, unspelled_setup, IsBankOf, record_refused, illegal_refused, of_found}
 
 -- ---- the body
@@ -84,19 +86,19 @@ body_refused left left' before now ahead (Err (stops.Records fault)) kept at_end
 -- ---- how the command ends
 
 -- the letter isn't written, behind the clock's one answer
-pub letter_undone : (bank : BookView) (user : UserId) (name subject body : List ℕ) (setup_left setup_left' left left' held : Option (List ℕ)) (setup_faults setup_faults' faults faults' writes : ℕ) (records records' : Option (List (List ℕ))) (keeps keeps' : ℕ) (shown shown' : Option (List Moment)) (moment : Moment) (undone : Undone) →
+pub letter_undone : (bank : BookView) (user : UserId) (name subject body : List ℕ) (setup_left setup_left' left left' held : Option (List ℕ)) (setup_faults setup_faults' faults faults' writes : ℕ) (records records' : Option (List (List ℕ))) (keeps keeps' : ℕ) (shown shown' : Option (List Moment)) (landed : Option Bool) (moment : Moment) (undone : DeskFault) →
     user_named bank.setup name ≡ Some user → Grows shown shown' (moment ∷ []) → (undone ≡ NoMemory → Stays records records') →
-    (undone ≡ NotKept → (rec : List ℕ) × IsLegal bank.setup bank.state moment (Letter user subject body) × Codes rec moment (Letter user subject body) × (Stays records records' ⊎ Grows records records' (rec ∷ []))) →
-    (undone ≡ NotKept → Rose keeps keeps') →
+    (undone ≡ AppendFailed → (rec : List ℕ) × IsLegal bank.setup bank.state moment (Letter user subject body) × Codes rec moment (Letter user subject body) × MayGrow records records' landed rec) →
+    (undone ≡ AppendFailed → Rose keeps keeps') →
     LetterEnds bank name subject body (outside setup_left setup_faults left faults held writes records keeps shown) (outside setup_left' setup_faults' left' faults' held writes records' keeps' shown') (Err (stop_of undone))
-letter_undone bank user name subject body setup_left setup_left' left left' held setup_faults setup_faults' faults faults' writes records records' keeps keeps' shown shown' moment NoMemory named told refused unkept rose = record {
+letter_undone bank user name subject body setup_left setup_left' left left' held setup_faults setup_faults' faults faults' writes records records' keeps keeps' shown shown' landed moment NoMemory named told refused unkept rose = record {
   unkept = refused refl;
   unwritten = Keeps-refl held;
   next = moment ∷ [];
   few = omega arith;
   moments = told;
 }
-letter_undone bank user name subject body setup_left setup_left' left left' held setup_faults setup_faults' faults faults' writes records records' keeps keeps' shown shown' moment NotKept named told refused unkept rose =
+letter_undone bank user name subject body setup_left setup_left' left left' held setup_faults setup_faults' faults faults' writes records records' keeps keeps' shown shown' landed moment AppendFailed named told refused unkept rose =
     let h = unkept refl in (
       record {
         user = user;
@@ -105,7 +107,7 @@ letter_undone bank user name subject body setup_left setup_left' left left' held
         named = named;
         legal = h.1;
         codes = h.2;
-        kept = h.3;
+        kept = landed_or_not records records' landed h.0 h.3;
         unwritten = Keeps-refl held;
         moments = told;
       },

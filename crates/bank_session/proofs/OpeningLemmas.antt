@@ -136,7 +136,7 @@ run_since setup start at before after records keeps (Err stops.WriteFailed) open
     room = h.room;
     fits = h.fits;
     begins = h.begins;
-    says = h.says;
+    answers = h.answers;
     kept = grown before after records keeps _ opened h.kept;
     written = h.written;
     moments = h.moments;

@@ -8,9 +8,9 @@ use Rattle.ofx_types.specs.declared.number.Moment.{Moment}
 use Rattle.bank_model.specs.declared.setup.Setup.{Setup}
 use Rattle.bank_model.specs.declared.event.State.{State}
 use Rattle.bank_core.specs.BookView.{BookView}
-use Rattle.bank_session.specs.Frames.{Content, request, due_work, frame_head, frame_of, Fits, BeginsNoFrame}
-use Rattle.bank_session.specs.Answers.{Says, Turn, AreTurns, read_in, written_in, records_in, AreMoments, KeptInVain, KeptBeforeRefusal}
-use Rattle.bank_session.specs.Coming.{IsNoFrame}
+use Rattle.bank_frames.specs.Frames.{Content, request, due_work, frame_head, frame_of, Fits, BeginsNoFrame}
+use Rattle.bank_session.specs.Answers.{AnswersFrame, Turn, AreTurns, read_in, written_in, records_in, AreMoments, IsPrefixKept, IsKeptWhereRefused}
+use Rattle.bank_frames.specs.Coming.{IsNoFrame}
 use Rattle.bank_session.specs.Outside.{Outside}
 use Rattle.bank_session.specs.Turns.{Around, around, FrameAnswered, FrameStops}
 use Rattle.bank_session.specs.TurnResult.{TurnMade, NoTurn, TurnStops}
@@ -19,8 +19,9 @@ use Rattle.bank_session.specs.EndOrStop.{EndOrStop}
 use Rattle.bank_session.specs.declared.stop.Stop.{Stop}
 use Rattle.bank_session.specs.declared.stop.Stop.TheVariants as stops
 use Rattle.bank_session.proofs.Standing.{Standing}
-use Rattle.bank_session.proofs.Agreement.{head_is_short}
-use Rattle.bank_session.proofs.ToldLemmas.{stays_self, grows_nothing, grows_on, grows_kept}
+use Rattle.bank_frames.proofs.Agreement.{head_is_short}
+use Rattle.ofx_ports.proofs.ToldLaws.{Stays-refl, Grows-trans, Grows-kept}
+use Rattle.bank_session.proofs.ToldLemmas.{grows_nothing}
 use Rattle.bank_session.proofs.MomentLemmas.{no_moments, more_moments, kept_moments, one_more_moment}
 
 -- what a run finds around it, and what is around it while some bytes are ahead
@@ -31,8 +32,8 @@ abbrev pub left_in : List ℕ → Outside → Around
 left_in ahead out = around (prepend_known ahead out.input_left) out.input_faults out.held out.out_faults out.records out.keeper_faults out.shown
 
 -- a turn behind the turns so far
-one_more : (setup : Setup) (before mid after : State) (turns : List Turn) (turn : Turn) → AreTurns setup before turns mid → Fits turn.content → Says setup turn.at mid turn.content turn.line turn.records after → AreTurns setup before (turns ++ turn ∷ []) after
-one_more setup before mid after [] turn same fits says = (after, fits, subst (λ (s : State). Says setup turn.at s turn.content turn.line turn.records after) same says, refl)
+one_more : (setup : Setup) (before mid after : State) (turns : List Turn) (turn : Turn) → AreTurns setup before turns mid → Fits turn.content → AnswersFrame setup turn.at mid turn.content turn.line turn.records after → AreTurns setup before (turns ++ turn ∷ []) after
+one_more setup before mid after [] turn same fits says = (after, fits, subst (λ (s : State). AnswersFrame setup turn.at s turn.content turn.line turn.records after) same says, refl)
 one_more setup before mid after (first ∷ turns) turn (next, there, said, rest) fits says = (next, there, said, one_more setup next mid after turns turn rest fits says)
 
 -- what was read, written and kept with one more turn
@@ -59,9 +60,9 @@ stands_first at book left reads held writes records keeps shown = record {
   own = refl;
   are_turns = refl;
   read = nothing_ahead left;
-  kept = grows_nothing records records (stays_self records);
+  kept = grows_nothing records records (Stays-refl records);
   written = Appends-nil held;
-  moments = no_moments at shown shown (stays_self shown);
+  moments = no_moments at shown shown (Stays-refl shown);
   reads = omega arith;
   writes = omega arith;
   keeps = omega arith;
@@ -77,8 +78,8 @@ pub next_turn : (setup : Setup) (start : State) (at : Option Moment) (found now 
     Standing setup start at found (count + 1) (place + size) after then
 next_turn setup start at found now then count place book after size standing made reads writes keeps =
     let it : FrameAnswered made.moment size book after now then = made.happened in
-    let turn : Turn = record { content = it.content; at = made.moment; line = it.line; records = it.says.0 } in
-    let says : Says setup made.moment book.state it.content it.line it.says.0 after.state = subst (λ (s : Setup). Says s made.moment book.state it.content it.line it.says.0 after.state) standing.own it.says.1 in
+    let turn : Turn = record { content = it.content; at = made.moment; line = it.line; records = it.answers.0 } in
+    let says : AnswersFrame setup made.moment book.state it.content it.line it.answers.0 after.state = subst (λ (s : Setup). AnswersFrame s made.moment book.state it.content it.line it.answers.0 after.state) standing.own it.answers.1 in
     record {
       turns = standing.turns ++ turn ∷ [];
       counted = omega (arith, standing.counted, length-append standing.turns (turn ∷ []));
@@ -86,7 +87,7 @@ next_turn setup start at found now then count place book after size standing mad
       own = it.setup ∙ standing.own;
       are_turns = one_more setup start book.state after.state standing.turns turn standing.are_turns it.fits says;
       read = rw (sym (read_more standing.turns turn)) (Consumes-trans found.coming now.coming then.coming _ _ standing.read it.read);
-      kept = rw (sym (records_more standing.turns turn)) (grows_on found.records now.records then.records _ _ standing.kept it.says.2);
+      kept = rw (sym (records_more standing.turns turn)) (Grows-trans found.records now.records then.records _ _ standing.kept it.answers.2);
       written = rw (sym (written_more standing.turns turn)) (Appends-trans found.held now.held then.held _ _ standing.written it.written);
       moments = rw (sym (one_more_moment standing.turns turn)) (more_moments at found.shown now.shown then.shown _ _ standing.moments made.moments);
       reads = omega (arith, standing.reads, reads);
@@ -133,7 +134,7 @@ stopped_at_frame setup start at before after count place book now ahead standing
   taken = taken_of setup start at before after count place book now ahead standing few none.unread;
   more = stuck (prepend_known ahead after.input_left) _ no_frame;
   place_is = standing.place_is;
-  kept = grows_kept before.records now.records after.records _ standing.kept none.unkept;
+  kept = Grows-kept before.records now.records after.records _ standing.kept none.unkept;
   written = Appends-kept before.held now.held after.held _ standing.written none.unwritten;
   moments = kept_moments at before.shown now.shown after.shown _ standing.moments none.unseen;
 }
@@ -147,7 +148,7 @@ finished setup start at before after count place book now ahead standing few non
   ahead = ahead;
   taken = taken_of setup start at before after count place book now ahead standing few none.unread;
   at_end = at_end;
-  kept = grows_kept before.records now.records after.records _ standing.kept none.unkept;
+  kept = Grows-kept before.records now.records after.records _ standing.kept none.unkept;
   written = Appends-kept before.held now.held after.held _ standing.written none.unwritten;
   moments = kept_moments at before.shown now.shown after.shown _ standing.moments none.unseen;
 }
@@ -164,14 +165,14 @@ stopped_in_frame setup start at before after count place book now ahead moment s
     content = h.0.content;
     moment = moment;
     line = h.0.line;
-    records = h.0.says.0;
+    records = h.0.answers.0;
     next = h.0.after.state;
     count = h.0.count;
     room = omega (arith, few, standing.counted);
     fits = h.0.stays.fits;
     begins = h.0.stays.begins;
-    says = of_run book.setup setup (λ (s : Setup). Says s moment book.state h.0.content h.0.line h.0.says.0 h.0.after.state) standing.own h.0.says.1;
-    kept = grows_on before.records now.records after.records _ _ standing.kept h.0.says.2;
+    answers = of_run book.setup setup (λ (s : Setup). AnswersFrame s moment book.state h.0.content h.0.line h.0.answers.0 h.0.after.state) standing.own h.0.answers.1;
+    kept = Grows-trans before.records now.records after.records _ _ standing.kept h.0.answers.2;
     written = Appends-trans before.held now.held after.held _ _ standing.written h.0.written;
     moments = more_moments at before.shown now.shown after.shown _ _ standing.moments moments;
   },
@@ -189,8 +190,8 @@ stopped_in_frame setup start at before after count place book now ahead moment s
     room = omega (arith, few, standing.counted);
     fits = h.0.stays.fits;
     begins = h.0.stays.begins;
-    work = of_run book.setup setup (λ (s : Setup). KeptInVain s moment book.state h.0.content h.0.keeps.0) standing.own h.0.keeps.1;
-    kept = grows_on before.records now.records after.records _ _ standing.kept h.0.keeps.2;
+    work = of_run book.setup setup (λ (s : Setup). IsPrefixKept s moment book.state h.0.content h.0.keeps.0) standing.own h.0.keeps.1;
+    kept = Grows-trans before.records now.records after.records _ _ standing.kept h.0.keeps.2;
     written = Appends-kept before.held now.held after.held _ standing.written h.0.unwritten;
     moments = more_moments at before.shown now.shown after.shown _ _ standing.moments moments;
   },
@@ -212,9 +213,9 @@ stopped_in_frame setup start at before after count place book now ahead moment s
     fits = h.stays.fits;
     begins = h.stays.begins;
     at = refl;
-    work = of_run book.setup setup (λ (s : Setup). KeptBeforeRefusal s moment book.state h.content h.keeps.0) standing.own h.keeps.1;
+    work = of_run book.setup setup (λ (s : Setup). IsKeptWhereRefused s moment book.state h.content h.keeps.0) standing.own h.keeps.1;
   });
-  kept = grows_on before.records now.records after.records _ _ standing.kept h.keeps.2;
+  kept = Grows-trans before.records now.records after.records _ _ standing.kept h.keeps.2;
 }
 stopped_in_frame setup start at before after count place book now ahead moment stops.ReadFailed standing few moments h = absurd h
 stopped_in_frame setup start at before after count place book now ahead moment stops.Usage standing few moments h = absurd h
@@ -233,7 +234,7 @@ stopped_in_read setup start at before after count place book now ahead standing 
     ahead = ahead;
     taken = taken_of setup start at before after count place book now ahead standing (omega (arith, few)) h.0.unread;
     no_frame = inl h.1.0;
-    kept = grows_kept before.records now.records after.records _ standing.kept h.0.unkept;
+    kept = Grows-kept before.records now.records after.records _ standing.kept h.0.unkept;
     written = Appends-kept before.held now.held after.held _ standing.written h.0.unwritten;
     moments = kept_moments at before.shown now.shown after.shown _ standing.moments h.0.unseen;
   },

@@ -13,12 +13,13 @@ use Rattle.bank_model.specs.Rules.{opening_state, state_after, due, IsLegal}
 use Rattle.bank_model.specs.Polls.{is_poll}
 use Rattle.bank_model.specs.DueRun.{after_events, AreDue}
 use Rattle.event_codec.specs.Records.{Codes, Reopens}
-use Rattle.bank_session.specs.Frames.{Content, request, due_work}
-use Rattle.bank_session.specs.Keeping.{AreRecordsOf}
-use Rattle.bank_session.specs.Answers.{IsSignedOn, SaysOfFile, Says, Turn, AreTurns, records_in, BeginsWork, KeptInVain, KeptBeforeRefusal}
-use Rattle.bank_replay.proofs.AtHand.{found_within}
+use Rattle.bank_frames.specs.Frames.{Content, request, due_work}
+use Rattle.bank_desk.specs.Keeping.{AreRecordsOf}
+use Rattle.bank_session.specs.Answers.{AnswersFile, AnswersFrame, Turn, AreTurns, records_in, BeginsWork, IsPrefixKept, IsKeptWhereRefused}
+use Rattle.bank_desk.specs.Answering.{IsSignedOn}
+use Rattle.bank_solo.proofs.Named.{found_within}
 use Rattle.bank_session.specs.BooksKept.{StoppedRunsReopen}
-use Rattle.bank_session.proofs.DeskLemmas.{user_within}
+use Rattle.bank_desk.proofs.DeskLemmas.{user_within}
 
 -- what is due may be done
 abbrev pub DueIsLegal : Type 0
@@ -53,14 +54,14 @@ behind_due legal setup at before mid after (event ∷ events) [] more are kept s
 behind_due legal setup at before mid after (event ∷ events) (rec ∷ records) more are kept same reopens =
     (at, event, kept.0, legal setup before at event are.0, behind_due legal setup at (state_after setup before at event) mid after events records more are.1 kept.1 same reopens)
 
-behind_file : (setup : Setup) (at : Moment) (before mid after : State) (bytes line : List ℕ) (records more : List (List ℕ)) → SaysOfFile setup at before bytes line records mid → Reopens setup mid more after → Reopens setup before (records ++ more) after
+behind_file : (setup : Setup) (at : Moment) (before mid after : State) (bytes line : List ℕ) (records more : List (List ℕ)) → AnswersFile setup at before bytes line records mid → Reopens setup mid more after → Reopens setup before (records ++ more) after
 behind_file setup at before mid after bytes line records more (inl reply) reopens =
     behind_one setup at before mid after (File reply.user reply.file) records more (λ rec codes. signed_on_legal setup before at bytes rec reply.file reply.user codes reply.is_signed_on reply.is_event) reply.kept reply.state reopens
 behind_file setup at before mid after bytes line records more (inr (inl poll)) reopens = behind_none setup before mid after records more poll.unkept poll.state reopens
 behind_file setup at before mid after bytes line records more (inr (inr (inl denial))) reopens = behind_none setup before mid after records more denial.unkept denial.state reopens
 behind_file setup at before mid after bytes line records more (inr (inr (inr bad))) reopens = behind_none setup before mid after records more bad.unkept bad.state reopens
 
-behind_turn : DueIsLegal → (setup : Setup) (at : Moment) (before mid after : State) (content : Content) (line : List ℕ) (records more : List (List ℕ)) → Says setup at before content line records mid → Reopens setup mid more after → Reopens setup before (records ++ more) after
+behind_turn : DueIsLegal → (setup : Setup) (at : Moment) (before mid after : State) (content : Content) (line : List ℕ) (records more : List (List ℕ)) → AnswersFrame setup at before content line records mid → Reopens setup mid more after → Reopens setup before (records ++ more) after
 behind_turn legal setup at before mid after (request bytes) line records more says reopens = behind_file setup at before mid after bytes line records more says reopens
 behind_turn legal setup at before mid after due_work line records more says reopens =
     behind_due legal setup at before mid after says.events records more says.is_run.are_due says.kept says.state reopens
@@ -101,12 +102,12 @@ begun_reopens legal setup at before (request bytes) events records (inr (file, u
 begun_reopens legal setup at before due_work events records work kept = due_reopens legal setup at before events records work.0 kept
 
 -- what is kept where memory was refused may be kept where an append failed
-pub refused_in_vain : (setup : Setup) (at : Moment) (before : State) (content : Content) (records : List (List ℕ)) → KeptBeforeRefusal setup at before content records → KeptInVain setup at before content records
+pub refused_in_vain : (setup : Setup) (at : Moment) (before : State) (content : Content) (records : List (List ℕ)) → IsKeptWhereRefused setup at before content records → IsPrefixKept setup at before content records
 refused_in_vain setup at before (request bytes) records none = record { events = []; work = inl refl; kept = none }
 refused_in_vain setup at before due_work records kept = kept
 
 -- The records of a frame bring a bank to the state behind it.
-pub frame_reopens : DueIsLegal → (setup : Setup) (at : Moment) (before after : State) (content : Content) (line : List ℕ) (records : List (List ℕ)) → Says setup at before content line records after → Reopens setup before records after
+pub frame_reopens : DueIsLegal → (setup : Setup) (at : Moment) (before after : State) (content : Content) (line : List ℕ) (records : List (List ℕ)) → AnswersFrame setup at before content line records after → Reopens setup before records after
 frame_reopens legal setup at before after content line records says =
     let P : List (List ℕ) → Type 0 = λ kept. Reopens setup before kept after in
     subst P (append-nil records) (behind_turn legal setup at before after after content line records [] says refl)
@@ -118,7 +119,7 @@ goes_on_behind legal goes_on setup records kept start state next turns before ar
     (goes_on setup opening_state records (records_in turns ++ kept) next).1 (start, before, from_start)
 
 -- What is kept of a frame whose append failed goes on from the turns before it.
-pub stopped_reopens : DueIsLegal → GoesOn → StoppedRunsReopen KeptInVain
+pub stopped_reopens : DueIsLegal → GoesOn → StoppedRunsReopen IsPrefixKept
 stopped_reopens legal goes_on = λ setup records kept start state turns at content before are vain.
     let behind = begun_reopens legal setup at state content vain.events kept vain.work vain.kept in
     (vain, goes_on_behind legal goes_on setup records kept start state (after_events setup state at vain.events) turns before are behind)

@@ -6,20 +6,20 @@ use Rattle.std.proofs.lemmas.List.{drop-drop, take-append-drop, length-take-le}
 use Rattle.ofx_ports.specs.Faults.{Rose}
 use Rattle.ofx_types.specs.declared.number.Moment.{Moment}
 use Rattle.bank_core.specs.BookView.{BookView}
-use Rattle.bank_session.specs.Frames.{Content, IsLength, length_line, frame, frame_head, frame_of, Fits}
+use Rattle.bank_frames.specs.Frames.{Content, IsLength, length_line, frame, frame_head, frame_of, Fits}
 use Rattle.bank_session.specs.Answers.{AreMoments}
-use Rattle.bank_session.specs.Coming.{HoldsFile, HoldsFrame, file_in, content_in, size_of}
+use Rattle.bank_frames.specs.Coming.{HoldsFile, HoldsFrame, file_in, content_in, size_of}
 use Rattle.bank_session.specs.Stopping.{stop_of}
 use Rattle.bank_session.specs.Turns.{Around, HasNoLine, FrameStays, FrameStops}
 use Rattle.bank_session.specs.TurnResult.{TurnStops}
-use Rattle.bank_session.specs.declared.frame_head.FrameSize.{FrameSize}
-use Rattle.bank_session.specs.declared.frames.Frame.{Frame}
-use Rattle.bank_session.specs.declared.frames.Frame.TheVariants.{File, Due}
+use Rattle.bank_frames.specs.declared.frame_head.FrameSize.{FrameSize}
+use Rattle.bank_frames.specs.declared.frames.Frame.{Frame}
+use Rattle.bank_frames.specs.declared.frames.Frame.TheVariants.{File, Due}
 use Rattle.bank_session.specs.declared.stop.Stop.{Stop}
 use Rattle.bank_session.specs.declared.stop.Stop.TheVariants as stops
-use Rattle.bank_session.specs.declared.undone.Undone.{Undone}
-use Rattle.bank_session.specs.declared.undone.Undone.TheVariants.{NoMemory, NotKept}
-use Rattle.bank_session.proofs.Agreement.{head_is_short, parted, parted_due}
+use Rattle.bank_desk.specs.declared.fault.DeskFault.{DeskFault}
+use Rattle.bank_desk.specs.declared.fault.DeskFault.TheVariants.{NoMemory, AppendFailed}
+use Rattle.bank_frames.proofs.Agreement.{head_is_short, parted, parted_due}
 
 -- the file in a frame that is ahead
 file_length : (ahead : List ℕ) (size : FrameSize) → HoldsFile ahead size → length (file_in ahead size) ≡ size.file
@@ -101,10 +101,10 @@ stays_there found left rest ahead frame holds kept same = record {
 }
 
 -- a frame without a line stops the run
-pub frame_undone : (at : Moment) (before : BookView) (undone : Undone) (content : Content) (found left : Around) → FrameStays content found left → HasNoLine at before content found.records left.records undone → Keeps found.held left.held → (undone ≡ NotKept → Rose found.keeps left.keeps) → FrameStops at before found left (stop_of undone)
+pub frame_undone : (at : Moment) (before : BookView) (undone : DeskFault) (content : Content) (found left : Around) → FrameStays content found left → HasNoLine at before content found.records left.records undone → Keeps found.held left.held → (undone ≡ AppendFailed → Rose found.keeps left.keeps) → FrameStops at before found left (stop_of undone)
 frame_undone at before NoMemory content found left stays none unwritten rose =
     record { content = content; stays = stays; keeps = none; unwritten = unwritten }
-frame_undone at before NotKept content found left stays none unwritten rose =
+frame_undone at before AppendFailed content found left stays none unwritten rose =
     (record { content = content; stays = stays; keeps = none; unwritten = unwritten }, rose refl)
 
 -- a frame that stops the run does so at its moment

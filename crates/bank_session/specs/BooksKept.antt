@@ -8,15 +8,15 @@ use Rattle.bank_model.specs.declared.event.Event.TheVariants.{Letter}
 use Rattle.bank_model.specs.SetupForm.{IsWithinLimits}
 use Rattle.bank_model.specs.Rules.{IsLegal, opening_state, state_after}
 use Rattle.bank_model.specs.DueRun.{after_events}
-use Rattle.bank_core.specs.Books.{AreBooksRight}
+use Rattle.bank_rules.specs.Books.{AreBooksRight}
 use Rattle.event_codec.specs.Records.{Codes, Reopens}
-use Rattle.bank_session.specs.Frames.{Content}
-use Rattle.bank_session.specs.Answers.{Says, Turn, AreTurns, records_in, KeptInVain}
+use Rattle.bank_frames.specs.Frames.{Content}
+use Rattle.bank_session.specs.Answers.{AnswersFrame, Turn, AreTurns, records_in, IsPrefixKept}
 
 -- The records from which a bank opened, and behind them those of the turns that it took, bring a bank to the state behind the
 -- turns. So the next run over what is kept goes on from there.
 abbrev pub RunsReopen : Type 0
-RunsReopen = (setup : Setup) (records : List (List ℕ)) (start state : State) (turns : List Turn) → IsWithinLimits setup →
+RunsReopen = (setup : Setup) (records : List (List ℕ)) (start state : State) (turns : List Turn) →
     Reopens setup opening_state records start → AreTurns setup start turns state →
     Reopens setup opening_state (records ++ records_in turns) state
 
@@ -26,7 +26,7 @@ abbrev pub StoppedRunsReopen : (Setup → Moment → State → Content → List 
 StoppedRunsReopen IsKept = (setup : Setup) (records kept : List (List ℕ)) (start state : State) (turns : List Turn) (at : Moment)
     (content : Content) → Reopens setup opening_state records start → AreTurns setup start turns state →
     IsKept setup at state content kept →
-    (begun : KeptInVain setup at state content kept)
+    (begun : IsPrefixKept setup at state content kept)
     × Reopens setup opening_state (records ++ (records_in turns ++ kept)) (after_events setup state at begun.events)
 
 -- The records of a frame whose line wasn't written whole bring a bank, behind those of the turns, to the state behind the
@@ -34,7 +34,7 @@ StoppedRunsReopen IsKept = (setup : Setup) (records kept : List (List ℕ)) (sta
 abbrev pub UnwrittenRunsReopen : Type 0
 UnwrittenRunsReopen = (setup : Setup) (records kept : List (List ℕ)) (start state next : State) (turns : List Turn) (at : Moment)
     (content : Content) (line : List ℕ) → Reopens setup opening_state records start → AreTurns setup start turns state →
-    Says setup at state content line kept next → Reopens setup opening_state (records ++ (records_in turns ++ kept)) next
+    AnswersFrame setup at state content line kept next → Reopens setup opening_state (records ++ (records_in turns ++ kept)) next
 
 -- Behind the records from which a bank opened, the record of a letter that was legal there brings a bank to the state behind
 -- the letter, whether or not its append was told to have failed.

@@ -13,9 +13,11 @@ use Rattle.bank_model.specs.Polls.{is_poll, poll_reply}
 use Rattle.bank_model.specs.DueRun.{IsDueRun}
 use Rattle.bank_model.specs.declared.event.Event.{Event}
 use Rattle.event_codec.specs.Coding.{coded}
-use Rattle.bank_session.specs.Frames.{Content, frame, frame_of, Fits}
+use Rattle.bank_frames.specs.Frames.{Content, frame, frame_of, Fits}
 use Rattle.ofx_types.specs.ReplyForm.{reply_text}
-use Rattle.bank_session.specs.Answers.{Says, SaysOfFile, IsSignedOn, IsDenied, IsRefused, bad_line, Turn, AreTurns, written_in, records_in, moments_in}
+use Rattle.bank_session.specs.Answers.{AnswersFrame, AnswersFile, Turn, AreTurns, written_in, records_in, moments_in}
+use Rattle.bank_desk.specs.Answering.{IsSignedOn, IsDenied, IsRefused}
+use Rattle.bank_frames.specs.Lines.{bad_line}
 
 -- each file within its limit
 abbrev pub AllFit : List Content → Type 0
@@ -38,7 +40,7 @@ OneDueRun = (setup : Setup) (before : State) (at : Moment) (events events' : Lis
 -- For a frame at a moment there is one line, one list of records, and one state behind it.
 abbrev pub OneLine : Type 0
 OneLine = (setup : Setup) (at : Moment) (before : State) (content : Content) (line line' : List ℕ) (records records' : List (List ℕ)) (after after' : State) →
-    Says setup at before content line records after → Says setup at before content line' records' after' →
+    AnswersFrame setup at before content line records after → AnswersFrame setup at before content line' records' after' →
     (line ≡ line') × (records ≡ records') × (after ≡ after')
 
 -- A file that isn't answered has one place to tell,
@@ -61,30 +63,30 @@ DeniedIsUnanswered = (setup : Setup) (bytes : List ℕ) (file file' : RequestFil
 -- Where a user's file is an event its framed reply is written,
 abbrev pub WhereAnswered : Type 0
 WhereAnswered = (setup : Setup) (at : Moment) (before : State) (bytes line : List ℕ) (records : List (List ℕ)) (after : State) (file : RequestFile) (user : UserId) →
-    SaysOfFile setup at before bytes line records after → IsSignedOn setup bytes file user → is_poll file ≡ false →
+    AnswersFile setup at before bytes line records after → IsSignedOn setup bytes file user → is_poll file ≡ false →
     (line ≡ frame (answer_to setup before at (File user file))) × (records ≡ coded at (File user file) ∷ []) × (after ≡ state_after setup before at (File user file))
 
 -- where it is a poll the framed newest tokens,
 abbrev pub WherePolled : Type 0
 WherePolled = (setup : Setup) (at : Moment) (before : State) (bytes line : List ℕ) (records : List (List ℕ)) (after : State) (file : RequestFile) (user : UserId) →
-    SaysOfFile setup at before bytes line records after → IsSignedOn setup bytes file user → is_poll file ≡ true →
+    AnswersFile setup at before bytes line records after → IsSignedOn setup bytes file user → is_poll file ≡ true →
     (line ≡ frame (reply_text (poll_reply setup before user at file))) × (records ≡ []) × (after ≡ before)
 
 -- where its signon fails the framed denial,
 abbrev pub WhereDenied : Type 0
 WhereDenied = (setup : Setup) (at : Moment) (before : State) (bytes line : List ℕ) (records : List (List ℕ)) (after : State) (file : RequestFile) →
-    SaysOfFile setup at before bytes line records after → IsDenied setup bytes file →
+    AnswersFile setup at before bytes line records after → IsDenied setup bytes file →
     (line ≡ frame (reply_text (denial file at))) × (records ≡ []) × (after ≡ before)
 
 -- where it is refused the line with just this place,
 abbrev pub WhereRefused : Type 0
 WhereRefused = (setup : Setup) (at : Moment) (before : State) (bytes line : List ℕ) (records : List (List ℕ)) (after : State) (place : ℕ) →
-    SaysOfFile setup at before bytes line records after → IsRefused bytes place → (line ≡ bad_line place) × (records ≡ []) × (after ≡ before)
+    AnswersFile setup at before bytes line records after → IsRefused bytes place → (line ≡ bad_line place) × (records ≡ []) × (after ≡ before)
 
 -- and such a line is written only where it is refused, at a place that is printed so.
 abbrev pub OnlyWhereRefused : Type 0
 OnlyWhereRefused = (setup : Setup) (at : Moment) (before : State) (bytes : List ℕ) (records : List (List ℕ)) (after : State) (printed : ℕ) →
-    SaysOfFile setup at before bytes (bad_line printed) records after → (place : ℕ) × IsRefused bytes place × (decimal place ≡ decimal printed)
+    AnswersFile setup at before bytes (bad_line printed) records after → (place : ℕ) × IsRefused bytes place × (decimal place ≡ decimal printed)
 
 -- what the frames of turns hold
 abbrev pub contents_of : List Turn → List Content

@@ -6,8 +6,8 @@ use Rattle.ofx_ports.specs.Told.{Grows}
 use Rattle.ofx_types.specs.declared.number.Moment.{Moment}
 use Rattle.bank_model.specs.declared.setup.Setup.{Setup}
 use Rattle.bank_model.specs.declared.event.State.{State}
-use Rattle.bank_session.specs.Frames.{due_work}
-use Rattle.bank_session.specs.Answers.{DoesDue, KeptInVain}
+use Rattle.bank_frames.specs.Frames.{due_work}
+use Rattle.bank_session.specs.Answers.{DoesDue, IsPrefixKept}
 use Rattle.bank_session.specs.Outside.{Outside}
 use Rattle.bank_session.specs.declared.stop.Stop.{Stop}
 use Rattle.bank_session.specs.declared.stop.Stop.TheVariants as stops
@@ -25,7 +25,7 @@ pub record DueDone (setup : Setup) (start : State) (before after : Outside) : Ty
   pub written : Appends before.held after.held line
   pub moments : Grows before.shown after.shown (moment ∷ [])
 
--- A write failed. All is kept, and a front of the line is written.
+-- A write failed. All is kept, and a prefix of the line is written.
 pub record DueBroke (setup : Setup) (start : State) (before after : Outside) : Type 0 where
   pub moment : Moment
   pub line : List ℕ
@@ -38,18 +38,18 @@ pub record DueBroke (setup : Setup) (start : State) (before after : Outside) : T
   pub written : Appends before.held after.held (take count line)
   pub moments : Grows before.shown after.shown (moment ∷ [])
 
--- The append of a record failed. Nothing is written. The records of a front of what was due are kept, and perhaps the one
+-- The append of a record failed. Nothing is written. The records of a prefix of what was due are kept, and perhaps the one
 -- whose append failed is among them.
 pub record DueUnkept (setup : Setup) (start : State) (before after : Outside) : Type 0 where
   pub moment : Moment
   pub records : List (List ℕ)
-  pub work : KeptInVain setup moment start due_work records
+  pub work : IsPrefixKept setup moment start due_work records
   pub unread : Keeps before.input_left after.input_left
   pub kept : Grows before.records after.records records
   pub unwritten : Keeps before.held after.held
   pub moments : Grows before.shown after.shown (moment ∷ [])
 
--- Memory was refused. Nothing is written. The clock gave at most one answer, and the records of a front of what was due at
+-- Memory was refused. Nothing is written. The clock gave at most one answer, and the records of a prefix of what was due at
 -- that moment may be kept.
 pub record DueRefused (setup : Setup) (start : State) (before after : Outside) : Type 0 where
   pub unread : Keeps before.input_left after.input_left
@@ -58,7 +58,7 @@ pub record DueRefused (setup : Setup) (start : State) (before after : Outside) :
   pub few : length next ≤ 1
   pub moments : Grows before.shown after.shown next
   pub records : List (List ℕ)
-  pub work : (records ≡ []) ⊎ ((moment : Moment) × (next ≡ moment ∷ []) × KeptInVain setup moment start due_work records)
+  pub work : (records ≡ []) ⊎ ((moment : Moment) × (next ≡ moment ∷ []) × IsPrefixKept setup moment start due_work records)
   pub kept : Grows before.records after.records records
 
 -- What stands at each end of the command in a bank that stands in a state.

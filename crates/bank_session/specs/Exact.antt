@@ -11,7 +11,7 @@ use Rattle.bank_model.specs.Rules.{opening_state}
 use Rattle.bank_model.specs.declared.event.State.{State}
 use Rattle.bank_replay.specs.Opening.{HasNoForm, IsNotLegal}
 use Rattle.event_codec.specs.Records.{Reopens}
-use Rattle.bank_session.specs.Frames.{Content, frame_of, Fits, BeginsNoFrame}
+use Rattle.bank_frames.specs.Frames.{Content, frame_of, Fits, BeginsNoFrame}
 use Rattle.bank_session.specs.Outside.{Outside}
 use Rattle.bank_session.specs.Letters.{IsBody, HasNoBody, user_named}
 use Rattle.bank_session.specs.Run.{EndsWith, DueEndsWith, MailEndsWith, told}

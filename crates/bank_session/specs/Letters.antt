@@ -1,8 +1,8 @@
 -- Letters of the bank to a user: the body that an input is, and what writing one does.
-use Rattle.std.specs.Prelude.{◌≡◌, ℕ, ◌+◌, ◌<◌, ◌≤◌, true, false, List, [], ◌∷◌, ◌++◌, length, codes, position, Option, None, Some, Result, Ok, Err}
+use Rattle.std.specs.Prelude.{◌≡◌, ℕ, ◌+◌, ◌<◌, ◌≤◌, true, false, List, length, codes, position, Option, None, Some, Result, Ok, Err}
 use Rattle.std.specs.Option.{IfSome, option_map}
 use Rattle.std.specs.Str.{bytes_eq}
-use Rattle.std.specs.Fmt.{decimal}
+use Rattle.bank_frames.specs.Lines.{mail_line}
 use Rattle.ofx_types.specs.TextRules.{trimmed, is_refused_in_text}
 use Rattle.ofx_types.specs.declared.number.UserId.{UserId}
 use Rattle.ofx_types.specs.declared.number.Moment.{Moment}
@@ -88,10 +88,6 @@ pub record CanWrite (bank : BookView) (to : UserId × ℕ) (subject body : List 
   pub body_fits : HasLength 10000 body
   pub left : has_number bank.setup bank.state ≡ true
   pub next : to.1 ≡ length bank.state.entries + 1
-
--- `MAIL`, a space and a number
-abbrev pub mail_line : ℕ → List ℕ
-mail_line n = codes "MAIL " ++ decimal n ++ 10 ∷ []
 
 -- A letter is an event of the bank with its record, and the line tells the number of its entry.
 pub record WritesLetter (setup : Setup) (at : Moment) (before : State) (user : UserId) (subject body line rec : List ℕ) (after : State) : Type 0 where

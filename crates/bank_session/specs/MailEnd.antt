@@ -31,7 +31,7 @@ pub record LetterDone (bank : BookView) (name subject body : List ℕ) (before a
   pub written : Appends before.held after.held line
   pub moments : Grows before.shown after.shown (moment ∷ [])
 
--- A write failed. The letter is kept, and a front of the line is written.
+-- A write failed. The letter is kept, and a prefix of the line is written.
 pub record LetterBroke (bank : BookView) (name subject body : List ℕ) (before after : Outside) : Type 0 where
   pub user : UserId
   pub moment : Moment

@@ -7,8 +7,8 @@ use Rattle.ofx_ports.specs.Told.{Grows}
 use Rattle.ofx_types.specs.declared.number.Moment.{Moment}
 use Rattle.bank_model.specs.declared.setup.Setup.{Setup}
 use Rattle.bank_model.specs.declared.event.State.{State}
-use Rattle.bank_session.specs.Frames.{Content, frame_of, Fits, BeginsNoFrame}
-use Rattle.bank_session.specs.Answers.{Says, Turn, AreTurns, read_in, written_in, records_in, moments_in, AreMoments, KeptInVain, KeptBeforeRefusal}
+use Rattle.bank_frames.specs.Frames.{Content, frame_of, Fits, BeginsNoFrame}
+use Rattle.bank_session.specs.Answers.{AnswersFrame, Turn, AreTurns, read_in, written_in, records_in, moments_in, AreMoments, IsPrefixKept, IsKeptWhereRefused}
 use Rattle.bank_session.specs.Outside.{Outside}
 use Rattle.bank_session.specs.declared.stop.Stop.{Stop}
 use Rattle.bank_session.specs.declared.stop.Stop.TheVariants as stops
@@ -42,10 +42,10 @@ pub record RefusedIn (setup : Setup) (state : State) (coming : Option (List ℕ)
   pub fits : Fits content
   pub begins : ComesNext content coming
   pub at : next ≡ moment ∷ []
-  pub work : KeptBeforeRefusal setup moment state content records
+  pub work : IsKeptWhereRefused setup moment state content records
 
 -- Memory was refused. The frames of the turns are answered whole, and nothing more is written. The clock may have been
--- read for the next frame, and where that is a call for due work a front of its events may have happened and be kept.
+-- read for the next frame, and where that is a call for due work a prefix of its events may have happened and be kept.
 pub record StoppedBetween (setup : Setup) (start : State) (at : Option Moment) (before after : Outside) : Type 0 where
   pub turns : List Turn
   pub state : State
@@ -83,7 +83,7 @@ pub record StoppedAtFrame (setup : Setup) (start : State) (at : Option Moment) (
   pub written : Appends before.held after.held (written_in turns)
   pub moments : AreMoments at before.shown after.shown (moments_in turns)
 
--- A write failed. A front of the line of the next frame, of which all is kept, is written behind the lines of the turns.
+-- A write failed. A prefix of the line of the next frame, of which all is kept, is written behind the lines of the turns.
 pub record StoppedInLine (setup : Setup) (start : State) (at : Option Moment) (before after : Outside) : Type 0 where
   pub turns : List Turn
   pub state : State
@@ -98,7 +98,7 @@ pub record StoppedInLine (setup : Setup) (start : State) (at : Option Moment) (b
   pub room : length turns < 1000000
   pub fits : Fits content
   pub begins : ComesNext content (prepend_known ahead after.input_left)
-  pub says : Says setup moment state content line records next
+  pub answers : AnswersFrame setup moment state content line records next
   pub kept : Grows before.records after.records (records_in turns ++ records)
   pub written : Appends before.held after.held (written_in turns ++ take count line)
   pub moments : AreMoments at before.shown after.shown (moments_in turns ++ moment ∷ [])
@@ -116,7 +116,7 @@ pub record StoppedInKeeping (setup : Setup) (start : State) (at : Option Moment)
   pub room : length turns < 1000000
   pub fits : Fits content
   pub begins : ComesNext content (prepend_known ahead after.input_left)
-  pub work : KeptInVain setup moment state content records
+  pub work : IsPrefixKept setup moment state content records
   pub kept : Grows before.records after.records (records_in turns ++ records)
   pub written : Appends before.held after.held (written_in turns)
   pub moments : AreMoments at before.shown after.shown (moments_in turns ++ moment ∷ [])

@@ -1,10 +1,10 @@
 -- What an undone piece of work means for a run.
-use Rattle.bank_session.specs.declared.undone.Undone.{Undone}
-use Rattle.bank_session.specs.declared.undone.Undone.TheVariants.{NoMemory, NotKept}
+use Rattle.bank_desk.specs.declared.fault.DeskFault.{DeskFault}
+use Rattle.bank_desk.specs.declared.fault.DeskFault.TheVariants.{NoMemory, AppendFailed}
 use Rattle.bank_session.specs.declared.stop.Stop.{Stop}
 use Rattle.bank_session.specs.declared.stop.Stop.TheVariants as stops
 
 -- A run stops with it.
-abbrev pub stop_of : Undone → Stop
+abbrev pub stop_of : DeskFault → Stop
 stop_of NoMemory = stops.NoMemory
-stop_of NotKept = stops.KeeperFailed
+stop_of AppendFailed = stops.KeeperFailed

@@ -6,9 +6,9 @@ use Rattle.ofx_ports.specs.Faults.{Rose}
 use Rattle.ofx_ports.specs.Told.{Stays}
 use Rattle.ofx_types.specs.declared.number.Moment.{Moment}
 use Rattle.bank_core.specs.BookView.{BookView}
-use Rattle.bank_session.specs.Frames.{BeginsNoFrame}
+use Rattle.bank_frames.specs.Frames.{BeginsNoFrame}
 use Rattle.bank_session.specs.Answers.{AreMoments}
-use Rattle.bank_session.specs.Coming.{IsNoFrame}
+use Rattle.bank_frames.specs.Coming.{IsNoFrame}
 use Rattle.bank_session.specs.Turns.{Around, FrameAnswered, FrameStops}
 use Rattle.bank_session.specs.declared.stop.Stop.{Stop}
 use Rattle.bank_session.specs.declared.stop.Stop.TheVariants as stops

@@ -5,13 +5,13 @@ use Rattle.ofx_ports.specs.Faults.{Rose}
 use Rattle.ofx_ports.specs.Told.{Grows}
 use Rattle.ofx_types.specs.declared.number.Moment.{Moment}
 use Rattle.bank_core.specs.BookView.{BookView}
-use Rattle.bank_session.specs.Frames.{Content, frame_of, Fits}
-use Rattle.bank_session.specs.Answers.{Says, KeptInVain, KeptBeforeRefusal}
+use Rattle.bank_frames.specs.Frames.{Content, frame_of, Fits}
+use Rattle.bank_session.specs.Answers.{AnswersFrame, IsPrefixKept, IsKeptWhereRefused}
 use Rattle.bank_session.specs.RunEnd.{ComesNext}
 use Rattle.bank_session.specs.declared.stop.Stop.{Stop}
 use Rattle.bank_session.specs.declared.stop.Stop.TheVariants as stops
-use Rattle.bank_session.specs.declared.undone.Undone.{Undone}
-use Rattle.bank_session.specs.declared.undone.Undone.TheVariants.{NoMemory, NotKept}
+use Rattle.bank_desk.specs.declared.fault.DeskFault.{DeskFault}
+use Rattle.bank_desk.specs.declared.fault.DeskFault.TheVariants.{NoMemory, AppendFailed}
 
 -- What a turn finds and leaves outside of it: what is still to come of the input, the bytes that the output holds, the records
 -- that the keeper has, the answers that the clock has given, and the three counts of faults.
@@ -36,29 +36,29 @@ around coming reads held writes records keeps shown = record {
 }
 
 -- For a frame this line is to be written, and its records are kept.
-abbrev pub SaysAndKeeps : Moment → BookView → BookView → Content → Option (List (List ℕ)) → Option (List (List ℕ)) → List ℕ → Type 0
-SaysAndKeeps at before after content told told' line =
-    (records : List (List ℕ)) × Says before.setup at before.state content line records after.state × Grows told told' records
+abbrev pub AnswersAndKeeps : Moment → BookView → BookView → Content → Option (List (List ℕ)) → Option (List (List ℕ)) → List ℕ → Type 0
+AnswersAndKeeps at before after content told told' line =
+    (records : List (List ℕ)) × AnswersFrame before.setup at before.state content line records after.state × Grows told told' records
 
 -- What is kept of a frame for which there is no line: memory was refused, or the append of a record failed.
 abbrev pub KeepsRefused : Moment → BookView → Content → Option (List (List ℕ)) → Option (List (List ℕ)) → Type 0
 KeepsRefused at before content told told' =
-    (records : List (List ℕ)) × KeptBeforeRefusal before.setup at before.state content records × Grows told told' records
+    (records : List (List ℕ)) × IsKeptWhereRefused before.setup at before.state content records × Grows told told' records
 
-abbrev pub KeepsInVain : Moment → BookView → Content → Option (List (List ℕ)) → Option (List (List ℕ)) → Type 0
-KeepsInVain at before content told told' =
-    (records : List (List ℕ)) × KeptInVain before.setup at before.state content records × Grows told told' records
+abbrev pub KeepsPrefix : Moment → BookView → Content → Option (List (List ℕ)) → Option (List (List ℕ)) → Type 0
+KeepsPrefix at before content told told' =
+    (records : List (List ℕ)) × IsPrefixKept before.setup at before.state content records × Grows told told' records
 
-abbrev pub HasNoLine : Moment → BookView → Content → Option (List (List ℕ)) → Option (List (List ℕ)) → Undone → Type 0
+abbrev pub HasNoLine : Moment → BookView → Content → Option (List (List ℕ)) → Option (List (List ℕ)) → DeskFault → Type 0
 HasNoLine at before content told told' NoMemory = KeepsRefused at before content told told'
-HasNoLine at before content told told' NotKept = KeepsInVain at before content told told'
+HasNoLine at before content told told' AppendFailed = KeepsPrefix at before content told told'
 
--- The frame in front, of so many bytes, is used up, its records are kept, and its line is written whole.
+-- The next frame, of so many bytes, is used up, its records are kept, and its line is written whole.
 pub record FrameAnswered (at : Moment) (size : ℕ) (before after : BookView) (found left : Around) : Type 0 where
   pub content : Content
   pub line : List ℕ
   pub fits : Fits content
-  pub says : SaysAndKeeps at before after content found.records left.records line
+  pub answers : AnswersAndKeeps at before after content found.records left.records line
   pub setup : after.setup ≡ before.setup
   pub read : Consumes found.coming left.coming (frame_of content)
   pub size_is : size ≡ length (frame_of content)
@@ -70,21 +70,21 @@ pub record FrameStays (content : Content) (found left : Around) : Type 0 where
   pub unread : Keeps found.coming left.coming
   pub begins : ComesNext content left.coming
 
--- The write of the line for the next frame failed: its records are kept, and a front of the line is written.
+-- The write of the line for the next frame failed: its records are kept, and a prefix of the line is written.
 pub record WriteBroke (at : Moment) (before : BookView) (found left : Around) : Type 0 where
   pub content : Content
   pub line : List ℕ
   pub after : BookView
   pub count : ℕ
   pub stays : FrameStays content found left
-  pub says : SaysAndKeeps at before after content found.records left.records line
+  pub answers : AnswersAndKeeps at before after content found.records left.records line
   pub written : Appends found.held left.held (take count line)
 
 -- The append of a record of the next frame failed: nothing is written.
 pub record AppendBroke (at : Moment) (before : BookView) (found left : Around) : Type 0 where
   pub content : Content
   pub stays : FrameStays content found left
-  pub keeps : KeepsInVain at before content found.records left.records
+  pub keeps : KeepsPrefix at before content found.records left.records
   pub unwritten : Keeps found.held left.held
 
 -- Memory for the next frame was refused: nothing is written.
@@ -106,7 +106,7 @@ FrameStops at before found left (stops.Frame place) = ⊥
 FrameStops at before found left (stops.Records fault) = ⊥
 FrameStops at before found left (stops.Letter fault) = ⊥
 
--- The frame in front was answered, or the run stops in it.
+-- The next frame was answered, or the run stops in it.
 abbrev pub FrameResult : Moment → ℕ → BookView → BookView → Around → Around → Result (Unit {0}) Stop → Type 0
 FrameResult at size before after found left (Ok done) = FrameAnswered at size before after found left
 FrameResult at size before after found left (Err stop) = FrameStops at before found left stop

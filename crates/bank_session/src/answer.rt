@@ -11,10 +11,9 @@ ghost use Rattle.bank_session.specs.Run as runs;
 ghost use Rattle.bank_session.specs.Run.{EndsSo, told_of, told_of_letter, told_of_records};
 ghost use Rattle.bank_session.specs.Exact.{IsRun, IsDueCommand, IsMailCommand};
 
-use crate::desk::Desk;
 use crate::due::do_due_once;
 use crate::mail::send_letter;
-use crate::opening::one_bank;
+use crate::opening::{one_bank, open_desk};
 use crate::run::answer_frames as answer_input;
 use crate::setup_source::read_setup;
 use crate::stop::{LetterFault, RecordsFault, Stop};
@@ -44,7 +43,7 @@ fn run<A: Source, B: Source, W: Sink, K: Keeper, C: Clock>(
     ensures still { IsSome at → clock.new ≡ clock.old }
 {
     let setup = read_setup(alloc, setup)?;
-    let mut desk = Desk::open(alloc, setup, keeper)?;
+    let mut desk = open_desk(alloc, setup, keeper)?;
     answer_input(alloc, &mut desk, at, clock, input, out, keeper)
 }
 
@@ -150,7 +149,7 @@ fn at_place(status: u8, place: u64) -> Told
 /// | 4 | the number of bytes of the frames answered | the input goes on with bytes that begin no frame, or behind 1,000,000 frames |
 /// | 4 | 0 | of `mail`: the input is no body, or has more than 262,144 bytes; nothing was written |
 /// | 5 | | a read of the setup or of the input failed; the frames before are answered |
-/// | 6 | | a write failed; a front of the text is written |
+/// | 6 | | a write failed; a prefix of the text is written |
 /// | 7 | | memory was refused; the frames before are answered |
 /// | 8 | | a call of the keeper failed; the frames before are answered, and the record whose append failed may have landed |
 /// | 9 | the number of a record, from 1, and the place of its first fault | this record is the first that codes no event; nothing was written |

@@ -6,9 +6,8 @@ ghost use Rattle.bank_model.specs.Sound.{HasLength};
 ghost use Rattle.bank_session.specs.Letters.{IsBodyOf, ReadsBody};
 ghost use Rattle.bank_session.specs.MailEnd.{StopsReading};
 
-use crate::ahead::Ahead;
 use crate::stop::{LetterFault, Stop};
-use crate::whole::{MOST_WHOLE, read_whole};
+use bank_frames::{Ahead, MOST_WHOLE, read_whole};
 use ofx_ports::{Failed, Source};
 use ofx_types::{Text, TextFault};
 use std::alloc::Global;

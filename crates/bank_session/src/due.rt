@@ -5,10 +5,12 @@ ghost use Rattle.bank_session.specs.Outside.{outside};
 ghost use Rattle.bank_session.specs.DueEnd.{DueEnds};
 ghost use Rattle.bank_session.specs.Run.{DueEndsSo};
 
-use crate::desk::Desk;
-use crate::output::write_whole;
+use crate::lines::due_line;
+use crate::opening::open_desk;
 use crate::setup_source::read_setup;
 use crate::stop::Stop;
+use bank_desk::Desk;
+use bank_frames::write_whole;
 use ofx_ports::{Clock, Failed, Keeper, Sink, Source};
 use std::alloc::Global;
 
@@ -30,7 +32,7 @@ pub fn do_due_once<A: Source, W: Sink, K: Keeper, C: Clock>(
     ensures later { K.faults keeper.old ≤ K.faults keeper.new }
 {
     let setup = read_setup(alloc, setup)?;
-    let mut desk = Desk::open(alloc, setup, keeper)?;
+    let mut desk = open_desk(alloc, setup, keeper)?;
     write_due(alloc, &mut desk, out, keeper, clock)
 }
 
@@ -51,7 +53,7 @@ fn write_due<W: Sink, K: Keeper, C: Clock>(
     ensures later { K.faults keeper.old ≤ K.faults keeper.new }
 {
     let moment = clock.now();
-    let line = desk.due(alloc, keeper, moment)?;
+    let line = due_line(alloc, desk, keeper, moment)?;
     match write_whole(out, &line) {
         Ok(()) => Ok(()),
         Err(Failed) => Err(Stop::WriteFailed),

@@ -1,12 +1,12 @@
 //! What is written is determined, and the books are kept: laws over the definitions.
 
 ghost use Rattle.bank_session.specs.Determined.{OneSplitting, OneRefusal, RefusedIsUnanswered, RefusedIsUndenied, DeniedIsUnanswered, WhereAnswered, WherePolled, WhereDenied, WhereRefused, OnlyWhereRefused, OneDueRun, OneLine, OneOutput};
-ghost use Rattle.bank_session.specs.Answers.{KeptInVain, KeptBeforeRefusal};
+ghost use Rattle.bank_session.specs.Answers.{IsPrefixKept, IsKeptWhereRefused};
 ghost use Rattle.bank_session.specs.BooksKept.{RunsReopen, StoppedRunsReopen, UnwrittenRunsReopen, LettersReopen, RunsKeepTheBooks};
 
-use bank_core::{due_work_is_legal, due_work_is_one};
 use bank_replay::reopened_books_are_right;
-use event_codec::reopening_goes_on;
+use bank_rules::laws::due::{due_work_is_legal, due_work_is_one};
+use event_codec::laws::reopening_goes_on;
 use ofx_file::{faults_spell_nothing, one_fault, one_file};
 
 /// An input is split into frames in one way: of two splittings one goes on where the other stops.
@@ -81,8 +81,8 @@ pub fn runs_reopen()
 /// whether or not its record landed; because memory was refused; or because the line couldn't be written. The next run
 /// finds none of them illegal. With no turns, and a call for due work as the frame, this is the command `due`.
 pub fn stopped_runs_reopen()
-    ensures unkept { StoppedRunsReopen KeptInVain }
-    ensures refused { StoppedRunsReopen KeptBeforeRefusal }
+    ensures unkept { StoppedRunsReopen IsPrefixKept }
+    ensures refused { StoppedRunsReopen IsKeptWhereRefused }
     ensures unwritten { UnwrittenRunsReopen }
 {
     due_work_is_legal();

@@ -6,27 +6,19 @@
 #![tactic(auto)]
 
 mod addressee;
-mod ahead;
 mod answer;
 mod body;
-mod desk;
 mod due;
-mod frame_head;
-mod frames;
-mod judge;
-mod keeping;
 mod laws;
+mod letters;
 mod lines;
 mod mail;
 mod moments;
 mod opening;
-mod output;
 mod run;
 mod setup_source;
 mod stop;
 mod turn;
-mod undone;
-mod whole;
 mod words;
 
 pub use answer::{answer_files, answer_told};
@@ -35,6 +27,3 @@ pub use laws::{
     one_splitting, runs_keep_the_books, runs_reopen, stopped_runs_reopen,
 };
 pub use words::{AnswerWords, Command, command_of};
-
-#[cfg(test)]
-mod tests;

@@ -1,70 +1,84 @@
-//! The lines and the frames that are written.
+//! What is written for a frame: the reply to a file in its frame, the place of a file's fault, or the number of events of due
+//! work.
 
-ghost use Rattle.std.specs.Prelude.{◌≡◌, IfOk};
+ghost use Rattle.std.specs.Prelude.{◌≡◌, ◌≢◌, ℕ, true, false, List, length, Err, IfOk, OnErr, IsErrOf};
+ghost use Rattle.ofx_ports.specs.Faults.{CountsFaults};
+ghost use Rattle.ofx_ports.specs.Told.{Stays, Grows};
 ghost use Rattle.ofx_types.specs.Calendar.{IsMoment};
-ghost use Rattle.ofx_types.specs.ReplyForm.{reply_text};
-ghost use Rattle.bank_model.specs.Rules as rules;
-ghost use Rattle.bank_session.specs.Frames.{frame};
-ghost use Rattle.bank_session.specs.Answers.{bad_line, due_line};
-ghost use Rattle.bank_session.specs.Letters.{mail_line};
+ghost use Rattle.bank_frames.specs.Frames as frames;
+ghost use Rattle.bank_frames.specs.Frames.{IsLength};
+ghost use Rattle.bank_session.specs.Answers.{AnswersFile, DoesDue, IsPrefixKept};
 
-use bank_core::denial;
-use ofx_file::write_reply;
-use ofx_types::{Moment, OutOfMemory, RequestFile};
-use ofx_values::print_number;
+use bank_desk::{Answered, Desk, DeskFault, Envelope};
+use bank_frames::{bad_file_line, due_work_line, framed};
+use ofx_ports::Keeper;
+use ofx_types::{Moment, OutOfMemory};
 use std::alloc::Global;
 
-/// The framed reply to a file whose signon failed.
-pub fn denial_line(alloc: Global, at: Moment, file: RequestFile) -> Result<Vec<u8>, OutOfMemory>
-    requires { IsMoment at.0 }
-    ensures { IfOk result (λ line. line.items ≡ frame (reply_text (rules.denial file at))) }
-{
-    let reply = write_reply(alloc, &denial(alloc, file, at))?;
-    framed(alloc, &reply)
+/// The frame of a file, in which a reply is written.
+#[derive(Clone, Copy, Debug)]
+pub struct FileFrame;
+
+impl Envelope for FileFrame {
+    ghost use Rattle.bank_frames.specs.Frames.{frame};
+
+    ghost sent = { λ envelope reply. frame reply };
+
+    fn wrap(&self, alloc: Global, reply: &[u8]) -> Result<Vec<u8>, OutOfMemory> {
+        framed(alloc, reply)
+    }
 }
 
-/// The line for a file that isn't answered, which tells a place in it.
-pub fn bad_file_line(alloc: Global, place: u64) -> Result<Vec<u8>, OutOfMemory>
-    ensures { IfOk result (λ line. line.items ≡ bad_line place) }
+/// What is to be written for the bytes of a file, at most 262,144 of them, at that moment.
+pub fn file_line<K: Keeper>(
+    alloc: Global,
+    desk: &mut Desk,
+    keeper: &mut K,
+    at: Moment,
+    bytes: &[u8],
+) -> Result<Vec<u8>, DeskFault>
+    requires moment { IsMoment at.0 }
+    requires fits { IsLength (length bytes.now) }
+    requires settled { K.unsettled keeper.old ≡ false }
+    ensures setup { desk.new.setup ≡ desk.old.setup }
+    ensures line { IfOk result (λ line. (records : List (List ℕ))
+        × AnswersFile desk.old.setup at desk.old.state bytes.now line.items records desk.new.state
+        × Grows (K.records keeper.old) (K.records keeper.new) records) }
+    ensures refused { result ≡ Err DeskFault.NoMemory → Stays (K.records keeper.old) (K.records keeper.new) }
+    ensures unkept { result ≡ Err DeskFault.AppendFailed → (records : List (List ℕ))
+        × IsPrefixKept desk.old.setup at desk.old.state (frames.request bytes.now) records
+        × Grows (K.records keeper.old) (K.records keeper.new) records }
+    ensures settled { result ≢ Err DeskFault.AppendFailed → K.unsettled keeper.new ≡ false }
+    ensures unsettled { result ≡ Err DeskFault.AppendFailed → K.unsettled keeper.new ≡ true }
+    ensures faults { CountsFaults (K.faults keeper.old) (K.faults keeper.new) (IsErrOf result DeskFault.AppendFailed) }
 {
-    let mut line = Vec::from_slice(alloc, b"BAD ")?;
-    print_number(place, &mut line)?;
-    line.push(b'\n')?;
-    Ok(line)
+    match desk.answer(alloc, keeper, at, bytes, FileFrame)? {
+        Answered::Sent(line) => Ok(line),
+        Answered::Bad(place) => Ok(bad_file_line(alloc, place)?),
+    }
 }
 
-/// The line that tells how many events a run of due work had.
-pub fn due_work_line(alloc: Global, count: u64) -> Result<Vec<u8>, OutOfMemory>
-    ensures { IfOk result (λ line. line.items ≡ due_line count) }
+/// Does what is due at that moment, and gives the line of how many events that were. Where it isn't done, a prefix of them has
+/// happened.
+pub fn due_line<K: Keeper>(
+    alloc: Global,
+    desk: &mut Desk,
+    keeper: &mut K,
+    at: Moment,
+) -> Result<Vec<u8>, DeskFault>
+    requires moment { IsMoment at.0 }
+    requires settled { K.unsettled keeper.old ≡ false }
+    ensures setup { desk.new.setup ≡ desk.old.setup }
+    ensures line { IfOk result (λ line. (records : List (List ℕ))
+        × DoesDue desk.old.setup at desk.old.state line.items records desk.new.state
+        × Grows (K.records keeper.old) (K.records keeper.new) records) }
+    ensures prefix { OnErr result ((records : List (List ℕ))
+        × IsPrefixKept desk.old.setup at desk.old.state frames.due_work records
+        × Grows (K.records keeper.old) (K.records keeper.new) records) }
+    ensures settled { result ≢ Err DeskFault.AppendFailed → K.unsettled keeper.new ≡ false }
+    ensures unsettled { result ≡ Err DeskFault.AppendFailed → K.unsettled keeper.new ≡ true }
+    ensures faults { CountsFaults (K.faults keeper.old) (K.faults keeper.new) (IsErrOf result DeskFault.AppendFailed) }
 {
-    let mut line = Vec::from_slice(alloc, b"DUE ")?;
-    print_number(count, &mut line)?;
-    line.push(b'\n')?;
-    Ok(line)
-}
-
-/// The line that tells the number of a letter's entry.
-pub fn letter_line(alloc: Global, number: u64) -> Result<Vec<u8>, OutOfMemory>
-    ensures { IfOk result (λ line. line.items ≡ mail_line number) }
-{
-    let mut line = Vec::from_slice(alloc, b"MAIL ")?;
-    print_number(number, &mut line)?;
-    line.push(b'\n')?;
-    Ok(line)
-}
-
-/// The most bytes that a frame's head has: its word, one space, a length of twenty digits, and one LF.
-const HEAD: usize = 26;
-
-/// The bytes of a file in their frame.
-#[tactic(auto, unfolding(crate::specs::Frames::frame_head))]
-pub fn framed(alloc: Global, bytes: &[u8]) -> Result<Vec<u8>, OutOfMemory>
-    ensures { IfOk result (λ line. line.items ≡ frame bytes.now) }
-{
-    let mut line = Vec::with_capacity(alloc, bytes.len().saturating_add(HEAD))?;
-    line.extend_from_slice(b"FILE ")?;
-    print_number(bytes.len() as u64, &mut line)?;
-    line.push(b'\n')?;
-    line.extend_from_slice(bytes)?;
-    Ok(line)
+    let count = desk.due(alloc, keeper, at)?;
+    Ok(due_work_line(alloc, count)?)
 }

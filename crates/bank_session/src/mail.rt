@@ -8,11 +8,14 @@ ghost use Rattle.bank_session.specs.Letters.{CanWrite, user_named};
 ghost use Rattle.bank_session.specs.MailEnd.{LetterEnds, MailEnds};
 ghost use Rattle.bank_session.specs.Run.{MailEndsSo};
 
+use crate::addressee::addressee;
 use crate::body::read_body;
-use crate::desk::Desk;
-use crate::output::write_whole;
+use crate::letters::letter;
+use crate::opening::open_desk;
 use crate::setup_source::read_setup;
 use crate::stop::Stop;
+use bank_desk::Desk;
+use bank_frames::write_whole;
 use ofx_ports::{Clock, Failed, Keeper, Sink, Source};
 use ofx_types::{Text, UserId};
 use std::alloc::Global;
@@ -62,7 +65,7 @@ fn send<A: Source, B: Source, W: Sink, K: Keeper, C: Clock>(
     ensures later { K.faults keeper.old ≤ K.faults keeper.new }
 {
     let setup = read_setup(alloc, setup)?;
-    let mut desk = Desk::open(alloc, setup, keeper)?;
+    let mut desk = open_desk(alloc, setup, keeper)?;
     send_at(alloc, &mut desk, name, subject, input, out, keeper, clock)
 }
 
@@ -111,7 +114,7 @@ fn write_letter<W: Sink, K: Keeper, C: Clock>(
     ensures settled { result ≢ Err Stop.KeeperFailed → K.unsettled keeper.new ≡ false }
     ensures later { K.faults keeper.old ≤ K.faults keeper.new }
 {
-    match desk.addressee(name) {
+    match addressee(desk, name) {
         Ok(to) => write_to(alloc, desk, to, subject, body, out, keeper, clock),
         Err(fault) => Err(Stop::Letter(fault)),
     }
@@ -137,7 +140,7 @@ fn write_to<W: Sink, K: Keeper, C: Clock>(
     ensures later { K.faults keeper.old ≤ K.faults keeper.new }
 {
     let moment = clock.now();
-    let line = desk.letter(alloc, keeper, moment, to, subject, body)?;
+    let line = letter(alloc, desk, keeper, moment, to, subject, body)?;
     match write_whole(out, &line) {
         Ok(()) => Ok(()),
         Err(Failed) => Err(Stop::WriteFailed),

@@ -1,14 +1,22 @@
 //! Why a run stops whose bank doesn't open, and that its records come to one thing.
 
-ghost use Rattle.std.specs.Prelude.{◌≡◌};
+ghost use Rattle.std.specs.Prelude.{◌≡◌, ◌≤◌, false, IfOk, IfErr};
+ghost use Rattle.ofx_ports.specs.Told.{Stays};
+ghost use Rattle.bank_model.specs.SetupForm.{IsWithinLimits};
+ghost use Rattle.bank_replay.specs.Opening.{Stands};
 ghost use Rattle.bank_session.specs.RecordsRead as records;
+ghost use Rattle.bank_session.specs.RecordsRead.{StopsOpening};
 ghost use Rattle.bank_session.specs.OneBank.{OneBank};
 
 use crate::stop::{RecordsFault, Stop};
+use bank_desk::Desk;
+use bank_model::Setup;
 use bank_replay::{OpenFault, causes_open_nothing, one_cause, one_opening};
+use ofx_ports::Keeper;
+use std::alloc::Global;
 
 /// With what a run stops whose bank doesn't open from its records.
-pub fn opening_stop(fault: OpenFault) -> Stop
+fn opening_stop(fault: OpenFault) -> Stop
     ensures { result ≡ records.opening_stop fault }
 {
     match fault {
@@ -16,6 +24,23 @@ pub fn opening_stop(fault: OpenFault) -> Stop
         OpenFault::Record(number, at) => Stop::Records(RecordsFault::NoForm(number, at)),
         OpenFault::Illegal(number) => Stop::Records(RecordsFault::NotLegal(number)),
         OpenFault::OutOfMemory => Stop::NoMemory,
+    }
+}
+
+/// The bank of that setup that stands for the records that are kept.
+pub fn open_desk<K: Keeper>(alloc: Global, setup: Setup, keeper: &mut K) -> Result<Desk, Stop>
+    requires within { IsWithinLimits setup }
+    requires settled { K.unsettled keeper.old ≡ false }
+    ensures setup { IfOk result (λ desk. desk.setup ≡ setup) }
+    ensures stands { IfOk result (λ desk. Stands setup (K.records keeper.old) desk.state) }
+    ensures stops { IfErr result (StopsOpening setup (K.records keeper.old) (K.faults keeper.old) (K.faults keeper.new)) }
+    ensures list { Stays (K.records keeper.old) (K.records keeper.new) }
+    ensures settled { K.unsettled keeper.new ≡ false }
+    ensures later { K.faults keeper.old ≤ K.faults keeper.new }
+{
+    match Desk::open(alloc, setup, keeper) {
+        Ok(desk) => Ok(desk),
+        Err(fault) => Err(opening_stop(fault)),
     }
 }
 

@@ -7,11 +7,10 @@ ghost use Rattle.bank_session.specs.Outside.{outside};
 ghost use Rattle.bank_session.specs.RunEnd.{RunEnds};
 ghost use Rattle.bank_session.specs.EndOrStop.{EndOrStop};
 
-use crate::ahead::Ahead;
-use crate::desk::Desk;
-use crate::frames::{Next, next_frame};
 use crate::stop::Stop;
 use crate::turn::{Step, take_turn};
+use bank_desk::Desk;
+use bank_frames::{Ahead, Next, next_frame};
 use ofx_ports::{Clock, Failed, Keeper, Sink, Source};
 use ofx_types::Moment;
 use std::alloc::Global;

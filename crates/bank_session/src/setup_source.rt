@@ -4,9 +4,8 @@ ghost use Rattle.std.specs.Prelude.{◌≤◌, IfOk, IfErr};
 ghost use Rattle.bank_model.specs.SetupForm.{IsWithinLimits};
 ghost use Rattle.bank_session.specs.SetupRead.{IsSetupOf, StopsSetup};
 
-use crate::ahead::Ahead;
 use crate::stop::Stop;
-use crate::whole::read_whole;
+use bank_frames::{Ahead, read_whole};
 use bank_model::{Setup, SetupFault};
 use ofx_ports::{Failed, Source};
 use std::alloc::Global;

@@ -1,5 +1,6 @@
 //! Why a run ends before its input does.
 
+use bank_desk::DeskFault;
 use ofx_ports::Failed;
 use ofx_types::{OutOfMemory, Status};
 
@@ -54,5 +55,19 @@ impl From<OutOfMemory> for Stop {
 
     fn from(_refused: OutOfMemory) -> Stop {
         Stop::NoMemory
+    }
+}
+
+impl From<DeskFault> for Stop {
+    ghost use Rattle.std.specs.Prelude.{◌≡◌};
+    ghost use Rattle.bank_session.specs.Stopping.{stop_of};
+
+    ghost from_gives = { λ undone e. e ≡ stop_of undone };
+
+    fn from(undone: DeskFault) -> Stop {
+        match undone {
+            DeskFault::NoMemory => Stop::NoMemory,
+            DeskFault::AppendFailed => Stop::KeeperFailed,
+        }
     }
 }

@@ -5,18 +5,16 @@ ghost use Rattle.std.specs.Io.KnownBytes.{Keeps, prepend_known};
 ghost use Rattle.ofx_ports.specs.Faults.{CountsFaults};
 ghost use Rattle.ofx_types.specs.Calendar.{IsMoment};
 ghost use Rattle.ofx_types.specs.declared.number.Moment.{Moment};
-ghost use Rattle.bank_session.specs.Coming.{HoldsFrame, content_in, size_of};
+ghost use Rattle.bank_frames.specs.Coming.{HoldsFrame, content_in, size_of};
 ghost use Rattle.bank_session.specs.WordsRead.{IsLawful};
-ghost use Rattle.bank_session.specs.Turns.{around, SaysAndKeeps, HasNoLine, FrameResult};
+ghost use Rattle.bank_session.specs.Turns.{around, AnswersAndKeeps, HasNoLine, FrameResult};
 ghost use Rattle.bank_session.specs.TurnResult.{TurnResult};
 
-use crate::ahead::Ahead;
-use crate::desk::Desk;
-use crate::frames::{Frame, Next, next_frame};
+use crate::lines::{due_line, file_line};
 use crate::moments::next_moment;
-use crate::output::write_whole;
 use crate::stop::Stop;
-use crate::undone::Undone;
+use bank_desk::{Desk, DeskFault};
+use bank_frames::{Ahead, Frame, Next, next_frame, write_whole};
 use ofx_ports::{Clock, Failed, Keeper, Sink, Source};
 use ofx_types::Moment;
 use std::alloc::Global;
@@ -29,24 +27,22 @@ fn frame_line<K: Keeper>(
     ahead: &[u8],
     frame: Frame,
     keeper: &mut K,
-) -> Result<Vec<u8>, Undone>
+) -> Result<Vec<u8>, DeskFault>
     requires moment { IsMoment at.0 }
     requires frame { HoldsFrame ahead.now frame }
     requires settled { K.unsettled keeper.old ≡ false }
     ensures setup { desk.new.setup ≡ desk.old.setup }
-    ensures line { IfOk result (λ line. SaysAndKeeps at desk.old desk.new (content_in ahead.now frame) (K.records keeper.old) (K.records keeper.new) line.items) }
+    ensures line { IfOk result (λ line. AnswersAndKeeps at desk.old desk.new (content_in ahead.now frame) (K.records keeper.old) (K.records keeper.new) line.items) }
     ensures undone { IfErr result (HasNoLine at desk.old (content_in ahead.now frame) (K.records keeper.old) (K.records keeper.new)) }
-    ensures settled { result ≢ Err Undone.NotKept → K.unsettled keeper.new ≡ false }
-    ensures faults { CountsFaults (K.faults keeper.old) (K.faults keeper.new) (IsErrOf result Undone.NotKept) }
+    ensures settled { result ≢ Err DeskFault.AppendFailed → K.unsettled keeper.new ≡ false }
+    ensures faults { CountsFaults (K.faults keeper.old) (K.faults keeper.new) (IsErrOf result DeskFault.AppendFailed) }
 {
     match frame {
-        Frame::File(size) => desk.answer(
-            alloc,
-            keeper,
-            at,
-            &ahead[size.head..size.head + size.file],
-        ),
-        Frame::Due => desk.due(alloc, keeper, at),
+        Frame::File(size) => {
+            let file = &ahead[size.head..size.head + size.file];
+            file_line(alloc, desk, keeper, at, file)
+        }
+        Frame::Due => due_line(alloc, desk, keeper, at),
     }
 }
 

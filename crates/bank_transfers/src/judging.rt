@@ -7,35 +7,12 @@ ghost use Rattle.bank_model.specs.SetupForm.{IsWithinLimits};
 ghost use Rattle.bank_model.specs.Judging as rules;
 ghost use Rattle.bank_model.specs.Judging.{refused, first_of, transfer_code, modify_code, cancel_code};
 
+use bank_model::codes::{
+    ALREADY_CANCELED, ALREADY_COMMITTED, DATE_TOO_SOON, DESTINATION_NOT_FOUND, DONE,
+    INSUFFICIENT_FUNDS, INVALID_AMOUNT, SOURCE_NOT_FOUND, UNKNOWN_SERVER_ID,
+};
 use bank_model::{Setup, is_after, is_positive};
 use ofx_types::{AcctId, AcctName, Cents, Day, TransferRow, UserId, XferCode, XferInfo};
-
-/// Nothing is refused.
-const DONE: u16 = 0;
-
-/// The source isn't an account of the user, or isn't the transfer's.
-const SOURCE_NOT_FOUND: u16 = 2006;
-
-/// The destination isn't an account of the bank, or is the source.
-const DESTINATION_NOT_FOUND: u16 = 2009;
-
-/// The amount isn't positive.
-const INVALID_AMOUNT: u16 = 2012;
-
-/// The day is absent, or isn't after the business day.
-const DATE_TOO_SOON: u16 = 2014;
-
-/// The transfer is posted, or closed without funds.
-const ALREADY_COMMITTED: u16 = 2016;
-
-/// The transfer is cancelled.
-const ALREADY_CANCELED: u16 = 2017;
-
-/// There is no transfer with this id out of an account of the user.
-const UNKNOWN_SERVER_ID: u16 = 2018;
-
-/// The transfer is due and its source has no cover.
-const INSUFFICIENT_FUNDS: u16 = 10504;
 
 /// The code of a transfer that a user asks for on a business day, when its source has that balance.
 ///

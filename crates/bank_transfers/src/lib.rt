@@ -17,6 +17,3 @@ pub use laws::{
     moved_by_one_more, row_by_one_more, transfers_post_once,
 };
 pub use transfers::Transfers;
-
-#[cfg(test)]
-mod tests;

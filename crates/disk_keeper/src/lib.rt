@@ -17,3 +17,6 @@ pub use fault::DiskFault;
 pub use file::FileDisk;
 pub use keeper::DiskKeeper;
 pub use memory::MemDisk;
+
+#[cfg(test)]
+mod tests;

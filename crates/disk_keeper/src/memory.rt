@@ -14,6 +14,8 @@ use ofx_types::OutOfMemory;
 use std::alloc::{AllocError, Global};
 use std::marker::Model;
 
+mod crash;
+
 /// A disk in memory, which tells all that was done to it. It can be told which of its calls fail, and which of the
 /// writes that fail have put their bytes all the same.
 #[derive(Drop)]

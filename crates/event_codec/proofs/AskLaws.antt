@@ -13,17 +13,19 @@ use Rattle.ofx_types.specs.declared.request.Ask.{Ask}
 use Rattle.ofx_types.specs.declared.request.Ask.TheVariants as asks
 use Rattle.ofx_types.specs.declared.request.Period.{Period}
 use Rattle.bank_model.specs.Sound.{IsSoundPeriod, IsSoundAsk}
-use Rattle.event_codec.specs.Coding.{u16_bytes, uid_bytes, acct_bytes, optional_bytes, period_bytes, deed_bytes, sync_bytes, ask_bytes, asks_bytes}
+use Rattle.record_fields.specs.FieldCoding.{u16_bytes, uid_bytes, acct_bytes, optional_bytes}
+use Rattle.event_codec.specs.Coding.{period_bytes, deed_bytes, sync_bytes, ask_bytes, asks_bytes}
 use Rattle.event_codec.specs.Texts.{HasAskTexts}
-use Rattle.event_codec.specs.FieldReading.{optional_at}
+use Rattle.record_fields.specs.FieldReading.{optional_at}
 use Rattle.event_codec.specs.AskReading.{period_at, statement_at, wanted_behind, one_at, sync_ask_at, ask_of, ask_at, asks_from, asks_at}
-use Rattle.event_codec.specs.Standing.{IsBytes, StandsAt, IsField}
+use Rattle.record_fields.specs.Standing.{IsBytes, StandsAt, IsField}
 use Rattle.event_codec.specs.AskList.{AreAsks}
-use Rattle.event_codec.proofs.Steps.{bind_ok, ok_is, pass_ok, guard_ok, fork, joined, apart, step}
-use Rattle.event_codec.proofs.NumberLaws.{u8_field, optional_field}
-use Rattle.event_codec.proofs.BoundedLaws.{u16_field}
-use Rattle.event_codec.proofs.TextLaws.{given_uid_field, nothing_stands}
-use Rattle.event_codec.proofs.PartLaws.{acct_field, period_field}
+use Rattle.record_fields.proofs.Steps.{bind_ok, ok_is, pass_ok, guard_ok, fork, joined, apart, step}
+use Rattle.record_fields.proofs.NumberLaws.{u8_field, optional_field}
+use Rattle.record_fields.proofs.BoundedLaws.{u16_field}
+use Rattle.record_fields.proofs.TextLaws.{given_uid_field, nothing_stands}
+use Rattle.record_fields.proofs.PartLaws.{acct_field}
+use Rattle.event_codec.proofs.PeriodLaws.{period_field}
 use Rattle.event_codec.proofs.DeedLaws.{IsOf, deed_field}
 use Rattle.event_codec.proofs.SyncLaws.{IsAllowed, renumbered, same_place, all_both, all_of_both, sync_field}
 use Rattle.event_codec.proofs.AskOrder.{AreInOrder, bank_first, in_order}

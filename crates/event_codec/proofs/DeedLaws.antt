@@ -7,14 +7,15 @@ use Rattle.ofx_types.specs.declared.transfer.Deed.TheVariants as deeds
 use Rattle.ofx_types.specs.declared.transfer.Family.{Family}
 use Rattle.ofx_types.specs.declared.transfer.Family.TheVariants as families
 use Rattle.bank_model.specs.Sound.{IsSoundDeed}
-use Rattle.event_codec.specs.Coding.{u64_bytes, flag_bytes, acct_bytes, recur_bytes, info_bytes, mail_bytes, deed_bytes}
+use Rattle.record_fields.specs.FieldCoding.{u64_bytes, flag_bytes, acct_bytes, recur_bytes, info_bytes, mail_bytes}
+use Rattle.event_codec.specs.Coding.{deed_bytes}
 use Rattle.event_codec.specs.Texts.{HasDeedTexts}
 use Rattle.event_codec.specs.AskReading.{transfer_at, modify_transfer_at, cancel_transfer_at, model_at, modify_model_at, cancel_model_at, bank_mail_at, mail_deed_at, deed_of, is_kind_of, is_wanted, deed_at}
-use Rattle.event_codec.specs.Standing.{IsBytes, StandsAt, IsField}
-use Rattle.event_codec.proofs.Steps.{ok_is, pass_ok, fork, joined, apart, step}
-use Rattle.event_codec.proofs.NumberLaws.{u8_field, flag_field}
-use Rattle.event_codec.proofs.BoundedLaws.{id_field}
-use Rattle.event_codec.proofs.PartLaws.{acct_field, recur_field, info_field, mail_field}
+use Rattle.record_fields.specs.Standing.{IsBytes, StandsAt, IsField}
+use Rattle.record_fields.proofs.Steps.{ok_is, pass_ok, fork, joined, apart, step}
+use Rattle.record_fields.proofs.NumberLaws.{u8_field, flag_field}
+use Rattle.record_fields.proofs.BoundedLaws.{id_field}
+use Rattle.record_fields.proofs.PartLaws.{acct_field, recur_field, info_field, mail_field}
 
 -- the number of a deed's kind
 abbrev deed_kind : Deed → ℕ

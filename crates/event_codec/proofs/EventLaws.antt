@@ -8,13 +8,14 @@ use Rattle.bank_model.specs.declared.setup.Setup.{Setup}
 use Rattle.bank_model.specs.declared.event.State.{State}
 use Rattle.bank_model.specs.declared.event.Event.{Event}
 use Rattle.bank_model.specs.declared.event.Event.TheVariants.{File, Post, Spawn, Letter}
-use Rattle.event_codec.specs.declared.fault.RecordFault.{RecordFault}
-use Rattle.event_codec.specs.declared.fault.RecordFault.TheVariants as faults
+use Rattle.record_fields.specs.declared.fault.RecordFault.{RecordFault}
+use Rattle.record_fields.specs.declared.fault.RecordFault.TheVariants as faults
 use Rattle.event_codec.specs.Coding.{coded, event_bytes, file_bytes}
 use Rattle.event_codec.specs.Records.{Codes, Reopens}
-use Rattle.event_codec.specs.Reading.{behind_version, placed, record_read, fault_of, IsRecordFault, kept}
-use Rattle.event_codec.specs.Answers.{GivesWhole}
-use Rattle.event_codec.specs.Standing.{IsBytes}
+use Rattle.bank_model.specs.Events.{IsSameEvent, without_signon}
+use Rattle.event_codec.specs.Reading.{behind_version, placed, record_read, fault_of, IsRecordFault}
+use Rattle.record_fields.specs.Answers.{GivesWhole}
+use Rattle.record_fields.specs.Standing.{IsBytes}
 use Rattle.event_codec.proofs.RecordLaws.{record_codes, record_again}
 
 abbrev some_fault : RecordFault → Option RecordFault
@@ -29,7 +30,7 @@ pub is_found : (rec : List ℕ) (r : Result (Event × Moment) RecordFault) → I
 is_found rec (Ok found) bytes h = (record_codes rec found bytes h).0
 is_found rec (Err fault) bytes h = tt
 
-pub is_nameless : (rec : List ℕ) (r : Result (Event × Moment) RecordFault) → IsBytes rec → GivesWhole r (record_read rec) → IfOk r (λ found. found.0 ≡ kept found.0)
+pub is_nameless : (rec : List ℕ) (r : Result (Event × Moment) RecordFault) → IsBytes rec → GivesWhole r (record_read rec) → IfOk r (λ found. found.0 ≡ without_signon found.0)
 is_nameless rec (Ok found) bytes h = (record_codes rec found bytes h).1
 is_nameless rec (Err fault) bytes h = tt
 
@@ -41,14 +42,14 @@ same_found x y h = (ap (λ (f : Event × Moment). f.0) (found_is x y h), ap (λ 
     found_is : (x y : Event × Moment) → whole x ≡ whole y → x ≡ y
     found_is x y h = cc
 
-pub one_coding : (rec : List ℕ) (at to : Moment) (event other : Event) → Codes rec at event → Codes rec to other → (at ≡ to) × (kept event ≡ kept other)
+pub one_coding : (rec : List ℕ) (at to : Moment) (event other : Event) → Codes rec at event → Codes rec to other → (at ≡ to) × IsSameEvent event other
 one_coding rec at to event other p q =
-    let one : Event × Moment = (kept event, at) in
-    let two : Event × Moment = (kept other, to) in
+    let one : Event × Moment = (without_signon event, at) in
+    let two : Event × Moment = (without_signon other, to) in
     let same = same_found one two (sym (record_again rec at event p) ∙ record_again rec to other q) in
     (same.1, same.0)
 
-pub kept_coded : (at : Moment) (event : Event) → coded at (kept event) ≡ coded at event
+pub kept_coded : (at : Moment) (event : Event) → coded at (without_signon event) ≡ coded at event
 unfolding coded event_bytes file_bytes
 kept_coded at (File user file) = refl
 kept_coded at (Post id) = refl
@@ -62,7 +63,7 @@ no_fault (Ok x) found fault p q = cc
 no_fault (Err e) found fault p q = cc
 
 pub faults_code_nothing : (rec : List ℕ) (fault : RecordFault) (at : Moment) (event : Event) → IsRecordFault rec fault → Codes rec at event → ⊥
-faults_code_nothing rec fault at event p q = no_fault (record_read rec) (kept event, at) fault (record_again rec at event q) p
+faults_code_nothing rec fault at event p q = no_fault (record_read rec) (without_signon event, at) fault (record_again rec at event q) p
 
 pub one_record_fault : (rec : List ℕ) (fault other : RecordFault) → IsRecordFault rec fault → IsRecordFault rec other → fault ≡ other
 one_record_fault rec fault other p q = some_is fault other (sym p ∙ q)
@@ -110,16 +111,16 @@ version_is_told rec n h =
 -- ---- reopening
 
 -- The name and the password of a file's user change no state.
-kept_after : (setup : Setup) (S : State) (at : Moment) (event : Event) → state_after setup S at (kept event) ≡ state_after setup S at event
+kept_after : (setup : Setup) (S : State) (at : Moment) (event : Event) → state_after setup S at (without_signon event) ≡ state_after setup S at event
 unfolding file_outcome new_outcome reply_file
 kept_after setup S at (File user file) = refl
 kept_after setup S at (Post id) = refl
 kept_after setup S at (Spawn model place) = refl
 kept_after setup S at (Letter user subject body) = refl
 
-same_after : (setup : Setup) (S : State) (at to : Moment) (event other : Event) → at ≡ to → kept event ≡ kept other → state_after setup S at event ≡ state_after setup S to other
+same_after : (setup : Setup) (S : State) (at to : Moment) (event other : Event) → at ≡ to → IsSameEvent event other → state_after setup S at event ≡ state_after setup S to other
 same_after setup S at to event other p q =
-    sym (kept_after setup S at event) ∙ ap (state_after setup S at) q ∙ ap (λ (m : Moment). state_after setup S m (kept other)) p ∙ kept_after setup S to other
+    sym (kept_after setup S at event) ∙ ap (state_after setup S at) q ∙ ap (λ (m : Moment). state_after setup S m (without_signon other)) p ∙ kept_after setup S to other
 
 pub one_reopening : (setup : Setup) (S : State) (records : List (List ℕ)) (A B : State) → Reopens setup S records A → Reopens setup S records B → A ≡ B
 one_reopening setup S [] A B p q = p ∙ sym q

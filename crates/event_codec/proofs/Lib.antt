@@ -1,10 +1,6 @@
 pub mod Fronts
 pub mod Loops
-pub mod Steps
-pub mod NumberLaws
-pub mod BoundedLaws
-pub mod TextLaws
-pub mod PartLaws
+pub mod PeriodLaws
 pub mod DeedLaws
 pub mod SyncLaws
 pub mod AskOrder

@@ -5,11 +5,11 @@ use Rattle.ofx_types.specs.PrintedFile.{is_mail_ask}
 use Rattle.ofx_types.specs.declared.transfer.Family.{Family}
 use Rattle.ofx_types.specs.declared.transfer.Deed.{Deed}
 use Rattle.ofx_types.specs.declared.request.Ask.{Ask}
-use Rattle.event_codec.specs.declared.fault.RecordFault.{RecordFault}
-use Rattle.event_codec.specs.declared.fault.RecordFault.TheVariants as faults
-use Rattle.event_codec.specs.FieldReading.{◌>>=◌}
+use Rattle.record_fields.specs.declared.fault.RecordFault.{RecordFault}
+use Rattle.record_fields.specs.declared.fault.RecordFault.TheVariants as faults
+use Rattle.record_fields.specs.FieldReading.{◌>>=◌}
 use Rattle.event_codec.specs.AskReading.{pair_at, pairs_from, ask_at, asks_from}
-use Rattle.event_codec.specs.Answers.{Fails}
+use Rattle.record_fields.specs.Answers.{Fails}
 
 -- what was read before, and what is still read
 abbrev pub with_front : {A : Type 0} → List A → Result (List A × ℕ) ℕ → Result (List A × ℕ) ℕ

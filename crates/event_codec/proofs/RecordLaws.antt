@@ -10,19 +10,21 @@ use Rattle.ofx_types.specs.declared.request.RequestFile.{RequestFile}
 use Rattle.bank_model.specs.Sound.{IsVersion, IsSound, IsId, HasLength}
 use Rattle.bank_model.specs.declared.event.Event.{Event}
 use Rattle.bank_model.specs.declared.event.Event.TheVariants.{File, Post, Spawn, Letter}
-use Rattle.event_codec.specs.declared.fault.RecordFault.{RecordFault}
-use Rattle.event_codec.specs.declared.fault.RecordFault.TheVariants as faults
-use Rattle.event_codec.specs.Coding.{u8_bytes, u16_bytes, u32_bytes, u64_bytes, i64_bytes, text_bytes, file_uid_bytes, asks_bytes, file_bytes, kind_of_event, event_bytes, coded}
+use Rattle.record_fields.specs.declared.fault.RecordFault.{RecordFault}
+use Rattle.record_fields.specs.declared.fault.RecordFault.TheVariants as faults
+use Rattle.record_fields.specs.FieldCoding.{u8_bytes, u16_bytes, u32_bytes, u64_bytes, i64_bytes, text_bytes, file_uid_bytes}
+use Rattle.event_codec.specs.Coding.{asks_bytes, file_bytes, kind_of_event, event_bytes, coded}
 use Rattle.event_codec.specs.Texts.{HasKeptTexts}
 use Rattle.event_codec.specs.Records.{IsWithinBounds, IsShort, IsTyped, Codes}
-use Rattle.event_codec.specs.Reading.{version_at, file_event_at, post_at, spawn_at, letter_at, event_of, kind_at, behind_version, placed, record_read, kept}
+use Rattle.bank_model.specs.Events.{without_signon}
+use Rattle.event_codec.specs.Reading.{version_at, file_event_at, post_at, spawn_at, letter_at, event_of, kind_at, behind_version, placed, record_read}
 use Rattle.event_codec.specs.AskList.{AreAsks}
-use Rattle.event_codec.specs.Standing.{IsBytes, StandsAt, IsField}
-use Rattle.event_codec.proofs.Steps.{bind_ok, ok_is, pass_ok, fork, joined, apart, step}
-use Rattle.event_codec.proofs.NumberLaws.{u8_field}
-use Rattle.event_codec.proofs.BoundedLaws.{both, u16_field, u32_field, id_field, moment_field}
-use Rattle.event_codec.proofs.TextLaws.{file_uid_field}
-use Rattle.event_codec.proofs.PartLaws.{text64, text10000}
+use Rattle.record_fields.specs.Standing.{IsBytes, StandsAt, IsField}
+use Rattle.record_fields.proofs.Steps.{bind_ok, ok_is, pass_ok, fork, joined, apart, step}
+use Rattle.record_fields.proofs.NumberLaws.{u8_field}
+use Rattle.record_fields.proofs.BoundedLaws.{both, u16_field, u32_field, id_field, moment_field}
+use Rattle.record_fields.proofs.TextLaws.{file_uid_field}
+use Rattle.record_fields.proofs.PartLaws.{text64, text10000}
 use Rattle.event_codec.proofs.AskLaws.{asks_field}
 
 -- ---- the version of a file
@@ -82,7 +84,7 @@ IsKeepable (Letter user subject body) =
 pub record EventStands (kind : ℕ) (rec : List ℕ) (at : ℕ) (found : Event × ℕ) : Type 0 where
   pub stands : StandsAt rec at (event_bytes found.0) found.1
   pub keepable : IsKeepable found.0
-  pub nameless : found.0 ≡ kept found.0
+  pub nameless : found.0 ≡ without_signon found.0
   pub is_kind : kind_of_event found.0 ≡ kind
 
 file_stands : (rec : List ℕ) (at : ℕ) (found : Event × ℕ) → IsBytes rec → at ≤ length rec → file_event_at rec at ≡ Ok found → EventStands 1 rec at found
@@ -152,7 +154,7 @@ event_stands kind rec at found bytes le low high e =
     let is4 : kind ≡ 4 = omega (arith, other kind 1 not1, other kind 2 not2, other kind 3 not3) in
     numbered kind 4 rec at found is4 (letter_stands rec at found bytes le e))))
 
-pub event_again : (rec : List ℕ) (at : ℕ) (event : Event) (next : ℕ) → at ≤ length rec → StandsAt rec at (event_bytes event) next → IsKeepable event → event_of (kind_of_event event) rec at ≡ Ok (kept event, next)
+pub event_again : (rec : List ℕ) (at : ℕ) (event : Event) (next : ℕ) → at ≤ length rec → StandsAt rec at (event_bytes event) next → IsKeepable event → event_of (kind_of_event event) rec at ≡ Ok (without_signon event, next)
 unfolding event_of event_bytes file_bytes file_event_at post_at spawn_at letter_at
 event_again rec at (File user file) next le p fits =
     let u = apart rec at (u32_bytes user.0) (u16_bytes file.version ++ file_uid_bytes file.older ++ file_uid_bytes file.newer ++ asks_bytes file.asks) next le p in
@@ -203,7 +205,7 @@ pub record Holds (rec : List ℕ) (found : Event × Moment) : Type 0 where
   pub stands : StandsAt rec 1 (kind_of_event found.0 ∷ i64_bytes found.1.0 ++ event_bytes found.0) (length rec)
   pub moment : IsMoment found.1.0
   pub keepable : IsKeepable found.0
-  pub nameless : found.0 ≡ kept found.0
+  pub nameless : found.0 ≡ without_signon found.0
 
 behind_holds : (rec : List ℕ) (found : Event × Moment) → IsBytes rec → 1 ≤ length rec → behind_version rec ≡ Ok found → Holds rec found
 unfolding behind_version
@@ -226,7 +228,7 @@ kind_within (Post id) = (omega arith, omega arith)
 kind_within (Spawn model place) = (omega arith, omega arith)
 kind_within (Letter user subject body) = (omega arith, omega arith)
 
-behind_again : (rec : List ℕ) (at : Moment) (event : Event) → 1 ≤ length rec → StandsAt rec 1 (kind_of_event event ∷ i64_bytes at.0 ++ event_bytes event) (length rec) → IsMoment at.0 → IsKeepable event → behind_version rec ≡ Ok (kept event, at)
+behind_again : (rec : List ℕ) (at : Moment) (event : Event) → 1 ≤ length rec → StandsAt rec 1 (kind_of_event event ∷ i64_bytes at.0 ++ event_bytes event) (length rec) → IsMoment at.0 → IsKeepable event → behind_version rec ≡ Ok (without_signon event, at)
 unfolding behind_version
 behind_again rec at event le p moment keepable =
     let e = apart rec 1 (kind_of_event event ∷ i64_bytes at.0) (event_bytes event) (length rec) le p in
@@ -271,7 +273,7 @@ keepable_of (Post id) within typed = within
 keepable_of (Spawn model place) within typed = (within, typed)
 keepable_of (Letter user subject body) within typed = (typed.0, (typed.1, within.0), (typed.2, within.1))
 
-pub record_codes : (rec : List ℕ) (found : Event × Moment) → IsBytes rec → record_read rec ≡ Ok found → Codes rec found.1 found.0 × (found.0 ≡ kept found.0)
+pub record_codes : (rec : List ℕ) (found : Event × Moment) → IsBytes rec → record_read rec ≡ Ok found → Codes rec found.1 found.0 × (found.0 ≡ without_signon found.0)
 unfolding record_read coded
 record_codes [] found bytes e = absurd cc
 record_codes (version ∷ rest) found bytes e =
@@ -281,11 +283,11 @@ record_codes (version ∷ rest) found bytes e =
     let tail : rest ≡ kind_of_event found.0 ∷ i64_bytes found.1.0 ++ event_bytes found.0 = h.stands.parts ∙ ap (λ (t : List ℕ). (kind_of_event found.0 ∷ i64_bytes found.1.0 ++ event_bytes found.0) ++ t) (end_is (version ∷ rest)) ∙ append-nil _ in
     (record { moment = h.moment; within = within_of found.0 h.keepable; typed = typed_of found.0 h.keepable; spelled = ap (λ (v : ℕ). v ∷ rest) one ∙ ap (λ (t : List ℕ). 1 ∷ t) tail }, h.nameless)
 
-pub record_again : (rec : List ℕ) (at : Moment) (event : Event) → Codes rec at event → record_read rec ≡ Ok (kept event, at)
+pub record_again : (rec : List ℕ) (at : Moment) (event : Event) → Codes rec at event → record_read rec ≡ Ok (without_signon event, at)
 unfolding record_read coded
 record_again rec at event codes =
     let behind : List ℕ = kind_of_event event ∷ i64_bytes at.0 ++ event_bytes event in
     let whole : List ℕ = 1 ∷ behind in
     let p : StandsAt whole 1 behind (length whole) = record { parts = sym (append-nil behind) ∙ ap (λ (t : List ℕ). behind ++ t) (sym (end_is whole)); within = omega arith } in
-    let read : record_read whole ≡ Ok (kept event, at) = ap placed (behind_again whole at event (omega arith) p codes.moment (keepable_of event codes.within codes.typed)) in
+    let read : record_read whole ≡ Ok (without_signon event, at) = ap placed (behind_again whole at event (omega arith) p codes.moment (keepable_of event codes.within codes.typed)) in
     ap record_read codes.spelled ∙ read

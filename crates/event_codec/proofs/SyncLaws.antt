@@ -12,15 +12,16 @@ use Rattle.ofx_types.specs.declared.sync.SyncKind.{SyncKind}
 use Rattle.ofx_types.specs.declared.sync.SyncKind.TheVariants.{After, TokenOnly, Refresh}
 use Rattle.ofx_types.specs.declared.sync.SyncAsk.{SyncAsk}
 use Rattle.bank_model.specs.Sound.{IsSoundObject, IsSoundKind, IsSoundPair, IsSoundSync}
-use Rattle.event_codec.specs.Coding.{u16_bytes, flag_bytes, text_bytes, uid_bytes, acct_bytes, deed_bytes, pair_bytes, list_bytes, object_bytes, sync_kind_bytes, sync_bytes}
+use Rattle.record_fields.specs.FieldCoding.{u16_bytes, flag_bytes, text_bytes, uid_bytes, acct_bytes, list_bytes}
+use Rattle.event_codec.specs.Coding.{deed_bytes, pair_bytes, object_bytes, sync_kind_bytes, sync_bytes}
 use Rattle.event_codec.specs.Texts.{HasObjectTexts, HasKindText, HasPairTexts, HasSyncTexts}
 use Rattle.event_codec.specs.AskReading.{intra_at, rec_intra_at, bank_mail_object_at, object_of, object_at, after_at, sync_kind_at, pair_at, pairs_from, pairs_at, sync_at}
-use Rattle.event_codec.specs.Standing.{IsBytes, StandsAt, IsField}
-use Rattle.event_codec.proofs.Steps.{bind_ok, done, ok_is, pass_ok, guard_ok, fork, joined, apart, step}
-use Rattle.event_codec.proofs.NumberLaws.{u8_field, flag_field, next_is}
-use Rattle.event_codec.proofs.BoundedLaws.{u16_field}
-use Rattle.event_codec.proofs.TextLaws.{given_uid_field, nothing_stands}
-use Rattle.event_codec.proofs.PartLaws.{acct_field, text64}
+use Rattle.record_fields.specs.Standing.{IsBytes, StandsAt, IsField}
+use Rattle.record_fields.proofs.Steps.{bind_ok, done, ok_is, pass_ok, guard_ok, fork, joined, apart, step}
+use Rattle.record_fields.proofs.NumberLaws.{u8_field, flag_field, next_is}
+use Rattle.record_fields.proofs.BoundedLaws.{u16_field}
+use Rattle.record_fields.proofs.TextLaws.{given_uid_field, nothing_stands}
+use Rattle.record_fields.proofs.PartLaws.{acct_field, text64}
 use Rattle.event_codec.proofs.DeedLaws.{deed_field}
 
 -- ---- objects

@@ -1,9 +1,6 @@
 pub mod Coding
 pub mod Texts
 pub mod Records
-pub mod FieldReading
 pub mod AskReading
 pub mod Reading
-pub mod Answers
 pub mod AskList
-pub mod Standing

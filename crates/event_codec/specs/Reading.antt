@@ -3,9 +3,9 @@ use Rattle.std.specs.Prelude.{◌≡◌, ℕ, nat_le, ◌==◌, ◌&&◌, ◌||�
 use Rattle.ofx_types.specs.declared.number.Moment.{Moment}
 use Rattle.bank_model.specs.declared.event.Event.{Event}
 use Rattle.bank_model.specs.declared.event.Event.TheVariants.{File, Post, Spawn, Letter}
-use Rattle.event_codec.specs.declared.fault.RecordFault.{RecordFault}
-use Rattle.event_codec.specs.declared.fault.RecordFault.TheVariants as faults
-use Rattle.event_codec.specs.FieldReading.{◌>>=◌, u8_at, u16_at, u32_at, id_at, moment_at, filled_text_at, file_uid_at}
+use Rattle.record_fields.specs.declared.fault.RecordFault.{RecordFault}
+use Rattle.record_fields.specs.declared.fault.RecordFault.TheVariants as faults
+use Rattle.record_fields.specs.FieldReading.{◌>>=◌, u8_at, u16_at, u32_at, id_at, moment_at, filled_text_at, file_uid_at}
 use Rattle.event_codec.specs.AskReading.{asks_at}
 
 -- The versions of the header that a file may have.
@@ -90,10 +90,3 @@ abbrev pub fault_place : RecordFault → ℕ
 fault_place (faults.Version n) = 0
 fault_place (faults.Bad at) = at
 fault_place faults.OutOfMemory = 0
-
--- What a record keeps of an event: all but the name and the password of a file's user.
-abbrev pub kept : Event → Event
-kept (File user file) = File user (record { version = file.version; older = file.older; newer = file.newer; user = []; pass = []; asks = file.asks })
-kept (Post id) = Post id
-kept (Spawn model place) = Spawn model place
-kept (Letter user subject body) = Letter user subject body

@@ -16,18 +16,7 @@ use Rattle.ofx_types.specs.declared.sync.SyncAsk.{SyncAsk}
 use Rattle.ofx_types.specs.declared.request.Ask.{Ask}
 use Rattle.ofx_types.specs.declared.request.Ask.TheVariants.{Statement, One, Sync}
 use Rattle.ofx_types.specs.declared.request.RequestFile.{RequestFile}
-
-abbrev pub HasAccountTexts : AcctName → Type 0
-HasAccountTexts account = IsText account.bank × IsText account.number
-
-abbrev pub HasInfoTexts : XferInfo → Type 0
-HasInfoTexts info = HasAccountTexts info.from × HasAccountTexts info.to
-
-pub record HasMailTexts (mail : MailText) : Type 0 where
-  pub sender : IsText mail.sender
-  pub target : IsText mail.target
-  pub subject : IsText mail.subject
-  pub body : IsText mail.body
+use Rattle.record_fields.specs.FieldTexts.{HasAccountTexts, HasInfoTexts, HasMailTexts}
 
 abbrev pub HasDeedTexts : Deed → Type 0
 HasDeedTexts (Transfer info) = HasInfoTexts info

@@ -7,23 +7,23 @@ ghost use Rattle.ofx_types.specs.DeedForm.{family_of};
 ghost use Rattle.ofx_types.specs.SyncForm.{is_mail_family};
 ghost use Rattle.ofx_types.specs.PrintedFile.{is_mail_ask};
 ghost use Rattle.bank_model.specs.Sound.{IsSoundAsk};
-ghost use Rattle.event_codec.specs.Answers.{Gives};
+ghost use Rattle.record_fields.specs.Answers.{Gives};
 ghost use Rattle.event_codec.specs.Texts.{HasAskTexts};
-ghost use Rattle.event_codec.specs.Coding.{optional_bytes, moment_bytes, period_bytes, ask_bytes, asks_bytes};
-ghost use Rattle.event_codec.specs.FieldReading.{optional_at, moment_at};
+ghost use Rattle.record_fields.specs.FieldCoding.{optional_bytes, moment_bytes};
+ghost use Rattle.event_codec.specs.Coding.{period_bytes, ask_bytes, asks_bytes};
+ghost use Rattle.record_fields.specs.FieldReading.{optional_at, moment_at};
 ghost use Rattle.event_codec.specs.AskReading.{period_at, statement_at, wanted_behind, one_at, sync_ask_at, ask_of, ask_at, asks_from, asks_at};
 
-use crate::account::{get_acct, put_acct};
-use crate::bounded::get_moment;
 use crate::deed::{get_deed, put_deed};
-use crate::fault::RecordFault;
-use crate::number::{get_flag, get_u8, get_u16, put_flag, put_i64, put_u8, put_u16};
 use crate::sync::{get_sync, put_sync};
-use crate::uid::{get_given_uid, put_trnuid};
 use ofx_types::{Ask, Asks, Deed, Family, Moment, ObjectName, OutOfMemory, Period, Sequence};
+use record_fields::{
+    RecordFault, get_acct, get_flag, get_given_uid, get_moment, get_u8, get_u16, put_acct,
+    put_flag, put_i64, put_trnuid, put_u8, put_u16,
+};
 use std::alloc::Global;
 
-#[tactic(auto, unfolding(crate::specs::FieldReading::optional_at))]
+#[tactic(auto, unfolding(record_fields::specs::FieldReading::optional_at))]
 fn get_optional_moment(rec: &[u8], at: usize) -> Result<(Option<Moment>, usize), RecordFault>
     requires { at ≤ length rec.now }
     ensures gives { Gives result (optional_at moment_at rec.now at) }
@@ -79,7 +79,7 @@ fn put_period(period: Period, out: &mut Vec<u8>) -> Result<(), OutOfMemory>
     put_flag(&period.include, out)
 }
 
-#[tactic(auto, unfolding(crate::specs::FieldReading::optional_at))]
+#[tactic(auto, unfolding(record_fields::specs::FieldReading::optional_at))]
 fn get_optional_period(rec: &[u8], at: usize) -> Result<(Option<Period>, usize), RecordFault>
     requires { at ≤ length rec.now }
     ensures gives { Gives result (optional_at period_at rec.now at) }

@@ -3,19 +3,17 @@
 ghost use Rattle.std.specs.Prelude.{◌≡◌, ◌≤◌, ◌++◌, ◌∷◌, length, IfOk, OnOk};
 ghost use Rattle.std.specs.Io.{StartsWith};
 ghost use Rattle.bank_model.specs.Sound.{IsSoundDeed};
-ghost use Rattle.event_codec.specs.Answers.{Gives};
+ghost use Rattle.record_fields.specs.Answers.{Gives};
 ghost use Rattle.event_codec.specs.Texts.{HasDeedTexts};
-ghost use Rattle.event_codec.specs.Coding.{u64_bytes, deed_bytes};
+ghost use Rattle.record_fields.specs.FieldCoding.{u64_bytes};
+ghost use Rattle.event_codec.specs.Coding.{deed_bytes};
 ghost use Rattle.event_codec.specs.AskReading.{is_wanted, deed_at, deed_of, transfer_at, modify_transfer_at, cancel_transfer_at, model_at, modify_model_at, cancel_model_at, bank_mail_at, mail_deed_at};
 
-use crate::account::{get_acct, put_acct};
-use crate::bounded::get_id;
-use crate::fault::RecordFault;
-use crate::mail::{get_mail, put_mail};
-use crate::number::{get_flag, get_u8, put_flag, put_u8, put_u64};
-use crate::recurring::{get_recur, put_recur};
-use crate::transfer::{get_info, put_info};
 use ofx_types::{Deed, Family, OutOfMemory};
+use record_fields::{
+    RecordFault, get_acct, get_flag, get_id, get_info, get_mail, get_recur, get_u8, put_acct,
+    put_flag, put_info, put_mail, put_recur, put_u8, put_u64,
+};
 use std::alloc::Global;
 
 /// Whether a deed of this kind may stand where only deeds of one family are wanted, or any are.

@@ -7,21 +7,22 @@ ghost use Rattle.ofx_types.specs.declared.number.Moment.{Moment};
 ghost use Rattle.ofx_types.specs.TextRules.{IsText};
 ghost use Rattle.bank_model.specs.Sound.{IsSound, HasLength};
 ghost use Rattle.bank_model.specs.declared.event.Event.{Event};
-ghost use Rattle.event_codec.specs.declared.fault.RecordFault.{RecordFault};
-ghost use Rattle.event_codec.specs.Answers.{Gives, GivesWhole};
+ghost use Rattle.record_fields.specs.declared.fault.RecordFault.{RecordFault};
+ghost use Rattle.record_fields.specs.Answers.{Gives, GivesWhole};
 ghost use Rattle.event_codec.specs.Texts.{HasKeptTexts};
-ghost use Rattle.event_codec.specs.Coding.{kind_of_event, u32_bytes, u64_bytes, text_bytes, file_bytes, event_bytes};
-ghost use Rattle.event_codec.specs.Reading.{IsRecordFault, kept, version_at, file_event_at, post_at, spawn_at, letter_at, event_of, kind_at, behind_version, record_read};
+ghost use Rattle.record_fields.specs.FieldCoding.{u32_bytes, u64_bytes, text_bytes};
+ghost use Rattle.event_codec.specs.Coding.{kind_of_event, file_bytes, event_bytes};
+ghost use Rattle.bank_model.specs.Events.{without_signon};
+ghost use Rattle.event_codec.specs.Reading.{IsRecordFault, version_at, file_event_at, post_at, spawn_at, letter_at, event_of, kind_at, behind_version, record_read};
 ghost use Rattle.event_codec.specs.Records.{Codes, IsWithinBounds, IsShort, IsTyped};
 
 use crate::ask::{get_asks, put_asks};
-use crate::bounded::{get_id, get_moment};
-use crate::fault::RecordFault;
-use crate::number::{get_u8, get_u16, get_u32, put_i64, put_u8, put_u16, put_u32, put_u64};
-use crate::text::{get_filled_text, put_text};
-use crate::uid::{get_file_uid, put_file_uid};
 use bank_model::Event;
 use ofx_types::{Moment, OutOfMemory, RequestFile, Text, UserId};
+use record_fields::{
+    RecordFault, get_file_uid, get_filled_text, get_id, get_moment, get_u8, get_u16, get_u32,
+    put_file_uid, put_i64, put_text, put_u8, put_u16, put_u32, put_u64,
+};
 use std::alloc::Global;
 
 /// The record of an event at a moment of the years 1900 to 9999.
@@ -123,9 +124,9 @@ pub fn read_event(alloc: Global, rec: &[u8]) -> Result<(Event, Moment), RecordFa
     // What is found is coded by the record.
     ensures found { IfOk result (λ found. Codes rec.now found.1 found.0) }
     // The name and the password of a file's user aren't in the record: they are empty.
-    ensures nameless { IfOk result (λ found. found.0 ≡ kept found.0) }
+    ensures nameless { IfOk result (λ found. found.0 ≡ without_signon found.0) }
     // What the record codes is found, unless memory is refused.
-    ensures only { (at : Moment) (event : Event) → Codes rec.now at event → GivesWhole result (Ok (kept event, at)) }
+    ensures only { (at : Moment) (event : Event) → Codes rec.now at event → GivesWhole result (Ok (without_signon event, at)) }
     // A refusal is the record's fault, or memory was refused.
     ensures fault { IfErr result (λ fault. fault ≢ RecordFault.OutOfMemory → IsRecordFault rec.now fault) }
     // A record with a fault is refused.

@@ -3,35 +3,23 @@
 ghost use Rattle.std.specs.Prelude.{◌≡◌, ◌≤◌, ◌++◌, false, length, IfOk, OnOk};
 ghost use Rattle.std.specs.Io.{StartsWith};
 ghost use Rattle.std.specs.List.{AllByRecursion};
-ghost use Rattle.ofx_types.specs.SyncForm.{object_family};
 ghost use Rattle.bank_model.specs.Sound.{IsSoundObject, IsSoundKind, IsSoundPair, IsSoundSync};
-ghost use Rattle.event_codec.specs.Answers.{Gives};
+ghost use Rattle.record_fields.specs.Answers.{Gives};
 ghost use Rattle.event_codec.specs.Texts.{HasObjectTexts, HasKindText, HasPairTexts, HasSyncTexts};
-ghost use Rattle.event_codec.specs.Coding.{object_bytes, sync_kind_bytes, pair_bytes, list_bytes, sync_bytes};
+ghost use Rattle.record_fields.specs.FieldCoding.{list_bytes};
+ghost use Rattle.event_codec.specs.Coding.{object_bytes, sync_kind_bytes, pair_bytes, sync_bytes};
 ghost use Rattle.event_codec.specs.AskReading.{object_at, object_of, intra_at, rec_intra_at, bank_mail_object_at, sync_kind_at, after_at, pair_at, pairs_from, pairs_at, sync_at};
 ghost use Rattle.ofx_types.specs.declared.transfer.Family.{Family};
 
-use crate::account::{get_acct, put_acct};
 use crate::deed::{get_deed, put_deed};
-use crate::fault::RecordFault;
-use crate::number::{get_flag, get_u8, get_u16, put_flag, put_u8, put_u16};
-use crate::text::{get_filled_text, put_text};
-use crate::uid::{get_given_uid, put_trnuid};
 use ofx_types::{
     Deed, Deeds, Family, ObjectName, OutOfMemory, Sequence, SyncAsk, SyncKind, TrnUid,
 };
+use record_fields::{
+    RecordFault, get_acct, get_filled_text, get_flag, get_given_uid, get_u8, get_u16, put_acct,
+    put_flag, put_text, put_trnuid, put_u8, put_u16,
+};
 use std::alloc::Global;
-
-fn family_of(object: &ObjectName) -> Family
-    ensures { result ≡ object_family object.now }
-{
-    match object {
-        ObjectName::Intra(_) => Family::Intra,
-        ObjectName::RecIntra(_) => Family::RecIntra,
-        ObjectName::BankMail(_) => Family::BankMail,
-        ObjectName::Mail => Family::Mail,
-    }
-}
 
 /// The object at `at`.
 ///
@@ -275,7 +263,7 @@ pub(crate) fn get_sync(
     let (object, next) = get_object_behind(alloc, is_behind_mail, rec, at)?;
     let (kind, next) = get_sync_kind(alloc, rec, next)?;
     let (reject, next) = get_flag(rec, next)?;
-    let (deeds, next) = get_pairs(alloc, family_of(&object), rec, next)?;
+    let (deeds, next) = get_pairs(alloc, object.family(), rec, next)?;
     let ask = SyncAsk {
         object,
         kind,
@@ -296,5 +284,5 @@ pub(crate) fn put_sync(ask: &SyncAsk, out: &mut Vec<u8>) -> Result<(), OutOfMemo
     put_object(&ask.object, out)?;
     put_sync_kind(&ask.kind, out)?;
     put_flag(&ask.reject, out)?;
-    put_pairs(ask.deeds.items(), family_of(&ask.object), out)
+    put_pairs(ask.deeds.items(), ask.object.family(), out)
 }

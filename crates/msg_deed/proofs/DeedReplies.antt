@@ -1,16 +1,14 @@
 -- The answer to a deed has its form exactly where reading finds it, and its faults have places.
-use Rattle.std.proofs.Common.{◌≡◌, ◌≢◌, ℕ, inl, inr, true, false, nat_eq, Option, None, Some, Result, Ok, codes, refl, sym, ap, subst, ◌∙◌, arith}
+use Rattle.std.proofs.Common.{◌≡◌, ◌≢◌, ℕ, inl, inr, true, false, nat_eq, Option, None, Some, Ok, codes, refl, sym, subst, ◌∙◌, arith}
 use Rattle.std.proofs.lemmas.Grind.{common_steps}
 use Rattle.ofx_types.specs.TagNames.{is_one_of}
 use Rattle.ofx_types.specs.Nodes.{Item}
 use Rattle.ofx_types.specs.FormWords.{has_name, one_of, text_in}
-use Rattle.ofx_types.specs.MessageForm.{is_named_one_of}
 use Rattle.ofx_types.specs.ReplyReading.{status_of}
 use Rattle.ofx_types.specs.TransferForm.{transfer_replies}
 use Rattle.ofx_types.specs.RecurringForm.{model_replies}
-use Rattle.ofx_types.specs.DeedForm.{reply_name, replies_in, IsChange, IsChangeByCode, IsDeedReply}
-use Rattle.ofx_types.specs.DeedReading.{family_told, change_of, change_by_code, deed_reply_of}
-use Rattle.ofx_types.specs.declared.fault.TreeFault.{TreeFault}
+use Rattle.ofx_types.specs.DeedForm.{replies_in, IsChange, IsChangeByCode, IsDeedReplyNamed, IsDeedReply}
+use Rattle.ofx_types.specs.DeedReading.{family_told, reply_in, change_of, change_by_code, deed_reply_of}
 use Rattle.ofx_types.specs.declared.transfer.Change.{Change}
 use Rattle.ofx_types.specs.declared.transfer.Change.TheVariants.{NewTransfer, SetTransfer, DropTransfer, NewModel, SetModel, DropModel, NewMail}
 use Rattle.ofx_types.specs.declared.transfer.Family.{Family}
@@ -20,8 +18,7 @@ use Rattle.ofx_tree.specs.Placed.{Stands, Any, IsWithin}
 use Rattle.ofx_tree.proofs.FormLaws.{bind_ok, bind_to, one_value, chosen, bytes_same, one_of_found, one_of_again, has_one_of, text_in_found, text_in_again}
 use Rattle.ofx_tree.proofs.FormPlaces.{bound, either, one_of_within, text_within}
 use Rattle.msg_parts.proofs.Statuses.{status_found, status_again, status_within}
-use Rattle.msg_parts.proofs.Named.{third_name, none_of_three, other_name, name_of_family}
-use Rattle.msg_deed.specs.Laws.{deed_reply_names}
+use Rattle.msg_parts.proofs.Named.{third_name, none_of_three, other_name, two_named}
 use Rattle.msg_deed.proofs.TransferReplies.{new_found, set_found, drop_found, new_again, set_again, drop_again, new_within, set_within, drop_within}
 use Rattle.msg_deed.proofs.ModelReplies.{new_model_found, set_model_found, drop_model_found, new_model_again, set_model_again, drop_model_again, new_model_within, set_model_within, drop_model_within}
 
@@ -114,15 +111,17 @@ change_within most reply h =
 
 -- ---- a change where the code is 0
 
-change_by_code_found : (code : ℕ) (family : Family) (transaction : Item) (change : Option Change) →
-    change_by_code code family transaction ≡ Ok change → IsChangeByCode code family transaction change
+change_by_code_found : (code : ℕ) (family : Family) (transaction : Item) (change : Option Change) → family_told transaction ≡ Ok family →
+    change_by_code code transaction ≡ Ok change → IsChangeByCode code family transaction change
 unfolding change_by_code
-change_by_code_found code family transaction change h = elim (chosen (nat_eq code 0) _ _ _ h) [
+change_by_code_found code family transaction change told h = elim (chosen (nat_eq code 0) _ _ _ h) [
   | inl (is, read) ↦
       let zero : code ≡ 0 = grind (arith, common_steps, is) in
-      let reply = bind_ok (one_of (replies_in family) transaction) _ change read in
+      let reply = bind_ok (reply_in transaction) _ change read in
       let found = bind_ok (change_of reply.0) _ change reply.2 in
-      let only = one_of_found (replies_in family) transaction reply.0 reply.1 in
+      let among : one_of (replies_in family) transaction ≡ Ok reply.0 =
+      sym (bind_to (family_told transaction) (λ f. one_of (replies_in f) transaction) family told) ∙ reply.1 in
+      let only = one_of_found (replies_in family) transaction reply.0 among in
       let stands = change_found family reply.0 found.0 (has_one_of (replies_in family) transaction reply.0 only) found.1 in
       subst (IsChangeByCode code family transaction) (one_value _ _ change refl found.2) (zero, (reply.0, only, stands))
   | inr (other, none) ↦
@@ -130,68 +129,67 @@ change_by_code_found code family transaction change h = elim (chosen (nat_eq cod
       subst (IsChangeByCode code family transaction) (one_value _ _ change refl none) some
 ]
 
-change_by_code_again : (code : ℕ) (family : Family) (transaction : Item) (change : Option Change) →
-    IsChangeByCode code family transaction change → change_by_code code family transaction ≡ Ok change
+change_by_code_again : (code : ℕ) (family : Family) (transaction : Item) (change : Option Change) → family_told transaction ≡ Ok family →
+    IsChangeByCode code family transaction change → change_by_code code transaction ≡ Ok change
 unfolding change_by_code
-change_by_code_again code family transaction None some =
+change_by_code_again code family transaction None told some =
     let other : nat_eq code 0 ≡ false = grind (arith, common_steps) in rw other refl
-change_by_code_again code family transaction (Some change) (zero, (reply, only, is)) =
+change_by_code_again code family transaction (Some change) told (zero, (reply, only, is)) =
     let same : nat_eq code 0 ≡ true = grind (arith, common_steps, zero) in
-    rw same (bind_to _ _ reply (one_of_again (replies_in family) transaction reply only) ∙ bind_to _ _ change (change_again reply change is))
+    let among : reply_in transaction ≡ Ok reply =
+    bind_to (family_told transaction) (λ f. one_of (replies_in f) transaction) family told ∙ one_of_again (replies_in family) transaction reply only in
+    rw same (bind_to (reply_in transaction) _ reply among ∙ bind_to _ _ change (change_again reply change is))
 
-change_by_code_within : (most code : ℕ) (family : Family) (transaction : Item) → IsWithin most transaction →
-    Stands most Any (change_by_code code family transaction)
+-- its name tells what it belongs to
+told_within : (most : ℕ) (transaction : Item) → IsWithin most transaction → Stands most Any (family_told transaction)
+told_within most transaction h =
+    either most Any (has_name (codes "INTRATRNRS") transaction) _ _ tt (either most Any (has_name (codes "RECINTRATRNRS") transaction) _ _ tt h.place)
+
+change_by_code_within : (most code : ℕ) (transaction : Item) → IsWithin most transaction → Stands most Any (change_by_code code transaction)
 unfolding change_by_code
-change_by_code_within most code family transaction h =
-    let names = replies_in family in
+change_by_code_within most code transaction h =
     either most Any (nat_eq code 0) _ _
-    (bound most (IsWithin most) Any (one_of names transaction) _ (one_of_within most names transaction h) (λ reply r.
+    (bound most (IsWithin most) Any (reply_in transaction) _
+    (bound most Any (IsWithin most) (family_told transaction) _ (told_within most transaction h) (λ family _.
+    one_of_within most (replies_in family) transaction h)) (λ reply r.
     bound most Any Any (change_of reply) _ (change_within most reply r) (λ change _. tt)))
     tt
 
 -- ---- the transaction
 
--- its name tells what it belongs to
-told_again : (transaction : Item) (family : Family) → is_named_one_of deed_reply_names transaction ≡ true →
-    transaction.node.name ≡ reply_name family → family_told transaction ≡ family
-told_again transaction Intra named name = rw name refl
-told_again transaction RecIntra named name = rw name refl
-told_again transaction BankMail named name = absurd (other_name deed_reply_names transaction.node.name _ refl named name)
-told_again transaction Mail named name = absurd (other_name deed_reply_names transaction.node.name _ refl named name)
+told_again : (transaction : Item) (family : Family) → IsDeedReplyNamed transaction family → family_told transaction ≡ Ok family
+told_again transaction Intra name = rw name refl
+told_again transaction RecIntra name = rw name refl
+told_again transaction BankMail name = absurd name
+told_again transaction Mail name = absurd name
 
-pub reply_found : (transaction : Item) (reply : DeedReply) → is_named_one_of deed_reply_names transaction ≡ true →
-    deed_reply_of transaction ≡ Ok reply → IsDeedReply transaction reply
+pub reply_found : (transaction : Item) (reply : DeedReply) → deed_reply_of transaction ≡ Ok reply → IsDeedReply transaction reply
 unfolding deed_reply_of
-reply_found transaction reply named h =
-    let family = family_told transaction in
-    let trnuid = bind_ok (text_in (codes "TRNUID") 36 transaction) _ reply h in
+reply_found transaction reply h =
+    let family = bind_ok (family_told transaction) _ reply h in
+    let trnuid = bind_ok (text_in (codes "TRNUID") 36 transaction) _ reply family.2 in
     let code = bind_ok (status_of transaction) _ reply trnuid.2 in
-    let change = bind_ok (change_by_code code.0 family transaction) _ reply code.2 in
+    let change = bind_ok (change_by_code code.0 transaction) _ reply code.2 in
     subst (IsDeedReply transaction) (one_value _ _ reply refl change.2) (record {
-      is_named = name_of_family _ _ transaction.node.name reply_name refl refl named;
+      is_named = two_named (IsDeedReplyNamed transaction) transaction.node.name (codes "INTRATRNRS") (codes "RECINTRATRNRS") Intra RecIntra family.0 _ (λ is. is) (λ is. is) family.1;
       has_trnuid = text_in_found (codes "TRNUID") 36 transaction trnuid.0 trnuid.1;
       has_status = status_found transaction code.0 code.1;
-      is_change = change_by_code_found code.0 family transaction change.0 change.1;
+      is_change = change_by_code_found code.0 family.0 transaction change.0 family.1 change.1;
     })
 
-abbrev of_family : DeedReply → Family → Result DeedReply TreeFault
-of_family reply family = Ok (record { trnuid = reply.trnuid; family = family; code = reply.code; change = reply.change })
-
-pub reply_again : (transaction : Item) (reply : DeedReply) → is_named_one_of deed_reply_names transaction ≡ true →
-    IsDeedReply transaction reply → deed_reply_of transaction ≡ Ok reply
+pub reply_again : (transaction : Item) (reply : DeedReply) → IsDeedReply transaction reply → deed_reply_of transaction ≡ Ok reply
 unfolding deed_reply_of
-reply_again transaction reply named r =
-    let family = told_again transaction reply.family named r.is_named in
-    let By : Family → Type 0 = λ f. IsChangeByCode reply.code f transaction reply.change in
-    bind_to _ _ reply.trnuid (text_in_again (codes "TRNUID") 36 transaction reply.trnuid r.has_trnuid)
+reply_again transaction reply r =
+    let family = told_again transaction reply.family r.is_named in
+    bind_to (family_told transaction) _ reply.family family
+    ∙ bind_to _ _ reply.trnuid (text_in_again (codes "TRNUID") 36 transaction reply.trnuid r.has_trnuid)
     ∙ bind_to _ _ reply.code (status_again transaction reply.code r.has_status)
-    ∙ bind_to _ _ reply.change (change_by_code_again reply.code (family_told transaction) transaction reply.change (subst By (sym family) r.is_change))
-    ∙ ap (of_family reply) family
+    ∙ bind_to _ _ reply.change (change_by_code_again reply.code reply.family transaction reply.change family r.is_change)
 
 pub reply_within : (most : ℕ) (transaction : Item) → IsWithin most transaction → Stands most Any (deed_reply_of transaction)
 unfolding deed_reply_of
 reply_within most transaction h =
-    let family = family_told transaction in
+    bound most Any Any (family_told transaction) _ (told_within most transaction h) (λ family _.
     bound most Any Any (text_in (codes "TRNUID") 36 transaction) _ (text_within most (codes "TRNUID") 36 transaction h) (λ trnuid _.
     bound most Any Any (status_of transaction) _ (status_within most transaction h) (λ code _.
-    bound most Any Any (change_by_code code family transaction) _ (change_by_code_within most code family transaction h) (λ change _. tt)))
+    bound most Any Any (change_by_code code transaction) _ (change_by_code_within most code transaction h) (λ change _. tt))))

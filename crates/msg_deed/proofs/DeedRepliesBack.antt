@@ -8,7 +8,8 @@ use Rattle.ofx_types.specs.Nodes.{Item}
 use Rattle.ofx_types.specs.TagNames.{is_one_of}
 use Rattle.ofx_types.specs.TransferForm.{info_of, code_word, IsProcessing, IsRow}
 use Rattle.ofx_types.specs.RecurringForm.{first_info, IsModelRow}
-use Rattle.ofx_types.specs.DeedForm.{reply_name, replies_in, IsChange, IsChangeByCode}
+use Rattle.ofx_types.specs.DeedForm.{reply_name, replies_in, IsChange, IsChangeByCode, IsDeedReplyNamed}
+use Rattle.ofx_types.specs.Wire.{without_model, wire_change, wire}
 use Rattle.ofx_types.specs.declared.number.Moment.{Moment}
 use Rattle.ofx_types.specs.declared.recurring.ModelRow.{ModelRow}
 use Rattle.ofx_types.specs.declared.transfer.XferCode.{XferCode}
@@ -17,20 +18,18 @@ use Rattle.ofx_types.specs.declared.transfer.TransferRow.{TransferRow}
 use Rattle.ofx_types.specs.declared.transfer.Change.{Change}
 use Rattle.ofx_types.specs.declared.transfer.Change.TheVariants.{NewTransfer, SetTransfer, DropTransfer, NewModel, SetModel, DropModel, NewMail}
 use Rattle.ofx_types.specs.declared.transfer.Family.{Family}
-use Rattle.ofx_types.specs.declared.transfer.Family.TheVariants.{Intra, RecIntra}
+use Rattle.ofx_types.specs.declared.transfer.Family.TheVariants.{Intra, RecIntra, BankMail, Mail}
 use Rattle.ofx_tree.specs.Documents.{leaf_item, branch_item}
 use Rattle.ofx_tree.proofs.FormLaws.{moment_in_found}
 use Rattle.ofx_tree.proofs.DocumentItems.{children_of_branch, named_of_branch, value_of_leaf}
 use Rattle.ofx_tree.proofs.Leaves.{moment_of_leaf}
 use Rattle.msg_parts.specs.DeedDocuments.{info_documents, recur_documents, processing_documents, set_documents, first_documents, change_name, change_documents, deed_reply_documents}
-use Rattle.msg_parts.specs.Sound.{IsSoundMoment, family_of_change}
+use Rattle.msg_parts.specs.SoundParts.{IsSoundMoment, family_of_change}
 use Rattle.msg_parts.proofs.Lawful.{named}
 use Rattle.msg_parts.proofs.PrintedDeeds.{new_with}
 use Rattle.msg_parts.proofs.Transactions.{reply_item, trnuid_stands, status_stands}
-use Rattle.msg_deed.specs.AsDocuments.{DeedRepliesReadBack}
-use Rattle.msg_deed.specs.Sound.{IsSoundId, IsSoundRow, IsSoundModelRow, IsSoundChange, IsSoundChangeByCode}
-use Rattle.msg_deed.specs.Laws.{deed_reply_names}
-use Rattle.msg_deed.specs.Wire.{without_model, wire_change, wire}
+use Rattle.msg_deed.specs.DeedsReadBack.{DeedRepliesReadBack}
+use Rattle.msg_deed.specs.SoundDeeds.{IsSoundId, IsSoundRow, IsSoundModelRow, IsSoundChange, IsSoundChangeByCode}
 use Rattle.msg_deed.proofs.DeedReplies.{reply_again}
 use Rattle.msg_deed.proofs.Lawful.{code_leaf, processing_lawful, new_lawful, set_lawful, first_lawful, change_lawful, deed_reply_lawful}
 use Rattle.msg_deed.proofs.DeedsBack.{is_id_of_leaf, is_flag_of_leaf, info_stands, recur_stands}
@@ -199,16 +198,20 @@ change_by_code_stands place index trnuid code family None c = c
 change_by_code_stands place index trnuid code family (Some change) c =
     (c.0, subst (Told place index trnuid code change) c.1 (only_reply place index trnuid code change c.2))
 
-is_named : (family : Family) → (family ≡ Intra) ⊎ (family ≡ RecIntra) → is_one_of deed_reply_names (reply_name family) ≡ true
-is_named family (inl h) = rw h refl
-is_named family (inr h) = rw h refl
+is_named : (family : Family) (transaction : Item) → (family ≡ Intra) ⊎ (family ≡ RecIntra) → transaction.node.name ≡ reply_name family → IsDeedReplyNamed transaction family
+is_named Intra transaction is name = name
+is_named RecIntra transaction is name = name
+is_named BankMail transaction (inl h) name = cc
+is_named BankMail transaction (inr h) name = cc
+is_named Mail transaction (inl h) name = cc
+is_named Mail transaction (inr h) name = cc
 
 pub deed_replies_back : DeedRepliesReadBack
 deed_replies_back place index reply r =
     let item = reply_item place index reply.trnuid reply.code reply.family reply.change in
     let lawful = deed_reply_lawful 4 reply (omega arith) r in
-    reply_again item (wire reply) (is_named reply.family r.is_family) (record {
-      is_named = refl;
+    reply_again item (wire reply) (record {
+      is_named = is_named reply.family item r.is_family refl;
       has_trnuid = trnuid_stands place index 4 reply r.is_uid lawful;
       has_status = status_stands place index 4 reply r.is_code lawful;
       is_change = change_by_code_stands place index reply.trnuid reply.code reply.family reply.change r.is_change;

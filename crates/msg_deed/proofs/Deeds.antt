@@ -3,12 +3,11 @@ use Rattle.std.proofs.Common.{◌≡◌, ℕ, inl, inr, true, false, List, Ok, c
 use Rattle.ofx_types.specs.TagNames.{is_one_of}
 use Rattle.ofx_types.specs.Nodes.{Item}
 use Rattle.ofx_types.specs.FormWords.{has_name, one_of, IsOnlyOf}
-use Rattle.ofx_types.specs.MessageForm.{is_named_one_of}
 use Rattle.ofx_types.specs.RequestReading.{trnuid_of}
 use Rattle.ofx_types.specs.TransferForm.{transfer_requests}
 use Rattle.ofx_types.specs.RecurringForm.{model_requests}
 use Rattle.ofx_types.specs.DeedForm.{family_of, request_name, requests_in, IsDeedRequest, IsDeed}
-use Rattle.ofx_types.specs.DeedReading.{family_asked, request_of, deed_of}
+use Rattle.ofx_types.specs.DeedReading.{family_asked, request_of, request_in, deed_of}
 use Rattle.ofx_types.specs.declared.transfer.Deed.{Deed}
 use Rattle.ofx_types.specs.declared.transfer.Deed.TheVariants.{Transfer, ModifyTransfer, CancelTransfer, Model, ModifyModel, CancelModel}
 use Rattle.ofx_types.specs.declared.transfer.Family.{Family}
@@ -19,8 +18,7 @@ use Rattle.ofx_tree.proofs.FormLaws.{bind_ok, bind_to, one_value, chosen, bytes_
 use Rattle.ofx_tree.proofs.FormPlaces.{bound, either, one_of_within}
 use Rattle.msg_parts.proofs.PartLaws.{trnuid_found, trnuid_again}
 use Rattle.msg_parts.proofs.PartPlaces.{trnuid_within}
-use Rattle.msg_parts.proofs.Named.{third_name, none_of_three, other_name, name_of_family}
-use Rattle.msg_deed.specs.Laws.{deed_names}
+use Rattle.msg_parts.proofs.Named.{third_name, none_of_three, other_name, two_named}
 use Rattle.msg_deed.proofs.TransferRequests.{IsRequestOf, transfer_found, modify_found, cancel_found, transfer_again, modify_again, cancel_again, transfer_within, modify_within, cancel_within}
 use Rattle.msg_deed.proofs.ModelRequests.{model_found, modify_model_found, cancel_model_found, model_again, modify_model_again, cancel_model_again, model_within, modify_model_within, cancel_model_within}
 
@@ -117,7 +115,7 @@ request_within most request h =
 -- ---- the transaction
 
 -- its name tells what the deed belongs to
-asked_again : (transaction request : Item) (deed : Deed) → IsDeedRequest request deed → transaction.node.name ≡ request_name (family_of deed) → family_asked transaction ≡ family_of deed
+asked_again : (transaction request : Item) (deed : Deed) → IsDeedRequest request deed → transaction.node.name ≡ request_name (family_of deed) → family_asked transaction ≡ Ok (family_of deed)
 asked_again transaction request (Transfer info) is name = rw name refl
 asked_again transaction request (ModifyTransfer id info) is name = rw name refl
 asked_again transaction request (CancelTransfer id) is name = rw name refl
@@ -127,20 +125,26 @@ asked_again transaction request (CancelModel id pending) is name = rw name refl
 asked_again transaction request (deeds.BankMail account mail) is name = absurd is
 asked_again transaction request (deeds.Mail mail) is name = absurd is
 
-pub deed_found : (transaction : Item) (trnuid : List ℕ) (deed : Deed) → is_named_one_of deed_names transaction ≡ true →
-    deed_of transaction ≡ Ok (trnuid, deed) → IsDeed transaction trnuid deed
+asked_within : (most : ℕ) (transaction : Item) → IsWithin most transaction → Stands most Any (family_asked transaction)
+asked_within most transaction h =
+    either most Any (has_name (codes "INTRATRNRQ") transaction) _ _ tt (either most Any (has_name (codes "RECINTRATRNRQ") transaction) _ _ tt h.place)
+
+pub deed_found : (transaction : Item) (trnuid : List ℕ) (deed : Deed) → deed_of transaction ≡ Ok (trnuid, deed) → IsDeed transaction trnuid deed
 unfolding deed_of
-deed_found transaction trnuid deed named h =
-    let family = family_asked transaction in
+deed_found transaction trnuid deed h =
     let uid = bind_ok (trnuid_of transaction) _ (trnuid, deed) h in
-    let request = bind_ok (one_of (requests_in family) transaction) _ (trnuid, deed) uid.2 in
+    let request = bind_ok (request_in transaction) _ (trnuid, deed) uid.2 in
+    let family = bind_ok (family_asked transaction) (λ f. one_of (requests_in f) transaction) request.0 request.1 in
     let read = bind_ok (request_of request.0) _ (trnuid, deed) request.2 in
-    let only = one_of_found (requests_in family) transaction request.0 request.1 in
-    let found = request_found family request.0 read.0 (has_one_of (requests_in family) transaction request.0 only) read.1 in
+    let only = one_of_found (requests_in family.0) transaction request.0 family.2 in
+    let found = request_found family.0 request.0 read.0 (has_one_of (requests_in family.0) transaction request.0 only) read.1 in
     let P : List ℕ × Deed → Type 0 = λ said. IsDeed transaction said.0 said.1 in
+    let Named : Family → Type 0 = λ f. transaction.node.name ≡ request_name f in
+    let named : transaction.node.name ≡ request_name family.0 =
+    two_named Named transaction.node.name (codes "INTRATRNRQ") (codes "RECINTRATRNRQ") Intra RecIntra family.0 _ (λ is. is) (λ is. is) family.1 in
     let Only : Family → Type 0 = λ f. IsOnlyOf (requests_in f) transaction request.0 in
     subst P (one_value _ _ (trnuid, deed) refl read.2) (record {
-      is_named = name_of_family _ _ transaction.node.name request_name refl refl named ∙ ap request_name (sym found.1);
+      is_named = named ∙ ap request_name (sym found.1);
       has_trnuid = trnuid_found transaction uid.0 uid.1;
       request = request.0;
       has_request = subst Only (sym found.1) only;
@@ -150,16 +154,19 @@ deed_found transaction trnuid deed named h =
 pub deed_again : (transaction : Item) (trnuid : List ℕ) (deed : Deed) → IsDeed transaction trnuid deed → deed_of transaction ≡ Ok (trnuid, deed)
 unfolding deed_of
 deed_again transaction trnuid deed d =
-    let Only : Family → Type 0 = λ f. IsOnlyOf (requests_in f) transaction d.request in
-    let only = subst Only (sym (asked_again transaction d.request deed d.is_request d.is_named)) d.has_request in
+    let family = asked_again transaction d.request deed d.is_request d.is_named in
+    let request : request_in transaction ≡ Ok d.request =
+    bind_to (family_asked transaction) (λ f. one_of (requests_in f) transaction) (family_of deed) family
+    ∙ one_of_again (requests_in (family_of deed)) transaction d.request d.has_request in
     bind_to _ _ trnuid (trnuid_again transaction trnuid d.has_trnuid)
-    ∙ bind_to _ _ d.request (one_of_again (requests_in (family_asked transaction)) transaction d.request only)
+    ∙ bind_to _ _ d.request request
     ∙ bind_to _ _ deed (request_again d.request deed d.is_request)
 
 pub deed_within : (most : ℕ) (transaction : Item) → IsWithin most transaction → Stands most Any (deed_of transaction)
 unfolding deed_of
 deed_within most transaction h =
-    let names = requests_in (family_asked transaction) in
     bound most Any Any (trnuid_of transaction) _ (trnuid_within most transaction h) (λ trnuid _.
-    bound most (IsWithin most) Any (one_of names transaction) _ (one_of_within most names transaction h) (λ request r.
+    bound most (IsWithin most) Any (request_in transaction) _
+    (bound most Any (IsWithin most) (family_asked transaction) _ (asked_within most transaction h) (λ family _.
+    one_of_within most (requests_in family) transaction h)) (λ request r.
     bound most Any Any (request_of request) _ (request_within most request r) (λ deed _. tt)))

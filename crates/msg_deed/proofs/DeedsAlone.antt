@@ -3,11 +3,11 @@ use Rattle.std.proofs.Common.{◌∙◌, arith, append-nil}
 use Rattle.ofx_types.specs.DeedForm.{family_of, request_name, reply_name}
 use Rattle.ofx_types.specs.DeedReading.{deed_of, deed_reply_of}
 use Rattle.ofx_types.specs.DeedText.{deed_text, deed_reply_text}
+use Rattle.ofx_types.specs.Wire.{wire}
 use Rattle.ofx_tree.specs.Documents.{empty}
 use Rattle.msg_parts.specs.DeedDocuments.{deed_documents, deed_reply_documents, DeedsAreDocuments, DeedRepliesAreDocuments}
 use Rattle.msg_parts.proofs.Alone.{read_alone}
-use Rattle.msg_deed.specs.AsDocuments.{DeedsReadBackAlone, DeedRepliesReadBackAlone}
-use Rattle.msg_deed.specs.Wire.{wire}
+use Rattle.msg_deed.specs.DeedsReadBack.{DeedsReadBackAlone, DeedRepliesReadBackAlone}
 use Rattle.msg_deed.proofs.Lawful.{deeds_lawful, deed_replies_lawful}
 use Rattle.msg_deed.proofs.DeedsBack.{deeds_back}
 use Rattle.msg_deed.proofs.DeedRepliesBack.{deed_replies_back}

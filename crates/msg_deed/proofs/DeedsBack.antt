@@ -35,9 +35,9 @@ use Rattle.msg_parts.proofs.PartLaws.{account_found}
 use Rattle.msg_parts.proofs.ReadBack.{account_back}
 use Rattle.msg_parts.proofs.Transactions.{only_in_front, deed_item, own_trnuid_stands}
 use Rattle.msg_parts.proofs.Lawful as lawful
-use Rattle.msg_deed.specs.AsDocuments.{DeedsReadBack}
-use Rattle.msg_deed.specs.Sound.{IsSoundId, IsSoundInfo, IsSoundRecur, IsSoundDeed}
-use Rattle.msg_deed.specs.Steps.{info_with}
+use Rattle.msg_deed.specs.DeedsReadBack.{DeedsReadBack}
+use Rattle.msg_deed.specs.SoundDeeds.{IsSoundId, IsSoundInfo, IsSoundRecur, IsSoundDeed}
+use Rattle.msg_deed.specs.DeedSteps.{info_with}
 use Rattle.msg_deed.proofs.Deeds.{deed_again}
 use Rattle.msg_deed.proofs.Lawful.{IsMoment-midnight, id_leaf, freq_leaf, info_lawful, recur_lawful, each_lawful, request_lawful, deed_lawful}
 

@@ -30,12 +30,12 @@ use Rattle.ofx_tree.specs.PrintedForm.{IsElementName}
 use Rattle.ofx_tree.specs.Documents.{Documents, empty, leaf, branch, AreLawful, IsLeaf}
 use Rattle.ofx_tree.proofs.Leaves.{amount_leaf, moment_leaf, number_leaf, flag_leaf}
 use Rattle.msg_parts.specs.DeedDocuments.{due_document, info_documents, count_document, recur_documents, each_documents, request_documents, deed_documents, processing_documents, set_documents, first_documents, model_documents, change_documents, change_document, deed_reply_documents}
-use Rattle.msg_parts.specs.Sound.{IsSoundMoment}
+use Rattle.msg_parts.specs.SoundParts.{IsSoundMoment}
 use Rattle.msg_parts.proofs.Lawful.{named, is_branch, text_leaf, currency_leaf, account_lawful, status_lawful}
 use Rattle.msg_parts.proofs.PrintedDeeds.{model_with, new_with}
 use Rattle.msg_parts.proofs.Branches.{request_branch, transaction_branch, change_branch, answer_branch}
-use Rattle.msg_deed.specs.AsDocuments.{DeedsAreLawful, DeedRepliesAreLawful}
-use Rattle.msg_deed.specs.Sound.{IsSoundId, IsSoundDay, IsSoundInfo, IsSoundRecur, IsSoundDeed, IsSoundDeedRequest, IsSoundRow, IsSoundModelRow, IsSoundChange, IsSoundChangeByCode, IsSoundDeedReply}
+use Rattle.msg_deed.specs.DeedsReadBack.{DeedsAreLawful, DeedRepliesAreLawful}
+use Rattle.msg_deed.specs.SoundDeeds.{IsSoundId, IsSoundDay, IsSoundInfo, IsSoundRecur, IsSoundDeed, IsSoundDeedRequest, IsSoundRow, IsSoundModelRow, IsSoundChange, IsSoundChangeByCode, IsSoundDeedReply}
 
 -- ---- they are lawful
 

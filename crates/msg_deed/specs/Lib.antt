@@ -1,6 +1,5 @@
-pub mod Steps
-pub mod Laws
-pub mod Sound
-pub mod AsDocuments
-pub mod Deeds
-pub mod Wire
+pub mod DeedSteps
+pub mod DeedLaws
+pub mod SoundDeeds
+pub mod DeedsReadBack
+pub mod PrintableDeeds

@@ -1,8 +1,8 @@
 //! What holds of the forms of deeds and of the answers to them. The calls do nothing; each contract is a law.
 
-ghost use Rattle.msg_deed.specs.Laws.{DeedsAreFound, DeedFaultsHavePlaces, DeedRepliesAreFound, DeedReplyFaultsHavePlaces};
+ghost use Rattle.msg_deed.specs.DeedLaws.{DeedsAreFound, DeedFaultsHavePlaces, DeedRepliesAreFound, DeedReplyFaultsHavePlaces};
 ghost use Rattle.msg_parts.specs.DeedDocuments.{DeedsAreDocuments, DeedRepliesAreDocuments};
-ghost use Rattle.msg_deed.specs.AsDocuments.{DeedsAreLawful, DeedsReadBack, DeedsReadBackAlone, DeedRepliesAreLawful, DeedRepliesReadBack, DeedRepliesReadBackAlone};
+ghost use Rattle.msg_deed.specs.DeedsReadBack.{DeedsAreLawful, DeedsReadBack, DeedsReadBackAlone, DeedRepliesAreLawful, DeedRepliesReadBack, DeedRepliesReadBackAlone};
 
 use msg_parts::{deed_replies_are_documents, deeds_are_documents};
 

@@ -1,15 +1,15 @@
 //! What is answered to a deed (INTRATRNRS, RECINTRATRNRS), read and written.
 
 ghost use Rattle.std.specs.Prelude.{◌≡◌, ◌++◌, OnOk};
+ghost use Rattle.std.specs.Io.{StartsWith};
 ghost use Rattle.std.specs.Option.{ForSome, IfSome};
-ghost use Rattle.ofx_types.specs.FormWords.{Gives, one_of};
+ghost use Rattle.ofx_types.specs.FormWords.{Gives};
 ghost use Rattle.ofx_types.specs.Printable.{HasChangeByCode, IsPrintableChange};
-ghost use Rattle.ofx_types.specs.DeedForm as forms;
 ghost use Rattle.ofx_types.specs.DeedReading as reading;
 ghost use Rattle.ofx_types.specs.DeedReading.{deed_reply_of};
 ghost use Rattle.ofx_types.specs.DeedText as text;
 ghost use Rattle.ofx_types.specs.DeedText.{deed_reply_text};
-ghost use Rattle.msg_deed.specs.Deeds.{IsNoMail};
+ghost use Rattle.msg_deed.specs.PrintableDeeds.{IsNoMail};
 
 use crate::recurring::{
     print_drop_model, print_new_model, print_set_model, read_drop_model, read_new_model,
@@ -24,30 +24,35 @@ use std::alloc::Global;
 /// The answer that the reply to a transfer (INTRATRNRS) or to a recurring one (RECINTRATRNRS) is: with code 0 just one of
 /// the three replies of its name stands in it. With any other code no change is looked for.
 ///
-/// The first fault of its form, with its place; `OutOfMemory` where memory for its texts is refused.
+/// The first fault of its form, with its place, which is its own where it has another name; `OutOfMemory` where memory
+/// for its texts is refused.
 #[tactic(auto, unfolding(ofx_types::specs::DeedReading::deed_reply_of))]
 pub fn read_reply(alloc: Global, c: &Cursor<'_>) -> Result<DeedReply, TreeFault>
     ensures { Gives result (deed_reply_of c.now) }
 {
+    let family = family_told(c)?;
     let trnuid = read_trnuid(alloc, c)?;
     let code = read_status(c)?;
     let change = read_change_by_code(alloc, code, c)?;
     Ok(DeedReply {
         trnuid,
-        family: family_told(c),
+        family,
         code,
         change,
     })
 }
 
 /// What a transaction belongs to, by its name.
-fn family_told(c: &Cursor<'_>) -> Family
+fn family_told(c: &Cursor<'_>) -> Result<Family, TreeFault>
     ensures { result ≡ reading.family_told c.now }
 {
-    if c.name() == b"RECINTRATRNRS".as_slice() {
-        return Family::RecIntra;
+    if c.name() == b"INTRATRNRS".as_slice() {
+        return Ok(Family::Intra);
     }
-    Family::Intra
+    if c.name() == b"RECINTRATRNRS".as_slice() {
+        return Ok(Family::RecIntra);
+    }
+    Err(TreeFault::Value(c.place() as u64))
 }
 
 /// What was done, where the code is 0.
@@ -57,7 +62,7 @@ fn read_change_by_code(
     code: u16,
     c: &Cursor<'_>,
 ) -> Result<Option<Change>, TreeFault>
-    ensures { Gives result (reading.change_by_code code (reading.family_told c.now) c.now) }
+    ensures { Gives result (reading.change_by_code code c.now) }
 {
     if code == 0 {
         let reply = reply_in(c)?;
@@ -68,12 +73,15 @@ fn read_change_by_code(
 
 /// The one reply that stands in a transaction.
 fn reply_in<'t>(c: &Cursor<'t>) -> Result<Cursor<'t>, TreeFault>
-    ensures { result ≡ one_of (forms.replies_in (reading.family_told c.now)) c.now }
+    ensures { result ≡ reading.reply_in c.now }
 {
+    if c.name() == b"INTRATRNRS".as_slice() {
+        return c.one_of(b"INTRARS", b"INTRAMODRS", b"INTRACANRS");
+    }
     if c.name() == b"RECINTRATRNRS".as_slice() {
         return c.one_of(b"RECINTRARS", b"RECINTRAMODRS", b"RECINTRACANRS");
     }
-    c.one_of(b"INTRARS", b"INTRAMODRS", b"INTRACANRS")
+    Err(TreeFault::Value(c.place() as u64))
 }
 
 /// The change that one of the six replies is, by its name.
@@ -104,7 +112,8 @@ fn read_change(alloc: Global, reply: &Cursor<'_>) -> Result<Change, TreeFault>
 pub fn print_reply(r: &DeedReply, out: &mut Sheet) -> Result<(), OutOfMemory>
     requires by_code { HasChangeByCode r.now.code r.now.change }
     requires no_mail { IfSome r.now.change IsNoMail }
-    ensures { OnOk result (out.new ≡ out.old ++ deed_reply_text r.now) }
+    ensures ok { OnOk result (out.new ≡ out.old ++ deed_reply_text r.now) }
+    ensures kept { StartsWith out.new out.old }
 {
     let name = reply_name(r.family);
     out.start(name)?;
@@ -119,7 +128,8 @@ pub fn print_reply(r: &DeedReply, out: &mut Sheet) -> Result<(), OutOfMemory>
 fn print_maybe_change(change: &Option<Change>, sheet: &mut Sheet) -> Result<(), OutOfMemory>
     requires printable { ForSome change.now IsPrintableChange }
     requires no_mail { ForSome change.now IsNoMail }
-    ensures { OnOk result (sheet.new ≡ sheet.old ++ text.maybe_change_text change.now) }
+    ensures ok { OnOk result (sheet.new ≡ sheet.old ++ text.maybe_change_text change.now) }
+    ensures kept { StartsWith sheet.new sheet.old }
 {
     match change {
         Some(change) => print_change(change, sheet),
@@ -131,7 +141,8 @@ fn print_maybe_change(change: &Option<Change>, sheet: &mut Sheet) -> Result<(), 
 fn print_change(change: &Change, sheet: &mut Sheet) -> Result<(), OutOfMemory>
     requires printable { IsPrintableChange change.now }
     requires no_mail { IsNoMail change.now }
-    ensures { OnOk result (sheet.new ≡ sheet.old ++ text.change_text change.now) }
+    ensures ok { OnOk result (sheet.new ≡ sheet.old ++ text.change_text change.now) }
+    ensures kept { StartsWith sheet.new sheet.old }
 {
     match change {
         Change::NewTransfer(row) => print_new(row, sheet),

@@ -1,13 +1,13 @@
 //! What a client asks to be done (INTRATRNRQ, RECINTRATRNRQ), read and written.
 
 ghost use Rattle.std.specs.Prelude.{◌≡◌, ◌++◌, OnOk};
-ghost use Rattle.ofx_types.specs.FormWords.{Gives, one_of};
-ghost use Rattle.ofx_types.specs.DeedForm as forms;
+ghost use Rattle.std.specs.Io.{StartsWith};
+ghost use Rattle.ofx_types.specs.FormWords.{Gives};
 ghost use Rattle.ofx_types.specs.DeedReading as reading;
 ghost use Rattle.ofx_types.specs.DeedReading.{deed_of};
 ghost use Rattle.ofx_types.specs.DeedText as text;
 ghost use Rattle.ofx_types.specs.DeedText.{deed_text};
-ghost use Rattle.msg_deed.specs.Deeds.{IsPrintableDeed};
+ghost use Rattle.msg_deed.specs.PrintableDeeds.{IsPrintableDeed};
 
 use crate::recurring::{
     print_cancel_model, print_model, print_modify_model, read_cancel_model, read_model,
@@ -24,7 +24,8 @@ use std::alloc::Global;
 /// The uid and the deed that a request of a transfer (INTRATRNRQ) or of a recurring one (RECINTRATRNRQ) is: just one of
 /// the three requests of its name stands in it.
 ///
-/// The first fault of its form, with its place; `OutOfMemory` where memory for its texts is refused.
+/// The first fault of its form, with its place, which is its own where it has another name; `OutOfMemory` where memory
+/// for its texts is refused.
 #[tactic(auto, unfolding(ofx_types::specs::DeedReading::deed_of))]
 pub fn read_deed(alloc: Global, c: &Cursor<'_>) -> Result<(TrnUid, Deed), TreeFault>
     ensures { Gives result (deed_of c.now) }
@@ -37,12 +38,15 @@ pub fn read_deed(alloc: Global, c: &Cursor<'_>) -> Result<(TrnUid, Deed), TreeFa
 
 /// The one request that stands in a transaction.
 fn request_in<'t>(c: &Cursor<'t>) -> Result<Cursor<'t>, TreeFault>
-    ensures { result ≡ one_of (forms.requests_in (reading.family_asked c.now)) c.now }
+    ensures { result ≡ reading.request_in c.now }
 {
+    if c.name() == b"INTRATRNRQ".as_slice() {
+        return c.one_of(b"INTRARQ", b"INTRAMODRQ", b"INTRACANRQ");
+    }
     if c.name() == b"RECINTRATRNRQ".as_slice() {
         return c.one_of(b"RECINTRARQ", b"RECINTRAMODRQ", b"RECINTRACANRQ");
     }
-    c.one_of(b"INTRARQ", b"INTRAMODRQ", b"INTRACANRQ")
+    Err(TreeFault::Value(c.place() as u64))
 }
 
 /// The deed that one of the six requests is, by its name.
@@ -72,7 +76,8 @@ fn read_request(alloc: Global, request: &Cursor<'_>) -> Result<Deed, TreeFault>
 #[tactic(auto, unfolding(ofx_types::specs::DeedText::deed_text), using(msg_parts::proofs::Joined::joined))]
 pub fn print_deed(trnuid: &TrnUid, deed: &Deed, out: &mut Sheet) -> Result<(), OutOfMemory>
     requires { IsPrintableDeed deed.now }
-    ensures { OnOk result (out.new ≡ out.old ++ deed_text trnuid.now deed.now) }
+    ensures ok { OnOk result (out.new ≡ out.old ++ deed_text trnuid.now deed.now) }
+    ensures kept { StartsWith out.new out.old }
 {
     let name = request_name(deed);
     out.start(name)?;
@@ -84,7 +89,8 @@ pub fn print_deed(trnuid: &TrnUid, deed: &Deed, out: &mut Sheet) -> Result<(), O
 /// Writes the request that a deed is.
 fn print_request(deed: &Deed, sheet: &mut Sheet) -> Result<(), OutOfMemory>
     requires { IsPrintableDeed deed.now }
-    ensures { OnOk result (sheet.new ≡ sheet.old ++ text.request_text deed.now) }
+    ensures ok { OnOk result (sheet.new ≡ sheet.old ++ text.request_text deed.now) }
+    ensures kept { StartsWith sheet.new sheet.old }
 {
     match deed {
         Deed::Transfer(info) => print_transfer(info, sheet),

@@ -14,10 +14,10 @@ use Rattle.ofx_tree.specs.Documents.{AreLawful}
 use Rattle.ofx_tree.proofs.Leaves.{moment_leaf, flag_leaf}
 use Rattle.msg_parts.specs.DeedDocuments.{request_documents, deed_documents, change_documents, change_document, deed_reply_documents}
 use Rattle.msg_parts.specs.MailDocuments.{mail_documents, mail_about}
-use Rattle.msg_parts.specs.Sound.{IsTextWithin, IsSoundAccount}
+use Rattle.msg_parts.specs.SoundParts.{IsTextWithin, IsSoundAccount}
 use Rattle.msg_parts.proofs.Lawful.{named, is_branch, text_leaf, account_lawful, status_lawful}
 use Rattle.msg_parts.proofs.Branches.{request_branch, transaction_branch, change_branch, answer_branch}
-use Rattle.msg_mail.specs.MailSound.{IsSoundMail, IsSoundMailDeed, IsSoundMailRequest, IsSoundMailChange, IsSoundMailByCode, IsSoundMailReply}
+use Rattle.msg_mail.specs.SoundMails.{IsSoundMail, IsSoundMailDeed, IsSoundMailRequest, IsSoundMailChange, IsSoundMailByCode, IsSoundMailReply}
 use Rattle.msg_mail.specs.MailsAsDocuments.{MailsAreLawful, MailRepliesAreLawful}
 
 pub mail_lawful : (room : ℕ) (user : List ℕ) (text : MailText) → IsTextWithin 32 user → IsSoundMail text → AreLawful room (mail_documents user text)

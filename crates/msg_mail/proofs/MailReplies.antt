@@ -1,11 +1,10 @@
 -- The answer to a mail has its form exactly where reading finds it, and its faults have places.
-use Rattle.std.proofs.Common.{◌≡◌, ◌≢◌, ℕ, inl, inr, Bool, true, false, cond, nat_eq, List, Option, None, Some, Result, Ok, codes, refl, sym, ap, subst, ◌∙◌, arith}
+use Rattle.std.proofs.Common.{◌≡◌, ◌≢◌, ℕ, inl, inr, Bool, true, false, cond, nat_eq, List, Option, None, Some, Result, Ok, Err, codes, refl, sym, ap, subst, ◌∙◌, arith}
 use Rattle.std.proofs.lemmas.Grind.{common_steps}
 use Rattle.ofx_types.specs.Nodes.{Item}
 use Rattle.ofx_types.specs.FormWords.{has_name, one, text_in}
 use Rattle.ofx_types.specs.MailForm.{IsBankMailRow, IsPlainMailRow, IsMailByCode, IsMailReplyNamed, IsMailReply}
 use Rattle.ofx_types.specs.MailReading.{account_in, mail_of_user_in, mail_family_told, bank_mail_row_of, plain_mail_row_of, mail_row_of, mail_by_code, mail_reply_of}
-use Rattle.ofx_types.specs.MessageForm.{is_named_one_of}
 use Rattle.ofx_types.specs.ReplyReading.{status_of}
 use Rattle.ofx_types.specs.declared.fault.TreeFault.{TreeFault}
 use Rattle.ofx_types.specs.declared.account.AcctName.{AcctName}
@@ -17,11 +16,10 @@ use Rattle.ofx_types.specs.declared.transfer.Family.{Family}
 use Rattle.ofx_types.specs.declared.transfer.Family.TheVariants.{Intra, RecIntra, BankMail, Mail}
 use Rattle.ofx_types.specs.declared.transfer.DeedReply.{DeedReply}
 use Rattle.ofx_tree.specs.Placed.{Stands, Any, IsWithin}
-use Rattle.ofx_tree.proofs.FormLaws.{bind_ok, bind_to, one_value, chosen, bytes_same, one_found, one_again, text_in_found, text_in_again}
+use Rattle.ofx_tree.proofs.FormLaws.{bind_ok, bind_to, one_value, chosen, one_found, one_again, text_in_found, text_in_again}
 use Rattle.ofx_tree.proofs.FormPlaces.{bound, either, one_within, text_within}
-use Rattle.msg_parts.proofs.Named.{second_name}
+use Rattle.msg_parts.proofs.Named.{two_named}
 use Rattle.msg_parts.proofs.Statuses.{status_found, status_again, status_within}
-use Rattle.msg_mail.specs.MailLaws.{mail_reply_names}
 use Rattle.msg_mail.proofs.MailParts.{account_in_found, account_in_again, account_in_within, user_mail_in_found, user_mail_in_again, user_mail_in_within}
 
 -- ---- the two replies
@@ -129,7 +127,7 @@ none_by true code transaction some = some
 none_by false code transaction some = some
 
 by_code_found : (code : ℕ) (transaction : Item) (change : Option Change) → mail_by_code code transaction ≡ Ok change →
-    IsMailByCode code (mail_family_told transaction) transaction change
+    IsMailByCode code (family_by (has_name (codes "BANKMAILTRNRS") transaction)) transaction change
 unfolding mail_by_code mail_row_of
 by_code_found code transaction change h =
     let is_bank = has_name (codes "BANKMAILTRNRS") transaction in
@@ -163,45 +161,50 @@ by_code_within most code transaction h =
 -- ---- the transaction
 
 -- its name tells what it belongs to
-named_by : (is_bank : Bool) (transaction : Item) → has_name (codes "BANKMAILTRNRS") transaction ≡ is_bank →
-    is_named_one_of mail_reply_names transaction ≡ true → IsMailReplyNamed transaction (family_by is_bank)
-named_by true transaction is named = bytes_same transaction.node.name (codes "BANKMAILTRNRS") is
-named_by false transaction other named = second_name transaction.node.name (codes "BANKMAILTRNRS") (codes "MAILTRNRS") named other
+told_by : (is_bank is_mail : Bool) (fault : TreeFault) (family : Family) →
+    cond is_bank (Ok BankMail) (cond is_mail (Ok Mail) (Err fault)) ≡ Ok family → family_by is_bank ≡ family
+told_by true is_mail fault family h = cc
+told_by false true fault family h = cc
+told_by false false fault family h = cc
 
-told_again : (transaction : Item) (family : Family) → IsMailReplyNamed transaction family → mail_family_told transaction ≡ family
+told_again : (transaction : Item) (family : Family) → IsMailReplyNamed transaction family → mail_family_told transaction ≡ Ok family
 told_again transaction BankMail name = rw name refl
 told_again transaction Mail name = rw name refl
 told_again transaction Intra name = absurd name
 told_again transaction RecIntra name = absurd name
 
-pub reply_found : (transaction : Item) (reply : DeedReply) → is_named_one_of mail_reply_names transaction ≡ true →
-    mail_reply_of transaction ≡ Ok reply → IsMailReply transaction reply
+pub reply_found : (transaction : Item) (reply : DeedReply) → mail_reply_of transaction ≡ Ok reply → IsMailReply transaction reply
 unfolding mail_reply_of
-reply_found transaction reply named h =
-    let trnuid = bind_ok (text_in (codes "TRNUID") 36 transaction) _ reply h in
+reply_found transaction reply h =
+    let family = bind_ok (mail_family_told transaction) _ reply h in
+    let trnuid = bind_ok (text_in (codes "TRNUID") 36 transaction) _ reply family.2 in
     let code = bind_ok (status_of transaction) _ reply trnuid.2 in
     let change = bind_ok (mail_by_code code.0 transaction) _ reply code.2 in
+    let By : Family → Type 0 = λ f. IsMailByCode code.0 f transaction change.0 in
+    let told = told_by (has_name (codes "BANKMAILTRNRS") transaction) (has_name (codes "MAILTRNRS") transaction) _ family.0 family.1 in
     subst (IsMailReply transaction) (one_value _ _ reply refl change.2) (record {
-      is_named = named_by (has_name (codes "BANKMAILTRNRS") transaction) transaction refl named;
+      is_named = two_named (IsMailReplyNamed transaction) transaction.node.name (codes "BANKMAILTRNRS") (codes "MAILTRNRS") BankMail Mail family.0 _ (λ is. is) (λ is. is) family.1;
       has_trnuid = text_in_found (codes "TRNUID") 36 transaction trnuid.0 trnuid.1;
       has_status = status_found transaction code.0 code.1;
-      is_change = by_code_found code.0 transaction change.0 change.1;
+      is_change = subst By told (by_code_found code.0 transaction change.0 change.1);
     })
-
-abbrev of_family : DeedReply → Family → Result DeedReply TreeFault
-of_family reply family = Ok (record { trnuid = reply.trnuid; family = family; code = reply.code; change = reply.change })
 
 pub reply_again : (transaction : Item) (reply : DeedReply) → IsMailReply transaction reply → mail_reply_of transaction ≡ Ok reply
 unfolding mail_reply_of
 reply_again transaction reply r =
-    bind_to _ _ reply.trnuid (text_in_again (codes "TRNUID") 36 transaction reply.trnuid r.has_trnuid)
+    bind_to (mail_family_told transaction) _ reply.family (told_again transaction reply.family r.is_named)
+    ∙ bind_to _ _ reply.trnuid (text_in_again (codes "TRNUID") 36 transaction reply.trnuid r.has_trnuid)
     ∙ bind_to _ _ reply.code (status_again transaction reply.code r.has_status)
     ∙ bind_to _ _ reply.change (by_code_again reply.code reply.family transaction reply.change r.is_named r.is_change)
-    ∙ ap (of_family reply) (told_again transaction reply.family r.is_named)
+
+told_within : (most : ℕ) (transaction : Item) → IsWithin most transaction → Stands most Any (mail_family_told transaction)
+told_within most transaction h =
+    either most Any (has_name (codes "BANKMAILTRNRS") transaction) _ _ tt (either most Any (has_name (codes "MAILTRNRS") transaction) _ _ tt h.place)
 
 pub reply_within : (most : ℕ) (transaction : Item) → IsWithin most transaction → Stands most Any (mail_reply_of transaction)
 unfolding mail_reply_of
 reply_within most transaction h =
+    bound most Any Any (mail_family_told transaction) _ (told_within most transaction h) (λ family _.
     bound most Any Any (text_in (codes "TRNUID") 36 transaction) _ (text_within most (codes "TRNUID") 36 transaction h) (λ trnuid _.
     bound most Any Any (status_of transaction) _ (status_within most transaction h) (λ code _.
-    bound most Any Any (mail_by_code code transaction) _ (by_code_within most code transaction h) (λ change _. tt)))
+    bound most Any Any (mail_by_code code transaction) _ (by_code_within most code transaction h) (λ change _. tt))))

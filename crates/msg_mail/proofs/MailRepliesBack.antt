@@ -15,10 +15,10 @@ use Rattle.ofx_types.specs.declared.transfer.Family.TheVariants.{Intra, RecIntra
 use Rattle.ofx_tree.specs.Documents.{AreLawful, empty}
 use Rattle.ofx_tree.proofs.DocumentItems.{named_of_branch}
 use Rattle.msg_parts.specs.DeedDocuments.{deed_reply_documents, DeedRepliesAreDocuments}
-use Rattle.msg_parts.specs.Sound.{mail_family}
+use Rattle.msg_parts.specs.SoundParts.{mail_family}
 use Rattle.msg_parts.proofs.Alone.{read_alone}
 use Rattle.msg_parts.proofs.Transactions.{reply_item, trnuid_stands, status_stands}
-use Rattle.msg_mail.specs.MailSound.{IsSoundMailRow, IsSoundMailByCode}
+use Rattle.msg_mail.specs.SoundMails.{IsSoundMailRow, IsSoundMailByCode}
 use Rattle.msg_mail.specs.MailsAsDocuments.{MailRepliesReadBack, MailRepliesReadBackAlone}
 use Rattle.msg_mail.proofs.MailReplies.{reply_again}
 use Rattle.msg_mail.proofs.MailDocuments.{reply_lawful, mail_replies_lawful}

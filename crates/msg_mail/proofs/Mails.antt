@@ -4,17 +4,14 @@ use Rattle.ofx_types.specs.Nodes.{Item}
 use Rattle.ofx_types.specs.FormWords.{has_name, one}
 use Rattle.ofx_types.specs.MailForm.{IsMailRequest, IsMailDeed}
 use Rattle.ofx_types.specs.MailReading.{account_in, mail_in, bank_mail_of, plain_mail_of, mail_request_of, mail_deed_of}
-use Rattle.ofx_types.specs.MessageForm.{is_named_one_of}
 use Rattle.ofx_types.specs.RequestReading.{trnuid_of}
 use Rattle.ofx_types.specs.declared.transfer.Deed.{Deed}
 use Rattle.ofx_types.specs.declared.transfer.Deed.TheVariants as deeds
 use Rattle.ofx_tree.specs.Placed.{Stands, Any, IsWithin}
 use Rattle.ofx_tree.proofs.FormLaws.{bind_ok, bind_to, one_value, chosen, bytes_same, one_found, one_again}
 use Rattle.ofx_tree.proofs.FormPlaces.{bound, either, one_within}
-use Rattle.msg_parts.proofs.Named.{second_name}
 use Rattle.msg_parts.proofs.PartLaws.{trnuid_found, trnuid_again}
 use Rattle.msg_parts.proofs.PartPlaces.{trnuid_within}
-use Rattle.msg_mail.specs.MailLaws.{mail_deed_names}
 use Rattle.msg_mail.proofs.MailParts.{account_in_found, account_in_again, account_in_within, mail_in_found, mail_in_again, mail_in_within}
 
 -- ---- the two requests
@@ -40,12 +37,14 @@ plain_mail_found transaction deed name h =
     subst (IsMailRequest transaction) (one_value _ _ deed refl text.2)
     (name, (request.0, one_found (codes "MAILRQ") transaction request.0 request.1, mail_in_found request.0 text.0 text.1))
 
-request_found : (transaction : Item) (deed : Deed) → is_named_one_of mail_deed_names transaction ≡ true → mail_request_of transaction ≡ Ok deed →
-    IsMailRequest transaction deed
+request_found : (transaction : Item) (deed : Deed) → mail_request_of transaction ≡ Ok deed → IsMailRequest transaction deed
 unfolding mail_request_of
-request_found transaction deed named h = elim (chosen (has_name (codes "BANKMAILTRNRQ") transaction) _ _ _ h) [
+request_found transaction deed h = elim (chosen (has_name (codes "BANKMAILTRNRQ") transaction) _ _ _ h) [
   | inl (is, read) ↦ bank_mail_found transaction deed (bytes_same _ _ is) read
-  | inr (other, read) ↦ plain_mail_found transaction deed (second_name transaction.node.name (codes "BANKMAILTRNRQ") (codes "MAILTRNRQ") named other) read
+  | inr (other, more) ↦ elim (chosen (has_name (codes "MAILTRNRQ") transaction) _ _ _ more) [
+    | inl (is, read) ↦ plain_mail_found transaction deed (bytes_same _ _ is) read
+    | inr (_, read) ↦ cc
+  ]
 ]
 
 request_again : (transaction : Item) (deed : Deed) → IsMailRequest transaction deed → mail_request_of transaction ≡ Ok deed
@@ -59,7 +58,8 @@ request_again transaction (deeds.BankMail account text) r =
     )
 request_again transaction (deeds.Mail text) r =
     let other : has_name (codes "BANKMAILTRNRQ") transaction ≡ false = rw r.0 refl in
-    rw other (
+    let is : has_name (codes "MAILTRNRQ") transaction ≡ true = rw r.0 refl in
+    rw (other, is) (
     bind_to _ _ r.1.0 (one_again (codes "MAILRQ") transaction r.1.0 r.1.1)
     ∙ bind_to _ _ text (mail_in_again r.1.0 text r.1.2)
     )
@@ -81,20 +81,20 @@ plain_mail_within most transaction h =
 request_within : (most : ℕ) (transaction : Item) → IsWithin most transaction → Stands most Any (mail_request_of transaction)
 unfolding mail_request_of
 request_within most transaction h =
-    either most Any (has_name (codes "BANKMAILTRNRQ") transaction) _ _ (bank_mail_within most transaction h) (plain_mail_within most transaction h)
+    either most Any (has_name (codes "BANKMAILTRNRQ") transaction) _ _ (bank_mail_within most transaction h)
+    (either most Any (has_name (codes "MAILTRNRQ") transaction) _ _ (plain_mail_within most transaction h) h.place)
 
 -- ---- the transaction
 
-pub mail_found : (transaction : Item) (trnuid : List ℕ) (deed : Deed) → is_named_one_of mail_deed_names transaction ≡ true →
-    mail_deed_of transaction ≡ Ok (trnuid, deed) → IsMailDeed transaction trnuid deed
+pub mail_found : (transaction : Item) (trnuid : List ℕ) (deed : Deed) → mail_deed_of transaction ≡ Ok (trnuid, deed) → IsMailDeed transaction trnuid deed
 unfolding mail_deed_of
-mail_found transaction trnuid deed named h =
+mail_found transaction trnuid deed h =
     let uid = bind_ok (trnuid_of transaction) _ (trnuid, deed) h in
     let request = bind_ok (mail_request_of transaction) _ (trnuid, deed) uid.2 in
     let P : List ℕ × Deed → Type 0 = λ said. IsMailDeed transaction said.0 said.1 in
     subst P (one_value _ _ (trnuid, deed) refl request.2) (record {
       has_trnuid = trnuid_found transaction uid.0 uid.1;
-      is_request = request_found transaction request.0 named request.1;
+      is_request = request_found transaction request.0 request.1;
     })
 
 pub mail_again : (transaction : Item) (trnuid : List ℕ) (deed : Deed) → IsMailDeed transaction trnuid deed → mail_deed_of transaction ≡ Ok (trnuid, deed)

@@ -16,13 +16,13 @@ use Rattle.ofx_tree.proofs.DocumentItems.{named_of_branch}
 use Rattle.ofx_tree.proofs.Leaves.{moment_of_leaf}
 use Rattle.msg_parts.specs.DeedDocuments.{deed_documents, DeedsAreDocuments}
 use Rattle.msg_parts.specs.MailDocuments.{mail_documents, mail_about}
-use Rattle.msg_parts.specs.Sound.{IsTextWithin, IsSoundAccount}
+use Rattle.msg_parts.specs.SoundParts.{IsTextWithin, IsSoundAccount}
 use Rattle.msg_parts.proofs.Alone.{read_alone}
 use Rattle.msg_parts.proofs.Lawful.{named}
 use Rattle.msg_parts.proofs.PartLaws.{account_found}
 use Rattle.msg_parts.proofs.ReadBack.{account_back}
 use Rattle.msg_parts.proofs.Transactions.{is_text_of_leaf, deed_item, own_trnuid_stands}
-use Rattle.msg_mail.specs.MailSound.{IsSoundMail, IsSoundMailRequest}
+use Rattle.msg_mail.specs.SoundMails.{IsSoundMail, IsSoundMailRequest}
 use Rattle.msg_mail.specs.MailsAsDocuments.{MailsReadBack, MailsReadBackAlone}
 use Rattle.msg_mail.proofs.Mails.{mail_again}
 use Rattle.msg_mail.proofs.MailDocuments.{mail_lawful, about_lawful, deed_lawful, mails_lawful}

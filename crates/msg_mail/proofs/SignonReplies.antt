@@ -8,7 +8,7 @@ use Rattle.ofx_types.specs.declared.number.Moment.{Moment}
 use Rattle.ofx_tree.specs.Placed.{IsWithin, Stands, Any}
 use Rattle.ofx_tree.proofs.FormLaws.{bind_ok, bind_to, one_value, moment_in_found, moment_in_again}
 use Rattle.ofx_tree.proofs.FormPlaces.{bound, moment_within}
-use Rattle.msg_parts.specs.Laws.{StatusesAreFound, StatusFaultsHavePlaces}
+use Rattle.msg_parts.specs.StatusLaws.{StatusesAreFound, StatusFaultsHavePlaces}
 
 pub signon_reply_again : StatusesAreFound → (sonrs : Item) (code : ℕ) (moment : Moment) → IsSignonReply sonrs code moment → signon_reply_of sonrs ≡ Ok (code, moment)
 unfolding signon_reply_of

@@ -10,8 +10,8 @@ use Rattle.ofx_tree.specs.Documents.{Documents, empty, leaf, AreLawful, IsBranch
 use Rattle.ofx_tree.proofs.FormLaws.{bind_to, one_again}
 use Rattle.ofx_tree.proofs.DocumentItems.{named_of_branch}
 use Rattle.ofx_tree.proofs.Leaves.{moment_leaf, moment_of_leaf}
-use Rattle.msg_parts.specs.AsDocuments.{status_documents, StatusesAreDocuments, StatusesAreLawful, StatusesReadBack}
-use Rattle.msg_mail.specs.AsDocuments.{IsSoundSignonReply, signon_reply_documents, SignonRepliesAreDocuments, SignonRepliesAreLawful, SignonRepliesReadBack}
+use Rattle.msg_parts.specs.PartDocuments.{status_documents, StatusesAreDocuments, StatusesAreLawful, StatusesReadBack}
+use Rattle.msg_mail.specs.SignonsAsDocuments.{IsSoundSignonReply, signon_reply_documents, SignonRepliesAreDocuments, SignonRepliesAreLawful, SignonRepliesReadBack}
 use Rattle.msg_mail.proofs.SignonsBack.{language_leaf}
 
 -- what stands behind the status

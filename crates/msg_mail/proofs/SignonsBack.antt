@@ -9,8 +9,8 @@ use Rattle.ofx_tree.specs.Documents.{AreLawful, IsLeaf, IsBranch, branch_item}
 use Rattle.ofx_tree.proofs.FormLaws.{bind_to}
 use Rattle.ofx_tree.proofs.DocumentItems.{named_of_branch}
 use Rattle.ofx_tree.proofs.Leaves.{moment_leaf, text_of_leaf}
-use Rattle.msg_parts.specs.Sound.{IsTextWithin}
-use Rattle.msg_mail.specs.AsDocuments.{IsSoundSignon, signon_documents, SignonsAreDocuments, SignonsAreLawful, SignonsReadBack}
+use Rattle.msg_parts.specs.SoundParts.{IsTextWithin}
+use Rattle.msg_mail.specs.SignonsAsDocuments.{IsSoundSignon, signon_documents, SignonsAreDocuments, SignonsAreLawful, SignonsReadBack}
 
 -- ---- the leaves
 

@@ -1,7 +1,7 @@
 pub mod SignonLaws
 pub mod SignonParts
-pub mod AsDocuments
+pub mod SignonsAsDocuments
 pub mod MailParts
 pub mod MailLaws
-pub mod MailSound
+pub mod SoundMails
 pub mod MailsAsDocuments

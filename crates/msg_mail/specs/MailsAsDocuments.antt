@@ -7,9 +7,9 @@ use Rattle.ofx_types.specs.MailReading.{mail_deed_of, mail_reply_of}
 use Rattle.ofx_types.specs.declared.transfer.Deed.{Deed}
 use Rattle.ofx_types.specs.declared.transfer.DeedReply.{DeedReply}
 use Rattle.ofx_tree.specs.Documents.{Documents, AreLawful, branch, branch_item}
-use Rattle.msg_parts.specs.AsDocuments.{IsReadAlone}
+use Rattle.msg_parts.specs.PartDocuments.{IsReadAlone}
 use Rattle.msg_parts.specs.DeedDocuments.{deed_documents, deed_reply_documents}
-use Rattle.msg_mail.specs.MailSound.{IsSoundMailRequest, IsSoundMailReply}
+use Rattle.msg_mail.specs.SoundMails.{IsSoundMailRequest, IsSoundMailReply}
 
 -- The documents of a sound mail are lawful.
 abbrev pub MailsAreLawful : Type 0

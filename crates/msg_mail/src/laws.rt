@@ -4,7 +4,7 @@ ghost use Rattle.msg_mail.specs.SignonLaws.{SignonsAreFound, SignonFaultsHavePla
 ghost use Rattle.msg_mail.specs.MailLaws.{MailsAreFound, MailFaultsHavePlaces, MailRepliesAreFound, MailReplyFaultsHavePlaces};
 ghost use Rattle.msg_parts.specs.DeedDocuments.{DeedsAreDocuments, DeedRepliesAreDocuments};
 ghost use Rattle.msg_mail.specs.MailsAsDocuments.{MailsAreLawful, MailsReadBack, MailsReadBackAlone, MailRepliesAreLawful, MailRepliesReadBack, MailRepliesReadBackAlone};
-ghost use Rattle.msg_mail.specs.AsDocuments.{SignonsAreDocuments, SignonsAreLawful, SignonsReadBack, SignonRepliesAreDocuments, SignonRepliesAreLawful, SignonRepliesReadBack};
+ghost use Rattle.msg_mail.specs.SignonsAsDocuments.{SignonsAreDocuments, SignonsAreLawful, SignonsReadBack, SignonRepliesAreDocuments, SignonRepliesAreLawful, SignonRepliesReadBack};
 
 use msg_parts::{
     deed_replies_are_documents, deeds_are_documents, status_faults_have_places, statuses_are_found,

@@ -1,6 +1,7 @@
 //! The signon (SONRQ) and the answer to it (SONRS), read and written (OFX 1.6, "Signon").
 
 ghost use Rattle.std.specs.Prelude.{◌≡◌, ◌++◌, OnOk};
+ghost use Rattle.std.specs.Io.{StartsWith};
 ghost use Rattle.ofx_types.specs.Calendar.{IsMoment};
 ghost use Rattle.ofx_types.specs.FormWords.{Gives};
 ghost use Rattle.ofx_types.specs.RequestReading.{signon_of};
@@ -43,7 +44,8 @@ pub fn print_signon(
     out: &mut Sheet,
 ) -> Result<(), OutOfMemory>
     requires { IsMoment at.0 }
-    ensures { OnOk result (out.new ≡ out.old ++ signon_request user.now pass.now at) }
+    ensures ok { OnOk result (out.new ≡ out.old ++ signon_request user.now pass.now at) }
+    ensures kept { StartsWith out.new out.old }
 {
     out.start(b"SONRQ")?;
     out.moment(b"DTCLIENT", at)?;
@@ -55,7 +57,8 @@ pub fn print_signon(
 
 /// Writes the language of the user and the program that signs on.
 fn program(out: &mut Sheet) -> Result<(), OutOfMemory>
-    ensures { OnOk result (out.new ≡ out.old ++ parts.program) }
+    ensures ok { OnOk result (out.new ≡ out.old ++ parts.program) }
+    ensures kept { StartsWith out.new out.old }
 {
     out.element(b"LANGUAGE", b"ENG")?;
     out.element(b"APPID", b"OFXC")?;
@@ -66,7 +69,8 @@ fn program(out: &mut Sheet) -> Result<(), OutOfMemory>
 #[tactic(auto, unfolding(ofx_types::specs::ReplyForm::signon_reply, ofx_types::specs::Sheet::aggregate))]
 pub fn print_signon_reply(code: u16, at: Moment, out: &mut Sheet) -> Result<(), OutOfMemory>
     requires { IsMoment at.0 }
-    ensures { OnOk result (out.new ≡ out.old ++ signon_reply code at) }
+    ensures ok { OnOk result (out.new ≡ out.old ++ signon_reply code at) }
+    ensures kept { StartsWith out.new out.old }
 {
     out.start(b"SONRS")?;
     print_status(code, out)?;

@@ -8,7 +8,7 @@ use Rattle.ofx_tree.specs.Documents.{Documents, empty, branch, printed, AreLawfu
 use Rattle.ofx_tree.proofs.FormLaws.{bind_to, bytes_self, one_again}
 use Rattle.ofx_tree.proofs.DocumentItems.{named_of_branch}
 use Rattle.ofx_tree.proofs.DocumentTrees.{documents_of_body}
-use Rattle.msg_parts.specs.AsDocuments.{IsReadAlone}
+use Rattle.msg_parts.specs.PartDocuments.{IsReadAlone}
 
 -- what is read of a branch wherever it stands is read of a body that has nothing else
 pub read_alone : {A : Type 0} (name lines : List ℕ) (inner : Documents) (read : Item → Result A TreeFault) (message : A) →

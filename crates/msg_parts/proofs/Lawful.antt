@@ -8,8 +8,8 @@ use Rattle.ofx_types.specs.declared.account.AcctName.{AcctName}
 use Rattle.ofx_tree.specs.PrintedForm.{IsElementName}
 use Rattle.ofx_tree.specs.Documents.{AreLawful, IsLeaf, IsBranch}
 use Rattle.ofx_tree.proofs.Leaves.{number_leaf}
-use Rattle.msg_parts.specs.AsDocuments.{account_documents, status_documents, StatusesAreLawful}
-use Rattle.msg_parts.specs.Sound.{IsTextWithin, IsSoundAccount}
+use Rattle.msg_parts.specs.PartDocuments.{account_documents, status_documents, StatusesAreLawful}
+use Rattle.msg_parts.specs.SoundParts.{IsTextWithin, IsSoundAccount}
 
 -- ---- names and words
 

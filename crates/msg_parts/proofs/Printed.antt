@@ -4,7 +4,7 @@ use Rattle.ofx_types.specs.CommonText as common
 use Rattle.ofx_types.specs.Sheet as sheet
 use Rattle.ofx_types.specs.declared.account.AcctName.{AcctName}
 use Rattle.ofx_tree.specs.Documents.{printed}
-use Rattle.msg_parts.specs.AsDocuments.{account_documents, status_documents, StatusesAreDocuments}
+use Rattle.msg_parts.specs.PartDocuments.{account_documents, status_documents, StatusesAreDocuments}
 
 -- ---- requests
 

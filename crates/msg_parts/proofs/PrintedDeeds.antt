@@ -25,7 +25,7 @@ use Rattle.ofx_types.specs.declared.transfer.Change.TheVariants.{NewTransfer, Se
 use Rattle.ofx_types.specs.declared.transfer.Family.TheVariants.{BankMail, Mail}
 use Rattle.ofx_types.specs.declared.transfer.Deed.TheVariants as kinds
 use Rattle.ofx_tree.specs.Documents.{Documents, empty, leaf, branch, printed}
-use Rattle.msg_parts.specs.AsDocuments.{account_documents}
+use Rattle.msg_parts.specs.PartDocuments.{account_documents}
 use Rattle.msg_parts.specs.MailDocuments.{mail_documents, mail_about, mail_reply_name}
 use Rattle.msg_parts.specs.DeedDocuments.{due_document, info_documents, count_document, recur_documents, each_documents, asked_name, request_documents, processing_documents, model_document, first_documents, model_documents, change_name, change_documents, change_document, DeedsAreDocuments, DeedRepliesAreDocuments}
 use Rattle.msg_parts.proofs.Printed.{account_printed, status_printed}

@@ -8,8 +8,8 @@ use Rattle.ofx_tree.specs.Documents.{branch_item}
 use Rattle.ofx_tree.proofs.FormLaws.{bind_to, one_again}
 use Rattle.ofx_tree.proofs.DocumentItems.{named_of_branch, value_of_leaf}
 use Rattle.ofx_tree.proofs.Leaves.{text_of_leaf, number_of_leaf}
-use Rattle.msg_parts.specs.AsDocuments.{account_documents, status_documents, StatusesReadBack}
-use Rattle.msg_parts.specs.Sound.{IsSoundAccount}
+use Rattle.msg_parts.specs.PartDocuments.{account_documents, status_documents, StatusesReadBack}
+use Rattle.msg_parts.specs.SoundParts.{IsSoundAccount}
 use Rattle.msg_parts.proofs.AccountLaws.{kind_again}
 use Rattle.msg_parts.proofs.Lawful.{account_lawful, named, status_lawful}
 use Rattle.msg_parts.proofs.Statuses.{bounded_again}

@@ -21,7 +21,7 @@ use Rattle.ofx_tree.proofs.FormLaws.{text_in_found, bind_to, one_again}
 use Rattle.ofx_tree.proofs.DocumentItems.{named_of_branch}
 use Rattle.ofx_tree.proofs.Leaves.{text_of_leaf}
 use Rattle.msg_parts.specs.DeedDocuments.{asked_name, request_documents, deed_documents, change_document, deed_reply_documents}
-use Rattle.msg_parts.specs.Sound.{IsTextWithin}
+use Rattle.msg_parts.specs.SoundParts.{IsTextWithin}
 use Rattle.msg_parts.specs.MailDocuments.{mail_reply_name}
 use Rattle.msg_parts.proofs.Statuses.{status_found}
 use Rattle.msg_parts.proofs.ReadBack.{statuses_back}

@@ -13,7 +13,7 @@ use Rattle.ofx_types.specs.declared.text.TextFault.TheVariants.{Empty}
 use Rattle.ofx_types.specs.declared.fault.TreeFault.{TreeFault}
 use Rattle.ofx_types.specs.declared.fault.TreeFault.TheVariants.{Missing, Repeated, Value, OutOfMemory}
 use Rattle.ofx_tape.proofs.Decoding.{decoded-plain}
-use Rattle.msg_parts.specs.Steps.{trnuid_at}
+use Rattle.msg_parts.specs.PartSteps.{trnuid_at}
 
 -- a uid without a fault is a text of 1 to 36 bytes
 uid_or_fault : (n : ℕ) (fault : Option TextFault) → (nat_lt 0 n && is_none fault) ≡ is_none (cond (nat_eq n 0) (Some Empty) fault)

@@ -22,7 +22,7 @@ use Rattle.ofx_types.specs.declared.transfer.Change.{Change}
 use Rattle.ofx_types.specs.declared.transfer.Change.TheVariants.{NewTransfer, SetTransfer, DropTransfer, NewModel, SetModel, DropModel, NewMail}
 use Rattle.ofx_types.specs.declared.transfer.DeedReply.{DeedReply}
 use Rattle.ofx_tree.specs.Documents.{Documents, empty, leaf, branch, printed}
-use Rattle.msg_parts.specs.AsDocuments.{account_documents, status_documents}
+use Rattle.msg_parts.specs.PartDocuments.{account_documents, status_documents}
 use Rattle.msg_parts.specs.MailDocuments.{mail_about, mail_reply_name}
 
 -- ---- requests

@@ -1,6 +1,6 @@
-pub mod Steps
-pub mod Laws
-pub mod Sound
-pub mod AsDocuments
+pub mod PartSteps
+pub mod StatusLaws
+pub mod SoundParts
+pub mod PartDocuments
 pub mod MailDocuments
 pub mod DeedDocuments

@@ -4,7 +4,7 @@ use Rattle.ofx_types.specs.DateForm.{moment_text}
 use Rattle.ofx_types.specs.declared.account.AcctName.{AcctName}
 use Rattle.ofx_types.specs.declared.mail.MailText.{MailText}
 use Rattle.ofx_tree.specs.Documents.{Documents, empty, leaf, branch}
-use Rattle.msg_parts.specs.AsDocuments.{account_documents}
+use Rattle.msg_parts.specs.PartDocuments.{account_documents}
 
 -- what stands in MAIL
 abbrev pub mail_documents : List ℕ → MailText → Documents

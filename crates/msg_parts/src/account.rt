@@ -1,6 +1,7 @@
 //! The accounts of requests and replies (BANKACCTFROM, BANKACCTTO), read and written.
 
 ghost use Rattle.std.specs.Prelude.{◌≡◌, ◌++◌, OnOk, codes};
+ghost use Rattle.std.specs.Io.{StartsWith};
 ghost use Rattle.ofx_types.specs.AccountForm.{kind_word};
 ghost use Rattle.ofx_types.specs.FormWords.{Gives};
 ghost use Rattle.ofx_types.specs.RequestReading as reading;
@@ -8,7 +9,7 @@ ghost use Rattle.ofx_types.specs.MailReading.{account_in};
 ghost use Rattle.ofx_types.specs.CommonText.{account_from};
 ghost use Rattle.ofx_types.specs.TransferText.{account_to};
 ghost use Rattle.ofx_types.specs.Sheet.{element, aggregate};
-ghost use Rattle.msg_parts.specs.Steps as steps;
+ghost use Rattle.msg_parts.specs.PartSteps as steps;
 
 use ofx_tree::{Cursor, Sheet};
 use ofx_types::{AcctKind, AcctName, OutOfMemory, TreeFault};
@@ -63,7 +64,8 @@ fn kind_at(child: &Cursor<'_>) -> Result<AcctKind, TreeFault>
 /// Writes the account that a message is about, or from which a transfer takes its amount (BANKACCTFROM).
 #[tactic(auto, unfolding(ofx_types::specs::CommonText::account_from))]
 pub fn print_account(account: &AcctName, sheet: &mut Sheet) -> Result<(), OutOfMemory>
-    ensures { OnOk result (sheet.new ≡ sheet.old ++ account_from account.now) }
+    ensures ok { OnOk result (sheet.new ≡ sheet.old ++ account_from account.now) }
+    ensures kept { StartsWith sheet.new sheet.old }
 {
     print_account_as(b"BANKACCTFROM", account, sheet)
 }
@@ -71,14 +73,16 @@ pub fn print_account(account: &AcctName, sheet: &mut Sheet) -> Result<(), OutOfM
 /// Writes the account to which a transfer brings its amount (BANKACCTTO).
 #[tactic(auto, unfolding(ofx_types::specs::TransferText::account_to))]
 pub fn print_destination(account: &AcctName, sheet: &mut Sheet) -> Result<(), OutOfMemory>
-    ensures { OnOk result (sheet.new ≡ sheet.old ++ account_to account.now) }
+    ensures ok { OnOk result (sheet.new ≡ sheet.old ++ account_to account.now) }
+    ensures kept { StartsWith sheet.new sheet.old }
 {
     print_account_as(b"BANKACCTTO", account, sheet)
 }
 
 #[tactic(auto, using(crate::proofs::Joined::joined))]
 fn print_account_as(name: &[u8], account: &AcctName, sheet: &mut Sheet) -> Result<(), OutOfMemory>
-    ensures { OnOk result (sheet.new ≡ sheet.old ++ aggregate name.now (steps.account_parts account.now)) }
+    ensures ok { OnOk result (sheet.new ≡ sheet.old ++ aggregate name.now (steps.account_parts account.now)) }
+    ensures kept { StartsWith sheet.new sheet.old }
 {
     sheet.start(name)?;
     sheet.text(b"BANKID", &account.bank)?;
@@ -88,7 +92,8 @@ fn print_account_as(name: &[u8], account: &AcctName, sheet: &mut Sheet) -> Resul
 }
 
 fn print_kind(kind: AcctKind, sheet: &mut Sheet) -> Result<(), OutOfMemory>
-    ensures { OnOk result (sheet.new ≡ sheet.old ++ element (codes "ACCTTYPE") (kind_word kind)) }
+    ensures ok { OnOk result (sheet.new ≡ sheet.old ++ element (codes "ACCTTYPE") (kind_word kind)) }
+    ensures kept { StartsWith sheet.new sheet.old }
 {
     sheet.element(b"ACCTTYPE", word_of(kind))
 }

@@ -1,8 +1,8 @@
 //! What holds of the form of a status, and of how deeds of any kind are written. The calls do nothing; each contract is a
 //! law.
 
-ghost use Rattle.msg_parts.specs.Laws.{StatusesAreFound, StatusFaultsHavePlaces};
-ghost use Rattle.msg_parts.specs.AsDocuments.{StatusesAreDocuments, StatusesAreLawful, StatusesReadBack};
+ghost use Rattle.msg_parts.specs.StatusLaws.{StatusesAreFound, StatusFaultsHavePlaces};
+ghost use Rattle.msg_parts.specs.PartDocuments.{StatusesAreDocuments, StatusesAreLawful, StatusesReadBack};
 ghost use Rattle.msg_parts.specs.DeedDocuments.{DeedsAreDocuments, DeedRepliesAreDocuments};
 
 /// A status has its form exactly where it is read, and what is read is what stands there.

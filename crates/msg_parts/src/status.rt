@@ -1,6 +1,7 @@
 //! The status that an answer begins with (STATUS), read and written (OFX 1.6, "Status Aggregate").
 
 ghost use Rattle.std.specs.Prelude.{◌≡◌, ◌==◌, ◌++◌, OnOk, codes, if◌then◌else◌};
+ghost use Rattle.std.specs.Io.{StartsWith};
 ghost use Rattle.ofx_types.specs.CommonText as form;
 ghost use Rattle.ofx_types.specs.ReplyReading as reading;
 
@@ -43,7 +44,8 @@ fn bounded_code(code: u64, place: u64) -> Result<u16, TreeFault>
 /// Writes a status: code 0 is information, every other code an error.
 #[tactic(auto, unfolding(ofx_types::specs::CommonText::status, ofx_types::specs::Sheet::aggregate))]
 pub fn print_status(code: u16, out: &mut Sheet) -> Result<(), OutOfMemory>
-    ensures { OnOk result (out.new ≡ out.old ++ form.status code) }
+    ensures ok { OnOk result (out.new ≡ out.old ++ form.status code) }
+    ensures kept { StartsWith out.new out.old }
 {
     out.start(b"STATUS")?;
     out.number(b"CODE", code as u64)?;

@@ -1,12 +1,13 @@
 //! The uid that a client gives to a transaction (TRNUID), read and written.
 
 ghost use Rattle.std.specs.Prelude.{◌≡◌, ◌++◌, OnOk, codes};
+ghost use Rattle.std.specs.Io.{StartsWith};
 ghost use Rattle.ofx_types.specs.TextRules.{trimmed};
 ghost use Rattle.ofx_types.specs.ValueForm.{value_of};
 ghost use Rattle.ofx_types.specs.FormWords.{Gives, text_in};
 ghost use Rattle.ofx_types.specs.RequestReading as reading;
 ghost use Rattle.ofx_types.specs.Sheet.{element};
-ghost use Rattle.msg_parts.specs.Steps as steps;
+ghost use Rattle.msg_parts.specs.PartSteps as steps;
 
 use ofx_tape::value_into;
 use ofx_tree::{Cursor, Sheet};
@@ -30,7 +31,7 @@ pub fn read_own_trnuid(alloc: Global, wrapper: &Cursor<'_>) -> Result<TrnUid, Tr
 /// The uid of a reply's wrapper, 1 to 36 bytes.
 ///
 /// `Missing`, `Repeated` or `Value` with its place; `OutOfMemory` where memory to decode its entities is refused.
-#[tactic(auto, unfolding(ofx_types::specs::FormWords::text_in, crate::specs::Steps::trnuid_at))]
+#[tactic(auto, unfolding(ofx_types::specs::FormWords::text_in, crate::specs::PartSteps::trnuid_at))]
 pub fn read_trnuid(alloc: Global, wrapper: &Cursor<'_>) -> Result<TrnUid, TreeFault>
     ensures { Gives result (text_in (codes "TRNUID") 36 wrapper.now) }
 {
@@ -75,7 +76,8 @@ fn unless_zero(uid: TrnUid, place: u64) -> Result<TrnUid, TreeFault>
 
 /// Writes the uid of a wrapper.
 pub fn print_trnuid(trnuid: &TrnUid, sheet: &mut Sheet) -> Result<(), OutOfMemory>
-    ensures { OnOk result (sheet.new ≡ sheet.old ++ element (codes "TRNUID") trnuid.now) }
+    ensures ok { OnOk result (sheet.new ≡ sheet.old ++ element (codes "TRNUID") trnuid.now) }
+    ensures kept { StartsWith sheet.new sheet.old }
 {
     sheet.element(b"TRNUID", trnuid.as_bytes())
 }

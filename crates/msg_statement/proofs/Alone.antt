@@ -8,7 +8,7 @@ use Rattle.ofx_types.specs.declared.request.Ask.TheVariants as asks
 use Rattle.ofx_types.specs.declared.reply.AskReply.TheVariants as replies
 use Rattle.ofx_tree.specs.Documents.{empty}
 use Rattle.msg_parts.proofs.Alone.{read_alone}
-use Rattle.msg_statement.specs.AsDocuments.{statement_documents, reply_documents, StatementsReadBackAlone, StatementRepliesReadBackAlone}
+use Rattle.msg_statement.specs.StatementDocuments.{statement_documents, reply_documents, StatementsReadBackAlone, StatementRepliesReadBackAlone}
 use Rattle.msg_statement.proofs.Lawful.{statements_lawful, replies_lawful}
 use Rattle.msg_statement.proofs.PrintedDocuments.{statements_printed, replies_printed}
 use Rattle.msg_statement.proofs.RequestsBack.{statements_back}

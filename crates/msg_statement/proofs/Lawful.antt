@@ -12,10 +12,10 @@ use Rattle.ofx_types.specs.declared.reply.StatementBody.{StatementBody}
 use Rattle.ofx_tree.specs.PrintedForm.{IsElementName}
 use Rattle.ofx_tree.specs.Documents.{Documents, AreLawful, IsLeaf}
 use Rattle.ofx_tree.proofs.Leaves.{amount_leaf, moment_leaf, number_leaf, flag_leaf}
-use Rattle.msg_parts.specs.Sound.{IsSoundMoment, IsSoundAmount, IsSoundAccount}
+use Rattle.msg_parts.specs.SoundParts.{IsSoundMoment, IsSoundAmount, IsSoundAccount}
 use Rattle.msg_parts.proofs.Lawful.{named, is_branch, text_leaf, currency_leaf, account_lawful, status_lawful}
-use Rattle.msg_statement.specs.AsDocuments.{moment_document, period_documents, period_document, asked_documents, statement_documents, line_documents, lines_documents, list_documents, list_document, balance_documents, body_documents, body_document, reply_documents, StatementsAreLawful, StatementRepliesAreLawful}
-use Rattle.msg_statement.specs.Sound.{IsSoundPeriod, IsSoundStatement, IsSoundLine, IsSoundList, IsSoundBody, IsSoundByCode, IsSoundReply}
+use Rattle.msg_statement.specs.StatementDocuments.{moment_document, period_documents, period_document, asked_documents, statement_documents, line_documents, lines_documents, list_documents, list_document, balance_documents, body_documents, body_document, reply_documents, StatementsAreLawful, StatementRepliesAreLawful}
+use Rattle.msg_statement.specs.SoundStatements.{IsSoundPeriod, IsSoundStatement, IsSoundLine, IsSoundList, IsSoundBody, IsSoundByCode, IsSoundReply}
 
 -- ---- names and words
 

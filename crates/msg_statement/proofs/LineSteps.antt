@@ -7,7 +7,7 @@ use Rattle.ofx_types.specs.ReplyReading.{line_of, line_onto, lines_of}
 use Rattle.ofx_types.specs.declared.fault.TreeFault.{TreeFault}
 use Rattle.ofx_types.specs.declared.fault.TreeFault.TheVariants.{Missing, Repeated, Value, OutOfMemory}
 use Rattle.ofx_types.specs.declared.reply.StatementLine.{StatementLine}
-use Rattle.msg_statement.specs.Steps.{some_line, line_at, joined, lines_behind}
+use Rattle.msg_statement.specs.StatementSteps.{some_line, line_at, joined, lines_behind}
 
 -- with no lines yet, all are still to come
 pub lines_behind-nil : (items : List Item) → lines_behind [] items ≡ lines_of items

@@ -15,7 +15,7 @@ use Rattle.ofx_types.specs.declared.reply.StatementList.{StatementList}
 use Rattle.ofx_types.specs.declared.reply.StatementBody.{StatementBody}
 use Rattle.ofx_tree.specs.Documents.{Documents, empty, leaf, printed}
 use Rattle.msg_parts.proofs.Printed.{account_printed, status_printed}
-use Rattle.msg_statement.specs.AsDocuments.{moment_document, period_documents, period_document, asked_documents, line_documents, lines_documents, list_document, balance_documents, body_document, StatementsAreDocuments, StatementRepliesAreDocuments}
+use Rattle.msg_statement.specs.StatementDocuments.{moment_document, period_documents, period_document, asked_documents, line_documents, lines_documents, list_document, balance_documents, body_document, StatementsAreDocuments, StatementRepliesAreDocuments}
 
 -- ---- requests
 

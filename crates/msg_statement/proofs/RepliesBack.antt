@@ -18,11 +18,11 @@ use Rattle.ofx_tree.specs.Documents.{leaf_item, branch_item, items_of}
 use Rattle.ofx_tree.proofs.FormLaws.{bind_to, one_again, none_again, some_again}
 use Rattle.ofx_tree.proofs.DocumentItems.{children_of_branch, named_of_branch}
 use Rattle.ofx_tree.proofs.Leaves.{text_of_leaf, amount_of_leaf, moment_of_leaf, number_of_leaf}
-use Rattle.msg_parts.specs.Sound.{IsSoundMoment, IsSoundAmount}
+use Rattle.msg_parts.specs.SoundParts.{IsSoundMoment, IsSoundAmount}
 use Rattle.msg_parts.proofs.Lawful.{named}
 use Rattle.msg_parts.proofs.ReadBack.{account_back, statuses_back}
-use Rattle.msg_statement.specs.AsDocuments.{line_documents, lines_documents, list_documents, balance_documents, body_documents, reply_documents, StatementRepliesReadBack}
-use Rattle.msg_statement.specs.Sound.{IsSoundLine, IsSoundList, IsSoundBody}
+use Rattle.msg_statement.specs.StatementDocuments.{line_documents, lines_documents, list_documents, balance_documents, body_documents, reply_documents, StatementRepliesReadBack}
+use Rattle.msg_statement.specs.SoundStatements.{IsSoundLine, IsSoundList, IsSoundBody}
 use Rattle.msg_statement.proofs.Replies.{body_found, body_by_code_again}
 use Rattle.msg_statement.proofs.Lawful.{line_lawful, list_lawful, balance_lawful, body_lawful, reply_lawful}
 

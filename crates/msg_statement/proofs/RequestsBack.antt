@@ -12,12 +12,12 @@ use Rattle.ofx_tree.specs.Documents.{AreLawful, branch_item}
 use Rattle.ofx_tree.proofs.FormLaws.{bind_to, one_again, none_again, some_again, maybe_moment_in_again}
 use Rattle.ofx_tree.proofs.DocumentItems.{named_of_branch}
 use Rattle.ofx_tree.proofs.Leaves.{text_of_leaf, flag_of_leaf, maybe_moment_of_leaf}
-use Rattle.msg_parts.specs.AsDocuments.{account_documents}
+use Rattle.msg_parts.specs.PartDocuments.{account_documents}
 use Rattle.msg_parts.proofs.AccountLaws.{unless_zero_again}
 use Rattle.msg_parts.proofs.Lawful.{named}
 use Rattle.msg_parts.proofs.ReadBack.{account_back}
-use Rattle.msg_statement.specs.AsDocuments.{period_documents, asked_documents, statement_documents, StatementsReadBack}
-use Rattle.msg_statement.specs.Sound.{IsSoundPeriod}
+use Rattle.msg_statement.specs.StatementDocuments.{period_documents, asked_documents, statement_documents, StatementsReadBack}
+use Rattle.msg_statement.specs.SoundStatements.{IsSoundPeriod}
 use Rattle.msg_statement.proofs.StatementLaws.{bind_two}
 use Rattle.msg_statement.proofs.Lawful.{period_lawful, asked_lawful, statement_lawful}
 

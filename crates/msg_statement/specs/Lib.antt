@@ -1,4 +1,4 @@
-pub mod Steps
-pub mod Laws
-pub mod Sound
-pub mod AsDocuments
+pub mod StatementSteps
+pub mod StatementLaws
+pub mod SoundStatements
+pub mod StatementDocuments

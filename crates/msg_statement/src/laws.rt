@@ -1,7 +1,7 @@
 //! What holds of the forms of statements. The calls do nothing; each contract is a law.
 
-ghost use Rattle.msg_statement.specs.Laws.{StatementsAreFound, StatementFaultsHavePlaces, StatementRepliesAreFound, StatementReplyFaultsHavePlaces};
-ghost use Rattle.msg_statement.specs.AsDocuments.{StatementsAreDocuments, StatementsAreLawful, StatementsReadBack, StatementsReadBackAlone, StatementRepliesAreDocuments, StatementRepliesAreLawful, StatementRepliesReadBack, StatementRepliesReadBackAlone};
+ghost use Rattle.msg_statement.specs.StatementLaws.{StatementsAreFound, StatementFaultsHavePlaces, StatementRepliesAreFound, StatementReplyFaultsHavePlaces};
+ghost use Rattle.msg_statement.specs.StatementDocuments.{StatementsAreDocuments, StatementsAreLawful, StatementsReadBack, StatementsReadBackAlone, StatementRepliesAreDocuments, StatementRepliesAreLawful, StatementRepliesReadBack, StatementRepliesReadBackAlone};
 
 /// A statement request has its form exactly where it is read, and what is read is what stands there.
 pub fn statements_are_found()

@@ -1,6 +1,7 @@
 //! The posted transactions of a statement (BANKTRANLIST), read and written.
 
 ghost use Rattle.std.specs.Prelude.{◌≡◌, ◌++◌, IfErr, OnOk, option_to_list};
+ghost use Rattle.std.specs.Io.{StartsWith};
 ghost use Rattle.std.specs.List.{flat_map, AllByRecursion};
 ghost use Rattle.std.specs.Option.{ForSome};
 ghost use Rattle.ofx_types.specs.Calendar.{IsMoment};
@@ -9,7 +10,7 @@ ghost use Rattle.ofx_types.specs.Nodes.{children};
 ghost use Rattle.ofx_types.specs.Printable.{IsPrintableList};
 ghost use Rattle.ofx_types.specs.ReplyForm as form;
 ghost use Rattle.ofx_types.specs.ReplyReading as reading;
-ghost use Rattle.msg_statement.specs.Steps as steps;
+ghost use Rattle.msg_statement.specs.StatementSteps as steps;
 
 use ofx_tree::{Cursor, Sheet};
 use ofx_types::{Lines, OutOfMemory, StatementLine, StatementList, TreeFault};
@@ -68,7 +69,7 @@ fn put(found: Option<StatementLine>, lines: &mut Lines) -> Result<(), TreeFault>
 }
 
 /// The line that a child of the list is. A child of another name is skipped.
-#[tactic(auto, unfolding(crate::specs::Steps::line_at))]
+#[tactic(auto, unfolding(crate::specs::StatementSteps::line_at))]
 fn line_at(child: &Cursor<'_>) -> Result<Option<StatementLine>, TreeFault>
     ensures { Gives result (steps.line_at child.now) }
 {
@@ -100,7 +101,8 @@ pub(crate) fn print_maybe_list(
     sheet: &mut Sheet,
 ) -> Result<(), OutOfMemory>
     requires { ForSome list.now IsPrintableList }
-    ensures { OnOk result (sheet.new ≡ sheet.old ++ form.statement_list list.now) }
+    ensures ok { OnOk result (sheet.new ≡ sheet.old ++ form.statement_list list.now) }
+    ensures kept { StartsWith sheet.new sheet.old }
 {
     match list {
         Some(list) => print_list(list, sheet),
@@ -111,7 +113,8 @@ pub(crate) fn print_maybe_list(
 #[tactic(auto, unfolding(ofx_types::specs::ReplyForm::statement_list, ofx_types::specs::Sheet::aggregate))]
 fn print_list(list: &StatementList, sheet: &mut Sheet) -> Result<(), OutOfMemory>
     requires { IsPrintableList list.now }
-    ensures { OnOk result (sheet.new ≡ sheet.old ++ form.statement_list (Some list.now)) }
+    ensures ok { OnOk result (sheet.new ≡ sheet.old ++ form.statement_list (Some list.now)) }
+    ensures kept { StartsWith sheet.new sheet.old }
 {
     sheet.start(b"BANKTRANLIST")?;
     sheet.moment(b"DTSTART", list.start)?;
@@ -122,7 +125,8 @@ fn print_list(list: &StatementList, sheet: &mut Sheet) -> Result<(), OutOfMemory
 
 fn print_lines(lines: &[StatementLine], sheet: &mut Sheet) -> Result<(), OutOfMemory>
     requires { AllByRecursion (λ line. IsMoment line.posted.0) lines.now }
-    ensures { OnOk result (sheet.new ≡ sheet.old ++ flat_map form.statement_line lines.now) }
+    ensures ok { OnOk result (sheet.new ≡ sheet.old ++ flat_map form.statement_line lines.now) }
+    ensures kept { StartsWith sheet.new sheet.old }
 {
     for line in lines {
         print_line(line, sheet)?;
@@ -134,7 +138,8 @@ fn print_lines(lines: &[StatementLine], sheet: &mut Sheet) -> Result<(), OutOfMe
 #[tactic(auto, unfolding(ofx_types::specs::ReplyForm::statement_line, ofx_types::specs::Sheet::aggregate))]
 fn print_line(line: &StatementLine, sheet: &mut Sheet) -> Result<(), OutOfMemory>
     requires { IsMoment line.now.posted.0 }
-    ensures { OnOk result (sheet.new ≡ sheet.old ++ form.statement_line line.now) }
+    ensures ok { OnOk result (sheet.new ≡ sheet.old ++ form.statement_line line.now) }
+    ensures kept { StartsWith sheet.new sheet.old }
 {
     sheet.start(b"STMTTRN")?;
     sheet.element(b"TRNTYPE", b"XFER")?;

@@ -1,6 +1,7 @@
 //! The reply to a statement request (STMTTRNRS) and its statement (STMTRS), read and written.
 
 ghost use Rattle.std.specs.Prelude.{◌≡◌, ◌++◌, OnOk, codes};
+ghost use Rattle.std.specs.Io.{StartsWith};
 ghost use Rattle.std.specs.Option.{option_map, IfSome};
 ghost use Rattle.ofx_types.specs.Calendar.{IsMoment};
 ghost use Rattle.ofx_types.specs.FormWords.{Gives};
@@ -83,7 +84,8 @@ pub fn print_statement_reply(
     out: &mut Sheet,
 ) -> Result<(), OutOfMemory>
     requires { HasBodyByCode code (option_map (λ b. b.now) body) }
-    ensures { OnOk result (out.new ≡ out.old ++ ask_reply (AskReply.Statement trnuid.now code (option_map (λ b. b.now) body.entry))) }
+    ensures ok { OnOk result (out.new ≡ out.old ++ ask_reply (AskReply.Statement trnuid.now code (option_map (λ b. b.now) body.entry))) }
+    ensures kept { StartsWith out.new out.old }
 {
     out.start(b"STMTTRNRS")?;
     print_trnuid(trnuid, out)?;
@@ -96,7 +98,8 @@ pub fn print_statement_reply(
 #[tactic(auto, unfolding(ofx_types::specs::ReplyForm::statement_body))]
 fn print_maybe_body(body: Option<&StatementBody>, sheet: &mut Sheet) -> Result<(), OutOfMemory>
     requires { IfSome body (λ b. IsPrintableBody b.now) }
-    ensures { OnOk result (sheet.new ≡ sheet.old ++ form.statement_body (option_map (λ b. b.now) body.entry)) }
+    ensures ok { OnOk result (sheet.new ≡ sheet.old ++ form.statement_body (option_map (λ b. b.now) body.entry)) }
+    ensures kept { StartsWith sheet.new sheet.old }
 {
     match body {
         Some(body) => print_body(body, sheet),
@@ -107,7 +110,8 @@ fn print_maybe_body(body: Option<&StatementBody>, sheet: &mut Sheet) -> Result<(
 #[tactic(auto, unfolding(ofx_types::specs::ReplyForm::statement_body, ofx_types::specs::Sheet::aggregate))]
 fn print_body(body: &StatementBody, sheet: &mut Sheet) -> Result<(), OutOfMemory>
     requires { IsPrintableBody body.now }
-    ensures { OnOk result (sheet.new ≡ sheet.old ++ form.statement_body (Some body.now)) }
+    ensures ok { OnOk result (sheet.new ≡ sheet.old ++ form.statement_body (Some body.now)) }
+    ensures kept { StartsWith sheet.new sheet.old }
 {
     sheet.start(b"STMTRS")?;
     sheet.element(b"CURDEF", b"USD")?;
@@ -127,7 +131,8 @@ fn print_balance(
     sheet: &mut Sheet,
 ) -> Result<(), OutOfMemory>
     requires { IsMoment moment.0 }
-    ensures { OnOk result (sheet.new ≡ sheet.old ++ form.balance name.now amount moment) }
+    ensures ok { OnOk result (sheet.new ≡ sheet.old ++ form.balance name.now amount moment) }
+    ensures kept { StartsWith sheet.new sheet.old }
 {
     sheet.start(name)?;
     sheet.amount(b"BALAMT", amount)?;

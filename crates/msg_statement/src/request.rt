@@ -1,6 +1,7 @@
 //! A statement request (STMTTRNRQ) and the period of its transactions (INCTRAN), read and written.
 
 ghost use Rattle.std.specs.Prelude.{◌≡◌, ◌++◌, OnOk, codes};
+ghost use Rattle.std.specs.Io.{StartsWith};
 ghost use Rattle.std.specs.Option.{option_map, IfSome};
 ghost use Rattle.ofx_types.specs.Calendar.{IsMoment};
 ghost use Rattle.ofx_types.specs.FormWords.{Gives};
@@ -8,7 +9,7 @@ ghost use Rattle.ofx_types.specs.RequestReading as reading;
 ghost use Rattle.ofx_types.specs.RequestReading.{statement_of};
 ghost use Rattle.ofx_types.specs.RequestText as form;
 ghost use Rattle.ofx_types.specs.RequestText.{statement_request};
-ghost use Rattle.msg_statement.specs.Steps as steps;
+ghost use Rattle.msg_statement.specs.StatementSteps as steps;
 
 use msg_parts::{print_account, print_flag, print_trnuid, read_account, read_own_trnuid};
 use ofx_tree::{Cursor, Sheet};
@@ -63,7 +64,8 @@ pub fn print_statement(
 ) -> Result<(), OutOfMemory>
     requires start { IfSome period (λ p. IfSome p.now.start (λ at. IsMoment at.0)) }
     requires end { IfSome period (λ p. IfSome p.now.end (λ at. IsMoment at.0)) }
-    ensures { OnOk result (out.new ≡ out.old ++ statement_request trnuid.now account.now (option_map (λ p. p.now) period.entry)) }
+    ensures ok { OnOk result (out.new ≡ out.old ++ statement_request trnuid.now account.now (option_map (λ p. p.now) period.entry)) }
+    ensures kept { StartsWith out.new out.old }
 {
     out.start(b"STMTTRNRQ")?;
     print_trnuid(trnuid, out)?;
@@ -80,7 +82,8 @@ fn print_asked(
 ) -> Result<(), OutOfMemory>
     requires start { IfSome period (λ p. IfSome p.now.start (λ at. IsMoment at.0)) }
     requires end { IfSome period (λ p. IfSome p.now.end (λ at. IsMoment at.0)) }
-    ensures { OnOk result (sheet.new ≡ sheet.old ++ steps.asked account.now (option_map (λ p. p.now) period.entry)) }
+    ensures ok { OnOk result (sheet.new ≡ sheet.old ++ steps.asked account.now (option_map (λ p. p.now) period.entry)) }
+    ensures kept { StartsWith sheet.new sheet.old }
 {
     sheet.start(b"STMTRQ")?;
     print_account(account, sheet)?;
@@ -93,7 +96,8 @@ fn print_asked(
 fn print_maybe_period(period: Option<&Period>, sheet: &mut Sheet) -> Result<(), OutOfMemory>
     requires start { IfSome period (λ p. IfSome p.now.start (λ at. IsMoment at.0)) }
     requires end { IfSome period (λ p. IfSome p.now.end (λ at. IsMoment at.0)) }
-    ensures { OnOk result (sheet.new ≡ sheet.old ++ form.period_request (option_map (λ p. p.now) period.entry)) }
+    ensures ok { OnOk result (sheet.new ≡ sheet.old ++ form.period_request (option_map (λ p. p.now) period.entry)) }
+    ensures kept { StartsWith sheet.new sheet.old }
 {
     match period {
         Some(period) => print_period(period, sheet),
@@ -105,7 +109,8 @@ fn print_maybe_period(period: Option<&Period>, sheet: &mut Sheet) -> Result<(), 
 fn print_period(period: &Period, sheet: &mut Sheet) -> Result<(), OutOfMemory>
     requires start { IfSome period.now.start (λ at. IsMoment at.0) }
     requires end { IfSome period.now.end (λ at. IsMoment at.0) }
-    ensures { OnOk result (sheet.new ≡ sheet.old ++ form.period_request (Some period.now)) }
+    ensures ok { OnOk result (sheet.new ≡ sheet.old ++ form.period_request (Some period.now)) }
+    ensures kept { StartsWith sheet.new sheet.old }
 {
     sheet.start(b"INCTRAN")?;
     print_maybe_moment(b"DTSTART", period.start, sheet)?;
@@ -122,7 +127,8 @@ fn print_maybe_moment(
     sheet: &mut Sheet,
 ) -> Result<(), OutOfMemory>
     requires { IfSome moment (λ at. IsMoment at.0) }
-    ensures { OnOk result (sheet.new ≡ sheet.old ++ form.maybe_moment name.now moment) }
+    ensures ok { OnOk result (sheet.new ≡ sheet.old ++ form.maybe_moment name.now moment) }
+    ensures kept { StartsWith sheet.new sheet.old }
 {
     match moment {
         Some(moment) => sheet.moment(name, moment),

@@ -3,7 +3,7 @@ use Rattle.std.proofs.Common.{◌≡◌, ℕ, List, [], ◌∷◌, refl, sym, �
 use Rattle.ofx_types.specs.Nodes.{Item}
 use Rattle.ofx_types.specs.SyncReading.{transaction_of, transaction_reply_of, deeds_of, replies_of}
 use Rattle.msg_sync.specs.Listing.{forms_of}
-use Rattle.msg_sync.specs.Steps.{is_name_of, deeds_behind, replies_behind}
+use Rattle.msg_sync.specs.SyncSteps.{is_name_of, deeds_behind, replies_behind}
 use Rattle.msg_sync.proofs.Behind.{forms_behind-nil}
 
 pub deeds_are : (name : List ℕ) (items : List Item) → deeds_of name items ≡ forms_of transaction_of (is_name_of name) items

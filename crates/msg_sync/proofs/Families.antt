@@ -1,43 +1,52 @@
 -- The family of what is synchronised, by a name and by an object.
-use Rattle.std.proofs.Common.{◌≡◌, ℕ, Bool, true, false, ◌||◌, List, [], ◌∷◌, if◌then◌else◌, Ok, refl, subst}
+use Rattle.std.proofs.Common.{◌≡◌, ℕ, ◌≤◌, Bool, true, false, List, if◌then◌else◌, Ok, Err, refl, subst}
 use Rattle.std.specs.Str.{bytes_eq}
-use Rattle.ofx_types.specs.TagNames.{is_one_of}
 use Rattle.ofx_types.specs.Nodes.{Item}
 use Rattle.ofx_types.specs.MailReading.{account_in}
 use Rattle.ofx_types.specs.SyncForm.{object_family, HasObject}
 use Rattle.ofx_types.specs.SyncReading.{object_in}
+use Rattle.ofx_types.specs.declared.fault.TreeFault.{TreeFault}
+use Rattle.ofx_types.specs.declared.fault.TreeFault.TheVariants.{Value}
 use Rattle.ofx_types.specs.declared.sync.ObjectName.{ObjectName}
 use Rattle.ofx_types.specs.declared.sync.ObjectName.TheVariants as objects
 use Rattle.ofx_types.specs.declared.transfer.Family.{Family}
 use Rattle.ofx_types.specs.declared.transfer.Family.TheVariants.{Intra, RecIntra, BankMail, Mail}
 use Rattle.ofx_tree.specs.Placed.{Stands, Any, IsWithin}
 use Rattle.ofx_tree.proofs.FormLaws.{bind_ok, bind_to, one_value, bytes_same}
-use Rattle.ofx_tree.proofs.FormPlaces.{bound}
+use Rattle.ofx_tree.proofs.FormPlaces.{bound, either}
 use Rattle.msg_mail.proofs.MailParts.{account_in_found, account_in_again, account_in_within}
 
 -- ---- by a name
 
--- the family whose name it is
-abbrev pub family_named : (Family → List ℕ) → List ℕ → Family
-family_named name_of name =
-    if bytes_eq name (name_of Intra) then Intra
-    else (if bytes_eq name (name_of RecIntra) then RecIntra else (if bytes_eq name (name_of BankMail) then BankMail else Mail))
-
--- One of the four names is that of its family.
-pub name_of_family : (name_of : Family → List ℕ) (name : List ℕ) →
-    is_one_of (name_of Intra ∷ name_of RecIntra ∷ name_of BankMail ∷ name_of Mail ∷ []) name ≡ true → name ≡ name_of (family_named name_of name)
-name_of_family name_of name one =
+-- A name that tells a family is the name of that family.
+pub name_of_family : (name_of : Family → List ℕ) (name : List ℕ) (fault : TreeFault) (family : Family) →
+    (if bytes_eq name (name_of Intra) then Ok Intra
+    else (if bytes_eq name (name_of RecIntra) then Ok RecIntra
+    else (if bytes_eq name (name_of BankMail) then Ok BankMail
+    else (if bytes_eq name (name_of Mail) then Ok Mail else Err fault)))) ≡ Ok family → name ≡ name_of family
+name_of_family name_of name fault family h =
     told (bytes_eq name (name_of Intra)) (bytes_eq name (name_of RecIntra)) (bytes_eq name (name_of BankMail)) (bytes_eq name (name_of Mail))
-    (bytes_same name _) (bytes_same name _) (bytes_same name _) (bytes_same name _) one
+    (bytes_same name _) (bytes_same name _) (bytes_same name _) (bytes_same name _) h
   where
     told : (a b c d : Bool) → (a ≡ true → name ≡ name_of Intra) → (b ≡ true → name ≡ name_of RecIntra) → (c ≡ true → name ≡ name_of BankMail) →
-        (d ≡ true → name ≡ name_of Mail) → (a || (b || (c || (d || false)))) ≡ true →
-        name ≡ name_of (if a then Intra else (if b then RecIntra else (if c then BankMail else Mail)))
-    told true b c d f g h i one = f refl
-    told false true c d f g h i one = g refl
-    told false false true d f g h i one = h refl
-    told false false false true f g h i one = i refl
-    told false false false false f g h i one = cc
+        (d ≡ true → name ≡ name_of Mail) →
+        (if a then Ok Intra else (if b then Ok RecIntra else (if c then Ok BankMail else (if d then Ok Mail else Err fault)))) ≡ Ok family → name ≡ name_of family
+    told true b c d f g h i e = subst (λ (x : Family). name ≡ name_of x) (one_value (Ok Intra) Intra family refl e) (f refl)
+    told false true c d f g h i e = subst (λ (x : Family). name ≡ name_of x) (one_value (Ok RecIntra) RecIntra family refl e) (g refl)
+    told false false true d f g h i e = subst (λ (x : Family). name ≡ name_of x) (one_value (Ok BankMail) BankMail family refl e) (h refl)
+    told false false false true f g h i e = subst (λ (x : Family). name ≡ name_of x) (one_value (Ok Mail) Mail family refl e) (i refl)
+    told false false false false f g h i e = cc
+
+-- The fault of a name that tells none has a place.
+pub family_within : (most place : ℕ) (name : List ℕ) (name_of : Family → List ℕ) → place ≤ most → Stands most Any
+    (if bytes_eq name (name_of Intra) then Ok Intra
+    else (if bytes_eq name (name_of RecIntra) then Ok RecIntra
+    else (if bytes_eq name (name_of BankMail) then Ok BankMail
+    else (if bytes_eq name (name_of Mail) then Ok Mail else Err (Value place)))))
+family_within most place name name_of h =
+    either most Any (bytes_eq name (name_of Intra)) _ _ tt
+    (either most Any (bytes_eq name (name_of RecIntra)) _ _ tt
+    (either most Any (bytes_eq name (name_of BankMail)) _ _ tt (either most Any (bytes_eq name (name_of Mail)) _ _ tt h)))
 
 -- ---- by an object
 

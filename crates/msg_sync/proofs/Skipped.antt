@@ -11,9 +11,9 @@ use Rattle.ofx_types.specs.declared.sync.ObjectName.TheVariants.{Intra, RecIntra
 use Rattle.ofx_types.specs.declared.sync.SyncKind.{SyncKind}
 use Rattle.ofx_types.specs.declared.sync.SyncKind.TheVariants.{After, TokenOnly, Refresh}
 use Rattle.ofx_tree.specs.Documents.{Documents, leaf, branch, printed, leaf_item, branch_item, items_of}
-use Rattle.msg_parts.specs.AsDocuments.{account_documents}
+use Rattle.msg_parts.specs.PartDocuments.{account_documents}
 use Rattle.msg_sync.specs.Listing.{forms_of}
-use Rattle.msg_sync.specs.AsDocuments.{kind_document, plain_documents, object_document}
+use Rattle.msg_sync.specs.SyncsAsDocuments.{kind_document, plain_documents, object_document}
 use Rattle.msg_sync.proofs.Forms.{wanted}
 
 -- What holds of items holds with one more in front whose name isn't wanted.

@@ -17,13 +17,13 @@ use Rattle.ofx_types.specs.declared.sync.SyncReply.{SyncReply}
 use Rattle.ofx_tree.specs.Documents.{Documents, leaf, printed, AreLawful, IsBranch}
 use Rattle.ofx_tree.proofs.Leaves.{flag_leaf}
 use Rattle.msg_parts.specs.DeedDocuments.{DeedsAreDocuments}
-use Rattle.msg_deed.specs.AsDocuments.{DeedsAreLawful, DeedRepliesAreLawful}
+use Rattle.msg_deed.specs.DeedsReadBack.{DeedsAreLawful, DeedRepliesAreLawful}
 use Rattle.msg_parts.proofs.Lawful.{named, is_branch, text_leaf, account_lawful}
 use Rattle.msg_parts.proofs.Printed.{account_printed}
 use Rattle.msg_mail.specs.MailsAsDocuments.{MailsAreLawful, MailRepliesAreLawful}
 use Rattle.msg_sync.specs.Listing.{branches}
-use Rattle.msg_sync.specs.Sound.{IsSoundObject, IsSoundKind, IsSoundIn, IsSoundSync, IsSoundToldIn, IsSoundSyncReply}
-use Rattle.msg_sync.specs.AsDocuments.{deed_name, deed_inner, answer_name, answer_inner, TransactionsAreDocuments, TransactionsAreLawful, AnswersAreDocuments, AnswersAreLawful, kind_document, plain_documents, object_document, sync_inner, sync_reply_inner, SyncsAreDocuments, SyncsAreLawful, SyncRepliesAreDocuments, SyncRepliesAreLawful}
+use Rattle.msg_sync.specs.SoundSyncs.{IsSoundObject, IsSoundKind, IsSoundIn, IsSoundSync, IsSoundToldIn, IsSoundSyncReply}
+use Rattle.msg_sync.specs.SyncsAsDocuments.{deed_name, deed_inner, answer_name, answer_inner, TransactionsAreDocuments, TransactionsAreLawful, AnswersAreDocuments, AnswersAreLawful, kind_document, plain_documents, object_document, sync_inner, sync_reply_inner, SyncsAreDocuments, SyncsAreLawful, SyncRepliesAreDocuments, SyncRepliesAreLawful}
 use Rattle.msg_sync.proofs.Forms.{branches_printed, branches_lawful}
 
 -- ---- transactions

@@ -9,6 +9,7 @@ use Rattle.ofx_types.specs.DeedForm.{reply_name}
 use Rattle.ofx_types.specs.MailReading.{account_in}
 use Rattle.ofx_types.specs.SyncForm.{object_family, sync_reply_name}
 use Rattle.ofx_types.specs.SyncReading.{is_mail_reply, transaction_reply_of, object_in, family_told_of, replies_of, sync_reply_of}
+use Rattle.ofx_types.specs.Wire.{wire}
 use Rattle.ofx_types.specs.declared.account.AcctName.{AcctName}
 use Rattle.ofx_types.specs.declared.transfer.Change.{Change}
 use Rattle.ofx_types.specs.declared.transfer.Change.TheVariants.{NewMail}
@@ -22,16 +23,15 @@ use Rattle.ofx_tree.specs.Documents.{Documents, leaf, branch, AreLawful, leaf_it
 use Rattle.ofx_tree.proofs.DocumentItems.{children_of_branch, named_of_branch}
 use Rattle.ofx_tree.proofs.FormLaws.{bind_to, bytes_self}
 use Rattle.ofx_tree.proofs.Leaves.{text_of_leaf, maybe_flag_of_leaf}
-use Rattle.msg_parts.specs.AsDocuments.{account_documents}
-use Rattle.msg_deed.specs.AsDocuments.{DeedRepliesReadBack}
-use Rattle.msg_deed.specs.Wire.{wire}
+use Rattle.msg_parts.specs.PartDocuments.{account_documents}
+use Rattle.msg_deed.specs.DeedsReadBack.{DeedRepliesReadBack}
 use Rattle.msg_parts.proofs.Lawful.{named}
-use Rattle.msg_mail.specs.MailSound.{IsSoundMailByCode, IsSoundMailReply}
+use Rattle.msg_mail.specs.SoundMails.{IsSoundMailByCode, IsSoundMailReply}
 use Rattle.msg_mail.specs.MailsAsDocuments.{MailRepliesReadBack}
 use Rattle.msg_sync.specs.Listing.{forms_of, branches}
-use Rattle.msg_sync.specs.Steps.{is_name_of}
-use Rattle.msg_sync.specs.Sound.{IsSoundObject, IsSoundToldIn, IsSoundSyncReply}
-use Rattle.msg_sync.specs.AsDocuments.{answer_name, answer_inner, AnswersAreLawful, AnswersReadBack, object_document, sync_reply_inner, SyncRepliesReadBack}
+use Rattle.msg_sync.specs.SyncSteps.{is_name_of}
+use Rattle.msg_sync.specs.SoundSyncs.{IsSoundObject, IsSoundToldIn, IsSoundSyncReply}
+use Rattle.msg_sync.specs.SyncsAsDocuments.{answer_name, answer_inner, AnswersAreLawful, AnswersReadBack, object_document, sync_reply_inner, SyncRepliesReadBack}
 use Rattle.msg_sync.proofs.Deeds.{replies_are}
 use Rattle.msg_sync.proofs.Forms.{wanted, branches_read, branches_passed}
 use Rattle.msg_sync.proofs.Skipped.{Everywhere, wanted_skips, forms_skip, leaf_skipped, object_skipped}
@@ -209,17 +209,16 @@ sync_replies_back lawful reads place index reply s =
     let are = sync_reply_lawful lawful 5 reply (omega arith) s in
     let at : ℕ = place + length (start_line name) in
     let lost = lost_stands at (index + 1) reply s in
-    let told : family_told_of item ≡ family = told_again item family refl in
-    bind_to (text_in (codes "TOKEN") 64 item) _ reply.token
+    bind_to (family_told_of item) _ family (told_again item family refl)
+    ∙ bind_to (text_in (codes "TOKEN") 64 item) _ reply.token
     (text_of_leaf (codes "TOKEN") reply.token 64 at (index + 1) item are.0 s.token.is_within
     (named_of_branch place index 5 name (codes "TOKEN") inner are ∙ token_stands at (index + 1) reply s))
     ∙ bind_to (maybe_flag_in (codes "LOSTSYNC") item) _ reply.lost
     (maybe_flag_of_leaf (codes "LOSTSYNC") reply.lost lost.0 lost.1 item (named (codes "LOSTSYNC") refl refl)
     (named_of_branch place index 5 name (codes "LOSTSYNC") inner are ∙ lost.2))
-    ∙ bind_to (object_in (family_told_of item) item) _ reply.object
-    (ap (λ f. object_in f item) told ∙ object_back place index name reply.object reply.token reply.lost reply.replies s.object s.replies are)
-    ∙ bind_to (replies_of (reply_name (family_told_of item)) (children item)) _ (map wire reply.replies)
-    (ap (λ f. replies_of (reply_name f) (children item)) told
-    ∙ replies_are (reply_name family) (children item)
+    ∙ bind_to (object_in family item) _ reply.object
+    (object_back place index name reply.object reply.token reply.lost reply.replies s.object s.replies are)
+    ∙ bind_to (replies_of (reply_name family) (children item)) _ (map wire reply.replies)
+    (replies_are (reply_name family) (children item)
     ∙ ap (forms_of transaction_reply_of (is_name_of (reply_name family))) (children_of_branch place index name inner)
     ∙ replies_back reads reply s at (index + 1))

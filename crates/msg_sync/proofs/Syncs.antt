@@ -6,8 +6,6 @@ use Rattle.ofx_types.specs.ValueForm.{value_of}
 use Rattle.ofx_types.specs.TagNames.{is_one_of}
 use Rattle.ofx_types.specs.Nodes.{Item, children}
 use Rattle.ofx_types.specs.FormWords.{has_name, is_text_within, text_at, one_of, flag_in}
-use Rattle.ofx_types.specs.MessageForm.{is_named_one_of}
-use Rattle.ofx_types.specs.MessageReading.{transaction_names}
 use Rattle.ofx_types.specs.DeedForm.{request_name}
 use Rattle.ofx_types.specs.SyncForm.{IsTransaction, object_family, sync_name, sync_kinds, IsKind, IsSync}
 use Rattle.ofx_types.specs.SyncReading.{transaction_of, object_in, family_synced, only_yes, kind_of, deeds_of, sync_of}
@@ -21,10 +19,10 @@ use Rattle.ofx_tree.specs.Placed.{Stands, Any, IsWithin}
 use Rattle.ofx_tree.proofs.FormLaws.{bind_ok, bind_to, one_value, chosen, ok_guarded, bytes_same, one_of_found, one_of_again, has_one_of, text_found, text_again, flag_in_found, flag_in_again}
 use Rattle.ofx_tree.proofs.FormPlaces.{bound, either, one_of_within, flag_within, children_within}
 use Rattle.msg_parts.proofs.Named.{third_name}
-use Rattle.msg_sync.specs.Laws.{TransactionsAreFound, TransactionFaultsHavePlaces, sync_names, SyncsAreFound, SyncFaultsHavePlaces}
-use Rattle.msg_sync.specs.Steps.{is_name_of}
+use Rattle.msg_sync.specs.SyncLaws.{TransactionsAreFound, TransactionFaultsHavePlaces, SyncsAreFound, SyncFaultsHavePlaces}
+use Rattle.msg_sync.specs.SyncSteps.{is_name_of}
 use Rattle.msg_sync.proofs.Deeds.{deeds_are}
-use Rattle.msg_sync.proofs.Families.{name_of_family, object_found, object_again, object_within}
+use Rattle.msg_sync.proofs.Families.{name_of_family, family_within, object_found, object_again, object_within}
 use Rattle.msg_sync.proofs.Forms.{AreRead, forms_found, forms_again, forms_within}
 
 -- ---- the kind
@@ -75,19 +73,11 @@ kind_within most choice h =
 
 -- ---- the deeds
 
-transaction_named : (family : Family) → is_one_of transaction_names (request_name family) ≡ true
-transaction_named Intra = refl
-transaction_named RecIntra = refl
-transaction_named BankMail = refl
-transaction_named Mail = refl
-
 abbrev AreDeeds : Family → Item → List (List ℕ × Deed) → Type 0
 AreDeeds family sync deeds = AllZip IsTransaction (filter (has_name (request_name family)) (children sync)) deeds
 
 deeds_read : TransactionsAreFound → (family : Family) → AreRead IsTransaction transaction_of (is_name_of (request_name family))
-deeds_read transactions family item deed is =
-    let P : List ℕ → Type 0 = λ n. is_one_of transaction_names n ≡ true in
-    transactions item deed (subst P (sym (bytes_same item.node.name (request_name family) is)) (transaction_named family))
+deeds_read transactions family item deed is = transactions item deed
 
 deeds_found : TransactionsAreFound → (family : Family) (sync : Item) (deeds : List (List ℕ × Deed)) →
     deeds_of (request_name family) (children sync) ≡ Ok deeds → AreDeeds family sync deeds
@@ -108,17 +98,18 @@ deeds_within places most name items h = rw (deeds_are name items) (forms_within 
 
 -- ---- the synchronisation
 
-pub synced_again : (sync : Item) (family : Family) → sync.node.name ≡ sync_name family → family_synced sync ≡ family
+pub synced_again : (sync : Item) (family : Family) → sync.node.name ≡ sync_name family → family_synced sync ≡ Ok family
 synced_again sync Intra name = rw name refl
 synced_again sync RecIntra name = rw name refl
 synced_again sync BankMail name = rw name refl
 synced_again sync Mail name = rw name refl
 
-sync_found : TransactionsAreFound → (sync : Item) (ask : SyncAsk) → is_named_one_of sync_names sync ≡ true → sync_of sync ≡ Ok ask → IsSync sync ask
+sync_found : TransactionsAreFound → (sync : Item) (ask : SyncAsk) → sync_of sync ≡ Ok ask → IsSync sync ask
 unfolding sync_of
-sync_found transactions sync ask named h =
-    let family = family_synced sync in
-    let choice = bind_ok (one_of sync_kinds sync) _ ask h in
+sync_found transactions sync ask h =
+    let told = bind_ok (family_synced sync) _ ask h in
+    let family = told.0 in
+    let choice = bind_ok (one_of sync_kinds sync) _ ask told.2 in
     let kind = bind_ok (kind_of choice.0) _ ask choice.2 in
     let reject = bind_ok (flag_in (codes "REJECTIFMISSING") sync) _ ask kind.2 in
     let object = bind_ok (object_in family sync) _ ask reject.2 in
@@ -127,7 +118,7 @@ sync_found transactions sync ask named h =
     let named_so = object_found family sync object.0 object.1 in
     let Are : Family → Type 0 = λ f. AreDeeds f sync deeds.0 in
     subst (IsSync sync) (one_value _ _ ask refl deeds.2) (record {
-      is_named = name_of_family sync_name sync.node.name named ∙ ap sync_name (sym named_so.0);
+      is_named = name_of_family sync_name sync.node.name _ family told.1 ∙ ap sync_name (sym named_so.0);
       choice = choice.0;
       has_choice = only;
       is_kind = kind_found choice.0 kind.0 (has_one_of sync_kinds sync choice.0 only) kind.1;
@@ -139,24 +130,23 @@ sync_found transactions sync ask named h =
 sync_again : TransactionsAreFound → (sync : Item) (ask : SyncAsk) → IsSync sync ask → sync_of sync ≡ Ok ask
 unfolding sync_of
 sync_again transactions sync ask s =
-    let family = synced_again sync (object_family ask.object) s.is_named in
-    bind_to _ _ s.choice (one_of_again sync_kinds sync s.choice s.has_choice)
+    bind_to (family_synced sync) _ (object_family ask.object) (synced_again sync (object_family ask.object) s.is_named)
+    ∙ bind_to _ _ s.choice (one_of_again sync_kinds sync s.choice s.has_choice)
     ∙ bind_to _ _ ask.kind (kind_again s.choice ask.kind s.is_kind)
     ∙ bind_to _ _ ask.reject (flag_in_again (codes "REJECTIFMISSING") sync ask.reject s.reject)
-    ∙ bind_to _ _ ask.object (ap (λ f. object_in f sync) family ∙ object_again sync ask.object s.object)
-    ∙ bind_to _ _ ask.deeds
-    (ap (λ f. deeds_of (request_name f) (children sync)) family ∙ deeds_again transactions (object_family ask.object) sync ask.deeds s.deeds)
+    ∙ bind_to _ _ ask.object (object_again sync ask.object s.object)
+    ∙ bind_to _ _ ask.deeds (deeds_again transactions (object_family ask.object) sync ask.deeds s.deeds)
 
 pub syncs_are_found : TransactionsAreFound → SyncsAreFound
-syncs_are_found transactions sync ask named = (sync_again transactions sync ask, sync_found transactions sync ask named)
+syncs_are_found transactions sync ask = (sync_again transactions sync ask, sync_found transactions sync ask)
 
 pub sync_faults_have_places : TransactionFaultsHavePlaces → SyncFaultsHavePlaces
 unfolding sync_of
 sync_faults_have_places places most sync h =
-    let family = family_synced sync in
+    bound most Any Any (family_synced sync) _ (family_within most sync.node.place sync.node.name sync_name h.place) (λ family _.
     bound most (IsWithin most) Any (one_of sync_kinds sync) _ (one_of_within most sync_kinds sync h) (λ choice c.
     bound most Any Any (kind_of choice) _ (kind_within most choice c) (λ kind _.
     bound most Any Any (flag_in (codes "REJECTIFMISSING") sync) _ (flag_within most (codes "REJECTIFMISSING") sync h) (λ reject _.
     bound most Any Any (object_in family sync) _ (object_within most family sync h) (λ object _.
     bound most Any Any (deeds_of (request_name family) (children sync)) _
-    (deeds_within places most (request_name family) (children sync) (children_within most sync h)) (λ deeds _. tt)))))
+    (deeds_within places most (request_name family) (children sync) (children_within most sync h)) (λ deeds _. tt))))))

@@ -24,18 +24,18 @@ use Rattle.ofx_tree.specs.Documents.{Documents, leaf, branch, AreLawful, leaf_it
 use Rattle.ofx_tree.proofs.DocumentItems.{children_of_branch, named_of_branch, named_one_of_branch, value_of_leaf}
 use Rattle.ofx_tree.proofs.FormLaws.{bind_to, bytes_self, one_again, one_of_again}
 use Rattle.ofx_tree.proofs.Leaves.{flag_leaf, stands_of_leaf, flag_of_leaf}
-use Rattle.msg_parts.specs.AsDocuments.{account_documents}
-use Rattle.msg_deed.specs.AsDocuments.{DeedsReadBack}
-use Rattle.msg_deed.specs.Sound.{IsSoundDeed}
-use Rattle.msg_parts.specs.Sound.{IsSoundAccount}
+use Rattle.msg_parts.specs.PartDocuments.{account_documents}
+use Rattle.msg_deed.specs.DeedsReadBack.{DeedsReadBack}
+use Rattle.msg_deed.specs.SoundDeeds.{IsSoundDeed}
+use Rattle.msg_parts.specs.SoundParts.{IsSoundAccount}
 use Rattle.msg_parts.proofs.Lawful.{named, text_leaf}
 use Rattle.msg_parts.proofs.ReadBack.{account_back}
-use Rattle.msg_mail.specs.MailSound.{IsSoundMailDeed}
+use Rattle.msg_mail.specs.SoundMails.{IsSoundMailDeed}
 use Rattle.msg_mail.specs.MailsAsDocuments.{MailsReadBack}
 use Rattle.msg_sync.specs.Listing.{forms_of, branches}
-use Rattle.msg_sync.specs.Steps.{is_name_of}
-use Rattle.msg_sync.specs.Sound.{IsSoundObject, IsSoundKind, IsSoundIn, IsSoundSync}
-use Rattle.msg_sync.specs.AsDocuments.{deed_name, deed_inner, TransactionsAreLawful, TransactionsReadBack, kind_document, plain_documents, object_document, sync_inner, SyncsReadBack}
+use Rattle.msg_sync.specs.SyncSteps.{is_name_of}
+use Rattle.msg_sync.specs.SoundSyncs.{IsSoundObject, IsSoundKind, IsSoundIn, IsSoundSync}
+use Rattle.msg_sync.specs.SyncsAsDocuments.{deed_name, deed_inner, TransactionsAreLawful, TransactionsReadBack, kind_document, plain_documents, object_document, sync_inner, SyncsReadBack}
 use Rattle.msg_sync.proofs.Deeds.{deeds_are}
 use Rattle.msg_sync.proofs.Forms.{wanted, branches_read, branches_passed}
 use Rattle.msg_sync.proofs.Skipped.{Everywhere, wanted_skips, forms_skip, leaf_skipped, IsNoKind, kind_skipped, IsNoPlain, plain_skipped, object_skipped}
@@ -282,17 +282,16 @@ syncs_back lawful reads place index ask s =
     let at : ℕ = place + length (start_line name) in
     let choice = kind_item at (index + 1) ask.kind in
     let reject = reject_stands ask s at (index + 1) in
-    let told : family_synced item ≡ family = synced_again item family refl in
-    bind_to (one_of sync_kinds item) _ choice
+    bind_to (family_synced item) _ family (synced_again item family refl)
+    ∙ bind_to (one_of sync_kinds item) _ choice
     (one_of_again sync_kinds item choice (named_one_of_branch place index 5 name sync_kinds inner are ∙ choice_stands at (index + 1) ask s))
     ∙ bind_to (kind_of choice) _ ask.kind (kind_again choice ask.kind (kind_is at (index + 1) ask.kind s.kind))
     ∙ bind_to (flag_in (codes "REJECTIFMISSING") item) _ ask.reject
     (flag_of_leaf (codes "REJECTIFMISSING") ask.reject reject.0 reject.1 item (named (codes "REJECTIFMISSING") refl refl)
     (named_of_branch place index 5 name (codes "REJECTIFMISSING") inner are ∙ reject.2))
-    ∙ bind_to (object_in (family_synced item) item) _ ask.object
-    (ap (λ f. object_in f item) told ∙ object_back place index name ask.object ask.kind ask.reject ask.deeds s.object s.deeds are)
-    ∙ bind_to (deeds_of (request_name (family_synced item)) (children item)) _ ask.deeds
-    (ap (λ f. deeds_of (request_name f) (children item)) told
-    ∙ deeds_are (request_name family) (children item)
+    ∙ bind_to (object_in family item) _ ask.object
+    (object_back place index name ask.object ask.kind ask.reject ask.deeds s.object s.deeds are)
+    ∙ bind_to (deeds_of (request_name family) (children item)) _ ask.deeds
+    (deeds_are (request_name family) (children item)
     ∙ ap (forms_of transaction_of (is_name_of (request_name family))) (children_of_branch place index name inner)
     ∙ deeds_back reads ask s at (index + 1))

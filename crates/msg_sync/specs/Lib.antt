@@ -1,6 +1,6 @@
 pub mod Listing
-pub mod Steps
-pub mod Printable
-pub mod Laws
-pub mod Sound
-pub mod AsDocuments
+pub mod SyncSteps
+pub mod PrintableSyncs
+pub mod SyncLaws
+pub mod SoundSyncs
+pub mod SyncsAsDocuments

@@ -1,7 +1,7 @@
 //! What holds of the forms of synchronisation and of the transactions in it. The calls do nothing; each contract is a law.
 
-ghost use Rattle.msg_sync.specs.Laws.{TransactionsAreFound, TransactionFaultsHavePlaces, TransactionRepliesAreFound, TransactionReplyFaultsHavePlaces, SyncsAreFound, SyncFaultsHavePlaces, SyncRepliesAreFound, SyncReplyFaultsHavePlaces};
-ghost use Rattle.msg_sync.specs.AsDocuments.{TransactionsAreDocuments, TransactionsAreLawful, TransactionsReadBack, AnswersAreDocuments, AnswersAreLawful, AnswersReadBack, SyncsAreDocuments, SyncsAreLawful, SyncsReadBack, SyncRepliesAreDocuments, SyncRepliesAreLawful, SyncRepliesReadBack};
+ghost use Rattle.msg_sync.specs.SyncLaws.{TransactionsAreFound, TransactionFaultsHavePlaces, TransactionRepliesAreFound, TransactionReplyFaultsHavePlaces, SyncsAreFound, SyncFaultsHavePlaces, SyncRepliesAreFound, SyncReplyFaultsHavePlaces};
+ghost use Rattle.msg_sync.specs.SyncsAsDocuments.{TransactionsAreDocuments, TransactionsAreLawful, TransactionsReadBack, AnswersAreDocuments, AnswersAreLawful, AnswersReadBack, SyncsAreDocuments, SyncsAreLawful, SyncsReadBack, SyncRepliesAreDocuments, SyncRepliesAreLawful, SyncRepliesReadBack};
 
 use msg_deed::{
     deed_faults_have_places, deed_replies_are_found, deed_replies_read_back,

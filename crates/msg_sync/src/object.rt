@@ -1,8 +1,8 @@
 //! What is synchronised: the object that a message names, read and written.
 
 ghost use Rattle.std.specs.Prelude.{◌≡◌, ◌++◌, OnOk};
+ghost use Rattle.std.specs.Io.{StartsWith};
 ghost use Rattle.ofx_types.specs.FormWords.{Gives};
-ghost use Rattle.ofx_types.specs.SyncForm.{object_family};
 ghost use Rattle.ofx_types.specs.SyncReading as reading;
 ghost use Rattle.ofx_types.specs.PrintedSync as text;
 
@@ -27,22 +27,11 @@ pub(crate) fn read_object(
     }
 }
 
-/// The family of an object.
-pub(crate) fn family_of(object: &ObjectName) -> Family
-    ensures { result ≡ object_family object.now }
-{
-    match object {
-        ObjectName::Intra(_) => Family::Intra,
-        ObjectName::RecIntra(_) => Family::RecIntra,
-        ObjectName::BankMail(_) => Family::BankMail,
-        ObjectName::Mail => Family::Mail,
-    }
-}
-
 /// Writes the account of an object, where it has one.
 #[tactic(auto, unfolding(ofx_types::specs::PrintedSync::object_text))]
 pub(crate) fn print_object(object: &ObjectName, sheet: &mut Sheet) -> Result<(), OutOfMemory>
-    ensures { OnOk result (sheet.new ≡ sheet.old ++ text.object_text object.now) }
+    ensures ok { OnOk result (sheet.new ≡ sheet.old ++ text.object_text object.now) }
+    ensures kept { StartsWith sheet.new sheet.old }
 {
     match object {
         ObjectName::Intra(account) => print_account(account, sheet),

@@ -1,6 +1,7 @@
 //! What a client is told of an object (INTRASYNCRS, RECINTRASYNCRS, BANKMAILSYNCRS, MAILSYNCRS), read and written.
 
 ghost use Rattle.std.specs.Prelude.{◌≡◌, ◌++◌, OnOk};
+ghost use Rattle.std.specs.Io.{StartsWith};
 ghost use Rattle.std.specs.List.{flat_map, AllByRecursion};
 ghost use Rattle.ofx_types.specs.FormWords.{Gives};
 ghost use Rattle.ofx_types.specs.Nodes.{children};
@@ -10,10 +11,10 @@ ghost use Rattle.ofx_types.specs.SyncForm as forms;
 ghost use Rattle.ofx_types.specs.SyncReading as reading;
 ghost use Rattle.ofx_types.specs.SyncReading.{sync_reply_of};
 ghost use Rattle.ofx_types.specs.PrintedSync.{sync_reply_text};
-ghost use Rattle.msg_sync.specs.Steps as steps;
+ghost use Rattle.msg_sync.specs.SyncSteps as steps;
 
 use crate::listing::put_form;
-use crate::object::{family_of, print_object, read_object};
+use crate::object::{print_object, read_object};
 use crate::transaction::{print_transaction_reply, read_transaction_reply};
 use msg_parts::{print_flag, reply_name};
 use ofx_tree::{Cursor, Sheet};
@@ -26,14 +27,15 @@ const MOST: u32 = 64;
 /// The answer that the reply to a synchronisation is: INTRASYNCRS, RECINTRASYNCRS, BANKMAILSYNCRS or MAILSYNCRS. Where LOSTSYNC
 /// doesn't stand nothing is lost. Answers of another family are skipped.
 ///
-/// The first fault of its form, with its place; `OutOfMemory` where memory for its texts or its answers is refused.
+/// The first fault of its form, with its place, which is its own where it has another name; `OutOfMemory` where memory
+/// for its texts or its answers is refused.
 #[tactic(auto, unfolding(ofx_types::specs::SyncReading::sync_reply_of))]
 pub fn read_sync_reply(alloc: Global, c: &Cursor<'_>) -> Result<SyncReply, TreeFault>
     ensures { Gives result (sync_reply_of c.now) }
 {
+    let family = family_told_of(c)?;
     let token = c.text(alloc, b"TOKEN", MOST)?;
     let lost = c.maybe_flag(b"LOSTSYNC")?;
-    let family = family_told_of(c);
     let object = read_object(alloc, family, c)?;
     let replies = read_replies(alloc, reply_name(family), c)?;
     Ok(SyncReply {
@@ -45,19 +47,22 @@ pub fn read_sync_reply(alloc: Global, c: &Cursor<'_>) -> Result<SyncReply, TreeF
 }
 
 /// The family of what is synchronised, by the name of the reply.
-fn family_told_of(sync: &Cursor<'_>) -> Family
+fn family_told_of(sync: &Cursor<'_>) -> Result<Family, TreeFault>
     ensures { result ≡ reading.family_told_of sync.now }
 {
     if sync.name() == b"INTRASYNCRS".as_slice() {
-        return Family::Intra;
+        return Ok(Family::Intra);
     }
     if sync.name() == b"RECINTRASYNCRS".as_slice() {
-        return Family::RecIntra;
+        return Ok(Family::RecIntra);
     }
     if sync.name() == b"BANKMAILSYNCRS".as_slice() {
-        return Family::BankMail;
+        return Ok(Family::BankMail);
     }
-    Family::Mail
+    if sync.name() == b"MAILSYNCRS".as_slice() {
+        return Ok(Family::Mail);
+    }
+    Err(TreeFault::Value(sync.place() as u64))
 }
 
 /// The answers of this name, in the order of the file.
@@ -87,9 +92,10 @@ fn reply_at(alloc: Global, name: &[u8], child: &Cursor<'_>) -> Result<Option<Dee
 #[tactic(auto, unfolding(ofx_types::specs::PrintedSync::sync_reply_text, ofx_types::specs::Sheet::aggregate))]
 pub fn print_sync_reply(r: &SyncReply, out: &mut Sheet) -> Result<(), OutOfMemory>
     requires { AllByRecursion (λ answer. HasChangeByCode answer.code answer.change) r.now.replies }
-    ensures { OnOk result (out.new ≡ out.old ++ sync_reply_text r.now) }
+    ensures ok { OnOk result (out.new ≡ out.old ++ sync_reply_text r.now) }
+    ensures kept { StartsWith out.new out.old }
 {
-    let name = name_of(family_of(&r.object));
+    let name = name_of(r.object.family());
     out.start(name)?;
     out.text(b"TOKEN", &r.token)?;
     print_flag(b"LOSTSYNC", r.lost, out)?;
@@ -112,7 +118,8 @@ fn name_of(family: Family) -> &'static [u8]
 
 fn print_replies(replies: &[DeedReply], sheet: &mut Sheet) -> Result<(), OutOfMemory>
     requires { AllByRecursion (λ answer. HasChangeByCode answer.code answer.change) replies.now }
-    ensures { OnOk result (sheet.new ≡ sheet.old ++ flat_map deed_reply_text replies.now) }
+    ensures ok { OnOk result (sheet.new ≡ sheet.old ++ flat_map deed_reply_text replies.now) }
+    ensures kept { StartsWith sheet.new sheet.old }
 {
     for reply in replies {
         print_transaction_reply(reply, sheet)?;

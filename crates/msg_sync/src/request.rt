@@ -1,6 +1,7 @@
 //! What a client asks to be told of an object (INTRASYNCRQ, RECINTRASYNCRQ, BANKMAILSYNCRQ, MAILSYNCRQ), read and written.
 
 ghost use Rattle.std.specs.Prelude.{◌≡◌, ◌++◌, OnOk};
+ghost use Rattle.std.specs.Io.{StartsWith};
 ghost use Rattle.std.specs.List.{flat_map, AllByRecursion};
 ghost use Rattle.ofx_types.specs.FormWords.{Gives, one_of};
 ghost use Rattle.ofx_types.specs.Nodes.{children};
@@ -10,11 +11,11 @@ ghost use Rattle.ofx_types.specs.SyncReading as reading;
 ghost use Rattle.ofx_types.specs.SyncReading.{sync_of};
 ghost use Rattle.ofx_types.specs.PrintedSync as text;
 ghost use Rattle.ofx_types.specs.PrintedSync.{sync_text};
-ghost use Rattle.msg_sync.specs.Steps as steps;
-ghost use Rattle.msg_sync.specs.Printable.{IsPrintablePair, IsPrintableSync};
+ghost use Rattle.msg_sync.specs.SyncSteps as steps;
+ghost use Rattle.msg_sync.specs.PrintableSyncs.{IsPrintablePair, IsPrintableSync};
 
 use crate::listing::put_form;
-use crate::object::{family_of, print_object, read_object};
+use crate::object::{print_object, read_object};
 use crate::transaction::{print_transaction, read_transaction};
 use msg_parts::print_flag;
 use ofx_tree::{Cursor, Sheet};
@@ -27,15 +28,16 @@ const MOST: u32 = 64;
 /// The ask that a synchronisation is: INTRASYNCRQ, RECINTRASYNCRQ, BANKMAILSYNCRQ or MAILSYNCRQ. Just one of TOKEN, TOKENONLY
 /// and REFRESH stands in it, the last two as `Y`. Deeds of another family are skipped.
 ///
-/// The first fault of its form, with its place; `OutOfMemory` where memory for its texts or its deeds is refused.
+/// The first fault of its form, with its place, which is its own where it has another name; `OutOfMemory` where memory
+/// for its texts or its deeds is refused.
 #[tactic(auto, unfolding(ofx_types::specs::SyncReading::sync_of))]
 pub fn read_sync(alloc: Global, c: &Cursor<'_>) -> Result<SyncAsk, TreeFault>
     ensures { Gives result (sync_of c.now) }
 {
+    let family = family_synced(c)?;
     let choice = c.one_of(b"TOKEN", b"TOKENONLY", b"REFRESH")?;
     let kind = read_kind(alloc, &choice)?;
     let reject = c.flag(b"REJECTIFMISSING")?;
-    let family = family_synced(c);
     let object = read_object(alloc, family, c)?;
     let deeds = read_deeds(alloc, deed_name(family), c)?;
     Ok(SyncAsk {
@@ -71,19 +73,22 @@ fn only_yes(kind: SyncKind, choice: &Cursor<'_>) -> Result<SyncKind, TreeFault>
 }
 
 /// The family of what is synchronised, by the name of the synchronisation.
-fn family_synced(sync: &Cursor<'_>) -> Family
+fn family_synced(sync: &Cursor<'_>) -> Result<Family, TreeFault>
     ensures { result ≡ reading.family_synced sync.now }
 {
     if sync.name() == b"INTRASYNCRQ".as_slice() {
-        return Family::Intra;
+        return Ok(Family::Intra);
     }
     if sync.name() == b"RECINTRASYNCRQ".as_slice() {
-        return Family::RecIntra;
+        return Ok(Family::RecIntra);
     }
     if sync.name() == b"BANKMAILSYNCRQ".as_slice() {
-        return Family::BankMail;
+        return Ok(Family::BankMail);
     }
-    Family::Mail
+    if sync.name() == b"MAILSYNCRQ".as_slice() {
+        return Ok(Family::Mail);
+    }
+    Err(TreeFault::Value(sync.place() as u64))
 }
 
 /// The name of the deeds of a family.
@@ -129,9 +134,10 @@ fn deed_at(
 #[tactic(auto, unfolding(ofx_types::specs::PrintedSync::sync_text, ofx_types::specs::Sheet::aggregate))]
 pub fn print_sync(s: &SyncAsk, out: &mut Sheet) -> Result<(), OutOfMemory>
     requires { IsPrintableSync s.now }
-    ensures { OnOk result (out.new ≡ out.old ++ sync_text s.now) }
+    ensures ok { OnOk result (out.new ≡ out.old ++ sync_text s.now) }
+    ensures kept { StartsWith out.new out.old }
 {
-    let family = family_of(&s.object);
+    let family = s.object.family();
     let name = name_of(family);
     out.start(name)?;
     print_kind(&s.kind, out)?;
@@ -156,7 +162,8 @@ fn name_of(family: Family) -> &'static [u8]
 
 #[tactic(auto, unfolding(ofx_types::specs::PrintedSync::kind_text))]
 fn print_kind(kind: &SyncKind, sheet: &mut Sheet) -> Result<(), OutOfMemory>
-    ensures { OnOk result (sheet.new ≡ sheet.old ++ text.kind_text kind.now) }
+    ensures ok { OnOk result (sheet.new ≡ sheet.old ++ text.kind_text kind.now) }
+    ensures kept { StartsWith sheet.new sheet.old }
 {
     match kind {
         SyncKind::After(token) => sheet.text(b"TOKEN", token),
@@ -168,7 +175,8 @@ fn print_kind(kind: &SyncKind, sheet: &mut Sheet) -> Result<(), OutOfMemory>
 /// Writes that mail is asked for without images and without HTML.
 #[tactic(auto, unfolding(ofx_types::specs::PrintedSync::plain_text))]
 fn print_plain(family: Family, sheet: &mut Sheet) -> Result<(), OutOfMemory>
-    ensures { OnOk result (sheet.new ≡ sheet.old ++ text.plain_text family) }
+    ensures ok { OnOk result (sheet.new ≡ sheet.old ++ text.plain_text family) }
+    ensures kept { StartsWith sheet.new sheet.old }
 {
     match family {
         Family::Intra | Family::RecIntra => Ok(()),
@@ -181,7 +189,8 @@ fn print_plain(family: Family, sheet: &mut Sheet) -> Result<(), OutOfMemory>
 
 fn print_deeds(deeds: &[(TrnUid, Deed)], sheet: &mut Sheet) -> Result<(), OutOfMemory>
     requires { AllByRecursion IsPrintablePair deeds.now }
-    ensures { OnOk result (sheet.new ≡ sheet.old ++ flat_map text.transaction_text deeds.now) }
+    ensures ok { OnOk result (sheet.new ≡ sheet.old ++ flat_map text.transaction_text deeds.now) }
+    ensures kept { StartsWith sheet.new sheet.old }
 {
     for deed in deeds {
         print_transaction(&deed.0, &deed.1, sheet)?;

@@ -31,7 +31,7 @@ use Rattle.ofx_types.specs.declared.reply.StatementBody.{StatementBody}
 use Rattle.ofx_types.specs.declared.reply.AskReply.{AskReply}
 use Rattle.ofx_types.specs.declared.reply.AskReply.TheVariants as replies
 use Rattle.bank_model.specs.Sound.{IsSoundPeriod, IsSoundDeed, IsSoundPair, IsSoundAsk}
-use Rattle.msg_sync.specs.Printable.{IsPrintableTransaction, IsPrintablePair}
+use Rattle.msg_sync.specs.PrintableSyncs.{IsPrintableTransaction, IsPrintablePair}
 use Rattle.ofx_file.specs.Printable.{IsPrintablePeriod, IsPrintableAsk, SoundFilesArePrintable, SpelledRepliesArePrintable}
 use Rattle.ofx_file.proofs.SoundDeeds.{sound_info}
 

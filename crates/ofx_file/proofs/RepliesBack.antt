@@ -13,6 +13,7 @@ use Rattle.ofx_types.specs.MessageForm.{bank_reply_names, mail_reply_names}
 use Rattle.ofx_types.specs.MessageReading.{ReplyParts, ask_reply_of, messages_in, reply_of}
 use Rattle.ofx_types.specs.ReplyForm.{signon_reply, ask_reply, reply_text}
 use Rattle.ofx_types.specs.FileForm.{SpellsReply}
+use Rattle.ofx_types.specs.Wire.{wire, wire_sync, wire_answer, wire_file}
 use Rattle.ofx_types.specs.declared.fault.TreeFault.{TreeFault}
 use Rattle.ofx_types.specs.declared.number.Moment.{Moment}
 use Rattle.ofx_types.specs.declared.transfer.Family.{Family}
@@ -24,21 +25,19 @@ use Rattle.ofx_tree.specs.Documents.{Documents, empty, branch, printed, AreLawfu
 use Rattle.ofx_tree.proofs.DocumentItems.{named_of_branch}
 use Rattle.ofx_tree.proofs.FormLaws.{bind_to, one_again}
 use Rattle.ofx_header.specs.HeaderLaws.{WrittenIsSpelled}
-use Rattle.msg_statement.specs.AsDocuments.{reply_documents, StatementRepliesAreDocuments, StatementRepliesAreLawful, StatementRepliesReadBack}
+use Rattle.msg_statement.specs.StatementDocuments.{reply_documents, StatementRepliesAreDocuments, StatementRepliesAreLawful, StatementRepliesReadBack}
 use Rattle.msg_parts.specs.DeedDocuments.{deed_reply_documents}
-use Rattle.msg_deed.specs.Wire.{wire}
 use Rattle.msg_parts.proofs.Lawful.{is_branch}
-use Rattle.msg_mail.specs.AsDocuments.{signon_reply_documents, SignonRepliesAreDocuments, SignonRepliesAreLawful, SignonRepliesReadBack}
-use Rattle.msg_sync.specs.Steps.{is_name_of}
-use Rattle.msg_sync.specs.Sound.{wire_sync}
-use Rattle.msg_sync.specs.AsDocuments.{sync_reply_inner, AnswersAreDocuments, AnswersAreLawful, AnswersReadBack, SyncRepliesAreDocuments, SyncRepliesAreLawful, SyncRepliesReadBack}
+use Rattle.msg_mail.specs.SignonsAsDocuments.{signon_reply_documents, SignonRepliesAreDocuments, SignonRepliesAreLawful, SignonRepliesReadBack}
+use Rattle.msg_sync.specs.SyncSteps.{is_name_of}
+use Rattle.msg_sync.specs.SyncsAsDocuments.{sync_reply_inner, AnswersAreDocuments, AnswersAreLawful, AnswersReadBack, SyncRepliesAreDocuments, SyncRepliesAreLawful, SyncRepliesReadBack}
 use Rattle.msg_sync.proofs.Forms.{wanted}
 use Rattle.msg_sync.proofs.Skipped.{Everywhere, wanted_skips, branch_skipped}
 use Rattle.ofx_file.specs.declared.messages.MessageSet.{MessageSet}
 use Rattle.ofx_file.specs.declared.messages.MessageSet.TheVariants.{Bank, Mail}
 use Rattle.ofx_file.specs.MessageSets.{reply_set, reply_names, is_reply_in, replies_in}
 use Rattle.ofx_file.specs.FileLaws.{RepliesAreFound}
-use Rattle.ofx_file.specs.Written.{IsSoundAskReply, IsSoundReplyFile, wire_answer, wire_file, RepliesReadBack}
+use Rattle.ofx_file.specs.Written.{IsSoundAskReply, IsSoundReplyFile, RepliesReadBack}
 use Rattle.ofx_file.proofs.ReplyLaws.{transaction_branch_read, sync_branch_read}
 use Rattle.ofx_file.proofs.Sets.{maybe_set, set_printed, set_lawful, set_skipped, HasSet, set_skips, set_back, kept_sound, passed_sound, written_body}
 use Rattle.ofx_file.proofs.Texts.{answer_is_there}

@@ -1,12 +1,11 @@
 -- A reply has its form exactly where reading finds it.
 use Rattle.std.proofs.Common.{◌≡◌, ℕ, inl, inr, true, false, List, Result, Ok, codes, refl, sym, ap, subst, ◌∙◌}
-use Rattle.std.specs.Str.{bytes_eq}
 use Rattle.ofx_types.specs.TagNames.{is_one_of}
 use Rattle.ofx_types.specs.Nodes.{Item}
 use Rattle.ofx_types.specs.FormWords.{has_name, ◌>>=◌, one, maybe}
 use Rattle.ofx_types.specs.ReplyGrammar.{IsStatementReply}
 use Rattle.ofx_types.specs.ReplyReading.{signon_reply_of, statement_reply_of}
-use Rattle.ofx_types.specs.DeedForm.{reply_name}
+use Rattle.ofx_types.specs.DeedForm.{reply_name, IsDeedReplyNamed}
 use Rattle.ofx_types.specs.MailForm.{IsMailReplyNamed}
 use Rattle.ofx_types.specs.SyncForm.{object_family, sync_reply_name, IsTransactionReply}
 use Rattle.ofx_types.specs.SyncReading.{transaction_reply_of, sync_reply_of}
@@ -21,13 +20,12 @@ use Rattle.ofx_types.specs.declared.sync.SyncReply.{SyncReply}
 use Rattle.ofx_types.specs.declared.reply.AskReply.{AskReply}
 use Rattle.ofx_types.specs.declared.reply.AskReply.TheVariants.{Statement, One, Sync}
 use Rattle.ofx_tree.proofs.FormLaws.{bind_ok, bind_to, one_value, chosen, bytes_same, one_found, one_again}
-use Rattle.msg_statement.specs.Laws.{StatementRepliesAreFound}
+use Rattle.msg_statement.specs.StatementLaws.{StatementRepliesAreFound}
 use Rattle.msg_mail.specs.SignonLaws.{SignonRepliesAreFound}
-use Rattle.msg_sync.specs.Laws.{TransactionRepliesAreFound, sync_reply_names, SyncRepliesAreFound}
+use Rattle.msg_sync.specs.SyncLaws.{TransactionRepliesAreFound, SyncRepliesAreFound}
 use Rattle.msg_sync.proofs.Forms.{AreRead}
 use Rattle.ofx_file.specs.FileLaws.{RepliesAreFound}
 use Rattle.ofx_file.proofs.InSets.{set_found, set_again}
-use Rattle.ofx_file.proofs.Names.{name_has}
 
 -- the laws of the messages that a reply is made of
 pub record Laws : Type 0 where
@@ -38,47 +36,31 @@ pub record Laws : Type 0 where
 
 -- ---- one reply
 
--- A reply is to a statement request, to a deed, or to a synchronisation.
-abbrev IsOneOfThree : List ℕ → Type 0
-IsOneOfThree name =
-    bytes_eq name (codes "STMTTRNRS") ≡ false → is_one_of transaction_reply_names name ≡ false → is_one_of sync_reply_names name ≡ true
-
-one_of_bank : (name : List ℕ) → is_one_of bank_reply_names name ≡ true → IsOneOfThree name
-one_of_bank name h = name_has IsOneOfThree bank_reply_names name (
-  λ other none. cc,
-  (λ other none. cc, (λ other none. cc, (λ other none. cc, (λ other none. refl, (λ other none. refl, (λ other none. refl, tt)))))),
-) h
-
-one_of_mail : (name : List ℕ) → is_one_of mail_reply_names name ≡ true → IsOneOfThree name
-one_of_mail name h = name_has IsOneOfThree mail_reply_names name (λ other none. cc, (λ other none. refl, tt)) h
-
 statement_found : Laws → (reply : Item) (answer : AskReply) → reply.node.name ≡ codes "STMTTRNRS" → statement_reply_of reply ≡ Ok answer → IsAskReply reply answer
 statement_found laws reply answer name h =
     let is = (laws.statements reply answer).1 h in
     let P : AskReply → Type 0 = λ a. IsStatementReply reply a → IsAskReply reply a in
     subst P (sym is.is_reply) (λ s. (name, s)) is
 
-transaction_found : Laws → (reply : Item) (answer : AskReply) → is_named_one_of transaction_reply_names reply ≡ true →
-    (transaction_reply_of reply >>= λ said. Ok (One said)) ≡ Ok answer → IsAskReply reply answer
-transaction_found laws reply answer named h =
+transaction_found : Laws → (reply : Item) (answer : AskReply) → (transaction_reply_of reply >>= λ said. Ok (One said)) ≡ Ok answer → IsAskReply reply answer
+transaction_found laws reply answer h =
     let said = bind_ok (transaction_reply_of reply) _ answer h in
     let P : AskReply → Type 0 = λ a. IsAskReply reply a in
-    subst P (one_value _ _ answer refl said.2) ((laws.transactions reply said.0 named).1 said.1)
+    subst P (one_value _ _ answer refl said.2) ((laws.transactions reply said.0).1 said.1)
 
-sync_found : Laws → (reply : Item) (answer : AskReply) → is_named_one_of sync_reply_names reply ≡ true →
-    (sync_reply_of reply >>= λ said. Ok (Sync said)) ≡ Ok answer → IsAskReply reply answer
-sync_found laws reply answer named h =
+sync_found : Laws → (reply : Item) (answer : AskReply) → (sync_reply_of reply >>= λ said. Ok (Sync said)) ≡ Ok answer → IsAskReply reply answer
+sync_found laws reply answer h =
     let said = bind_ok (sync_reply_of reply) _ answer h in
     let P : AskReply → Type 0 = λ a. IsAskReply reply a in
-    subst P (one_value _ _ answer refl said.2) ((laws.syncs reply said.0 named).1 said.1)
+    subst P (one_value _ _ answer refl said.2) ((laws.syncs reply said.0).1 said.1)
 
-answer_found : Laws → (reply : Item) (answer : AskReply) → IsOneOfThree reply.node.name → ask_reply_of reply ≡ Ok answer → IsAskReply reply answer
+answer_found : Laws → (reply : Item) (answer : AskReply) → ask_reply_of reply ≡ Ok answer → IsAskReply reply answer
 unfolding ask_reply_of
-answer_found laws reply answer three h = elim (chosen (has_name (codes "STMTTRNRS") reply) _ _ _ h) [
+answer_found laws reply answer h = elim (chosen (has_name (codes "STMTTRNRS") reply) _ _ _ h) [
   | inl (is, read) ↦ statement_found laws reply answer (bytes_same _ _ is) read
   | inr (other, more) ↦ elim (chosen (is_named_one_of transaction_reply_names reply) _ _ _ more) [
-    | inl (is, read) ↦ transaction_found laws reply answer is read
-    | inr (none, read) ↦ sync_found laws reply answer (three other none) read
+    | inl (is, read) ↦ transaction_found laws reply answer read
+    | inr (none, read) ↦ sync_found laws reply answer read
   ]
 ]
 
@@ -90,6 +72,13 @@ answer_named reply RecIntra name = rw name (refl, refl)
 answer_named reply BankMail name = rw name (refl, refl)
 answer_named reply Mail name = rw name (refl, refl)
 
+deed_named : (reply : Item) (family : Family) → IsDeedReplyNamed reply family →
+    (has_name (codes "STMTTRNRS") reply ≡ false) × (is_named_one_of transaction_reply_names reply ≡ true)
+deed_named reply Intra name = answer_named reply Intra name
+deed_named reply RecIntra name = answer_named reply RecIntra name
+deed_named reply BankMail h = absurd h
+deed_named reply Mail h = absurd h
+
 mail_named : (reply : Item) (family : Family) → IsMailReplyNamed reply family →
     (has_name (codes "STMTTRNRS") reply ≡ false) × (is_named_one_of transaction_reply_names reply ≡ true)
 mail_named reply BankMail name = answer_named reply BankMail name
@@ -99,15 +88,15 @@ mail_named reply RecIntra h = absurd h
 
 transaction_named : (reply : Item) (said : DeedReply) → IsTransactionReply reply said →
     (has_name (codes "STMTTRNRS") reply ≡ false) × (is_named_one_of transaction_reply_names reply ≡ true)
-transaction_named reply said (inl d) = answer_named reply said.family d.is_named
+transaction_named reply said (inl d) = deed_named reply said.family d.is_named
 transaction_named reply said (inr d) = mail_named reply said.family d.is_named
 
 sync_named : (reply : Item) (family : Family) → reply.node.name ≡ sync_reply_name family →
-    (has_name (codes "STMTTRNRS") reply ≡ false) × (is_named_one_of transaction_reply_names reply ≡ false) × (is_named_one_of sync_reply_names reply ≡ true)
-sync_named reply Intra name = rw name (refl, refl, refl)
-sync_named reply RecIntra name = rw name (refl, refl, refl)
-sync_named reply BankMail name = rw name (refl, refl, refl)
-sync_named reply Mail name = rw name (refl, refl, refl)
+    (has_name (codes "STMTTRNRS") reply ≡ false) × (is_named_one_of transaction_reply_names reply ≡ false)
+sync_named reply Intra name = rw name (refl, refl)
+sync_named reply RecIntra name = rw name (refl, refl)
+sync_named reply BankMail name = rw name (refl, refl)
+sync_named reply Mail name = rw name (refl, refl)
 
 -- what is read of a reply to a deed is read of the answer that it is
 pub transaction_branch_read : (family : Family) (reply : Item) (said : DeedReply) → reply.node.name ≡ reply_name family → transaction_reply_of reply ≡ Ok said →
@@ -131,16 +120,16 @@ answer_again laws reply (Statement trnuid code body) (name, is) =
     rw named ((laws.statements reply (Statement trnuid code body)).0 is)
 answer_again laws reply (One said) is =
     let named = transaction_named reply said is in
-    rw (named.0, named.1) (bind_to (transaction_reply_of reply) _ said ((laws.transactions reply said named.1).0 is))
+    rw (named.0, named.1) (bind_to (transaction_reply_of reply) _ said ((laws.transactions reply said).0 is))
 answer_again laws reply (Sync said) is =
     let named = sync_named reply (object_family said.object) is.is_named in
-    rw (named.0, named.1) (bind_to (sync_reply_of reply) _ said ((laws.syncs reply said named.2).0 is))
+    rw (named.0, named.1) (bind_to (sync_reply_of reply) _ said ((laws.syncs reply said).0 is))
 
 bank_read : Laws → AreRead IsAskReply ask_reply_of (is_one_of bank_reply_names)
-bank_read laws reply answer named = (answer_again laws reply answer, answer_found laws reply answer (one_of_bank reply.node.name named))
+bank_read laws reply answer named = (answer_again laws reply answer, answer_found laws reply answer)
 
 mail_read : Laws → AreRead IsAskReply ask_reply_of (is_one_of mail_reply_names)
-mail_read laws reply answer named = (answer_again laws reply answer, answer_found laws reply answer (one_of_mail reply.node.name named))
+mail_read laws reply answer named = (answer_again laws reply answer, answer_found laws reply answer)
 
 -- ---- the whole reply
 

@@ -1,6 +1,5 @@
 -- A request has its form exactly where reading finds it.
 use Rattle.std.proofs.Common.{◌≡◌, ℕ, inl, inr, true, false, List, Result, Ok, codes, refl, sym, ap, subst, ◌∙◌}
-use Rattle.std.specs.Str.{bytes_eq}
 use Rattle.ofx_types.specs.TagNames.{is_one_of}
 use Rattle.ofx_types.specs.Nodes.{Item}
 use Rattle.ofx_types.specs.FormWords.{has_name, ◌>>=◌, one, maybe}
@@ -21,13 +20,12 @@ use Rattle.ofx_types.specs.declared.sync.SyncAsk.{SyncAsk}
 use Rattle.ofx_types.specs.declared.request.Ask.{Ask}
 use Rattle.ofx_types.specs.declared.request.Ask.TheVariants.{Statement, One, Sync}
 use Rattle.ofx_tree.proofs.FormLaws.{bind_ok, bind_to, one_value, chosen, bytes_same, one_found, one_again}
-use Rattle.msg_statement.specs.Laws.{StatementsAreFound}
+use Rattle.msg_statement.specs.StatementLaws.{StatementsAreFound}
 use Rattle.msg_mail.specs.SignonLaws.{SignonsAreFound}
-use Rattle.msg_sync.specs.Laws.{TransactionsAreFound, sync_names, SyncsAreFound}
+use Rattle.msg_sync.specs.SyncLaws.{TransactionsAreFound, SyncsAreFound}
 use Rattle.msg_sync.proofs.Forms.{AreRead}
 use Rattle.ofx_file.specs.FileLaws.{RequestsAreFound}
 use Rattle.ofx_file.proofs.InSets.{set_found, set_again}
-use Rattle.ofx_file.proofs.Names.{name_has}
 
 -- the laws of the messages that a request is made of
 pub record Laws : Type 0 where
@@ -38,45 +36,31 @@ pub record Laws : Type 0 where
 
 -- ---- one request
 
--- A request is of a statement, of a deed, or a synchronisation.
-abbrev IsOneOfThree : List ℕ → Type 0
-IsOneOfThree name = bytes_eq name (codes "STMTTRNRQ") ≡ false → is_one_of transaction_names name ≡ false → is_one_of sync_names name ≡ true
-
-one_of_bank : (name : List ℕ) → is_one_of bank_names name ≡ true → IsOneOfThree name
-one_of_bank name h = name_has IsOneOfThree bank_names name (
-  λ other none. cc,
-  (λ other none. cc, (λ other none. cc, (λ other none. cc, (λ other none. refl, (λ other none. refl, (λ other none. refl, tt)))))),
-) h
-
-one_of_mail : (name : List ℕ) → is_one_of mail_names name ≡ true → IsOneOfThree name
-one_of_mail name h = name_has IsOneOfThree mail_names name (λ other none. cc, (λ other none. refl, tt)) h
-
 statement_found : Laws → (request : Item) (ask : Ask) → request.node.name ≡ codes "STMTTRNRQ" → statement_of request ≡ Ok ask → IsAsk request ask
 statement_found laws request ask name h =
     let is = (laws.statements request ask).1 h in
     let P : Ask → Type 0 = λ a. IsStatement request a → IsAsk request a in
     subst P (sym is.is_statement) (λ s. (name, s)) is
 
-transaction_found : Laws → (request : Item) (ask : Ask) → is_named_one_of transaction_names request ≡ true → (transaction_of request >>= one_ask) ≡ Ok ask →
-    IsAsk request ask
-transaction_found laws request ask named h =
+transaction_found : Laws → (request : Item) (ask : Ask) → (transaction_of request >>= one_ask) ≡ Ok ask → IsAsk request ask
+transaction_found laws request ask h =
     let deed = bind_ok (transaction_of request) one_ask ask h in
     let P : Ask → Type 0 = λ a. IsAsk request a in
-    subst P (one_value _ _ ask refl deed.2) ((laws.transactions request deed.0 named).1 deed.1)
+    subst P (one_value _ _ ask refl deed.2) ((laws.transactions request deed.0).1 deed.1)
 
-sync_found : Laws → (request : Item) (ask : Ask) → is_named_one_of sync_names request ≡ true → (sync_of request >>= λ said. Ok (Sync said)) ≡ Ok ask → IsAsk request ask
-sync_found laws request ask named h =
+sync_found : Laws → (request : Item) (ask : Ask) → (sync_of request >>= λ said. Ok (Sync said)) ≡ Ok ask → IsAsk request ask
+sync_found laws request ask h =
     let said = bind_ok (sync_of request) _ ask h in
     let P : Ask → Type 0 = λ a. IsAsk request a in
-    subst P (one_value _ _ ask refl said.2) ((laws.syncs request said.0 named).1 said.1)
+    subst P (one_value _ _ ask refl said.2) ((laws.syncs request said.0).1 said.1)
 
-ask_found : Laws → (request : Item) (ask : Ask) → IsOneOfThree request.node.name → ask_of request ≡ Ok ask → IsAsk request ask
+ask_found : Laws → (request : Item) (ask : Ask) → ask_of request ≡ Ok ask → IsAsk request ask
 unfolding ask_of
-ask_found laws request ask three h = elim (chosen (has_name (codes "STMTTRNRQ") request) _ _ _ h) [
+ask_found laws request ask h = elim (chosen (has_name (codes "STMTTRNRQ") request) _ _ _ h) [
   | inl (is, read) ↦ statement_found laws request ask (bytes_same _ _ is) read
   | inr (other, more) ↦ elim (chosen (is_named_one_of transaction_names request) _ _ _ more) [
-    | inl (is, read) ↦ transaction_found laws request ask is read
-    | inr (none, read) ↦ sync_found laws request ask (three other none) read
+    | inl (is, read) ↦ transaction_found laws request ask read
+    | inr (none, read) ↦ sync_found laws request ask read
   ]
 ]
 
@@ -100,11 +84,11 @@ transaction_named request deed (inl d) = deed_named request (family_of deed.1) d
 transaction_named request deed (inr d) = mail_named request deed.1 d.is_request
 
 sync_named : (request : Item) (family : Family) → request.node.name ≡ sync_name family →
-    (has_name (codes "STMTTRNRQ") request ≡ false) × (is_named_one_of transaction_names request ≡ false) × (is_named_one_of sync_names request ≡ true)
-sync_named request Intra name = rw name (refl, refl, refl)
-sync_named request RecIntra name = rw name (refl, refl, refl)
-sync_named request BankMail name = rw name (refl, refl, refl)
-sync_named request Mail name = rw name (refl, refl, refl)
+    (has_name (codes "STMTTRNRQ") request ≡ false) × (is_named_one_of transaction_names request ≡ false)
+sync_named request Intra name = rw name (refl, refl)
+sync_named request RecIntra name = rw name (refl, refl)
+sync_named request BankMail name = rw name (refl, refl)
+sync_named request Mail name = rw name (refl, refl)
 
 -- what is read of a deed's request is read of the ask that it is
 pub transaction_branch_read : (family : Family) (request : Item) (deed : List ℕ × Deed) → request.node.name ≡ request_name family → transaction_of request ≡ Ok deed →
@@ -128,16 +112,16 @@ ask_again laws request (Statement trnuid account period) (name, is) =
     rw named ((laws.statements request (Statement trnuid account period)).0 is)
 ask_again laws request (One trnuid deed) is =
     let named = transaction_named request (trnuid, deed) is in
-    rw (named.0, named.1) (bind_to (transaction_of request) one_ask (trnuid, deed) ((laws.transactions request (trnuid, deed) named.1).0 is))
+    rw (named.0, named.1) (bind_to (transaction_of request) one_ask (trnuid, deed) ((laws.transactions request (trnuid, deed)).0 is))
 ask_again laws request (Sync ask) is =
     let named = sync_named request (object_family ask.object) is.is_named in
-    rw (named.0, named.1) (bind_to (sync_of request) _ ask ((laws.syncs request ask named.2).0 is))
+    rw (named.0, named.1) (bind_to (sync_of request) _ ask ((laws.syncs request ask).0 is))
 
 bank_read : Laws → AreRead IsAsk ask_of (is_one_of bank_names)
-bank_read laws request ask named = (ask_again laws request ask, ask_found laws request ask (one_of_bank request.node.name named))
+bank_read laws request ask named = (ask_again laws request ask, ask_found laws request ask)
 
 mail_read : Laws → AreRead IsAsk ask_of (is_one_of mail_names)
-mail_read laws request ask named = (ask_again laws request ask, ask_found laws request ask (one_of_mail request.node.name named))
+mail_read laws request ask named = (ask_again laws request ask, ask_found laws request ask)
 
 -- ---- the whole request
 

@@ -24,12 +24,12 @@ use Rattle.ofx_tree.specs.Documents.{Documents, empty, branch, printed, AreLawfu
 use Rattle.ofx_tree.proofs.DocumentItems.{named_of_branch}
 use Rattle.ofx_tree.proofs.FormLaws.{bind_to, one_again}
 use Rattle.ofx_header.specs.HeaderLaws.{WrittenIsSpelled}
-use Rattle.msg_statement.specs.AsDocuments.{statement_documents, StatementsAreDocuments, StatementsAreLawful, StatementsReadBack}
+use Rattle.msg_statement.specs.StatementDocuments.{statement_documents, StatementsAreDocuments, StatementsAreLawful, StatementsReadBack}
 use Rattle.msg_parts.specs.DeedDocuments.{deed_documents}
 use Rattle.msg_parts.proofs.Lawful.{is_branch}
-use Rattle.msg_mail.specs.AsDocuments.{signon_documents, SignonsAreDocuments, SignonsAreLawful, SignonsReadBack}
-use Rattle.msg_sync.specs.Steps.{is_name_of}
-use Rattle.msg_sync.specs.AsDocuments.{sync_inner, TransactionsAreDocuments, TransactionsAreLawful, TransactionsReadBack, SyncsAreDocuments, SyncsAreLawful, SyncsReadBack}
+use Rattle.msg_mail.specs.SignonsAsDocuments.{signon_documents, SignonsAreDocuments, SignonsAreLawful, SignonsReadBack}
+use Rattle.msg_sync.specs.SyncSteps.{is_name_of}
+use Rattle.msg_sync.specs.SyncsAsDocuments.{sync_inner, TransactionsAreDocuments, TransactionsAreLawful, TransactionsReadBack, SyncsAreDocuments, SyncsAreLawful, SyncsReadBack}
 use Rattle.msg_sync.proofs.Forms.{wanted}
 use Rattle.msg_sync.proofs.Skipped.{Everywhere, wanted_skips, branch_skipped}
 use Rattle.std.proofs.lemmas.List.{append-nil, map-id}

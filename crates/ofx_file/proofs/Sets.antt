@@ -16,7 +16,7 @@ use Rattle.ofx_tree.proofs.DocumentItems.{children_of_branch}
 use Rattle.ofx_tree.proofs.DocumentTrees.{documents_of_body}
 use Rattle.ofx_tree.proofs.FormLaws.{bytes_self}
 use Rattle.msg_sync.specs.Listing.{forms_of, branches}
-use Rattle.msg_sync.specs.Steps.{is_name_of}
+use Rattle.msg_sync.specs.SyncSteps.{is_name_of}
 use Rattle.msg_sync.proofs.Forms.{wanted, branches_printed, branches_lawful, branches_read}
 use Rattle.msg_sync.proofs.Skipped.{Skips, Everywhere, branch_skipped}
 use Rattle.ofx_file.proofs.InSets.{messages_are}

@@ -10,9 +10,9 @@ use Rattle.ofx_types.specs.SyncReading.{transaction_of, transaction_reply_of, sy
 use Rattle.ofx_types.specs.MessageReading.{messages_in, transaction_names, one_ask, ask_of, request_of, transaction_reply_names, ask_reply_of, reply_of}
 use Rattle.ofx_tree.specs.Placed.{Stands, Any, IsWithin}
 use Rattle.ofx_tree.proofs.FormPlaces.{bound, either, one_within, maybe_within}
-use Rattle.msg_statement.specs.Laws.{StatementFaultsHavePlaces, StatementReplyFaultsHavePlaces}
+use Rattle.msg_statement.specs.StatementLaws.{StatementFaultsHavePlaces, StatementReplyFaultsHavePlaces}
 use Rattle.msg_mail.specs.SignonLaws.{SignonFaultsHavePlaces, SignonReplyFaultsHavePlaces}
-use Rattle.msg_sync.specs.Laws.{TransactionFaultsHavePlaces, TransactionReplyFaultsHavePlaces, SyncFaultsHavePlaces, SyncReplyFaultsHavePlaces}
+use Rattle.msg_sync.specs.SyncLaws.{TransactionFaultsHavePlaces, TransactionReplyFaultsHavePlaces, SyncFaultsHavePlaces, SyncReplyFaultsHavePlaces}
 use Rattle.ofx_file.specs.FileLaws.{RequestFaultsHavePlaces, ReplyFaultsHavePlaces}
 use Rattle.ofx_file.proofs.InSets.{messages_within}
 

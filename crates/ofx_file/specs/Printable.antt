@@ -12,7 +12,7 @@ use Rattle.ofx_types.specs.declared.reply.ReplyFile.{ReplyFile}
 use Rattle.ofx_types.specs.FileForm.{SpellsReply}
 use Rattle.ofx_types.specs.Printable.{IsPrintable}
 use Rattle.bank_model.specs.Sound.{IsSound}
-use Rattle.msg_sync.specs.Printable.{IsPrintableTransaction, IsPrintableSync}
+use Rattle.msg_sync.specs.PrintableSyncs.{IsPrintableTransaction, IsPrintableSync}
 
 -- Both moments lie in the years 1900 to 9999.
 pub record IsPrintablePeriod (period : Period) : Type 0 where

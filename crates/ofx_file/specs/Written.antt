@@ -1,5 +1,5 @@
 -- Files that read back as they were written: their values are within the limits of their elements.
-use Rattle.std.specs.Prelude.{◌≡◌, true, ◌++◌, map}
+use Rattle.std.specs.Prelude.{◌≡◌, true, ◌++◌}
 use Rattle.std.specs.Option.{IfSome}
 use Rattle.std.specs.List.{AllByRecursion}
 use Rattle.ofx_types.specs.TextRules.{IsFileUid}
@@ -7,6 +7,7 @@ use Rattle.ofx_types.specs.HeaderForm.{is_version}
 use Rattle.ofx_types.specs.FileForm.{SpellsFile, SpellsReply}
 use Rattle.ofx_types.specs.PrintedFile.{file_text}
 use Rattle.ofx_types.specs.ReplyForm.{reply_text}
+use Rattle.ofx_types.specs.Wire.{wire_file}
 use Rattle.ofx_types.specs.declared.number.Moment.{Moment}
 use Rattle.ofx_types.specs.declared.request.Ask.{Ask}
 use Rattle.ofx_types.specs.declared.request.Ask.TheVariants as asks
@@ -14,10 +15,9 @@ use Rattle.ofx_types.specs.declared.request.RequestFile.{RequestFile}
 use Rattle.ofx_types.specs.declared.reply.AskReply.{AskReply}
 use Rattle.ofx_types.specs.declared.reply.AskReply.TheVariants as replies
 use Rattle.ofx_types.specs.declared.reply.ReplyFile.{ReplyFile}
-use Rattle.msg_statement.specs.Sound.{IsSoundStatement, IsSoundReply}
-use Rattle.msg_deed.specs.Wire.{wire}
-use Rattle.msg_mail.specs.AsDocuments.{IsSoundSignon, IsSoundSignonReply}
-use Rattle.msg_sync.specs.Sound.{IsSoundTransaction, IsSoundAnswer, IsSoundSync, IsSoundSyncReply, wire_sync}
+use Rattle.msg_statement.specs.SoundStatements.{IsSoundStatement, IsSoundReply}
+use Rattle.msg_mail.specs.SignonsAsDocuments.{IsSoundSignon, IsSoundSignonReply}
+use Rattle.msg_sync.specs.SoundSyncs.{IsSoundTransaction, IsSoundAnswer, IsSoundSync, IsSoundSyncReply}
 use Rattle.ofx_file.specs.declared.messages.MessageSet.TheVariants.{Bank, Mail}
 use Rattle.ofx_file.specs.MessageSets.{asks_in, replies_in}
 
@@ -54,21 +54,6 @@ pub record IsSoundReplyFile (reply : ReplyFile) : Type 0 where
   pub signon : IsSoundSignonReply reply.signon reply.moment
   pub bank_first : reply.replies ≡ replies_in Bank reply.replies ++ replies_in Mail reply.replies
   pub replies : AllByRecursion IsSoundAskReply reply.replies
-
--- What a reply still says once it is written: a changed transfer doesn't say which recurring transfer made it.
-abbrev pub wire_answer : AskReply → AskReply
-wire_answer (replies.Statement trnuid code body) = replies.Statement trnuid code body
-wire_answer (replies.One answer) = replies.One (wire answer)
-wire_answer (replies.Sync answer) = replies.Sync (wire_sync answer)
-
-abbrev pub wire_file : ReplyFile → ReplyFile
-wire_file reply = record {
-  version = reply.version;
-  newer = reply.newer;
-  signon = reply.signon;
-  moment = reply.moment;
-  replies = map wire_answer reply.replies;
-}
 
 -- What is written of a sound reply spells that reply, with the model of each changed transfer set to 0.
 abbrev pub RepliesReadBack : Type 0

@@ -17,6 +17,3 @@ pub use laws::{
 };
 pub use reply::{OfxPrinter, read_reply, write_reply};
 pub use request::{read_request, write_request};
-
-#[cfg(test)]
-mod tests;

@@ -2,18 +2,13 @@
 use Rattle.std.specs.Prelude.{◌≡◌, ℕ, ◌+◌, nat_eq, List, length, take, drop, position, codes, Option, None, Some, is_none, Result, Ok, Err, if◌then◌else◌}
 use Rattle.std.specs.List.{starts_with}
 use Rattle.std.specs.Str.{bytes_eq}
+pub use Rattle.ofx_types.specs.InOrder.{◌>>=◌}
 use Rattle.ofx_types.specs.TextRules.{trimmed}
 use Rattle.ofx_types.specs.TextOutcome.{file_uid_fault}
 use Rattle.ofx_types.specs.HeaderForm.{is_line_feed, is_charset}
 use Rattle.ofx_types.specs.declared.fault.HeaderFault.{HeaderFault}
 use Rattle.ofx_types.specs.declared.fault.HeaderFault.TheVariants.{Line, Value, Cut}
 use Rattle.ofx_header.specs.declared.values.Header.{Header}
-
--- the step behind, unless there is a fault
-infixl 10 ◌>>=◌
-abbrev pub ◌>>=◌ : {A B : Type 0} → Result A HeaderFault → (A → Result B HeaderFault) → Result B HeaderFault
-(Ok x) >>= f = f x
-(Err fault) >>= f = Err fault
 
 -- What a function returned, seen by view, is what reading gives.
 abbrev pub Gives : {X Y : Type 0} → (X → Y) → Result X HeaderFault → Result Y HeaderFault → Type 0

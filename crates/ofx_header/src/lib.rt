@@ -17,6 +17,3 @@ pub use ofx_types::HeaderFault;
 pub use reading::read_header;
 pub use values::Header;
 pub use writing::write_header;
-
-#[cfg(test)]
-mod tests;

@@ -25,6 +25,3 @@ pub use memory::sink::MemSink;
 pub use memory::source::MemSource;
 pub use sink::Sink;
 pub use source::Source;
-
-#[cfg(test)]
-mod tests;

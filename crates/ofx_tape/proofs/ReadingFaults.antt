@@ -75,9 +75,6 @@ fault_too_deep body unknown nodes names indices before rest place name text next
 text_place : (size place : ℕ) (rest front text : List ℕ) → place + length rest ≡ size → rest ≡ front ++ text → size - length text ≡ place + length front
 text_place size place rest front text placed is = omega (arith, ap length is, length-append front text)
 
-tag_length : (name : List ℕ) → length (tag name) ≡ length name + 2
-tag_length name = simp length-append (omega arith)
-
 -- the first byte that is refused behind a tag
 refused_behind : (size place : ℕ) (around : Around) (rest front text next : List ℕ) (i : ℕ) → place + length rest ≡ size → rest ≡ front ++ (text ++ next) →
     list_any is_open text ≡ false → is_at_tag next ≡ true → position (is_refused_behind around.element) text ≡ Some i →

@@ -1,7 +1,7 @@
 -- Runs of bytes that pass a test or avoid one.
-use Rattle.std.proofs.Common.{◌≡◌, ℕ, zero, suc, ◌+◌, ◌<◌, ◌≤◌, Bool, true, false, cond, not, List, [], ◌∷◌, ◌++◌, length, take, drop, get_or, position, nat_eq, nat_lt, eqb-true, ltb-false, None, Some, refl, sym, ap, ◌∙◌, one-add, add-one, take_all, take-append-drop, append-nil, arith}
-use Rattle.std.proofs.lemmas.Bool.{and_parts, and_right, or_parts, or_from, not-false, false_from_ne_true, both_ways}
-use Rattle.std.proofs.lemmas.List.{drop_more, append_cancel_left}
+use Rattle.std.proofs.Common.{◌≡◌, ℕ, ◌+◌, Bool, true, false, not, List, [], ◌∷◌, ◌++◌, length, position, nat_eq, nat_lt, eqb-true, None, refl, sym, ap, ◌∙◌, one-add, add-one, append-nil}
+use Rattle.std.proofs.lemmas.Bool.{and_parts, and_right, or_parts, or_from, false_from_ne_true, both_ways}
+use Rattle.std.proofs.lemmas.List.{append_cancel_left}
 use Rattle.std.proofs.lemmas.List.Folds.{list_any_at}
 use Rattle.std.proofs.lemmas.List.Quantifiers.{position-Some}
 use Rattle.std.specs.List.{list_all, list_any, before_first, after_first, position_or_len}
@@ -46,9 +46,6 @@ before_past p b bytes fails = before_run p (b ∷ []) bytes (rw fails)
 pub after_past : (p : ℕ → Bool) (b : ℕ) (bytes : List ℕ) → p b ≡ false → after_first p (b ∷ bytes) ≡ after_first p bytes
 after_past p b bytes fails = after_run p (b ∷ []) bytes (rw fails)
 
-pub any_past : (p : ℕ → Bool) (b : ℕ) (bytes : List ℕ) → p b ≡ false → list_any p (b ∷ bytes) ≡ list_any p bytes
-any_past p b bytes fails = rw fails
-
 -- nothing is left, or a byte that passes comes next
 abbrev pub stops : (ℕ → Bool) → List ℕ → Bool
 stops p [] = true
@@ -72,67 +69,7 @@ pub all_stopped : (p : ℕ → Bool) (run : List ℕ) (b : ℕ) (rest : List ℕ
 all_stopped p [] b rest fails = rw fails
 all_stopped p (c ∷ run) b rest fails = and_right (p c) (list_all p (run ++ b ∷ rest)) (all_stopped p run b rest fails)
 
--- ---- the first byte that passes, by its place
-
-avoids_step : (b : Bool) (k n : ℕ) → suc k ≤ cond (not b) (1 + n) 0 → (b ≡ false) × (k ≤ n)
-avoids_step true k n h = absurd (omega arith)
-avoids_step false k n h = (refl, omega arith)
-
-avoids_before : (p : ℕ → Bool) (bytes : List ℕ) (i : ℕ) → i ≤ position_or_len p bytes → list_any p (take i bytes) ≡ false
-avoids_before p bytes zero h = refl
-avoids_before p [] (suc i) h = refl
-avoids_before p (b ∷ bytes) (suc i) h =
-    let step = avoids_step (p b) i (position_or_len p bytes) h in
-    or_from (p b) (list_any p (take i bytes)) step.0 (avoids_before p bytes i step.1)
-
-none_found : (n most : ℕ) → cond (nat_lt n most) (Some n) None ≡ None → most ≤ n
-none_found n most h = go (nat_lt n most) refl h
-  where
-    go : (c : Bool) → nat_lt n most ≡ c → cond c (Some n) None ≡ None → most ≤ n
-    go true e h = cc
-    go false e h = ltb-false n most e
-
-some_found : (n most i : ℕ) → cond (nat_lt n most) (Some n) None ≡ Some i → n ≡ i
-some_found n most i h = go (nat_lt n most) h
-  where
-    go : (c : Bool) → cond c (Some n) None ≡ Some i → n ≡ i
-    go true h = cc
-    go false h = cc
-
--- where no byte is found, the bytes avoid the test
-pub avoids_all : (p : ℕ → Bool) (bytes : List ℕ) → position p bytes ≡ None → list_any p bytes ≡ false
-avoids_all p bytes none =
-    let most : length bytes ≤ position_or_len p bytes = none_found (position_or_len p bytes) (length bytes) none in
-    rw (← take_all (length bytes) bytes (omega arith)) (avoids_before p bytes (length bytes) most)
-
--- a byte that passes, behind bytes that avoid the test
-pub record IsFirstAt (p : ℕ → Bool) (bytes : List ℕ) (i : ℕ) : Type 0 where
-  pub inside : i < length bytes
-  pub passes : p (get_or bytes i 0) ≡ true
-  pub avoids : list_any p (take i bytes) ≡ false
-  pub split : bytes ≡ take i bytes ++ get_or bytes i 0 ∷ drop (i + 1) bytes
-  pub rest : drop i bytes ≡ get_or bytes i 0 ∷ drop (i + 1) bytes
-
-pub first_at : (p : ℕ → Bool) (bytes : List ℕ) (i : ℕ) → position p bytes ≡ Some i → IsFirstAt p bytes i
-first_at p bytes i found =
-    let at = position-Some p bytes i 0 found in
-    let is = some_found (position_or_len p bytes) (length bytes) i found in
-    let rest = drop_more bytes i 0 at.0 in
-    record {
-      inside = at.0;
-      passes = at.1;
-      avoids = avoids_before p bytes i (omega arith);
-      split = sym (take-append-drop i bytes) ∙ ap (λ x. take i bytes ++ x) rest;
-      rest = rest;
-    }
-
--- a run that avoids the denial of a test passes the test, and the other way round
-pub all_from_none : (p : ℕ → Bool) (run : List ℕ) → list_any (λ b. not (p b)) run ≡ false → list_all p run ≡ true
-all_from_none p [] none = refl
-all_from_none p (b ∷ run) none =
-    let parts = or_parts (not (p b)) (list_any (λ b. not (p b)) run) none in
-    rw (not-false (p b) parts.0, all_from_none p run parts.1) refl
-
+-- a run that passes a test avoids its denial
 pub none_from_all : (p : ℕ → Bool) (run : List ℕ) → list_all p run ≡ true → list_any (λ b. not (p b)) run ≡ false
 none_from_all p run all = all_avoid p (λ b. not (p b)) run (λ b passes. rw passes refl) all
 

@@ -1,12 +1,12 @@
 -- What bytes that spell elements and aggregates begin and end with.
-use Rattle.std.proofs.Common.{◌∷◌, ◌≡◌, ℕ, ◌-◌, true, false, ◌||◌, ◌==◌, List, [], ◌++◌, inl, inr, refl, sym, ap, ◌∙◌, position, None, not, append_assoc}
+use Rattle.std.proofs.Common.{◌≡◌, ℕ, ◌-◌, true, false, ◌||◌, ◌==◌, List, [], ◌++◌, inl, inr, refl, sym, ap, ◌∙◌, append_assoc}
 use Rattle.std.proofs.lemmas.Bool.{or_parts, not-true}
 use Rattle.std.specs.List.{list_all, list_any}
 use Rattle.ofx_types.specs.TextRules.{is_white, is_refused_in_text}
 use Rattle.ofx_types.specs.Sheet.{tag}
 use Rattle.ofx_types.specs.TagForm.{end_tag, IsWhite, is_value_byte, Tree, nothing, element, aggregate, Closes, Spells}
 use Rattle.ofx_types.specs.TagFault.{is_open}
-use Rattle.ofx_tape.proofs.Runs.{no_such_byte, all_avoid, all_from_none, avoids_all}
+use Rattle.ofx_tape.proofs.Runs.{no_such_byte, all_avoid}
 use Rattle.ofx_tape.proofs.Pieces.{is_at_tag}
 
 -- no `<` stands in white space, nor in a value
@@ -21,20 +21,6 @@ value_avoids text all = all_avoid is_value_byte is_open text (λ b passes. (valu
 
 pub value_allowed : (text : List ℕ) → list_all is_value_byte text ≡ true → list_any is_refused_in_text text ≡ false
 value_allowed text all = all_avoid is_value_byte is_refused_in_text text (λ b passes. (value_byte b passes).1) all
-
--- text up to the next `<` is white, or a value, where no byte of it is refused
-pub white_from_none : (text : List ℕ) → position (λ b. not (is_white b)) text ≡ None → IsWhite text
-white_from_none text none = all_from_none is_white text (avoids_all (λ b. not (is_white b)) text none)
-
-pub value_from_none : (text : List ℕ) → list_any is_open text ≡ false → position is_refused_in_text text ≡ None → list_all is_value_byte text ≡ true
-value_from_none text avoids none = both text avoids (avoids_all is_refused_in_text text none)
-  where
-    both : (text : List ℕ) → list_any is_open text ≡ false → list_any is_refused_in_text text ≡ false → list_all is_value_byte text ≡ true
-    both [] open_none refused_none = refl
-    both (b ∷ bytes) open_none refused_none =
-        let first = or_parts (is_open b) (list_any is_open bytes) open_none in
-        let second = or_parts (is_refused_in_text b) (list_any is_refused_in_text bytes) refused_none in
-        rw (first.0, second.0, both bytes first.1 second.1) refl
 
 -- What is spelled begins with a tag, where its rest does.
 pub spelled_at_tag : (size room : ℕ) (bytes : List ℕ) (tree : Tree) (rest : List ℕ) → Spells size room bytes tree rest → is_at_tag rest ≡ true → is_at_tag bytes ≡ true

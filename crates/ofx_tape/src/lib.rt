@@ -20,6 +20,3 @@ pub use laws::{
 pub use ofx_types::TapeFault;
 pub use tape::{Node, Tape};
 pub use value::{short_value, value_eq, value_into};
-
-#[cfg(test)]
-mod tests;

@@ -1,5 +1,5 @@
 -- Leaves that a form asks for: what is printed of a value is lawful, and reading it gives the value.
-use Rattle.std.proofs.Common.{◌≡◌, ℕ, ◌<◌, ◌≤◌, ◌^◌, inr, Bool, true, false, List, [], ◌∷◌, length, reverse, position, None, Some, Ok, codes, refl, sym, ap, subst, ◌∙◌, arith, ℤ, unsigned_abs}
+use Rattle.std.proofs.Common.{◌≡◌, ℕ, ◌<◌, ◌≤◌, ◌^◌, inr, Bool, true, false, List, [], ◌∷◌, length, reverse, position, None, Some, Ok, refl, sym, ap, subst, ◌∙◌, arith, ℤ, unsigned_abs}
 use Rattle.std.proofs.lemmas.Grind.{common_steps}
 use Rattle.std.proofs.lemmas.List.{reverse-append, reverse-reverse}
 use Rattle.std.proofs.lemmas.Fmt.{decimal_nonempty, length-decimal-le}
@@ -22,8 +22,7 @@ use Rattle.ofx_values.proofs.PrintedLemmas.{amount_printed, moment_printed, numb
 use Rattle.ofx_values.proofs.ShortForms.{date_length}
 use Rattle.ofx_tape.proofs.Runs.{none_from_avoids}
 use Rattle.ofx_tree.specs.PrintedForm.{IsElementName, written}
-use Rattle.ofx_tree.specs.Documents.{empty, leaf, IsLeaf, AreLawful, leaf_item, branch_item}
-use Rattle.ofx_tree.proofs.DocumentItems.{named_of_branch}
+use Rattle.ofx_tree.specs.Documents.{IsLeaf, leaf_item}
 use Rattle.ofx_tree.proofs.FormLaws.{text_in_again, flag_in_again, maybe_flag_in_again, amount_in_again, moment_in_again, maybe_moment_in_again, number_in_again}
 use Rattle.ofx_tree.proofs.Plain.{IsPlain, IsPlain-append, amount_plain, amount_some, moment_plain, decimal_plain}
 use Rattle.ofx_tree.proofs.Written.{value_of-written}
@@ -168,19 +167,3 @@ number_of_leaf name most number place index parent named some room h only =
       is_only = only;
       stands = ap (number_at most) (leaf_value name (decimal number) (number_leaf name number named h)) ∙ number_printed most number some room h;
     })
-
--- ---- a form of two leaves
-
--- what its documents say of each name is computed, and each leaf is read
-two_leaves : (place index : ℕ) (bank : List ℕ) (moment : Moment) → IsText bank → 0 < length bank → length bank ≤ 9 → IsMoment moment.0
-    → let item = branch_item place index (codes "LEDGERBAL") (leaf (codes "BANKID") bank (leaf (codes "DTASOF") (moment_text moment.0) empty)) in
-    (text_in (codes "BANKID") 9 item ≡ Ok bank) × (moment_in (codes "DTASOF") item ≡ Ok moment)
-two_leaves place index bank moment text there short h =
-    let bank_leaf : IsLeaf (codes "BANKID") bank = record { has_name = record { has_name = refl; is_free = refl }; is_text = text; is_there = there } in
-    let date_name : IsElementName (codes "DTASOF") = record { has_name = refl; is_free = refl } in
-    let documents = leaf (codes "BANKID") bank (leaf (codes "DTASOF") (moment_text moment.0) empty) in
-    let lawful : AreLawful 0 documents = (bank_leaf, (moment_leaf (codes "DTASOF") moment.0 date_name h, tt)) in
-    let item = branch_item place index (codes "LEDGERBAL") documents in (
-      text_of_leaf (codes "BANKID") bank 9 _ _ item bank_leaf short (named_of_branch place index 0 (codes "LEDGERBAL") (codes "BANKID") documents lawful),
-      moment_of_leaf (codes "DTASOF") moment _ _ item date_name h (named_of_branch place index 0 (codes "LEDGERBAL") (codes "DTASOF") documents lawful),
-    )

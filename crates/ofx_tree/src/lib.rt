@@ -16,6 +16,3 @@ pub use cursor::Cursor;
 pub use laws::{aggregates_read_back, bodies_read_back, documents_read_back, elements_read_back};
 pub use ofx_types::TreeFault;
 pub use sheet::Sheet;
-
-#[cfg(test)]
-mod tests;

@@ -1,6 +1,6 @@
 -- The forms of deeds and of the answers to them: transfers inside the bank and recurring transfers (OFX 1.6, "Intrabank
 -- Funds Transfer", "Recurring Transactions").
-use Rattle.std.specs.Prelude.{◌≡◌, ◌≢◌, ℕ, List, [], ◌∷◌, codes, Option, None, Some}
+use Rattle.std.specs.Prelude.{◌≡◌, ◌≢◌, ℕ, List, [], codes, Option, None, Some}
 use Rattle.ofx_types.specs.Nodes.{Item}
 use Rattle.ofx_types.specs.FormWords.{IsOnlyOf, IsTextIn, IsFlagIn, IsIdIn, IsMaybeIdIn}
 use Rattle.ofx_types.specs.RequestForm.{IsTrnUidOf}
@@ -104,9 +104,16 @@ IsChangeByCode code family transaction None = code ≢ 0
 IsChangeByCode code family transaction (Some change) =
     (code ≡ 0) × ((reply : Item) × IsOnlyOf (replies_in family) transaction reply × IsChange reply change)
 
+-- the aggregate of the answer to a transfer or to a recurring transfer
+abbrev pub IsDeedReplyNamed : Item → Family → Type 0
+IsDeedReplyNamed transaction Intra = transaction.node.name ≡ codes "INTRATRNRS"
+IsDeedReplyNamed transaction RecIntra = transaction.node.name ≡ codes "RECINTRATRNRS"
+IsDeedReplyNamed transaction BankMail = ⊥
+IsDeedReplyNamed transaction Mail = ⊥
+
 -- INTRATRNRS and RECINTRATRNRS
 pub record IsDeedReply (transaction : Item) (reply : DeedReply) : Type 0 where
-  pub is_named : transaction.node.name ≡ reply_name reply.family
+  pub is_named : IsDeedReplyNamed transaction reply.family
   pub has_trnuid : IsTextIn (codes "TRNUID") 36 transaction reply.trnuid
   pub has_status : IsStatus transaction reply.code
   pub is_change : IsChangeByCode reply.code reply.family transaction reply.change

@@ -2,6 +2,7 @@
 use Rattle.std.specs.Prelude.{◌≡◌, ℕ, ℤ, Bool, true, false, not, ◌&&◌, nat_lt, List, [], ◌∷◌, length, filter, codes, Option, None, Some, is_none, unwrap_or, ◌⊎◌, Result, Ok, Err, if◌then◌else◌}
 use Rattle.std.specs.List.{list_all}
 use Rattle.std.specs.Str.{bytes_eq}
+pub use Rattle.ofx_types.specs.InOrder.{◌>>=◌}
 use Rattle.ofx_types.specs.TextRules.{is_white, is_refused_in_text}
 use Rattle.ofx_types.specs.TextOutcome.{text_fault}
 use Rattle.ofx_types.specs.ValueForm.{value_of, StandsFor}
@@ -101,12 +102,6 @@ pub record IsIdIn (name : List ℕ) (parent : Item) (id : ℕ) : Type 0 where
 -- An id that may stand once. Where it doesn't it is 0.
 abbrev pub IsMaybeIdIn : List ℕ → Item → ℕ → Type 0
 IsMaybeIdIn name parent id = (IsNone name parent × (id ≡ 0)) ⊎ IsIdIn name parent id
-
--- Reading in order: the first fault is the answer.
-infixl 10 ◌>>=◌
-abbrev pub ◌>>=◌ : {A B : Type 0} → Result A TreeFault → (A → Result B TreeFault) → Result B TreeFault
-(Ok x) >>= f = f x
-(Err fault) >>= f = Err fault
 
 -- What a function answered is what reading answers, unless memory was refused.
 abbrev pub FailsSo : {A : Type 0} → TreeFault → Result A TreeFault → Type 0

@@ -19,6 +19,7 @@ pub mod TagNames
 pub mod TagForm
 pub mod TagFault
 pub mod Nodes
+pub mod InOrder
 pub mod FormWords
 pub mod RequestForm
 pub mod RequestReading
@@ -43,3 +44,4 @@ pub mod PrintedFile
 pub mod MessageForm
 pub mod MessageReading
 pub mod FileForm
+pub mod Wire

@@ -1,10 +1,11 @@
 -- How the forms of mail are read: form by form, the named children of each in order, and the first fault.
-use Rattle.std.specs.Prelude.{ℕ, ◌==◌, List, codes, Option, None, Some, Result, Ok, if◌then◌else◌}
+use Rattle.std.specs.Prelude.{ℕ, ◌==◌, List, codes, Option, None, Some, Result, Ok, Err, if◌then◌else◌}
 use Rattle.ofx_types.specs.Nodes.{Item}
 use Rattle.ofx_types.specs.FormWords.{has_name, ◌>>=◌, one, text_in, moment_in}
 use Rattle.ofx_types.specs.RequestReading.{trnuid_of, account_of}
 use Rattle.ofx_types.specs.ReplyReading.{status_of}
 use Rattle.ofx_types.specs.declared.fault.TreeFault.{TreeFault}
+use Rattle.ofx_types.specs.declared.fault.TreeFault.TheVariants.{Value}
 use Rattle.ofx_types.specs.declared.account.AcctName.{AcctName}
 use Rattle.ofx_types.specs.declared.mail.MailText.{MailText}
 use Rattle.ofx_types.specs.declared.mail.MailRow.{MailRow}
@@ -56,9 +57,11 @@ plain_mail_of transaction = do
   text ← mail_in request
   Ok (deeds.Mail text)
 
+-- A transaction of another name is no mail's: the fault is at its own place.
 unfoldable pub mail_request_of : Item → Result Deed TreeFault
 mail_request_of transaction =
-    if has_name (codes "BANKMAILTRNRQ") transaction then bank_mail_of transaction else plain_mail_of transaction
+    if has_name (codes "BANKMAILTRNRQ") transaction then bank_mail_of transaction
+    else (if has_name (codes "MAILTRNRQ") transaction then plain_mail_of transaction else Err (Value transaction.node.place))
 
 unfoldable pub mail_deed_of : Item → Result (List ℕ × Deed) TreeFault
 mail_deed_of transaction = do
@@ -68,8 +71,10 @@ mail_deed_of transaction = do
 
 -- ---- replies
 
-abbrev pub mail_family_told : Item → Family
-mail_family_told transaction = if has_name (codes "BANKMAILTRNRS") transaction then families.BankMail else families.Mail
+abbrev pub mail_family_told : Item → Result Family TreeFault
+mail_family_told transaction =
+    if has_name (codes "BANKMAILTRNRS") transaction then Ok families.BankMail
+    else (if has_name (codes "MAILTRNRS") transaction then Ok families.Mail else Err (Value transaction.node.place))
 
 abbrev pub row_about : Option AcctName → List ℕ × MailText → MailRow
 row_about about mail = record { about = about; user = mail.0; mail = mail.1 }
@@ -97,7 +102,8 @@ mail_by_code code transaction =
 
 unfoldable pub mail_reply_of : Item → Result DeedReply TreeFault
 mail_reply_of transaction = do
+  family ← mail_family_told transaction
   trnuid ← text_in (codes "TRNUID") 36 transaction
   code ← status_of transaction
   change ← mail_by_code code transaction
-  Ok (record { trnuid = trnuid; family = mail_family_told transaction; code = code; change = change })
+  Ok (record { trnuid = trnuid; family = family; code = code; change = change })

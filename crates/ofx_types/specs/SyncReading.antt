@@ -7,7 +7,7 @@ use Rattle.ofx_types.specs.FormWords.{has_name, ◌>>=◌, one_of, text_at, text
 use Rattle.ofx_types.specs.DeedForm.{request_name, reply_name}
 use Rattle.ofx_types.specs.DeedReading.{deed_of, deed_reply_of}
 use Rattle.ofx_types.specs.MailReading.{account_in, mail_deed_of, mail_reply_of}
-use Rattle.ofx_types.specs.SyncForm.{object_family, sync_kinds}
+use Rattle.ofx_types.specs.SyncForm.{sync_kinds}
 use Rattle.ofx_types.specs.declared.fault.TreeFault.{TreeFault}
 use Rattle.ofx_types.specs.declared.fault.TreeFault.TheVariants.{Value}
 use Rattle.ofx_types.specs.declared.transfer.Deed.{Deed}
@@ -46,11 +46,13 @@ object_in families.Mail sync = Ok Mail
 
 -- ---- requests
 
-abbrev pub family_synced : Item → Family
+-- The name of a synchronisation tells its family. Any other name is none: the fault is at its own place.
+abbrev pub family_synced : Item → Result Family TreeFault
 family_synced sync =
-    if has_name (codes "INTRASYNCRQ") sync then families.Intra
-    else (if has_name (codes "RECINTRASYNCRQ") sync then families.RecIntra
-    else (if has_name (codes "BANKMAILSYNCRQ") sync then families.BankMail else families.Mail))
+    if has_name (codes "INTRASYNCRQ") sync then Ok families.Intra
+    else (if has_name (codes "RECINTRASYNCRQ") sync then Ok families.RecIntra
+    else (if has_name (codes "BANKMAILSYNCRQ") sync then Ok families.BankMail
+    else (if has_name (codes "MAILSYNCRQ") sync then Ok families.Mail else Err (Value sync.node.place))))
 
 -- TOKENONLY and REFRESH with `N` have no form.
 abbrev pub only_yes : SyncKind → TagNode → Result SyncKind TreeFault
@@ -73,20 +75,22 @@ deeds_of name (child ∷ more) =
 
 unfoldable pub sync_of : Item → Result SyncAsk TreeFault
 sync_of sync = do
+  family ← family_synced sync
   choice ← one_of sync_kinds sync
   kind ← kind_of choice
   reject ← flag_in (codes "REJECTIFMISSING") sync
-  object ← object_in (family_synced sync) sync
-  deeds ← deeds_of (request_name (family_synced sync)) (children sync)
+  object ← object_in family sync
+  deeds ← deeds_of (request_name family) (children sync)
   Ok (record { object = object; kind = kind; reject = reject; deeds = deeds })
 
 -- ---- replies
 
-abbrev pub family_told_of : Item → Family
+abbrev pub family_told_of : Item → Result Family TreeFault
 family_told_of sync =
-    if has_name (codes "INTRASYNCRS") sync then families.Intra
-    else (if has_name (codes "RECINTRASYNCRS") sync then families.RecIntra
-    else (if has_name (codes "BANKMAILSYNCRS") sync then families.BankMail else families.Mail))
+    if has_name (codes "INTRASYNCRS") sync then Ok families.Intra
+    else (if has_name (codes "RECINTRASYNCRS") sync then Ok families.RecIntra
+    else (if has_name (codes "BANKMAILSYNCRS") sync then Ok families.BankMail
+    else (if has_name (codes "MAILSYNCRS") sync then Ok families.Mail else Err (Value sync.node.place))))
 
 abbrev pub reply_onto : DeedReply → List DeedReply → Result (List DeedReply) TreeFault
 reply_onto reply replies = Ok (reply ∷ replies)
@@ -99,8 +103,9 @@ replies_of name (child ∷ more) =
 
 unfoldable pub sync_reply_of : Item → Result SyncReply TreeFault
 sync_reply_of sync = do
+  family ← family_told_of sync
   token ← text_in (codes "TOKEN") 64 sync
   lost ← maybe_flag_in (codes "LOSTSYNC") sync
-  object ← object_in (family_told_of sync) sync
-  replies ← replies_of (reply_name (family_told_of sync)) (children sync)
+  object ← object_in family sync
+  replies ← replies_of (reply_name family) (children sync)
   Ok (record { object = object; token = token; lost = lost; replies = replies })

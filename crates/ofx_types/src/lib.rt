@@ -37,6 +37,3 @@ pub use text::{Text, TextFault, is_white_space, trim};
 pub use told::{Note, Told};
 pub use transfer::{Change, Deed, DeedReply, Family, TransferRow, XferCode, XferInfo};
 pub use uid::{FileUid, TrnUid};
-
-#[cfg(test)]
-mod tests;

@@ -1,12 +1,14 @@
 //! Synchronisation by tokens: what a client asks to be told of an object's history, and what it is told (OFX 1.6, "Data
 //! Synchronization").
 
+ghost use Rattle.std.specs.Prelude.{◌≡◌};
+
 use crate::account::AcctName;
 use crate::duplicate::Duplicate;
 use crate::memory::OutOfMemory;
 use crate::sequence::Sequence;
 use crate::text::Text;
-use crate::transfer::{Deed, DeedReply};
+use crate::transfer::{Deed, DeedReply, Family};
 use crate::uid::TrnUid;
 
 /// What is synchronised. Each object has a history of its own.
@@ -111,5 +113,21 @@ impl Duplicate for SyncReply {
             lost: self.lost,
             replies: self.replies.copy()?,
         })
+    }
+}
+
+impl ObjectName {
+    ghost use Rattle.ofx_types.specs.SyncForm.{object_family};
+
+    /// What the object's changes belong to.
+    pub fn family(&self) -> Family
+        ensures { result ≡ object_family self.now }
+    {
+        match self {
+            ObjectName::Intra(_) => Family::Intra,
+            ObjectName::RecIntra(_) => Family::RecIntra,
+            ObjectName::BankMail(_) => Family::BankMail,
+            ObjectName::Mail => Family::Mail,
+        }
     }
 }

@@ -1,6 +1,8 @@
 //! Transfers inside the bank: what a client asks for, the rows that the bank keeps, and what is told of them
 //! (OFX 1.6, "Intrabank Funds Transfer").
 
+ghost use Rattle.std.specs.Prelude.{◌≡◌};
+
 use crate::account::AcctName;
 use crate::duplicate::Duplicate;
 use crate::mail::{MailRow, MailText};
@@ -190,5 +192,36 @@ impl Duplicate for DeedReply {
             code: self.code,
             change: self.change.copy()?,
         })
+    }
+}
+
+impl Deed {
+    ghost use Rattle.ofx_types.specs.DeedForm.{family_of};
+
+    /// What the deed belongs to.
+    pub fn family(&self) -> Family
+        ensures { result ≡ family_of self.now }
+    {
+        match self {
+            Deed::Transfer(_) | Deed::ModifyTransfer(_, _) | Deed::CancelTransfer(_) => {
+                Family::Intra
+            }
+            Deed::Model(_, _) | Deed::ModifyModel(_, _, _, _) | Deed::CancelModel(_, _) => {
+                Family::RecIntra
+            }
+            Deed::BankMail(_, _) => Family::BankMail,
+            Deed::Mail(_) => Family::Mail,
+        }
+    }
+}
+
+impl Family {
+    ghost use Rattle.ofx_types.specs.SyncForm.{is_mail_family};
+
+    /// Whether it is mail about nothing in particular, which stands in a message set of its own.
+    pub fn is_mail(self) -> bool
+        ensures { result ≡ is_mail_family self }
+    {
+        self == Family::Mail
     }
 }

@@ -16,12 +16,6 @@ use crate::zone::zone_at;
 use jiff_core::civil::Date;
 use ofx_types::{Day, Moment, trim};
 
-/// Midnight of 1 January 1900.
-const FIRST_MOMENT: i64 = -2_208_988_800;
-
-/// The last second of 31 December 9999.
-const LAST_MOMENT: i64 = 253_402_300_799;
-
 /// The moment that the bytes spell, after trimming (OFX 1.6, "Dates, Times, and Time Zones").
 ///
 /// A date is YYYYMMDD or YYYYMMDDHHMMSS, the second perhaps with a point and three digits, which mean nothing. Behind
@@ -172,9 +166,10 @@ fn moment_of(day: Day, seconds: u32, offset: i64) -> Option<Moment>
     requires offset_in { IsWithin 50400 offset }
     ensures { Gives (λ m. m.0) result (reading.lawful (calendar.midnight day.0 +ℤ pos seconds -ℤ offset)) }
 {
-    let moment = midnight(day).0 + seconds as i64 - offset;
-    if moment < FIRST_MOMENT || moment > LAST_MOMENT {
-        return None;
+    let moment = Moment(midnight(day).0 + seconds as i64 - offset);
+    if moment.is_in_calendar() {
+        Some(moment)
+    } else {
+        None
     }
-    Some(Moment(moment))
 }

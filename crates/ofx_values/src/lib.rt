@@ -10,8 +10,6 @@ mod fault;
 mod laws;
 mod number;
 mod print;
-#[cfg(test)]
-mod tests;
 mod zone;
 
 pub use amount::read_amount;

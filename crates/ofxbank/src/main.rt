@@ -5,9 +5,11 @@
 ghost use Rattle.std.specs.Prelude.{◌≡◌, false};
 
 mod command_line;
+mod keepers;
 mod told;
 
 use crate::command_line::{Request, read_words};
+use crate::keepers::{ON_DISK, Unopened, on_disk};
 use crate::told::{HELP, VERSION, plain, tell};
 use bank_session::{answer_told, command_of};
 use ofx_ports::{Keeper, MemKeeper, ReaderSource, SystemClock, WriterSink};
@@ -44,8 +46,19 @@ fn answered(rt: HostRuntime, words: &[Text]) -> Told {
     }
     match named(words, RECORDS) {
         Some("-") => run_over(rt, words, &mut MemKeeper::new(rt.alloc())),
-        Some(path) => run_over(rt, words, &mut SqliteKeeper::open(&rt, path)),
+        Some(path) => match path.strip_prefix(ON_DISK) {
+            Some(file) => over_disk(rt, words, file),
+            None => run_over(rt, words, &mut SqliteKeeper::open(&rt, path)),
+        },
         None => plain(2),
+    }
+}
+
+/// The end of a run over the records in a file on a disk. Where it can't be opened, each call of the keeper fails.
+fn over_disk(rt: HostRuntime, words: &[Text], path: &str) -> Told {
+    match on_disk(&rt, path) {
+        Some(mut keeper) => run_over(rt, words, &mut keeper),
+        None => run_over(rt, words, &mut Unopened::new()),
     }
 }
 

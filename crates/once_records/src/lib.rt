@@ -10,6 +10,3 @@ mod uids;
 
 pub use records::Records;
 pub use uids::Uids;
-
-#[cfg(test)]
-mod tests;

@@ -11,9 +11,6 @@ use crate::refusal::Refusal;
 use ofx_ports::{Failed, FetchFault, Keeper, PutFault};
 use std::marker::Model;
 
-#[cfg(test)]
-mod tests;
-
 /// The records in a file, one row of its one table for each, numbered from 1. There are taken to be as many as the greatest
 /// number says, and one that is missing fails where it is fetched. No other program can open the file meanwhile.
 ///

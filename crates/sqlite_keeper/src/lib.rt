@@ -11,6 +11,3 @@ mod table;
 
 pub use keeper::SqliteKeeper;
 pub use refusal::Refusal;
-
-#[cfg(test)]
-mod tests;

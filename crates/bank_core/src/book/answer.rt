@@ -9,12 +9,13 @@ ghost use Rattle.bank_model.specs.declared.event.Event.TheVariants as events;
 ghost use Rattle.bank_model.specs.Rules as rules;
 ghost use Rattle.bank_model.specs.Rules.{IsLegal, kept_for, state_after, answer_to, named};
 ghost use Rattle.bank_accounts.specs.HeldAccounts.{AreHeld};
-ghost use Rattle.bank_core.specs.Balanced.{AreBalanced};
+ghost use Rattle.bank_ledger.specs.Balanced.{AreBalanced};
 
+use crate::ask::answer_asks;
 use crate::book::Book;
-use crate::draft::Draft;
 use crate::prepared::{Prepared, ReplyBytes};
 use bank_accounts::Held;
+use bank_ledger::Draft;
 use bank_model::{Event, Printer};
 use ofx_types::{
     AskReplies, Day, Duplicate, FileUid, Moment, OutOfMemory, ReplyFile, RequestFile, UserId,
@@ -86,13 +87,14 @@ impl<P: Printer> Book<P> {
           reply = answer_to self.now.setup self.now.state sent.1 event.now;
         }) }
     {
-        let draft = self.draft(alloc, held, sent)?;
+        let draft = self.draft(alloc, held, sent);
         let told = Vec::from_slice(alloc, reply)?;
         let bytes = ReplyBytes {
             kept: Vec::new(alloc),
             told,
         };
-        Ok(Prepared::new(&self.setup, &self.ledger, event, draft, None, None, bytes))
+        let added = draft.finish();
+        Ok(Prepared::new(&self.setup, &self.ledger, event, added, None, None, bytes))
     }
 
     /// Answers a file whose name isn't kept: its asks are answered, and the reply is printed.
@@ -118,38 +120,40 @@ impl<P: Printer> Book<P> {
           reply = answer_to self.now.setup self.now.state sent.1 event.now;
         }) }
     {
-        let mut draft = self.draft(alloc, held, sent)?;
-        let replies = draft.asks(alloc, &self.setup, &self.ledger, file.asks.items())?;
+        let mut draft = self.draft(alloc, held, sent);
+        let replies = answer_asks(&mut draft, alloc, file.asks.items())?;
+        let added = draft.finish();
         let reply = reply_file(sent.1, file, replies)?;
         let told = self.printer.print(alloc, &reply)?;
         let kept = kept_copy(alloc, &file.newer, &told)?;
         let older = file.older.copy()?;
         let newer = file.newer.copy()?;
         let bytes = ReplyBytes { kept, told };
-        Ok(Prepared::new(&self.setup, &self.ledger, event, draft, older, newer, bytes))
+        Ok(Prepared::new(&self.setup, &self.ledger, event, added, older, newer, bytes))
     }
 
     /// A draft in which nothing is added yet, on the business day raised to the day of the moment.
-    pub(super) fn draft(
-        &self,
+    pub(super) fn draft<'b>(
+        &'b self,
         alloc: Global,
-        held: &Held,
+        held: &'b Held,
         sent: (UserId, Moment),
-    ) -> Result<Draft, OutOfMemory>
+    ) -> Draft<'b>
         requires moment { IsMoment sent.1.0 }
-        ensures { IfOk result (λ draft. draft ≡ record {
+        requires balanced { AreBalanced self.now.setup self.now.state held.now }
+        ensures { result ≡ record {
+          setup = self.now.setup;
+          before = self.now.state;
+          held = held.now;
           user = sent.0;
           at = sent.1;
           day = (rules.raised self.now.state sent.1).day;
           entries = [];
-          effects = [];
           uids = [];
-          accounts = held.now;
-        }) }
+        } }
     {
         let day = later(self.ledger.day(), sent.1);
-        let draft = Draft::new(alloc, held, sent.0, sent.1, day)?;
-        Ok(draft)
+        Draft::new(alloc, &self.setup, &self.ledger, held, sent.0, sent.1, day)
     }
 }
 

@@ -12,8 +12,8 @@ ghost use Rattle.bank_model.specs.Sound.{IsSound, HasLength};
 use crate::book::Book;
 use crate::book::answer::later;
 use crate::book::due::last_day;
-use crate::sound::{MOST_BODY, MOST_SUBJECT, is_sound, is_text};
 use bank_model::{Event, Printer, is_poll};
+use bank_sound::{is_sound, is_sound_letter};
 use ofx_types::{Day, Moment, RequestFile, Text, TransferRow, UserId, XferCode};
 
 impl<P: Printer> Book<P> {
@@ -48,10 +48,7 @@ impl<P: Printer> Book<P> {
         ensures { IsTrue result ↔ ((user.0 < length self.now.setup.users) × HasLength 64 subject.now
             × HasLength 10000 body.now × (rules.has_number self.now.setup self.now.state ≡ true)) }
     {
-        self.has_user(user)
-            && is_text(subject, MOST_SUBJECT)
-            && is_text(body, MOST_BODY)
-            && self.has_number()
+        self.has_user(user) && is_sound_letter(subject, body) && self.has_number()
     }
 
     /// Whether the setup has that user.

@@ -11,9 +11,8 @@ ghost use Rattle.bank_model.specs.Polls as rules;
 
 use crate::book::Book;
 use crate::book::answer::reply_file;
-use crate::history::last_number;
-use crate::sync::number_text;
 use bank_model::Printer;
+use bank_telling::{last_number, number_text};
 use ofx_types::{
     Ask, AskReplies, AskReply, Duplicate, Moment, ObjectId, OutOfMemory, RequestFile, Sequence,
     SyncAsk, SyncReply, UserId,

@@ -6,11 +6,12 @@ ghost use Rattle.ofx_types.specs.Calendar.{IsMoment};
 ghost use Rattle.bank_model.specs.declared.event.Event.TheVariants as events;
 ghost use Rattle.bank_model.specs.Rules.{IsLegal, state_after, answer_to, named};
 ghost use Rattle.bank_accounts.specs.HeldAccounts.{AreHeld};
-ghost use Rattle.bank_core.specs.Balanced.{AreBalanced};
+ghost use Rattle.bank_ledger.specs.Balanced.{AreBalanced};
 
 use crate::book::Book;
 use crate::prepared::{Prepared, ReplyBytes};
 use bank_accounts::Held;
+use bank_deeds::{letter, post, spawn};
 use bank_model::{Event, Printer};
 use ofx_types::{Moment, OutOfMemory, Text, UserId};
 use std::alloc::Global;
@@ -41,10 +42,11 @@ impl<P: Printer> Book<P> {
           reply = answer_to self.now.setup self.now.state at event.now;
         }) }
     {
-        let mut draft = self.draft(alloc, held, (NOBODY, at))?;
-        draft.post(&self.setup, &self.ledger, id)?;
+        let mut draft = self.draft(alloc, held, (NOBODY, at));
+        post(&mut draft, id)?;
+        let added = draft.finish();
         let bytes = ReplyBytes::none(alloc);
-        Ok(Prepared::new(&self.setup, &self.ledger, event, draft, None, None, bytes))
+        Ok(Prepared::new(&self.setup, &self.ledger, event, added, None, None, bytes))
     }
 
     /// Makes a transfer of a recurring transfer.
@@ -68,10 +70,11 @@ impl<P: Printer> Book<P> {
           reply = answer_to self.now.setup self.now.state at event.now;
         }) }
     {
-        let mut draft = self.draft(alloc, held, (NOBODY, at))?;
-        draft.spawn(&self.setup, &self.ledger, next.0, next.1)?;
+        let mut draft = self.draft(alloc, held, (NOBODY, at));
+        spawn(&mut draft, next.0, next.1)?;
+        let added = draft.finish();
         let bytes = ReplyBytes::none(alloc);
-        Ok(Prepared::new(&self.setup, &self.ledger, event, draft, None, None, bytes))
+        Ok(Prepared::new(&self.setup, &self.ledger, event, added, None, None, bytes))
     }
 
     /// Writes a user a letter from the bank.
@@ -96,9 +99,10 @@ impl<P: Printer> Book<P> {
           reply = answer_to self.now.setup self.now.state sent.1 event.now;
         }) }
     {
-        let mut draft = self.draft(alloc, held, (NOBODY, sent.1))?;
-        draft.letter(alloc, &self.setup, &self.ledger, sent.0, subject, body)?;
+        let mut draft = self.draft(alloc, held, (NOBODY, sent.1));
+        letter(&mut draft, alloc, sent.0, subject, body)?;
+        let added = draft.finish();
         let bytes = ReplyBytes::none(alloc);
-        Ok(Prepared::new(&self.setup, &self.ledger, event, draft, None, None, bytes))
+        Ok(Prepared::new(&self.setup, &self.ledger, event, added, None, None, bytes))
     }
 }

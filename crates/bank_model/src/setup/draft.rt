@@ -1,13 +1,13 @@
 //! A setup of which the first lines are read, and how one more line is taken.
 
 ghost use Rattle.std.specs.Prelude.{◌≡◌, ◌+ℤ◌, ◌≤ℤ◌, ◌≤◌, pos, int_le, length, Some, None, IfOk, if◌then◌else◌};
-ghost use Rattle.bank_model.specs.SetupReading.{unread, with_line, with_format, with_bank, with_lead, with_window, with_entries, with_body_line, with_user, with_account, openings_with, is_repeated};
+ghost use Rattle.bank_model.specs.SetupReading.{unread, with_line, with_format, with_bank, with_lead, with_window, with_entries, with_body_line, with_user, with_account, openings_with};
 
-use crate::setup::lines::{account_of, bank_of, is_user, limit_of, user_of};
-use crate::setup::lookups::has_account_name;
+use crate::directory::Directory;
+use crate::setup::Setup;
+use crate::setup::lines::{account_of, bank_of, limit_of, user_of};
 use crate::setup::words::{behind, no_word};
-use crate::setup::{AccountLine, Setup};
-use ofx_types::{AcctName, Cents, OutOfMemory, Sequence};
+use ofx_types::{Cents, OutOfMemory};
 use std::alloc::Global;
 
 /// The first line, which names the format and its version.
@@ -26,12 +26,6 @@ pub(super) struct Draft {
     pub setup: Setup,
     /// What these accounts open with together.
     pub openings: Cents,
-}
-
-fn is_account(accounts: &[AccountLine], name: &AcctName) -> bool
-    ensures { result ≡ is_repeated name.now accounts.now }
-{
-    accounts.iter().any(|line| has_account_name(line, name))
 }
 
 /// The openings with one more, where they are no more than the greatest.
@@ -54,8 +48,8 @@ impl Draft {
     {
         let setup = Setup {
             bank: no_word(alloc)?,
-            users: Sequence::new(alloc),
-            accounts: Sequence::new(alloc),
+            users: Directory::new(alloc),
+            accounts: Directory::new(alloc),
             lead: 0,
             window: 0,
             entries: 0,
@@ -157,37 +151,29 @@ impl Draft {
         let Some(user) = user_of(alloc, fields)? else {
             return Ok(false);
         };
-        if is_user(self.setup.users.items(), &user.name) {
-            return Ok(false);
-        }
-        self.setup.users.push(user)?;
-        Ok(true)
+        self.setup.users.add(user)
     }
 
     #[tactic(auto, unfolding(crate::specs::SetupReading::with_account))]
     fn take_account(&mut self, alloc: Global, fields: &[u8]) -> Result<bool, OutOfMemory>
         ensures { IfOk result (λ taken. with_account self.old fields.now ≡ (if taken then Some self.new else None)) }
     {
-        let users = self.setup.users.items();
-        if users.is_empty() {
-            return Ok(false);
-        }
-        if users.len() > MOST {
+        let users = self.setup.users.items().len();
+        if users == 0 || users > MOST {
             return Ok(false);
         }
         if self.setup.accounts.items().len() >= MOST {
             return Ok(false);
         }
-        let Some(account) = account_of(alloc, &self.setup.bank, users, fields)? else {
+        let Some(account) = account_of(alloc, &self.setup.bank, &self.setup.users, fields)? else {
             return Ok(false);
         };
-        if is_account(self.setup.accounts.items(), &account.name) {
-            return Ok(false);
-        }
         let Some(openings) = sum_of(self.openings, account.opening) else {
             return Ok(false);
         };
-        self.setup.accounts.push(account)?;
+        if !self.setup.accounts.add(account)? {
+            return Ok(false);
+        }
         self.openings = openings;
         Ok(true)
     }

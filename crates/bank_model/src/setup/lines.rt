@@ -1,15 +1,14 @@
 //! Each kind of line of a setup, read from its bytes.
 
-ghost use Rattle.std.specs.Prelude.{position, ◌∷◌, ◌≡◌, ◌<◌, ◌≤◌, ◌≤ℤ◌, pos, length, IfOk, IfSome, if◌then◌else◌};
+ghost use Rattle.std.specs.Prelude.{◌∷◌, ◌≡◌, ◌<◌, ◌≤◌, ◌≤ℤ◌, pos, length, IfOk, IfSome, if◌then◌else◌};
 ghost use Rattle.std.specs.Option.{option_map};
-ghost use Rattle.std.specs.Str.{bytes_eq};
 ghost use Rattle.std.specs.Str.Lines.{strip_carriage_return};
-ghost use Rattle.bank_model.specs.SetupReading.{owner_more, is_taken, is_listed, line_at, bank_at, limit_at, user_at, kind_at, user_named, owners_at, account_at};
+ghost use Rattle.bank_model.specs.SetupReading.{owner_more, line_at, bank_at, limit_at, user_at, kind_at, user_named, owners_at, account_at};
 
-use crate::setup::lookups::is_among;
+use crate::directory::Directory;
 use crate::setup::words::{behind, cut_at, is_word, number, number_in, word_text};
-use crate::setup::{AccountLine, Owners, User};
-use ofx_types::{AcctKind, AcctName, Cents, Duplicate, OutOfMemory, Sequence, Text, UserId};
+use crate::setup::{AccountLine, Owners, User, Users};
+use ofx_types::{AcctKind, AcctName, Cents, Duplicate, OutOfMemory, Text, UserId};
 use std::alloc::Global;
 
 /// The line without a CR at its end.
@@ -97,66 +96,51 @@ fn kind_of(word: &[u8]) -> Option<AcctKind>
     None
 }
 
-fn has_name(user: &User, name: &[u8]) -> bool
-    ensures { result ≡ bytes_eq user.now.name name.now }
-{
-    user.name.as_bytes() == name
-}
-
-/// The place of the user of that name.
-fn place_of(users: &[User], name: &[u8]) -> Option<usize>
-    ensures { result ≡ position (λ user. bytes_eq user.name name.now) users.now }
-{
-    users.iter().position(|user| has_name(user, name))
-}
-
 /// The number of the user of that name. There are at most 1,000 users.
-fn user_of_name(users: &[User], name: &[u8]) -> Option<UserId>
+fn user_of_name(alloc: Global, users: &Users, name: &[u8]) -> Result<Option<UserId>, OutOfMemory>
     requires { length users.now ≤ 1000 }
-    ensures { result ≡ user_named users.now name.now }
+    ensures { IfOk result (λ user. user ≡ user_named users.now name.now) }
 {
-    match place_of(users, name) {
-        Some(place) => Some(UserId(place as u32)),
-        None => None,
+    if !is_word(name) {
+        return Ok(None);
     }
-}
-
-/// Whether a user has that name.
-pub(super) fn is_user(users: &[User], name: &Text) -> bool
-    ensures { result ≡ is_taken name.now users.now }
-{
-    users.iter().any(|user| has_name(user, name.as_bytes()))
+    let name = word_text(alloc, name)?;
+    match users.find(&name) {
+        Some(place) => Ok(Some(UserId(place as u32))),
+        None => Ok(None),
+    }
 }
 
 /// Adds the user of that name. False where there is none, or where the owners have the user already.
-fn add_owner(users: &[User], owners: &mut Owners, name: &[u8]) -> Result<bool, OutOfMemory>
+fn add_owner(
+    alloc: Global,
+    users: &Users,
+    owners: &mut Owners,
+    name: &[u8],
+) -> Result<bool, OutOfMemory>
     requires { length users.now ≤ 1000 }
     ensures { IfOk result (λ added. owner_more users.now owners.old name.now ≡ (if added then Some owners.new else None)) }
 {
-    let Some(owner) = user_of_name(users, name) else {
-        return Ok(false);
-    };
-    if is_among(owner, owners.items()) {
-        return Ok(false);
+    match user_of_name(alloc, users, name)? {
+        Some(owner) => owners.add(owner),
+        None => Ok(false),
     }
-    owners.push(owner)?;
-    Ok(true)
 }
 
 /// The owners whose names stand in a row, one space between each two.
-fn owners_of(alloc: Global, users: &[User], names: &[u8]) -> Result<Option<Owners>, OutOfMemory>
+fn owners_of(alloc: Global, users: &Users, names: &[u8]) -> Result<Option<Owners>, OutOfMemory>
     requires { length users.now ≤ 1000 }
     ensures { IfOk result (λ owners. owners ≡ owners_at users.now names.now) }
 {
-    let mut owners = Sequence::new(alloc);
+    let mut owners = Directory::new(alloc);
     let mut rest = names;
     while let Some((name, others)) = cut_at(rest, b' ') {
-        if !add_owner(users, &mut owners, name)? {
+        if !add_owner(alloc, users, &mut owners, name)? {
             return Ok(None);
         }
         rest = others;
     }
-    if !add_owner(users, &mut owners, rest)? {
+    if !add_owner(alloc, users, &mut owners, rest)? {
         return Ok(None);
     }
     Ok(Some(owners))
@@ -167,7 +151,7 @@ fn owners_of(alloc: Global, users: &[User], names: &[u8]) -> Result<Option<Owner
 pub(super) fn account_of(
     alloc: Global,
     bank: &Text,
-    users: &[User],
+    users: &Users,
     fields: &[u8],
 ) -> Result<Option<AccountLine>, OutOfMemory>
     requires { length users.now ≤ 1000 }

@@ -1,6 +1,7 @@
 //! How a transfer recurs (RECURRINST), read and written.
 
 ghost use Rattle.std.specs.Prelude.{◌≡◌, ◌++◌, OnOk, bytes_eq};
+ghost use Rattle.std.specs.Io.{StartsWith};
 ghost use Rattle.std.specs.List.{find};
 ghost use Rattle.std.specs.Option.{option_map};
 ghost use Rattle.ofx_types.specs.ValueForm.{value_of};
@@ -95,7 +96,8 @@ fn freq_among<'f>(word: &Cursor<'_>, freqs: &'f [Freq]) -> Option<&'f Freq>
 /// Writes how a transfer recurs.
 #[tactic(auto, unfolding(ofx_types::specs::DeedText::recur_text), using(msg_parts::proofs::Joined::joined))]
 pub(crate) fn print_recur(recur: Recur, sheet: &mut Sheet) -> Result<(), OutOfMemory>
-    ensures { OnOk result (sheet.new ≡ sheet.old ++ text.recur_text recur) }
+    ensures ok { OnOk result (sheet.new ≡ sheet.old ++ text.recur_text recur) }
+    ensures kept { StartsWith sheet.new sheet.old }
 {
     sheet.start(b"RECURRINST")?;
     print_count(recur.count, sheet)?;
@@ -106,7 +108,8 @@ pub(crate) fn print_recur(recur: Recur, sheet: &mut Sheet) -> Result<(), OutOfMe
 /// Writes the count, where there is one.
 #[tactic(auto, unfolding(ofx_types::specs::DeedText::count_text))]
 fn print_count(count: Option<u32>, sheet: &mut Sheet) -> Result<(), OutOfMemory>
-    ensures { OnOk result (sheet.new ≡ sheet.old ++ text.count_text count) }
+    ensures ok { OnOk result (sheet.new ≡ sheet.old ++ text.count_text count) }
+    ensures kept { StartsWith sheet.new sheet.old }
 {
     match count {
         Some(count) => sheet.number(b"NINSTS", u64::from(count)),

@@ -1,6 +1,7 @@
 //! What a reply says was done to a recurring transfer (RECINTRARS, RECINTRAMODRS, RECINTRACANRS), read and written.
 
 ghost use Rattle.std.specs.Prelude.{◌≡◌, ◌++◌, OnOk};
+ghost use Rattle.std.specs.Io.{StartsWith};
 ghost use Rattle.ofx_types.specs.Calendar.{IsDay};
 ghost use Rattle.ofx_types.specs.FormWords.{Gives};
 ghost use Rattle.ofx_types.specs.RecurringReading as reading;
@@ -83,7 +84,8 @@ fn read_first(alloc: Global, intrars: &Cursor<'_>) -> Result<DueInfo, TreeFault>
 #[tactic(auto, unfolding(ofx_types::specs::DeedText::change_text), using(msg_parts::proofs::Joined::joined))]
 pub(crate) fn print_new_model(row: &ModelRow, sheet: &mut Sheet) -> Result<(), OutOfMemory>
     requires { IsDay row.now.first.0 }
-    ensures { OnOk result (sheet.new ≡ sheet.old ++ text.change_text (Change.NewModel row.now)) }
+    ensures ok { OnOk result (sheet.new ≡ sheet.old ++ text.change_text (Change.NewModel row.now)) }
+    ensures kept { StartsWith sheet.new sheet.old }
 {
     sheet.start(b"RECINTRARS")?;
     print_row(row, sheet)?;
@@ -98,7 +100,8 @@ pub(crate) fn print_set_model(
     sheet: &mut Sheet,
 ) -> Result<(), OutOfMemory>
     requires { IsDay row.now.first.0 }
-    ensures { OnOk result (sheet.new ≡ sheet.old ++ text.change_text (Change.SetModel row.now pending)) }
+    ensures ok { OnOk result (sheet.new ≡ sheet.old ++ text.change_text (Change.SetModel row.now pending)) }
+    ensures kept { StartsWith sheet.new sheet.old }
 {
     sheet.start(b"RECINTRAMODRS")?;
     print_row(row, sheet)?;
@@ -109,7 +112,8 @@ pub(crate) fn print_set_model(
 /// Writes the reply about a cancelled recurring transfer.
 #[tactic(auto, unfolding(ofx_types::specs::DeedText::change_text), using(msg_parts::proofs::Joined::joined))]
 pub(crate) fn print_drop_model(id: u64, pending: bool, sheet: &mut Sheet) -> Result<(), OutOfMemory>
-    ensures { OnOk result (sheet.new ≡ sheet.old ++ text.change_text (Change.DropModel id pending)) }
+    ensures ok { OnOk result (sheet.new ≡ sheet.old ++ text.change_text (Change.DropModel id pending)) }
+    ensures kept { StartsWith sheet.new sheet.old }
 {
     sheet.start(b"RECINTRACANRS")?;
     sheet.number(b"RECSRVRTID", id)?;
@@ -121,7 +125,8 @@ pub(crate) fn print_drop_model(id: u64, pending: bool, sheet: &mut Sheet) -> Res
 #[tactic(auto, unfolding(ofx_types::specs::DeedText::model_row_text), using(msg_parts::proofs::Joined::behind))]
 fn print_row(row: &ModelRow, sheet: &mut Sheet) -> Result<(), OutOfMemory>
     requires { IsDay row.now.first.0 }
-    ensures { OnOk result (sheet.new ≡ sheet.old ++ text.model_row_text row.now) }
+    ensures ok { OnOk result (sheet.new ≡ sheet.old ++ text.model_row_text row.now) }
+    ensures kept { StartsWith sheet.new sheet.old }
 {
     sheet.number(b"RECSRVRTID", row.id)?;
     print_recur(row.recur, sheet)?;
@@ -132,7 +137,8 @@ fn print_row(row: &ModelRow, sheet: &mut Sheet) -> Result<(), OutOfMemory>
 #[tactic(auto, unfolding(ofx_types::specs::DeedText::first_text), using(msg_parts::proofs::Joined::joined))]
 fn print_first(row: &ModelRow, sheet: &mut Sheet) -> Result<(), OutOfMemory>
     requires { IsDay row.now.first.0 }
-    ensures { OnOk result (sheet.new ≡ sheet.old ++ text.first_text row.now) }
+    ensures ok { OnOk result (sheet.new ≡ sheet.old ++ text.first_text row.now) }
+    ensures kept { StartsWith sheet.new sheet.old }
 {
     sheet.start(b"INTRARS")?;
     sheet.element(b"CURDEF", b"USD")?;

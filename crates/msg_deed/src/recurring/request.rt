@@ -1,6 +1,7 @@
 //! The three requests of recurring transfers (RECINTRARQ, RECINTRAMODRQ, RECINTRACANRQ), read and written.
 
 ghost use Rattle.std.specs.Prelude.{◌≡◌, ◌++◌, OnOk};
+ghost use Rattle.std.specs.Io.{StartsWith};
 ghost use Rattle.std.specs.Option.{IfSome};
 ghost use Rattle.ofx_types.specs.Calendar.{IsDay};
 ghost use Rattle.ofx_types.specs.FormWords.{Gives};
@@ -66,7 +67,8 @@ pub(crate) fn print_model(
     sheet: &mut Sheet,
 ) -> Result<(), OutOfMemory>
     requires { IfSome info.now.due (λ day. IsDay day.0) }
-    ensures { OnOk result (sheet.new ≡ sheet.old ++ text.request_text (Deed.Model recur info.now)) }
+    ensures ok { OnOk result (sheet.new ≡ sheet.old ++ text.request_text (Deed.Model recur info.now)) }
+    ensures kept { StartsWith sheet.new sheet.old }
 {
     sheet.start(b"RECINTRARQ")?;
     print_recur(recur, sheet)?;
@@ -84,7 +86,8 @@ pub(crate) fn print_modify_model(
     sheet: &mut Sheet,
 ) -> Result<(), OutOfMemory>
     requires { IfSome info.now.due (λ day. IsDay day.0) }
-    ensures { OnOk result (sheet.new ≡ sheet.old ++ text.request_text (Deed.ModifyModel id recur info.now pending)) }
+    ensures ok { OnOk result (sheet.new ≡ sheet.old ++ text.request_text (Deed.ModifyModel id recur info.now pending)) }
+    ensures kept { StartsWith sheet.new sheet.old }
 {
     sheet.start(b"RECINTRAMODRQ")?;
     sheet.number(b"RECSRVRTID", id)?;
@@ -101,7 +104,8 @@ pub(crate) fn print_cancel_model(
     pending: bool,
     sheet: &mut Sheet,
 ) -> Result<(), OutOfMemory>
-    ensures { OnOk result (sheet.new ≡ sheet.old ++ text.request_text (Deed.CancelModel id pending)) }
+    ensures ok { OnOk result (sheet.new ≡ sheet.old ++ text.request_text (Deed.CancelModel id pending)) }
+    ensures kept { StartsWith sheet.new sheet.old }
 {
     sheet.start(b"RECINTRACANRQ")?;
     sheet.number(b"RECSRVRTID", id)?;
@@ -113,7 +117,8 @@ pub(crate) fn print_cancel_model(
 #[tactic(auto, unfolding(ofx_types::specs::DeedText::each_text), using(msg_parts::proofs::Joined::joined))]
 fn print_each_info(info: &XferInfo, sheet: &mut Sheet) -> Result<(), OutOfMemory>
     requires { IfSome info.now.due (λ day. IsDay day.0) }
-    ensures { OnOk result (sheet.new ≡ sheet.old ++ text.each_text info.now) }
+    ensures ok { OnOk result (sheet.new ≡ sheet.old ++ text.each_text info.now) }
+    ensures kept { StartsWith sheet.new sheet.old }
 {
     sheet.start(b"INTRARQ")?;
     print_info(&info.from, &info.to, info.amount, info.due, sheet)?;

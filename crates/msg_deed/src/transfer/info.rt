@@ -1,12 +1,13 @@
 //! What is said of a transfer (XFERINFO), read and written.
 
 ghost use Rattle.std.specs.Prelude.{◌≡◌, ◌++◌, OnOk};
+ghost use Rattle.std.specs.Io.{StartsWith};
 ghost use Rattle.std.specs.Option.{IfSome};
 ghost use Rattle.ofx_types.specs.Calendar.{IsDay, IsMoment};
 ghost use Rattle.ofx_types.specs.FormWords.{Gives};
 ghost use Rattle.ofx_types.specs.TransferReading as reading;
 ghost use Rattle.ofx_types.specs.TransferText as form;
-ghost use Rattle.msg_deed.specs.Steps as steps;
+ghost use Rattle.msg_deed.specs.DeedSteps as steps;
 
 use msg_parts::{print_account, print_destination, read_account};
 use ofx_tree::{Cursor, Sheet};
@@ -105,7 +106,8 @@ pub(crate) fn print_info(
     sheet: &mut Sheet,
 ) -> Result<(), OutOfMemory>
     requires { IfSome due (λ day. IsDay day.0) }
-    ensures { OnOk result (sheet.new ≡ sheet.old ++ form.info_text (steps.info_with from.now to.now amount due)) }
+    ensures ok { OnOk result (sheet.new ≡ sheet.old ++ form.info_text (steps.info_with from.now to.now amount due)) }
+    ensures kept { StartsWith sheet.new sheet.old }
 {
     sheet.start(b"XFERINFO")?;
     print_account(from, sheet)?;
@@ -119,7 +121,8 @@ pub(crate) fn print_info(
 #[tactic(auto, unfolding(ofx_types::specs::TransferText::due_text))]
 fn print_due(due: Option<Day>, sheet: &mut Sheet) -> Result<(), OutOfMemory>
     requires { IfSome due (λ day. IsDay day.0) }
-    ensures { OnOk result (sheet.new ≡ sheet.old ++ form.due_text due) }
+    ensures ok { OnOk result (sheet.new ≡ sheet.old ++ form.due_text due) }
+    ensures kept { StartsWith sheet.new sheet.old }
 {
     match due {
         Some(day) => sheet.moment(b"DTDUE", midnight(day)),

@@ -1,6 +1,7 @@
 //! How far a transfer is (XFERPRCSTS), read and written.
 
 ghost use Rattle.std.specs.Prelude.{◌≡◌, ◌++◌, OnOk};
+ghost use Rattle.std.specs.Io.{StartsWith};
 ghost use Rattle.ofx_types.specs.Calendar.{IsMoment};
 ghost use Rattle.ofx_types.specs.FormWords.{Gives};
 ghost use Rattle.ofx_types.specs.TransferForm.{code_word};
@@ -52,7 +53,8 @@ pub(crate) fn print_processing(
     sheet: &mut Sheet,
 ) -> Result<(), OutOfMemory>
     requires { IsMoment stamp.0 }
-    ensures { OnOk result (sheet.new ≡ sheet.old ++ form.processing_text code stamp) }
+    ensures ok { OnOk result (sheet.new ≡ sheet.old ++ form.processing_text code stamp) }
+    ensures kept { StartsWith sheet.new sheet.old }
 {
     sheet.start(b"XFERPRCSTS")?;
     sheet.element(b"XFERPRCCODE", word_of(code))?;

@@ -1,6 +1,7 @@
 //! What a reply says was done to a transfer (INTRARS, INTRAMODRS, INTRACANRS), read and written.
 
 ghost use Rattle.std.specs.Prelude.{◌≡◌, ◌++◌, OnOk};
+ghost use Rattle.std.specs.Io.{StartsWith};
 ghost use Rattle.ofx_types.specs.FormWords.{Gives};
 ghost use Rattle.ofx_types.specs.Printable.{IsPrintableRow};
 ghost use Rattle.ofx_types.specs.TransferReading as reading;
@@ -68,7 +69,8 @@ pub(crate) fn read_drop(intracanrs: &Cursor<'_>) -> Result<Change, TreeFault>
 #[tactic(auto, unfolding(ofx_types::specs::DeedText::change_text), using(msg_parts::proofs::Joined::joined))]
 pub(crate) fn print_new(row: &TransferRow, sheet: &mut Sheet) -> Result<(), OutOfMemory>
     requires { IsPrintableRow row.now }
-    ensures { OnOk result (sheet.new ≡ sheet.old ++ text.change_text (Change.NewTransfer row.now)) }
+    ensures ok { OnOk result (sheet.new ≡ sheet.old ++ text.change_text (Change.NewTransfer row.now)) }
+    ensures kept { StartsWith sheet.new sheet.old }
 {
     sheet.start(b"INTRARS")?;
     sheet.element(b"CURDEF", b"USD")?;
@@ -83,7 +85,8 @@ pub(crate) fn print_new(row: &TransferRow, sheet: &mut Sheet) -> Result<(), OutO
 #[tactic(auto, unfolding(ofx_types::specs::DeedText::change_text), using(msg_parts::proofs::Joined::joined))]
 pub(crate) fn print_set(row: &TransferRow, sheet: &mut Sheet) -> Result<(), OutOfMemory>
     requires { IsPrintableRow row.now }
-    ensures { OnOk result (sheet.new ≡ sheet.old ++ text.change_text (Change.SetTransfer row.now)) }
+    ensures ok { OnOk result (sheet.new ≡ sheet.old ++ text.change_text (Change.SetTransfer row.now)) }
+    ensures kept { StartsWith sheet.new sheet.old }
 {
     sheet.start(b"INTRAMODRS")?;
     sheet.number(b"SRVRTID", row.id)?;
@@ -95,7 +98,8 @@ pub(crate) fn print_set(row: &TransferRow, sheet: &mut Sheet) -> Result<(), OutO
 /// Writes the reply about a cancelled transfer.
 #[tactic(auto, unfolding(ofx_types::specs::DeedText::change_text), using(msg_parts::proofs::Joined::joined))]
 pub(crate) fn print_drop(id: u64, sheet: &mut Sheet) -> Result<(), OutOfMemory>
-    ensures { OnOk result (sheet.new ≡ sheet.old ++ text.change_text (Change.DropTransfer id)) }
+    ensures ok { OnOk result (sheet.new ≡ sheet.old ++ text.change_text (Change.DropTransfer id)) }
+    ensures kept { StartsWith sheet.new sheet.old }
 {
     sheet.start(b"INTRACANRS")?;
     sheet.number(b"SRVRTID", id)?;
@@ -105,7 +109,8 @@ pub(crate) fn print_drop(id: u64, sheet: &mut Sheet) -> Result<(), OutOfMemory>
 /// Writes what a row says in its XFERINFO.
 fn print_row_info(row: &TransferRow, sheet: &mut Sheet) -> Result<(), OutOfMemory>
     requires { IsPrintableRow row.now }
-    ensures { OnOk result (sheet.new ≡ sheet.old ++ form.info_text (info_of row.now)) }
+    ensures ok { OnOk result (sheet.new ≡ sheet.old ++ form.info_text (info_of row.now)) }
+    ensures kept { StartsWith sheet.new sheet.old }
 {
     print_info(&row.from, &row.to, row.amount, Some(row.due), sheet)
 }
@@ -113,7 +118,8 @@ fn print_row_info(row: &TransferRow, sheet: &mut Sheet) -> Result<(), OutOfMemor
 /// Writes the recurring transfer that made a transfer, where one did.
 #[tactic(auto, unfolding(ofx_types::specs::TransferText::model_text))]
 fn print_model(model: u64, sheet: &mut Sheet) -> Result<(), OutOfMemory>
-    ensures { OnOk result (sheet.new ≡ sheet.old ++ form.model_text model) }
+    ensures ok { OnOk result (sheet.new ≡ sheet.old ++ form.model_text model) }
+    ensures kept { StartsWith sheet.new sheet.old }
 {
     if model == 0 {
         return Ok(());

@@ -1,6 +1,7 @@
 //! The three requests of transfers (INTRARQ, INTRAMODRQ, INTRACANRQ), read and written.
 
 ghost use Rattle.std.specs.Prelude.{◌≡◌, ◌++◌, OnOk};
+ghost use Rattle.std.specs.Io.{StartsWith};
 ghost use Rattle.std.specs.Option.{IfSome};
 ghost use Rattle.ofx_types.specs.Calendar.{IsDay};
 ghost use Rattle.ofx_types.specs.FormWords.{Gives};
@@ -44,7 +45,8 @@ pub(crate) fn read_cancel(intracanrq: &Cursor<'_>) -> Result<Deed, TreeFault>
 #[tactic(auto, unfolding(ofx_types::specs::DeedText::request_text), using(msg_parts::proofs::Joined::joined))]
 pub(crate) fn print_transfer(info: &XferInfo, sheet: &mut Sheet) -> Result<(), OutOfMemory>
     requires { IfSome info.now.due (λ day. IsDay day.0) }
-    ensures { OnOk result (sheet.new ≡ sheet.old ++ text.request_text (Deed.Transfer info.now)) }
+    ensures ok { OnOk result (sheet.new ≡ sheet.old ++ text.request_text (Deed.Transfer info.now)) }
+    ensures kept { StartsWith sheet.new sheet.old }
 {
     sheet.start(b"INTRARQ")?;
     print_info(&info.from, &info.to, info.amount, info.due, sheet)?;
@@ -55,7 +57,8 @@ pub(crate) fn print_transfer(info: &XferInfo, sheet: &mut Sheet) -> Result<(), O
 #[tactic(auto, unfolding(ofx_types::specs::DeedText::request_text), using(msg_parts::proofs::Joined::joined))]
 pub(crate) fn print_modify(id: u64, info: &XferInfo, sheet: &mut Sheet) -> Result<(), OutOfMemory>
     requires { IfSome info.now.due (λ day. IsDay day.0) }
-    ensures { OnOk result (sheet.new ≡ sheet.old ++ text.request_text (Deed.ModifyTransfer id info.now)) }
+    ensures ok { OnOk result (sheet.new ≡ sheet.old ++ text.request_text (Deed.ModifyTransfer id info.now)) }
+    ensures kept { StartsWith sheet.new sheet.old }
 {
     sheet.start(b"INTRAMODRQ")?;
     sheet.number(b"SRVRTID", id)?;
@@ -66,7 +69,8 @@ pub(crate) fn print_modify(id: u64, info: &XferInfo, sheet: &mut Sheet) -> Resul
 /// Writes the request to cancel a transfer.
 #[tactic(auto, unfolding(ofx_types::specs::DeedText::request_text), using(msg_parts::proofs::Joined::joined))]
 pub(crate) fn print_cancel(id: u64, sheet: &mut Sheet) -> Result<(), OutOfMemory>
-    ensures { OnOk result (sheet.new ≡ sheet.old ++ text.request_text (Deed.CancelTransfer id)) }
+    ensures ok { OnOk result (sheet.new ≡ sheet.old ++ text.request_text (Deed.CancelTransfer id)) }
+    ensures kept { StartsWith sheet.new sheet.old }
 {
     sheet.start(b"INTRACANRQ")?;
     sheet.number(b"SRVRTID", id)?;

@@ -1,6 +1,7 @@
 //! What is answered to a mail, and how a letter of the bank is told (BANKMAILTRNRS, MAILTRNRS), read and written.
 
 ghost use Rattle.std.specs.Prelude.{◌≡◌, ◌++◌, OnOk};
+ghost use Rattle.std.specs.Io.{StartsWith};
 ghost use Rattle.std.specs.Option.{ForSome, IfSome};
 ghost use Rattle.ofx_types.specs.Calendar.{IsMoment};
 ghost use Rattle.ofx_types.specs.FormWords.{Gives};
@@ -24,30 +25,35 @@ use std::alloc::Global;
 /// The answer that the reply to a mail about an account (BANKMAILTRNRS) or to other mail (MAILTRNRS) is: with code 0 the
 /// mail stands in it. With any other code no mail is looked for.
 ///
-/// The first fault of its form, with its place; `OutOfMemory` where memory for its texts is refused.
+/// The first fault of its form, with its place, which is its own where it has another name; `OutOfMemory` where memory
+/// for its texts is refused.
 #[tactic(auto, unfolding(ofx_types::specs::MailReading::mail_reply_of))]
 pub fn mail_read_reply(alloc: Global, c: &Cursor<'_>) -> Result<DeedReply, TreeFault>
     ensures { Gives result (mail_reply_of c.now) }
 {
+    let family = family_told(c)?;
     let trnuid = read_trnuid(alloc, c)?;
     let code = read_status(c)?;
     let change = read_mail_by_code(alloc, code, c)?;
     Ok(DeedReply {
         trnuid,
-        family: family_told(c),
+        family,
         code,
         change,
     })
 }
 
 /// What a transaction belongs to, by its name.
-fn family_told(c: &Cursor<'_>) -> Family
+fn family_told(c: &Cursor<'_>) -> Result<Family, TreeFault>
     ensures { result ≡ reading.mail_family_told c.now }
 {
     if c.name() == b"BANKMAILTRNRS".as_slice() {
-        return Family::BankMail;
+        return Ok(Family::BankMail);
     }
-    Family::Mail
+    if c.name() == b"MAILTRNRS".as_slice() {
+        return Ok(Family::Mail);
+    }
+    Err(TreeFault::Value(c.place() as u64))
 }
 
 /// The mail that came in or went out, where the code is 0.
@@ -104,7 +110,8 @@ fn read_plain_row(alloc: Global, transaction: &Cursor<'_>) -> Result<Change, Tre
 pub fn mail_print_reply(r: &DeedReply, out: &mut Sheet) -> Result<(), OutOfMemory>
     requires by_code { HasChangeByCode r.now.code r.now.change }
     requires mail { IfSome r.now.change IsMail }
-    ensures { OnOk result (out.new ≡ out.old ++ deed_reply_text r.now) }
+    ensures ok { OnOk result (out.new ≡ out.old ++ deed_reply_text r.now) }
+    ensures kept { StartsWith out.new out.old }
 {
     let name = reply_name(r.family);
     out.start(name)?;
@@ -119,7 +126,8 @@ pub fn mail_print_reply(r: &DeedReply, out: &mut Sheet) -> Result<(), OutOfMemor
 fn print_maybe_mail(change: &Option<Change>, sheet: &mut Sheet) -> Result<(), OutOfMemory>
     requires printable { ForSome change.now IsPrintableChange }
     requires mail { ForSome change.now IsMail }
-    ensures { OnOk result (sheet.new ≡ sheet.old ++ text.maybe_change_text change.now) }
+    ensures ok { OnOk result (sheet.new ≡ sheet.old ++ text.maybe_change_text change.now) }
+    ensures kept { StartsWith sheet.new sheet.old }
 {
     match change {
         Some(change) => print_change(change, sheet),
@@ -132,7 +140,8 @@ fn print_maybe_mail(change: &Option<Change>, sheet: &mut Sheet) -> Result<(), Ou
 fn print_change(change: &Change, sheet: &mut Sheet) -> Result<(), OutOfMemory>
     requires printable { IsPrintableChange change.now }
     requires mail { IsMail change.now }
-    ensures { OnOk result (sheet.new ≡ sheet.old ++ text.change_text change.now) }
+    ensures ok { OnOk result (sheet.new ≡ sheet.old ++ text.change_text change.now) }
+    ensures kept { StartsWith sheet.new sheet.old }
 {
     match change {
         Change::NewMail(row) => print_row(row, sheet),
@@ -144,7 +153,8 @@ fn print_change(change: &Change, sheet: &mut Sheet) -> Result<(), OutOfMemory>
 /// Writes a mail as the bank keeps it.
 fn print_row(row: &MailRow, sheet: &mut Sheet) -> Result<(), OutOfMemory>
     requires { IsMoment row.now.mail.created.0 }
-    ensures { OnOk result (sheet.new ≡ sheet.old ++ form.mail_row_text row.now) }
+    ensures ok { OnOk result (sheet.new ≡ sheet.old ++ form.mail_row_text row.now) }
+    ensures kept { StartsWith sheet.new sheet.old }
 {
     match &row.about {
         Some(account) => print_bank_row(account, row, sheet),
@@ -155,7 +165,8 @@ fn print_row(row: &MailRow, sheet: &mut Sheet) -> Result<(), OutOfMemory>
 #[tactic(auto, unfolding(ofx_types::specs::PrintedMail::mail_row_about), using(msg_parts::proofs::Joined::joined))]
 fn print_bank_row(account: &AcctName, row: &MailRow, sheet: &mut Sheet) -> Result<(), OutOfMemory>
     requires { IsMoment row.now.mail.created.0 }
-    ensures { OnOk result (sheet.new ≡ sheet.old ++ form.mail_row_about (Some account.now) row.now) }
+    ensures ok { OnOk result (sheet.new ≡ sheet.old ++ form.mail_row_about (Some account.now) row.now) }
+    ensures kept { StartsWith sheet.new sheet.old }
 {
     sheet.start(b"BANKMAILRS")?;
     print_account(account, sheet)?;
@@ -166,7 +177,8 @@ fn print_bank_row(account: &AcctName, row: &MailRow, sheet: &mut Sheet) -> Resul
 #[tactic(auto, unfolding(ofx_types::specs::PrintedMail::mail_row_about), using(msg_parts::proofs::Joined::joined))]
 fn print_plain_row(row: &MailRow, sheet: &mut Sheet) -> Result<(), OutOfMemory>
     requires { IsMoment row.now.mail.created.0 }
-    ensures { OnOk result (sheet.new ≡ sheet.old ++ form.mail_row_about None row.now) }
+    ensures ok { OnOk result (sheet.new ≡ sheet.old ++ form.mail_row_about None row.now) }
+    ensures kept { StartsWith sheet.new sheet.old }
 {
     sheet.start(b"MAILRS")?;
     print_mail(&row.user, &row.mail, sheet)?;

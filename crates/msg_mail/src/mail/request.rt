@@ -1,6 +1,7 @@
 //! What a customer asks to be sent (BANKMAILTRNRQ, MAILTRNRQ), read and written.
 
 ghost use Rattle.std.specs.Prelude.{◌≡◌, ◌++◌, OnOk};
+ghost use Rattle.std.specs.Io.{StartsWith};
 ghost use Rattle.ofx_types.specs.Calendar.{IsMoment};
 ghost use Rattle.ofx_types.specs.FormWords.{Gives};
 ghost use Rattle.ofx_types.specs.MailReading as reading;
@@ -17,7 +18,8 @@ use std::alloc::Global;
 
 /// The uid and the mail that a request of mail about an account (BANKMAILTRNRQ) or of other mail (MAILTRNRQ) is.
 ///
-/// The first fault of its form, with its place; `OutOfMemory` where memory for its texts is refused.
+/// The first fault of its form, with its place, which is its own where it has another name; `OutOfMemory` where memory
+/// for its texts is refused.
 #[tactic(auto, unfolding(ofx_types::specs::MailReading::mail_deed_of))]
 pub fn mail_read_deed(alloc: Global, c: &Cursor<'_>) -> Result<(TrnUid, Deed), TreeFault>
     ensures { Gives result (mail_deed_of c.now) }
@@ -35,7 +37,10 @@ fn read_request(alloc: Global, transaction: &Cursor<'_>) -> Result<Deed, TreeFau
     if transaction.name() == b"BANKMAILTRNRQ".as_slice() {
         return read_bank_mail(alloc, transaction);
     }
-    read_plain_mail(alloc, transaction)
+    if transaction.name() == b"MAILTRNRQ".as_slice() {
+        return read_plain_mail(alloc, transaction);
+    }
+    Err(TreeFault::Value(transaction.place() as u64))
 }
 
 #[tactic(auto, unfolding(ofx_types::specs::MailReading::bank_mail_of))]
@@ -61,7 +66,8 @@ fn read_plain_mail(alloc: Global, transaction: &Cursor<'_>) -> Result<Deed, Tree
 #[tactic(auto, unfolding(ofx_types::specs::DeedText::deed_text), using(msg_parts::proofs::Joined::joined))]
 pub fn mail_print_deed(trnuid: &TrnUid, deed: &Deed, out: &mut Sheet) -> Result<(), OutOfMemory>
     requires { IsPrintableMail deed.now }
-    ensures { OnOk result (out.new ≡ out.old ++ deed_text trnuid.now deed.now) }
+    ensures ok { OnOk result (out.new ≡ out.old ++ deed_text trnuid.now deed.now) }
+    ensures kept { StartsWith out.new out.old }
 {
     let name = request_name(deed);
     out.start(name)?;
@@ -73,7 +79,8 @@ pub fn mail_print_deed(trnuid: &TrnUid, deed: &Deed, out: &mut Sheet) -> Result<
 /// Writes the request that a mail is.
 fn print_request(deed: &Deed, sheet: &mut Sheet) -> Result<(), OutOfMemory>
     requires { IsPrintableMail deed.now }
-    ensures { OnOk result (sheet.new ≡ sheet.old ++ text.request_text deed.now) }
+    ensures ok { OnOk result (sheet.new ≡ sheet.old ++ text.request_text deed.now) }
+    ensures kept { StartsWith sheet.new sheet.old }
 {
     match deed {
         Deed::BankMail(account, mail) => print_bank_mail(account, mail, sheet),
@@ -93,7 +100,8 @@ fn print_bank_mail(
     sheet: &mut Sheet,
 ) -> Result<(), OutOfMemory>
     requires { IsMoment mail.now.created.0 }
-    ensures { OnOk result (sheet.new ≡ sheet.old ++ text.request_text (Deed.BankMail account.now mail.now)) }
+    ensures ok { OnOk result (sheet.new ≡ sheet.old ++ text.request_text (Deed.BankMail account.now mail.now)) }
+    ensures kept { StartsWith sheet.new sheet.old }
 {
     sheet.start(b"BANKMAILRQ")?;
     print_account(account, sheet)?;
@@ -105,7 +113,8 @@ fn print_bank_mail(
 #[tactic(auto, unfolding(ofx_types::specs::DeedText::request_text, ofx_types::specs::PrintedMail::plain_mail_text), using(msg_parts::proofs::Joined::joined))]
 fn print_plain_mail(mail: &MailText, sheet: &mut Sheet) -> Result<(), OutOfMemory>
     requires { IsMoment mail.now.created.0 }
-    ensures { OnOk result (sheet.new ≡ sheet.old ++ text.request_text (Deed.Mail mail.now)) }
+    ensures ok { OnOk result (sheet.new ≡ sheet.old ++ text.request_text (Deed.Mail mail.now)) }
+    ensures kept { StartsWith sheet.new sheet.old }
 {
     sheet.start(b"MAILRQ")?;
     print_mail(&mail.sender, mail, sheet)?;

@@ -1,6 +1,7 @@
 //! What a mail says (MAIL), read and written.
 
 ghost use Rattle.std.specs.Prelude.{◌≡◌, ◌++◌, OnOk};
+ghost use Rattle.std.specs.Io.{StartsWith};
 ghost use Rattle.ofx_types.specs.Calendar.{IsMoment};
 ghost use Rattle.ofx_types.specs.FormWords.{Gives};
 ghost use Rattle.ofx_types.specs.MailReading as reading;
@@ -72,7 +73,8 @@ fn read_mail(alloc: Global, mail: &Cursor<'_>) -> Result<MailText, TreeFault>
 #[tactic(auto, unfolding(ofx_types::specs::PrintedMail::mail_text, ofx_types::specs::Sheet::aggregate))]
 pub(crate) fn print_mail(user: &Text, mail: &MailText, sheet: &mut Sheet) -> Result<(), OutOfMemory>
     requires { IsMoment mail.now.created.0 }
-    ensures { OnOk result (sheet.new ≡ sheet.old ++ mail_text user.now mail.now) }
+    ensures ok { OnOk result (sheet.new ≡ sheet.old ++ mail_text user.now mail.now) }
+    ensures kept { StartsWith sheet.new sheet.old }
 {
     sheet.start(b"MAIL")?;
     sheet.text(b"USERID", user)?;
@@ -85,7 +87,8 @@ pub(crate) fn print_mail(user: &Text, mail: &MailText, sheet: &mut Sheet) -> Res
 
 /// Writes what a mail is about and its message, which is plain text without images.
 fn print_message(mail: &MailText, sheet: &mut Sheet) -> Result<(), OutOfMemory>
-    ensures { OnOk result (sheet.new ≡ sheet.old ++ parts.message mail.now) }
+    ensures ok { OnOk result (sheet.new ≡ sheet.old ++ parts.message mail.now) }
+    ensures kept { StartsWith sheet.new sheet.old }
 {
     sheet.text(b"SUBJECT", &mail.subject)?;
     sheet.text(b"MSGBODY", &mail.body)?;

@@ -9,12 +9,6 @@ use std::marker::Model;
 use std::rt;
 use std::time::{SystemTime, UNIX_EPOCH};
 
-// Midnight at the start of 1 January 1900.
-const FIRST: Moment = Moment(-2_208_988_800);
-
-// The last second of 31 December 9999, in seconds since the start of 1970.
-const LAST_SECOND: u64 = 253_402_300_799;
-
 /// The system's clock, to the second. A time after the year 9999 is shown as its last second.
 ///
 /// Where the clock can't be read, as where it is set before 1970, it shows its last answer again, at first midnight
@@ -41,7 +35,10 @@ impl<R: rt::Clock + Drop> SystemClock<R> {
     pub fn new(rt: R) -> SystemClock<R>
         ensures { result.0 ≡ negsuc 2208988799 }
     {
-        SystemClock { rt, last: FIRST }
+        SystemClock {
+            rt,
+            last: Moment::FIRST,
+        }
     }
 }
 
@@ -55,7 +52,7 @@ impl<R: rt::Clock + Drop> Clock for SystemClock<R> {
         if let Ok(time) = SystemTime::now(&self.rt)
             && let Ok(since) = time.duration_since(UNIX_EPOCH)
         {
-            self.last = Moment(since.as_secs().min(LAST_SECOND) as i64);
+            self.last = Moment(since.as_secs().min(Moment::LAST.0 as u64) as i64);
         }
         self.last
     }

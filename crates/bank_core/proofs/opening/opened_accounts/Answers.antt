@@ -2,7 +2,8 @@ use Rattle.std.proofs.Common.{◌≡◌, [], ◌∷◌, length, length-append, a
 use Rattle.std.proofs.lemmas.List.Elements.{All-push, All-same}
 use Rattle.bank_model.specs.Ledger.{balance}
 use Rattle.bank_accounts.specs.AccountView.{AccountView}
-use Rattle.bank_core.proofs.OpeningLemmas.{balance-opened, numbered_push}
+use Rattle.bank_rules.proofs.OpeningLemmas.{balance-opened}
+use Rattle.bank_core.proofs.OpenedLemmas.{numbered_push}
 use Rattle.bank_core.proofs.opening.opened_accounts.Goals as goal
 
 pub loop-place-preserved : goal.loop-place-preserved

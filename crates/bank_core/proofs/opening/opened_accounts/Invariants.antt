@@ -1,7 +1,7 @@
 use Rattle.std.proofs.Common.{◌≡◌, ℕ, ◌<◌, length, get_or}
 use Rattle.bank_model.specs.Rules.{opening_state}
 use Rattle.bank_accounts.specs.AccountView.{AccountView}
-use Rattle.bank_core.specs.Balanced.{AreBalanced}
+use Rattle.bank_ledger.specs.Balanced.{AreBalanced}
 use Rattle.bank_core.proofs.opening.opened_accounts.Given as goal
 
 abbrev pub invariant-loop-place : goal.invariant-loop-place

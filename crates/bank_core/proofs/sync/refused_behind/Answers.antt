@@ -5,7 +5,7 @@ use Rattle.ofx_types.specs.declared.transfer.Deed.{Deed}
 use Rattle.ofx_types.specs.declared.transfer.DeedReply.{DeedReply}
 use Rattle.ofx_types.specs.declared.transfer.Family.{Family}
 use Rattle.bank_model.specs.Sync.{refused_with}
-use Rattle.bank_core.proofs.HistoryLemmas.{part_begun, part_more, part_ended}
+use Rattle.bank_telling.proofs.HistoryLemmas.{part_begun, part_more, part_ended}
 use Rattle.bank_core.proofs.sync.refused_behind.Goals as goal
 
 abbrev refused_as : Family → ℕ → List ℕ → DeedReply

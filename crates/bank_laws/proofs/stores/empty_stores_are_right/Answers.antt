@@ -1,5 +1,5 @@
-use Rattle.bank_laws.proofs.Staying.{empty_right}
+use Rattle.bank_laws.proofs.Named.{empty_is_right}
 use Rattle.bank_laws.proofs.stores.empty_stores_are_right.Goals as goal
 
 pub returns : goal.returns
-returns c = λ setup S family object sound. empty_right setup S family object sound
+returns c = empty_is_right

@@ -1,4 +1,5 @@
-use Rattle.bank_laws.proofs.Lost.{lost_after, lost_refresh, lost_below_floor, family_taken}
+use Rattle.bank_laws.proofs.Lost.{lost_after, lost_refresh, name_taken}
+use Rattle.bank_laws.proofs.Named.{lost_below}
 use Rattle.bank_laws.proofs.stores.stores_are_lost_where_told.Goals as goal
 
 pub returns-clause-after : goal.returns-clause-after
@@ -8,7 +9,7 @@ pub returns-clause-refresh : goal.returns-clause-refresh
 returns-clause-refresh c = lost_refresh
 
 pub returns-clause-floor : goal.returns-clause-floor
-returns-clause-floor c = λ setup S user at ask object store text named kind read kept right. lost_below_floor setup S user at ask object store text named kind read kept right
+returns-clause-floor c = lost_below
 
-pub returns-clause-family : goal.returns-clause-family
-returns-clause-family c = family_taken
+pub returns-clause-name : goal.returns-clause-name
+returns-clause-name c = name_taken

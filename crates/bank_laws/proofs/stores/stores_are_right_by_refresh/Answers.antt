@@ -1,8 +1,11 @@
-use Rattle.bank_laws.proofs.Taking.{right_by_refresh, token_by_refresh, kept_by_refresh}
+use Rattle.bank_laws.proofs.Events.{grows_sync}
+use Rattle.bank_laws.proofs.Named.{taken_by_refresh}
+use Rattle.bank_laws.proofs.Taking.{token_by_refresh, kept_by_refresh}
 use Rattle.bank_laws.proofs.stores.stores_are_right_by_refresh.Goals as goal
 
 pub returns-clause-right : goal.returns-clause-right
-returns-clause-right c = λ setup S user at ask object store within sound known named family kind. right_by_refresh setup S user at ask object store within sound known named family kind
+returns-clause-right c = λ setup S user at ask object store within sound known named same kind.
+    taken_by_refresh setup S user at ask object store within sound ((grows_sync setup S user at ask).order sound) known named same kind
 
 pub returns-clause-token : goal.returns-clause-token
 returns-clause-token c = λ setup S user at ask object store within sound named kind. token_by_refresh setup S user at ask object store within sound named kind

@@ -1,9 +1,16 @@
+use Rattle.std.proofs.Common.{sym, subst}
+use Rattle.bank_model.specs.Stores.{Store, IsRight}
+use Rattle.bank_laws.specs.Told.{bank_after}
+use Rattle.bank_laws.proofs.Events.{grows_sync}
 use Rattle.bank_laws.proofs.Lost.{same_token_only}
-use Rattle.bank_laws.proofs.Staying.{right_token_only}
+use Rattle.bank_laws.proofs.Named.{right_grown}
+use Rattle.bank_laws.proofs.Strangers.{token_only_same}
 use Rattle.bank_laws.proofs.stores.token_alone_leaves_stores.Goals as goal
 
 pub returns-clause-same : goal.returns-clause-same
 returns-clause-same c = same_token_only
 
 pub returns-clause-right : goal.returns-clause-right
-returns-clause-right c = λ setup S user at ask object store sound kind right. right_token_only setup S user at ask object store sound kind right
+returns-clause-right c = λ setup S user at ask owner store sound kind right.
+    subst (λ (s : Store). IsRight setup owner s (bank_after setup S user at ask).entries) (sym (token_only_same setup S user at ask store kind))
+    (right_grown setup S (bank_after setup S user at ask) owner store (grows_sync setup S user at ask) sound right)

@@ -1,4 +1,4 @@
-use Rattle.std.proofs.Common.{◌≡◌, ◌≤◌, false}
+use Rattle.std.proofs.Common.{◌≡◌, ◌≤◌, [], false}
 use Rattle.ofx_ports.specs.Told.{Stays}
 use Rattle.bank_replay.proofs.Taking.{HasTaken}
 use Rattle.bank_replay.proofs.records.take_all.Given as goal
@@ -7,6 +7,7 @@ use Rattle.bank_replay.proofs.records.take_all.Given as goal
 abbrev pub invariant-loop-before : goal.invariant-loop-before
 invariant-loop-before g l = record {
   setup : l.bank.setup ≡ l.fn.setup;
+  home : l.bank.held ≡ [];
   taken : HasTaken l.fn.setup (g.K.Keeper.records l.fn.keeper) l.before l.bank.state;
   list : Stays (g.K.Keeper.records l.fn.keeper) (g.K.Keeper.records l.keeper);
   settled : g.K.Keeper.unsettled l.keeper ≡ false;

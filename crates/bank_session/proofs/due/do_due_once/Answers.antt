@@ -3,4 +3,4 @@ use Rattle.bank_session.proofs.due.do_due_once.Goals as goal
 
 pub returns-clause-ends : goal.returns-clause-ends
 returns-clause-ends g c left faults =
-    due_with_bank c.in_ok-desk.desk c.in_ok-setup.setup _ _ (g.K.Keeper.records c.open.new.keeper) (g.K.Keeper.faults c.open.new.keeper) c.write_due.result (record { found = c.in_ok-setup.ensures.found; own = c.in_ok-desk.ensures.setup; stands = c.in_ok-desk.ensures.stands }) (record { list = c.in_ok-desk.ensures.list; later = c.in_ok-desk.ensures.later }) (c.write_due.ensures.ends _ _ _ _ _ _)
+    due_with_bank c.in_ok-desk.desk c.in_ok-setup.setup _ _ (g.K.Keeper.records c.open_desk.new.keeper) (g.K.Keeper.faults c.open_desk.new.keeper) c.write_due.result (record { found = c.in_ok-setup.ensures.found; own = c.in_ok-desk.ensures.setup; stands = c.in_ok-desk.ensures.stands }) (record { list = c.in_ok-desk.ensures.list; later = c.in_ok-desk.ensures.later }) (c.write_due.ensures.ends _ _ _ _ _ _)

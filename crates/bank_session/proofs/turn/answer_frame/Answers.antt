@@ -1,8 +1,8 @@
 use Rattle.std.proofs.Common.{List, ◌++◌, Err, ◌∙◌, ap, sym, refl}
 use Rattle.std.proofs.KnownBytes.{Keeps-refl}
 use Rattle.std.proofs.lemmas.Result.{err_from_is_err_and}
-use Rattle.bank_session.specs.Frames.{frame_of}
-use Rattle.bank_session.specs.Coming.{content_in}
+use Rattle.bank_frames.specs.Frames.{frame_of}
+use Rattle.bank_frames.specs.Coming.{content_in}
 use Rattle.bank_session.proofs.TurnLemmas.{content_fits, content_ahead, content_size, size_within, whole_fits, frame_consumed, stays_there, frame_undone}
 use Rattle.bank_session.proofs.turn.answer_frame.Goals as goal
 
@@ -25,7 +25,7 @@ returns-in-Ok-clause-turn g c coming left reads reads' shown shown' kept =
       content = content_in c.args.ahead.now c.args.frame;
       line = c.in_ok-line.line.items;
       fits = content_fits c.args.ahead.now c.args.frame c.requires.frame;
-      says = rw c.bytes.ensures.bytes at c.in_ok-line.ensures.line;
+      answers = rw c.bytes.ensures.bytes at c.in_ok-line.ensures.line;
       setup = c.frame_line.ensures.setup;
       read = frame_consumed coming left c.args.ahead.now _ _ kept ahead;
       size_is = content_size c.args.ahead.now c.args.frame c.requires.frame;
@@ -41,7 +41,7 @@ returns-clause-turn g c coming left reads reads' shown shown' kept =
         after = c.frame_line.new.desk;
         count = part.count;
         stays = stays_there _ _ left c.args.ahead.now c.args.frame c.requires.frame kept refl;
-        says = rw c.bytes.ensures.bytes at c.in_ok-line.ensures.line;
+        answers = rw c.bytes.ensures.bytes at c.in_ok-line.ensures.line;
         written = part.appended;
       },
       c.in-Err.ensures.faults.cause refl,

@@ -1,6 +1,7 @@
 use Rattle.std.proofs.Common.{◌≡◌, ◌++◌, length, take}
 use Rattle.std.specs.List.{flat_map, AllByRecursion}
-use Rattle.event_codec.specs.Coding.{u16_bytes, ask_bytes}
+use Rattle.record_fields.specs.FieldCoding.{u16_bytes}
+use Rattle.event_codec.specs.Coding.{ask_bytes}
 use Rattle.event_codec.specs.Texts.{HasAskTexts}
 use Rattle.event_codec.proofs.ask.put_asks.Given as goal
 

@@ -1,5 +1,5 @@
 use Rattle.std.proofs.Common.{subst, arith}
-use Rattle.event_codec.specs.Answers.{GivesWhole}
+use Rattle.record_fields.specs.Answers.{GivesWhole}
 use Rattle.event_codec.proofs.EventLaws.{is_found, is_nameless}
 use Rattle.event_codec.proofs.RecordLaws.{record_again}
 use Rattle.event_codec.proofs.event.read_event.Goals as goal

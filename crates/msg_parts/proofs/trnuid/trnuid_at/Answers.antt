@@ -1,6 +1,6 @@
 use Rattle.std.proofs.Common.{sym, ap, ◌∙◌}
 use Rattle.msg_parts.proofs.Uids.{gives_same, value_of-plain}
-use Rattle.msg_parts.specs.Steps as steps
+use Rattle.msg_parts.specs.PartSteps as steps
 use Rattle.msg_parts.proofs.trnuid.trnuid_at.Goals as goal
 
 pub returns-then-not-contains : goal.returns-then-not-contains

@@ -1,7 +1,7 @@
 use Rattle.std.proofs.Common.{◌≡◌}
 use Rattle.ofx_types.specs.Nodes.{children}
 use Rattle.ofx_types.specs.ReplyReading as reading
-use Rattle.msg_statement.specs.Steps as steps
+use Rattle.msg_statement.specs.StatementSteps as steps
 use Rattle.msg_statement.proofs.list.read_lines.Given as goal
 
 -- the lines so far and what is still to come make the lines of all

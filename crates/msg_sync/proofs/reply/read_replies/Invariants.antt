@@ -1,7 +1,7 @@
 use Rattle.std.proofs.Common.{◌≡◌}
 use Rattle.ofx_types.specs.Nodes.{children}
 use Rattle.ofx_types.specs.SyncReading.{replies_of}
-use Rattle.msg_sync.specs.Steps.{replies_behind}
+use Rattle.msg_sync.specs.SyncSteps.{replies_behind}
 use Rattle.msg_sync.proofs.reply.read_replies.Given as goal
 
 -- the answers so far and what is still to come make the answers of all

@@ -1,7 +1,7 @@
 use Rattle.std.proofs.Common.{◌≡◌}
 use Rattle.ofx_types.specs.Nodes.{children}
 use Rattle.ofx_types.specs.SyncReading.{deeds_of}
-use Rattle.msg_sync.specs.Steps.{deeds_behind}
+use Rattle.msg_sync.specs.SyncSteps.{deeds_behind}
 use Rattle.msg_sync.proofs.request.read_deeds.Given as goal
 
 -- the deeds so far and what is still to come make the deeds of all

@@ -3,4 +3,4 @@ use Rattle.bank_accounts.specs.HeldAccounts.{settled}
 use Rattle.bank_accounts.proofs.held.Held.settle.Given as goal
 
 abbrev pub invariant-loop-account : goal.invariant-loop-account
-invariant-loop-account l = l.account-items ≡ map (settled l.others) (take l.account-index l.fn.self) ++ drop l.account-index l.fn.self
+invariant-loop-account l = l.account-items ≡ map (settled l.balances.given) (take l.account-index l.fn.self) ++ drop l.account-index l.fn.self

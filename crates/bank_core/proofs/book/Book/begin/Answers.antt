@@ -1,7 +1,7 @@
 use Rattle.std.proofs.Common.{sym, subst}
 use Rattle.bank_model.specs.declared.event.State.{State}
-use Rattle.bank_core.specs.Standing.{IsSoundState}
-use Rattle.bank_core.proofs.OpeningLemmas.{IsSoundState-opening}
+use Rattle.bank_rules.specs.Standing.{IsSoundState}
+use Rattle.bank_rules.proofs.OpeningLemmas.{IsSoundState-opening}
 use Rattle.bank_core.proofs.book.Book.begin.Goals as goal
 
 pub invariant_of-book : goal.invariant_of-book

@@ -1,47 +1,33 @@
-use Rattle.std.proofs.Common.{ap, sym, ◌∙◌, subst}
-use Rattle.bank_model.specs.Rules.{IsLegal, state_after, answer_to}
-use Rattle.bank_core.specs.Balanced.{AreBalanced}
+use Rattle.std.proofs.Common.{None, ap, sym, ◌∙◌, subst}
+use Rattle.bank_model.specs.SetupForm.{IsWithinLimits}
+use Rattle.bank_rules.specs.Standing.{IsSoundState}
 use Rattle.bank_core.specs.BookView.{ReservedBook}
-use Rattle.bank_core.proofs.Outcomes.{started, prepared_with, moment_started, sound_started, draft_started, letter_few, letter_known, unasked_letter}
+use Rattle.bank_core.specs.Preparing.{prepared_after, IsPrepared}
+use Rattle.bank_core.proofs.Outcomes.{prepared_with, letter_few, letter_known, unasked_letter}
 use Rattle.bank_core.proofs.book.Book.prepare_letter.Goals as goal
 
-pub letter-requires-clause-known : goal.letter-requires-clause-known
-letter-requires-clause-known g c =
-    let legal = subst (λ (b : ReservedBook). IsLegal b.setup b.state c.args.sent.1 c.args.event.now) (sym c.self.view_is) c.requires.legal in
-    letter_known c.self.inside.setup c.self.inside.ledger.state c.args.event.now c.args.sent.0 c.args.sent.1 c.args.subject.now c.args.body.now c.requires.event legal
-
-pub letter-requires-clause-moment : goal.letter-requires-clause-moment
-letter-requires-clause-moment g c =
-    let is = c.in_ok-draft.ensures ∙ ap (λ (b : ReservedBook). started b.state (record { 0 = 0 }) c.args.sent.1 c.args.held.now) (sym c.self.view_is) in
-    moment_started c.self.inside.ledger.state (record { 0 = 0 }) c.args.sent.1 c.args.held.now c.in_ok-draft.draft is c.requires.moment
-
-pub letter-requires-clause-sound : goal.letter-requires-clause-sound
-letter-requires-clause-sound g c =
-    let is = c.in_ok-draft.ensures ∙ ap (λ (b : ReservedBook). started b.state (record { 0 = 0 }) c.args.sent.1 c.args.held.now) (sym c.self.view_is) in
-    sound_started c.self.inside.setup c.self.inside.ledger.state (record { 0 = 0 }) c.args.sent.1 c.args.held.now c.in_ok-draft.draft is c.self.invariant.1 c.requires.moment
-
 pub letter-requires-clause-few : goal.letter-requires-clause-few
-letter-requires-clause-few g c =
-    let is = c.in_ok-draft.ensures ∙ ap (λ (b : ReservedBook). started b.state (record { 0 = 0 }) c.args.sent.1 c.args.held.now) (sym c.self.view_is) in
-    let legal = subst (λ (b : ReservedBook). IsLegal b.setup b.state c.args.sent.1 c.args.event.now) (sym c.self.view_is) c.requires.legal in
-    letter_few c.self.inside.setup c.self.inside.ledger.state c.args.event.now c.args.sent.0 (record { 0 = 0 }) c.args.sent.1 c.args.held.now c.in_ok-draft.draft c.args.subject.now c.args.body.now is c.requires.event legal
+letter-requires-clause-few g c = letter_few c.args.self.now.setup c.args.self.now.state c.args.event.now c.args.held.now c.args.sent.0 (record { 0 = 0 }) c.args.sent.1 c.draft-draft.result c.args.subject.now c.args.body.now c.draft-draft.ensures c.requires.event c.requires.legal
 
-pub letter-requires-clause-draft : goal.letter-requires-clause-draft
-letter-requires-clause-draft g c =
-    let is = c.in_ok-draft.ensures ∙ ap (λ (b : ReservedBook). started b.state (record { 0 = 0 }) c.args.sent.1 c.args.held.now) (sym c.self.view_is) in
-    let balanced = subst (λ (b : ReservedBook). AreBalanced b.setup b.state c.args.held.now) (sym c.self.view_is) c.requires.balanced in
-    draft_started c.self.inside.setup c.self.inside.ledger.state (record { 0 = 0 }) c.args.sent.1 c.args.held.now c.in_ok-draft.draft is balanced
+pub letter-requires-clause-known : goal.letter-requires-clause-known
+letter-requires-clause-known g c = letter_known c.args.self.now.setup c.args.self.now.state c.args.event.now c.args.held.now c.args.sent.0 (record { 0 = 0 }) c.args.sent.1 c.draft-draft.result c.args.subject.now c.args.body.now c.draft-draft.ensures c.requires.event c.requires.legal
 
 pub new-requires : goal.new-requires
 new-requires g c =
-    let is = c.in_ok-draft.ensures ∙ ap (λ (b : ReservedBook). started b.state (record { 0 = 0 }) c.args.sent.1 c.args.held.now) (sym c.self.view_is) in
-    let legal = subst (λ (b : ReservedBook). IsLegal b.setup b.state c.args.sent.1 c.args.event.now) (sym c.self.view_is) c.requires.legal in
-    (unasked_letter c.self.inside.setup c.self.inside.ledger.state c.args.event.now c.args.sent.0 (record { 0 = 0 }) c.args.sent.1 c.args.held.now c.in_ok-draft.draft c.letter.new.self c.args.subject.now c.args.body.now c.none-bytes.result.kept.items c.none-bytes.result.told.items is c.requires.event c.in_ok-letter.ensures c.none-bytes.ensures.told c.self.invariant.0 c.self.invariant.1 c.requires.moment legal).prepared
+    let within = subst (λ (b : ReservedBook). IsWithinLimits b.setup) c.self.view_is c.self.invariant.0 in
+    let sound = subst (λ (b : ReservedBook). IsSoundState b.setup b.state) c.self.view_is c.self.invariant.1 in
+    let done = unasked_letter c.args.self.now.setup c.args.self.now.state c.args.event.now c.args.held.now c.args.sent.0 (record { 0 = 0 }) c.args.sent.1 c.draft-draft.result c.letter.new.draft c.finish-added.result c.args.subject.now c.args.body.now c.none-bytes.result.kept.items c.none-bytes.result.told.items c.draft-draft.ensures c.requires.event c.in_ok-letter.ensures
+    (record { user = c.finish-added.ensures.user; day = c.finish-added.ensures.day; entries = c.finish-added.ensures.entries; uids = c.finish-added.ensures.uids; rows = c.finish-added.ensures.rows; balances = c.finish-added.ensures.balances })
+    c.none-bytes.ensures.told within sound c.requires.moment c.requires.legal in
+    subst (λ (b : ReservedBook). IsPrepared b.setup b.state c.finish-added.result None None c.none-bytes.result.kept.items) (sym c.self.view_is) done.prepared
 
 pub returns : goal.returns
 returns g c =
-    let is = c.in_ok-draft.ensures ∙ ap (λ (b : ReservedBook). started b.state (record { 0 = 0 }) c.args.sent.1 c.args.held.now) (sym c.self.view_is) in
-    let legal = subst (λ (b : ReservedBook). IsLegal b.setup b.state c.args.sent.1 c.args.event.now) (sym c.self.view_is) c.requires.legal in
+    let within = subst (λ (b : ReservedBook). IsWithinLimits b.setup) c.self.view_is c.self.invariant.0 in
+    let sound = subst (λ (b : ReservedBook). IsSoundState b.setup b.state) c.self.view_is c.self.invariant.1 in
+    let done = unasked_letter c.args.self.now.setup c.args.self.now.state c.args.event.now c.args.held.now c.args.sent.0 (record { 0 = 0 }) c.args.sent.1 c.draft-draft.result c.letter.new.draft c.finish-added.result c.args.subject.now c.args.body.now c.none-bytes.result.kept.items c.none-bytes.result.told.items c.draft-draft.ensures c.requires.event c.in_ok-letter.ensures
+    (record { user = c.finish-added.ensures.user; day = c.finish-added.ensures.day; entries = c.finish-added.ensures.entries; uids = c.finish-added.ensures.uids; rows = c.finish-added.ensures.rows; balances = c.finish-added.ensures.balances })
+    c.none-bytes.ensures.told within sound c.requires.moment c.requires.legal in
     c.new.ensures
-    ∙ (unasked_letter c.self.inside.setup c.self.inside.ledger.state c.args.event.now c.args.sent.0 (record { 0 = 0 }) c.args.sent.1 c.args.held.now c.in_ok-draft.draft c.letter.new.self c.args.subject.now c.args.body.now c.none-bytes.result.kept.items c.none-bytes.result.told.items is c.requires.event c.in_ok-letter.ensures c.none-bytes.ensures.told c.self.invariant.0 c.self.invariant.1 c.requires.moment legal).is
-    ∙ ap (λ (b : ReservedBook). prepared_with b.setup b.state c.args.event.now (state_after b.setup b.state c.args.sent.1 c.args.event.now) (answer_to b.setup b.state c.args.sent.1 c.args.event.now)) c.self.view_is
+    ∙ ap (λ (b : ReservedBook). prepared_with b.setup b.state c.args.event.now (prepared_after b.state c.finish-added.result None None c.none-bytes.result.kept.items) c.none-bytes.result.told.items) c.self.view_is
+    ∙ done.is

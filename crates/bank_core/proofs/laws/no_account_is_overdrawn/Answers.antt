@@ -1,5 +1,0 @@
-use Rattle.bank_core.proofs.RunLaws.{IsSoundState-run}
-use Rattle.bank_core.proofs.laws.no_account_is_overdrawn.Goals as goal
-
-pub returns : goal.returns
-returns c = λ setup run account within legal. (IsSoundState-run setup run within legal).covered account

@@ -1,0 +1,4 @@
+mod Bounds
+pub mod DeskLemmas
+mod FileAnswers
+pub mod DueEvents

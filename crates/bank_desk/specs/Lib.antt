@@ -1,0 +1,4 @@
+pub mod Keeping
+pub mod Answering
+pub mod Asked
+pub mod DueSteps

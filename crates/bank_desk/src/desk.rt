@@ -1,0 +1,162 @@
+//! A bank on one thread: its book, its accounts at home, and what it answers to the bytes of a file.
+
+mod committing;
+mod due;
+
+ghost use Rattle.std.specs.Prelude.{◌≡◌, ◌≢◌, ◌+◌, ◌<◌, ◌≤◌, true, false, length, Err, IfOk, IfErr, IfSome, IfNone, OnErr, IsErrOf};
+ghost use Rattle.ofx_ports.specs.Faults.{CountsFaults};
+ghost use Rattle.ofx_ports.specs.Told.{Stays};
+ghost use Rattle.ofx_types.specs.Calendar.{IsMoment};
+ghost use Rattle.ofx_types.specs.ReplyForm.{reply_text};
+ghost use Rattle.bank_model.specs.SetupForm.{IsWithinLimits};
+ghost use Rattle.bank_model.specs.Polls as polls;
+ghost use Rattle.bank_model.specs.Rules as rules;
+ghost use Rattle.bank_replay.specs.Opening.{Stands, HasCause};
+ghost use Rattle.bank_desk.specs.Answering.{Answers, FileUnkept};
+
+use crate::envelope::Envelope;
+use crate::fault::DeskFault;
+use crate::judge::{Judgement, judge};
+use bank_core::denial;
+use bank_model::{Event, Setup};
+use bank_replay::{OpenFault, reopen};
+use bank_solo::SoloBank;
+use ofx_file::{OfxPrinter, write_reply};
+use ofx_ports::Keeper;
+use ofx_types::{Moment, OutOfMemory, RequestFile, UserId};
+use std::alloc::Global;
+use std::marker::Model;
+
+/// A bank that answers one file after another, and does what is due.
+#[derive(Drop)]
+pub struct Desk {
+    bank: SoloBank<OfxPrinter>,
+}
+
+impl Model for Desk {
+    ghost use Rattle.std.specs.Prelude.{◌≡◌, []};
+    ghost use Rattle.bank_core.specs.BookView.{BookView};
+    ghost use Rattle.bank_model.specs.SetupForm.{IsWithinLimits};
+
+    ghost Value = { BookView };
+
+    ghost view = { λ d. record { setup = d.bank.setup; state = d.bank.state } };
+
+    ghost invariant = { λ d. (d.bank.held ≡ []) × IsWithinLimits d.bank.setup };
+}
+
+/// What is answered to the bytes of a file.
+#[derive(Drop)]
+pub enum Answered {
+    /// The bytes that are to be sent: a reply in its envelope.
+    Sent(Vec<u8>),
+    /// The file isn't answered: its fault is at this place, in bytes from its first.
+    Bad(u64),
+}
+
+impl Desk {
+    /// The bank of that setup that stands for the records that are kept.
+    pub fn open<K: Keeper>(alloc: Global, setup: Setup, keeper: &mut K) -> Result<Desk, OpenFault>
+        requires within { IsWithinLimits setup }
+        requires settled { K.unsettled keeper.old ≡ false }
+        ensures setup { IfOk result (λ desk. desk.setup ≡ setup) }
+        ensures stands { IfOk result (λ desk. Stands setup (K.records keeper.old) desk.state) }
+        ensures cause { IfErr result (HasCause setup (K.records keeper.old)) }
+        ensures list { Stays (K.records keeper.old) (K.records keeper.new) }
+        ensures settled { K.unsettled keeper.new ≡ false }
+        ensures faults { CountsFaults (K.faults keeper.old) (K.faults keeper.new) (IsErrOf result OpenFault.Read) }
+    {
+        let (book, accounts) = reopen(alloc, keeper, setup, OfxPrinter)?;
+        Ok(Desk {
+            bank: SoloBank::new(alloc, book, accounts)?,
+        })
+    }
+
+    /// The setup, lent.
+    pub fn setup(&self) -> &Setup
+        ensures setup { result.now ≡ self.now.setup }
+        ensures within { IsWithinLimits self.now.setup }
+    {
+        self.bank.book().setup()
+    }
+
+    /// The number of the next entry. None exactly where the bank makes no more entries in its life. Takes no memory.
+    pub fn next_number(&self) -> Option<u64>
+        ensures next { IfSome result (λ number. number ≡ length self.now.state.entries + 1) }
+        ensures some { IfSome result (λ _. length self.now.state.entries < self.now.setup.entries) }
+        ensures none { IfNone result (length self.now.state.entries ≡ self.now.setup.entries) }
+    {
+        self.bank.book().next_number()
+    }
+
+    /// What is to be sent for the bytes of a file, at most 262,144 of them, at that moment, in that envelope. Where they are a
+    /// user's and no poll the event has happened. Otherwise nothing has, nor where memory is refused or the append of its
+    /// record failed; but where the append failed the record may stand.
+    pub fn answer<K: Keeper, E: Envelope>(
+        &mut self,
+        alloc: Global,
+        keeper: &mut K,
+        at: Moment,
+        bytes: &[u8],
+        envelope: E,
+    ) -> Result<Answered, DeskFault>
+        requires moment { IsMoment at.0 }
+        requires fits { length bytes.now ≤ 262144 }
+        requires settled { K.unsettled keeper.old ≡ false }
+        ensures setup { self.new.setup ≡ self.old.setup }
+        ensures answered { IfOk result (Answers (E.sent envelope) self.old.setup at self.old.state bytes.now self.new.state (K.records keeper.old) (K.records keeper.new)) }
+        ensures unchanged { OnErr result (self.new ≡ self.old) }
+        ensures refused { result ≡ Err DeskFault.NoMemory → Stays (K.records keeper.old) (K.records keeper.new) }
+        ensures unkept { result ≡ Err DeskFault.AppendFailed →
+            FileUnkept self.old.setup at bytes.now (K.records keeper.old) (K.records keeper.new) (K.landed keeper.new) }
+        ensures size { OnErr result (K.size keeper.new ≡ K.size keeper.old) }
+        ensures settled { result ≢ Err DeskFault.AppendFailed → K.unsettled keeper.new ≡ false }
+        ensures unsettled { result ≡ Err DeskFault.AppendFailed → K.unsettled keeper.new ≡ true }
+        ensures faults { CountsFaults (K.faults keeper.old) (K.faults keeper.new) (IsErrOf result DeskFault.AppendFailed) }
+    {
+        match judge(alloc, self.setup(), bytes)? {
+            Judgement::Refused(place) => Ok(Answered::Bad(place)),
+            Judgement::Denied(file) => Ok(Answered::Sent(denied(alloc, at, file, envelope)?)),
+            Judgement::Polled(user, file) => {
+                Ok(Answered::Sent(self.polled(alloc, at, user, &file, envelope)?))
+            }
+            Judgement::Answered(user, file) => {
+                let event = Event::File(user, file);
+                Ok(Answered::Sent(self.commit(alloc, keeper, at, &event, envelope)?))
+            }
+        }
+    }
+
+    /// The reply to a poll of a user, who is one of the setup's.
+    fn polled<E: Envelope>(
+        &self,
+        alloc: Global,
+        at: Moment,
+        user: UserId,
+        file: &RequestFile,
+        envelope: E,
+    ) -> Result<Vec<u8>, OutOfMemory>
+        requires moment { IsMoment at.0 }
+        requires known { user.0 < length self.now.setup.users }
+        requires poll { polls.is_poll file.now ≡ true }
+        ensures { IfOk result (λ line. line.items
+            ≡ E.sent envelope (reply_text (polls.poll_reply self.now.setup self.now.state user at file.now))) }
+    {
+        let reply = self.bank.book().poll(alloc, user, file, at)?;
+        envelope.wrap(alloc, &reply)
+    }
+}
+
+/// The reply to a file whose signon failed.
+fn denied<E: Envelope>(
+    alloc: Global,
+    at: Moment,
+    file: RequestFile,
+    envelope: E,
+) -> Result<Vec<u8>, OutOfMemory>
+    requires { IsMoment at.0 }
+    ensures { IfOk result (λ line. line.items ≡ E.sent envelope (reply_text (rules.denial file at))) }
+{
+    let reply = write_reply(alloc, &denial(alloc, file, at))?;
+    envelope.wrap(alloc, &reply)
+}

@@ -1,0 +1,71 @@
+//! What is due at a moment, done and kept one event after another.
+
+ghost use Rattle.std.specs.Prelude.{◌≡◌, ◌≢◌, false, true, Err, IfOk, IfErr, IsErrOf};
+ghost use Rattle.ofx_ports.specs.Faults.{CountsFaults};
+ghost use Rattle.ofx_types.specs.Calendar.{IsMoment};
+ghost use Rattle.bank_desk.specs.DueSteps.{TakesNext, LeavesNext, MadeRun, StoppedWork};
+
+use crate::desk::Desk;
+use crate::envelope::Unsent;
+use crate::fault::DeskFault;
+use ofx_ports::Keeper;
+use ofx_types::Moment;
+use std::alloc::Global;
+
+/// The most events of a run of due work.
+const MOST_DUE: u64 = 100_000;
+
+impl Desk {
+    /// Does what is due at that moment, one event after another, until none is or they are as many as a run has, and counts
+    /// them. Where it isn't done, a prefix of them has happened, and the bank stands where that left it: memory is refused to no
+    /// event whose append was acknowledged.
+    pub fn due<K: Keeper>(
+        &mut self,
+        alloc: Global,
+        keeper: &mut K,
+        at: Moment,
+    ) -> Result<u64, DeskFault>
+        requires moment { IsMoment at.0 }
+        requires settled { K.unsettled keeper.old ≡ false }
+        ensures setup { self.new.setup ≡ self.old.setup }
+        ensures run { IfOk result (MadeRun at self.old self.new (K.records keeper.old) (K.records keeper.new)) }
+        ensures prefix { IfErr result (StoppedWork at self.old self.new (K.records keeper.old) (K.records keeper.new) (K.landed keeper.new)) }
+        ensures settled { result ≢ Err DeskFault.AppendFailed → K.unsettled keeper.new ≡ false }
+        ensures unsettled { result ≡ Err DeskFault.AppendFailed → K.unsettled keeper.new ≡ true }
+        ensures faults { CountsFaults (K.faults keeper.old) (K.faults keeper.new) (IsErrOf result DeskFault.AppendFailed) }
+    {
+        let mut count = 0;
+        while count < MOST_DUE {
+            if !self.take_next(alloc, keeper, at)? {
+                return Ok(count);
+            }
+            count += 1;
+        }
+        Ok(count)
+    }
+
+    /// Makes the event happen that is due first at that moment. False where none is.
+    fn take_next<K: Keeper>(
+        &mut self,
+        alloc: Global,
+        keeper: &mut K,
+        at: Moment,
+    ) -> Result<bool, DeskFault>
+        requires moment { IsMoment at.0 }
+        requires settled { K.unsettled keeper.old ≡ false }
+        ensures setup { self.new.setup ≡ self.old.setup }
+        ensures taken { IfOk result (TakesNext at self.old self.new (K.records keeper.old) (K.records keeper.new)) }
+        ensures undone { IfErr result (LeavesNext at self.old self.new (K.records keeper.old) (K.records keeper.new) (K.landed keeper.new)) }
+        ensures settled { result ≢ Err DeskFault.AppendFailed → K.unsettled keeper.new ≡ false }
+        ensures unsettled { result ≡ Err DeskFault.AppendFailed → K.unsettled keeper.new ≡ true }
+        ensures faults { CountsFaults (K.faults keeper.old) (K.faults keeper.new) (IsErrOf result DeskFault.AppendFailed) }
+    {
+        match self.bank.book().due(at) {
+            None => Ok(false),
+            Some(event) => {
+                self.commit(alloc, keeper, at, &event, Unsent)?;
+                Ok(true)
+            }
+        }
+    }
+}

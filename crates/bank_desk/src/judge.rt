@@ -1,0 +1,71 @@
+//! What the bytes of a file are to the bank: an event, a poll, a failed signon, or a file that isn't answered.
+
+ghost use Rattle.std.specs.Prelude.{◌≡◌, ◌≤◌, length, IfOk};
+ghost use Rattle.ofx_types.specs.FileForm.{SpellsFile};
+ghost use Rattle.bank_model.specs.SetupForm.{IsWithinLimits};
+ghost use Rattle.bank_model.specs.Sound.{IsSound};
+ghost use Rattle.bank_desk.specs.Answering.{fault_place};
+ghost use Rattle.bank_desk.specs.Asked.{IsJudged};
+
+use bank_model::{Setup, is_poll};
+use ofx_file::read_request;
+use ofx_types::{FileFault, OutOfMemory, RequestFile, UserId};
+use std::alloc::Global;
+
+/// What a file is to the bank.
+#[derive(Drop)]
+pub enum Judgement {
+    /// A file of this user, which is an event.
+    Answered(UserId, RequestFile),
+    /// A poll of this user.
+    Polled(UserId, RequestFile),
+    /// A file whose signon failed.
+    Denied(RequestFile),
+    /// A file that isn't answered, and the place to tell.
+    Refused(u64),
+}
+
+/// What the bytes of a file of at most 262,144 bytes are to the bank.
+pub fn judge(alloc: Global, setup: &Setup, bytes: &[u8]) -> Result<Judgement, OutOfMemory>
+    requires within { IsWithinLimits setup.now }
+    requires fits { length bytes.now ≤ 262144 }
+    ensures { IfOk result (IsJudged setup.now bytes.now) }
+{
+    match read_request(alloc, bytes) {
+        Ok(file) => Ok(judge_file(setup, bytes, file)),
+        Err(fault) => match place_of(fault) {
+            Some(place) => Ok(Judgement::Refused(place)),
+            None => Err(OutOfMemory),
+        },
+    }
+}
+
+/// Where a fault stands. None for want of memory.
+fn place_of(fault: FileFault) -> Option<u64>
+    ensures { result ≡ fault_place fault }
+{
+    match fault {
+        FileFault::Header(at) | FileFault::Syntax(at) | FileFault::Form(at) => Some(at),
+        FileFault::OutOfMemory => None,
+    }
+}
+
+/// What the request file that the bytes spell is to the bank: a poll or an event of the user who signs on, whatever it
+/// names and asks about.
+fn judge_file(setup: &Setup, bytes: &[u8], file: RequestFile) -> Judgement
+    requires within { IsWithinLimits setup.now }
+    requires spelled { SpellsFile bytes.now file }
+    requires sound { IsSound file }
+    ensures { IsJudged setup.now bytes.now result }
+{
+    match setup.signon(&file.user, &file.pass) {
+        Some(user) => {
+            if is_poll(&file) {
+                Judgement::Polled(user, file)
+            } else {
+                Judgement::Answered(user, file)
+            }
+        }
+        None => Judgement::Denied(file),
+    }
+}

@@ -1,0 +1,6 @@
+mod Lengths
+mod HeadLines
+pub mod Agreement
+mod Windows
+mod Coming
+mod Writing

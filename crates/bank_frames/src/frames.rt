@@ -1,0 +1,107 @@
+//! The frames of an input, one after another.
+
+ghost use Rattle.std.specs.Prelude.{◌≡◌, ◌<◌, ◌^◌, IfOk, OnErr, IsErr};
+ghost use Rattle.std.specs.Io.KnownBytes.{Keeps, prepend_known};
+ghost use Rattle.ofx_ports.specs.Faults.{CountsFaults};
+ghost use Rattle.bank_frames.specs.Coming.{ShowsFront, IsLast, IsNext, size_of};
+ghost use Rattle.bank_frames.specs.Frames.{BeginsNoFrame};
+
+use crate::ahead::Ahead;
+use crate::frame_head::{FrameHead, FrameSize, frame_head_of};
+use ofx_ports::{Failed, Source};
+
+/// A frame that is ahead as a whole.
+#[derive(Clone, Copy, Debug, PartialEq, Eq)]
+pub enum Frame {
+    /// A request file behind its first line.
+    File(FrameSize),
+    /// A call for due work.
+    Due,
+}
+
+/// The bytes of the line that calls for due work.
+const DUE_LINE: usize = 4;
+
+impl Frame {
+    /// How many bytes it has.
+    pub fn size(self) -> usize
+        requires { size_of self < 2 ^ 64 }
+        ensures { result ≡ size_of self }
+    {
+        match self {
+            Frame::File(size) => size.head + size.file,
+            Frame::Due => DUE_LINE,
+        }
+    }
+}
+
+/// What the bytes that are ahead show of the next frame.
+#[derive(Clone, Copy, Debug, PartialEq, Eq)]
+enum Front {
+    /// The whole frame is there.
+    Whole(Frame),
+    /// More bytes are needed.
+    Unfinished,
+    /// No frame, whatever bytes follow.
+    NoFrame,
+}
+
+/// What comes next in an input.
+#[derive(Clone, Copy, Debug, PartialEq, Eq)]
+pub enum Next {
+    /// A frame, all of whose bytes are ahead.
+    Frame(Frame),
+    /// The input's end.
+    End,
+    /// Bytes that begin no frame.
+    NoFrame,
+}
+
+fn front_of(ahead: &[u8]) -> Front
+    ensures { ShowsFront ahead.now result }
+{
+    match frame_head_of(ahead) {
+        FrameHead::NoHead => Front::NoFrame,
+        FrameHead::Partial => Front::Unfinished,
+        FrameHead::Due => Front::Whole(Frame::Due),
+        FrameHead::File(size) => {
+            if ahead.len() - size.head < size.file {
+                Front::Unfinished
+            } else {
+                Front::Whole(Frame::File(size))
+            }
+        }
+    }
+}
+
+/// Reads on until the next frame is ahead as a whole, or the input shows that there is none.
+pub fn next_frame<S: Source>(source: &mut S, ahead: &mut Ahead) -> Result<Next, Failed>
+    // No byte is lost.
+    ensures kept { Keeps (prepend_known ahead.old (S.left source.old)) (prepend_known ahead.new (S.left source.new)) }
+    ensures next { IfOk result (IsNext ahead.new (S.left source.new)) }
+    // A read is made, and may fail, only where no whole frame is ahead.
+    ensures failed { OnErr result (BeginsNoFrame ahead.new) }
+    ensures faults { CountsFaults (S.faults source.old) (S.faults source.new) (IsErr result) }
+{
+    loop {
+        match front_of(ahead.bytes()) {
+            Front::Whole(frame) => return Ok(Next::Frame(frame)),
+            Front::NoFrame => return Ok(Next::NoFrame),
+            Front::Unfinished => {}
+        }
+        if ahead.read_more(source)? == 0 {
+            return Ok(at_end(ahead.bytes()));
+        }
+    }
+}
+
+/// What the last bytes of an input are, which begin no frame.
+fn at_end(rest: &[u8]) -> Next
+    ensures { IsLast rest.now result }
+{
+    if rest.is_empty() {
+        Next::End
+    } else {
+        Next::NoFrame
+    }
+}

@@ -1,0 +1,17 @@
+//! The input and the output of frames: bytes that are read ahead, the frames that they hold, whole or not yet, and the lines that
+//! are written for them. What a file in a frame says is nothing to this crate.
+#![tactic(auto)]
+
+mod ahead;
+mod frame_head;
+mod frames;
+mod lines;
+mod output;
+mod whole;
+
+pub use ahead::Ahead;
+pub use frame_head::FrameSize;
+pub use frames::{Frame, Next, next_frame};
+pub use lines::{bad_file_line, due_work_line, framed, letter_line};
+pub use output::write_whole;
+pub use whole::{MOST_WHOLE, read_whole};

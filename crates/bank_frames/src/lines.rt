@@ -1,0 +1,55 @@
+//! The lines and the frames that are written.
+
+ghost use Rattle.std.specs.Prelude.{◌≡◌, IfOk};
+ghost use Rattle.bank_frames.specs.Frames.{frame};
+ghost use Rattle.bank_frames.specs.Lines.{bad_line, due_line, mail_line};
+
+use ofx_types::OutOfMemory;
+use ofx_values::print_number;
+use std::alloc::Global;
+
+/// The line for a file that isn't answered, which tells a place in it.
+pub fn bad_file_line(alloc: Global, place: u64) -> Result<Vec<u8>, OutOfMemory>
+    ensures { IfOk result (λ line. line.items ≡ bad_line place) }
+{
+    let mut line = Vec::from_slice(alloc, b"BAD ")?;
+    print_number(place, &mut line)?;
+    line.push(b'\n')?;
+    Ok(line)
+}
+
+/// The line that tells how many events a run of due work had.
+pub fn due_work_line(alloc: Global, count: u64) -> Result<Vec<u8>, OutOfMemory>
+    ensures { IfOk result (λ line. line.items ≡ due_line count) }
+{
+    let mut line = Vec::from_slice(alloc, b"DUE ")?;
+    print_number(count, &mut line)?;
+    line.push(b'\n')?;
+    Ok(line)
+}
+
+/// The line that tells the number of a letter's entry.
+pub fn letter_line(alloc: Global, number: u64) -> Result<Vec<u8>, OutOfMemory>
+    ensures { IfOk result (λ line. line.items ≡ mail_line number) }
+{
+    let mut line = Vec::from_slice(alloc, b"MAIL ")?;
+    print_number(number, &mut line)?;
+    line.push(b'\n')?;
+    Ok(line)
+}
+
+/// The most bytes that a frame's head has: its word, one space, a length of twenty digits, and one LF.
+const HEAD: usize = 26;
+
+/// The bytes of a file in their frame.
+#[tactic(auto, unfolding(crate::specs::Frames::frame_head))]
+pub fn framed(alloc: Global, bytes: &[u8]) -> Result<Vec<u8>, OutOfMemory>
+    ensures { IfOk result (λ line. line.items ≡ frame bytes.now) }
+{
+    let mut line = Vec::with_capacity(alloc, bytes.len().saturating_add(HEAD))?;
+    line.extend_from_slice(b"FILE ")?;
+    print_number(bytes.len() as u64, &mut line)?;
+    line.push(b'\n')?;
+    line.extend_from_slice(bytes)?;
+    Ok(line)
+}

@@ -1,0 +1,9 @@
+pub mod StateParts
+pub mod DraftStates
+pub mod GivenLemmas
+pub mod PostingLemmas
+pub mod DraftLemmas
+pub mod EnteringLemmas
+pub mod SettledLemmas
+pub mod TakingIn
+pub mod WritingLemmas

@@ -1,0 +1,5 @@
+pub mod Balanced
+pub mod LedgerView
+pub mod Changes
+pub mod Postings
+pub mod DraftView

@@ -1,0 +1,97 @@
+//! Accounts by their names, the objects in whose histories entries stand, and the uid of what the bank does by itself.
+
+ghost use Rattle.std.specs.Prelude.{◌≡◌, ◌<◌, Some, true, is_some, codes, length, IfOk};
+ghost use Rattle.bank_model.specs.SetupForm.{IsWithinLimits};
+ghost use Rattle.bank_model.specs.SetupLookups.{account_of};
+ghost use Rattle.bank_model.specs.Deeds as deeds;
+
+use crate::draft::Draft;
+use bank_model::Setup;
+use ofx_types::{AcctId, AcctName, ObjectId, OutOfMemory, TrnUid, UserId};
+
+impl Draft<'_> {
+    /// The account of that name, which the setup has.
+    pub fn account_named(&self, name: &AcctName) -> AcctId
+        requires { is_some (account_of self.now.setup name.now) ≡ true }
+        ensures { account_of self.now.setup name.now ≡ Some result }
+    {
+        account_in(self.setup, name)
+    }
+
+    /// The object of the transfers out of the account of that name.
+    pub fn object_of(&self, source: &AcctName) -> ObjectId
+        requires { is_some (account_of self.now.setup source.now) ≡ true }
+        ensures { result ≡ deeds.object_of self.now.setup source.now }
+    {
+        object_in(self.setup, source)
+    }
+
+    /// The object of the recurring transfers out of the account of that name.
+    pub fn model_object_of(&self, source: &AcctName) -> ObjectId
+        requires { is_some (account_of self.now.setup source.now) ≡ true }
+        ensures { result ≡ deeds.model_object_of self.now.setup source.now }
+    {
+        model_object_in(self.setup, source)
+    }
+
+    /// The object of the mail about the account of that name.
+    pub fn letter_object_of(&self, about: &AcctName) -> ObjectId
+        requires { is_some (account_of self.now.setup about.now) ≡ true }
+        ensures { result ≡ deeds.letter_object_of self.now.setup about.now }
+    {
+        letter_object_in(self.setup, about)
+    }
+
+    /// The object of a user's other mail.
+    pub fn mail_object_of(&self, user: UserId) -> ObjectId
+        requires { user.0 < length self.now.setup.users }
+        ensures { result ≡ deeds.mail_object self.now.setup user }
+    {
+        self.setup.mail_object(user)
+    }
+}
+
+fn account_in(setup: &Setup, name: &AcctName) -> AcctId
+    requires within { IsWithinLimits setup.now }
+    requires there { is_some (account_of setup.now name.now) ≡ true }
+    ensures { account_of setup.now name.now ≡ Some result }
+{
+    match setup.account(name) {
+        Some(account) => account,
+        None => unreachable!(),
+    }
+}
+
+fn object_in(setup: &Setup, source: &AcctName) -> ObjectId
+    requires within { IsWithinLimits setup.now }
+    requires there { is_some (account_of setup.now source.now) ≡ true }
+    ensures { result ≡ deeds.object_of setup.now source.now }
+{
+    ObjectId(3 * account_in(setup, source).0)
+}
+
+fn model_object_in(setup: &Setup, source: &AcctName) -> ObjectId
+    requires within { IsWithinLimits setup.now }
+    requires there { is_some (account_of setup.now source.now) ≡ true }
+    ensures { result ≡ deeds.model_object_of setup.now source.now }
+{
+    ObjectId(3 * account_in(setup, source).0 + 1)
+}
+
+fn letter_object_in(setup: &Setup, about: &AcctName) -> ObjectId
+    requires within { IsWithinLimits setup.now }
+    requires there { is_some (account_of setup.now about.now) ≡ true }
+    ensures { result ≡ deeds.letter_object_of setup.now about.now }
+{
+    ObjectId(3 * account_in(setup, about).0 + 2)
+}
+
+/// The uid of what the bank does by itself.
+pub fn own_uid() -> Result<TrnUid, OutOfMemory>
+    ensures { IfOk result (λ uid. uid ≡ codes "0") }
+{
+    match TrnUid::new(b"0".as_slice()) {
+        Ok(uid) => Ok(uid),
+        Err(_) => unreachable!(),
+    }
+}

@@ -1,0 +1,368 @@
+//! What a bank has written down: its history, the rows of its transfers and recurring transfers, used uids, kept replies
+//! and the business day.
+
+mod making;
+
+ghost use Rattle.std.specs.Prelude.{◌≡◌, ◌+◌, ◌<◌, ◌≤◌, ◌∷◌, ◌++◌, [], false, None, ℕ, length, map, take, slice_index_or, IfOk, OnOk};
+ghost use Rattle.std.specs.Option.{option_copied, option_map, IfSome};
+ghost use Rattle.bank_model.specs.declared.entry.Entry.{Entry};
+ghost use Rattle.bank_model.specs.Rules as rules;
+ghost use Rattle.once_records.specs.RecordsView.{UsedOnce};
+ghost use Rattle.bank_ledger.specs.DraftView.{pair_of, with_added, IsAdded};
+ghost use Rattle.bank_model.specs.Ledger.{row_of, moved, lines_of};
+ghost use Rattle.bank_model.specs.Once.{is_used, reply_kept};
+ghost use Rattle.bank_model.specs.Rules.{opening_state};
+ghost use Rattle.bank_model.specs.Models.{model_of, is_model_dropped, next_place, waiting_of};
+ghost use Rattle.bank_model.specs.Due.{first_task, to_make, to_post};
+ghost use Rattle.bank_rules.specs.Pending.{ids_of};
+ghost use Rattle.bank_ledger.specs.declared.row_change.RowChange.{RowChange};
+ghost use Rattle.bank_ledger.specs.Changes.{GivesRows, IsKnown};
+
+use crate::additions::Additions;
+use crate::row_change::RowChange;
+use bank_model::Entry;
+use bank_recur::Models;
+use bank_transfers::Transfers;
+use ofx_types::{
+    AcctName, Day, FileUid, Lines, ModelRow, Moment, OutOfMemory, TransferRow, TrnUid, UserId,
+};
+use once_records::Records;
+use std::alloc::Global;
+use std::marker::Model;
+
+/// 1 January 1900.
+const FIRST_DAY: Day = Day(-25_567);
+
+/// The state of a bank. What is added to it has its room reserved before.
+#[derive(Drop)]
+pub struct Ledger {
+    entries: Vec<Entry>,
+    transfers: Transfers,
+    models: Models,
+    records: Records,
+    day: Day,
+}
+
+impl Model for Ledger {
+    ghost use Rattle.std.specs.Prelude.{◌-◌, vec_len, vec_capacity};
+    ghost use Rattle.bank_transfers.specs.TransfersView.{StandsFor};
+    ghost use Rattle.bank_recur.specs.ModelsView as recurring;
+    ghost use Rattle.bank_ledger.specs.LedgerView.{LedgerView};
+
+    ghost Value = { LedgerView };
+
+    ghost view = { λ l. record {
+      state = record {
+        entries = l.entries.items;
+        used = l.records.used;
+        kept = l.records.kept;
+        day = l.day;
+      };
+      room = record {
+        entries = vec_capacity l.entries - vec_len l.entries;
+        transfers = l.transfers.room;
+        models = l.models.room;
+        pairs = l.records.pairs;
+        files = l.records.files;
+      };
+    } };
+
+    ghost invariant = { λ l. StandsFor l.transfers l.entries.items × recurring.StandsFor l.models l.entries.items };
+}
+
+impl Ledger {
+    /// The state in which a bank opens. Takes no memory.
+    pub fn new(alloc: Global) -> Ledger
+        ensures { result.state ≡ opening_state }
+    {
+        Ledger {
+            entries: Vec::new(alloc),
+            transfers: Transfers::new(alloc),
+            models: Models::new(alloc),
+            records: Records::new(alloc),
+            day: FIRST_DAY,
+        }
+    }
+
+    /// How many entries there are.
+    pub fn count(&self) -> u64
+        ensures { result ≡ length self.now.state.entries }
+    {
+        self.entries.len() as u64
+    }
+
+    /// The history, lent.
+    pub fn entries(&self) -> &[Entry]
+        ensures { result.now ≡ self.now.state.entries }
+    {
+        self.entries.as_slice()
+    }
+
+    /// The business day.
+    pub fn day(&self) -> Day
+        ensures { result ≡ self.now.state.day }
+    {
+        self.day
+    }
+
+    /// Whether the user has used up the uid.
+    pub fn is_used(&self, user: UserId, trnuid: &TrnUid) -> bool
+        ensures { result ≡ is_used user trnuid.now self.now.state.used }
+    {
+        self.records.used(user, trnuid)
+    }
+
+    /// The reply that is kept for the user's file, lent.
+    pub fn kept(&self, user: UserId, file: &FileUid) -> Option<&[u8]>
+        ensures { option_copied result ≡ reply_kept user file.now self.now.state.kept }
+    {
+        self.records.kept(user, file)
+    }
+
+    /// The row of the transfer with this id, lent.
+    pub fn row(&self, id: u64) -> Option<&TransferRow>
+        ensures { option_copied result ≡ row_of id self.now.state.entries }
+    {
+        self.transfers.get(id)
+    }
+
+    /// The row of the recurring transfer with this id, lent.
+    pub fn model(&self, id: u64) -> Option<&ModelRow>
+        ensures { option_copied result ≡ model_of id self.now.state.entries }
+    {
+        self.models.get(id)
+    }
+
+    /// Whether the recurring transfer with this id is cancelled.
+    pub fn is_cancelled(&self, id: u64) -> bool
+        ensures { result ≡ is_model_dropped id self.now.state.entries }
+    {
+        self.models.cancelled(id)
+    }
+
+    /// The ids of the transfers of a recurring transfer that wait.
+    pub fn waiting(&self, alloc: Global, model: u64) -> Result<Vec<u64>, OutOfMemory>
+        ensures { IfOk result (λ ids. ids.items ≡ ids_of (waiting_of model self.now.state.entries)) }
+    {
+        self.transfers.waiting(alloc, model)
+    }
+
+    /// The transfer that is to be posted first on a business day.
+    pub fn next_post(&self, day: Day) -> Option<u64>
+        ensures { result ≡ option_map (λ task. task.id) (first_task (to_post day self.now.state.entries)) }
+    {
+        self.transfers.due_on(day)
+    }
+
+    /// The recurring transfer that is to make its next transfer first, with its place, of those that make it by a last
+    /// day.
+    pub fn next_spawn(&self, last: Day) -> Option<(u64, u32)>
+        ensures { result ≡ option_map (λ task. (task.id, next_place task.id self.now.state.entries))
+            (first_task (to_make last self.now.state.entries)) }
+    {
+        self.models.next_spawn(last)
+    }
+
+    /// What a statement of the account tells of a period.
+    pub fn lines(
+        &self,
+        alloc: Global,
+        name: &AcctName,
+        period: (Moment, Option<Moment>),
+    ) -> Result<Lines, OutOfMemory>
+        ensures { IfOk result (λ lines. lines ≡ lines_of name.now period.0 period.1 (moved self.now.state.entries)) }
+    {
+        self.transfers.posted(alloc, name, period)
+    }
+
+    /// Makes room for so many entries and uids more, and for one more reply. No room that was made before is lost.
+    pub fn reserve(&mut self, entries: u32, uids: u32) -> Result<(), OutOfMemory>
+        ensures state { self.new.state ≡ self.old.state }
+        ensures entries { OnOk result (entries ≤ self.new.room.entries) }
+        ensures transfers { OnOk result (entries ≤ self.new.room.transfers) }
+        ensures models { OnOk result (entries ≤ self.new.room.models) }
+        ensures pairs { OnOk result (uids ≤ self.new.room.pairs) }
+        ensures files { OnOk result (0 < self.new.room.files) }
+        ensures entries_stay { self.old.room.entries ≤ self.new.room.entries }
+        ensures transfers_stay { self.old.room.transfers ≤ self.new.room.transfers }
+        ensures models_stay { self.old.room.models ≤ self.new.room.models }
+        ensures pairs_stay { self.old.room.pairs ≤ self.new.room.pairs }
+        ensures files_stay { self.old.room.files ≤ self.new.room.files }
+    {
+        self.entries.reserve(entries as usize)?;
+        self.transfers.reserve(entries)?;
+        self.models.reserve(entries)?;
+        self.records.reserve(uids, 1)
+    }
+
+    /// Writes down an entry with what it gives. Takes no memory.
+    fn add(&mut self, entry: Entry, row_change: RowChange)
+        requires entries { 0 < self.old.room.entries }
+        requires transfers { 0 < self.old.room.transfers }
+        requires models { 0 < self.old.room.models }
+        requires known { IsKnown row_change }
+        requires gives { GivesRows self.old.state.entries entry.change row_change }
+        ensures state { self.new.state ≡ record {
+          entries = self.old.state.entries ++ entry ∷ [];
+          used = self.old.state.used;
+          kept = self.old.state.kept;
+          day = self.old.state.day;
+        } }
+        ensures entries { self.old.room.entries ≤ self.new.room.entries + 1 }
+        ensures transfers { self.old.room.transfers ≤ self.new.room.transfers + 1 }
+        ensures models { self.old.room.models ≤ self.new.room.models + 1 }
+        ensures pairs { self.new.room.pairs ≡ self.old.room.pairs }
+        ensures files { self.new.room.files ≡ self.old.room.files }
+    {
+        match row_change {
+            RowChange::Row(row) => {
+                self.transfers.put(entry.number, row);
+                self.entries.push_reserved(entry);
+            }
+            RowChange::Made(row) => {
+                let model = row.model;
+                self.transfers.put(entry.number, row);
+                self.models.spawned(model);
+                self.entries.push_reserved(entry);
+            }
+            RowChange::Model(row) => {
+                self.models.put(row);
+                self.entries.push_reserved(entry);
+            }
+            RowChange::NoModel(id) => {
+                self.models.cancel(id);
+                self.entries.push_reserved(entry);
+            }
+            RowChange::Mail => self.entries.push_reserved(entry),
+        }
+    }
+
+    /// Uses up a uid that the user hasn't used. Takes no memory.
+    fn use_up(&mut self, user: UserId, trnuid: TrnUid)
+        requires room { 0 < self.old.room.pairs }
+        requires unused { is_used user trnuid self.old.state.used ≡ false }
+        ensures state { self.new.state ≡ record {
+          entries = self.old.state.entries;
+          used = self.old.state.used ++ record { user = user; trnuid = trnuid } ∷ [];
+          kept = self.old.state.kept;
+          day = self.old.state.day;
+        } }
+        ensures pairs { self.old.room.pairs ≡ self.new.room.pairs + 1 }
+        ensures files { self.new.room.files ≡ self.old.room.files }
+    {
+        self.records.use_up(user, trnuid);
+    }
+
+    /// Writes down entries with what they give. Takes no memory.
+    fn add_all(&mut self, entries: Vec<Entry>, row_changes: Vec<RowChange>)
+        requires entries { length entries.items ≤ self.old.room.entries }
+        requires transfers { length entries.items ≤ self.old.room.transfers }
+        requires models { length entries.items ≤ self.old.room.models }
+        requires count { length row_changes.items ≡ length entries.items }
+        requires known { (k : ℕ) (row_change : RowChange) → k < length entries.items
+            → IsKnown (slice_index_or row_changes.items k row_change) }
+        requires given { (k : ℕ) (entry : Entry) (row_change : RowChange) → k < length entries.items
+            → GivesRows (self.old.state.entries ++ take k entries.items) (slice_index_or entries.items k entry).change
+            (slice_index_or row_changes.items k row_change) }
+        ensures state { self.new.state ≡ record {
+          entries = self.old.state.entries ++ entries.items;
+          used = self.old.state.used;
+          kept = self.old.state.kept;
+          day = self.old.state.day;
+        } }
+        ensures pairs { self.new.room.pairs ≡ self.old.room.pairs }
+        ensures files { self.new.room.files ≡ self.old.room.files }
+    {
+        let mut rest = entries.into_iter();
+        for row_change in row_changes {
+            match rest.next() {
+                Some(entry) => self.add(entry, row_change),
+                None => unreachable!(),
+            }
+        }
+    }
+
+    /// Uses up the uids of a user, of which none is used up. Takes no memory.
+    fn use_up_all(&mut self, user: UserId, uids: Vec<TrnUid>)
+        requires room { length uids.items ≤ self.old.room.pairs }
+        requires unused { UsedOnce (self.old.state.used ++ map (pair_of user) uids.items) }
+        ensures state { self.new.state ≡ record {
+          entries = self.old.state.entries;
+          used = self.old.state.used ++ map (pair_of user) uids.items;
+          kept = self.old.state.kept;
+          day = self.old.state.day;
+        } }
+        ensures files { self.new.room.files ≡ self.old.room.files }
+    {
+        for uid in uids {
+            self.use_up(user, uid);
+        }
+    }
+
+    /// Takes in what an event adds. Takes no memory.
+    pub fn take(&mut self, added: Additions)
+        requires entries { length added.entries ≤ self.old.room.entries }
+        requires transfers { length added.entries ≤ self.old.room.transfers }
+        requires models { length added.entries ≤ self.old.room.models }
+        requires pairs { length added.uids ≤ self.old.room.pairs }
+        requires added { IsAdded self.old.state added }
+        requires unused { UsedOnce (with_added self.old.state added).used }
+        ensures state { self.new.state ≡ with_added self.old.state added }
+        ensures files { self.new.room.files ≡ self.old.room.files }
+    {
+        let user = added.user();
+        let day = added.day();
+        let (entries, row_changes, uids) = added.into_parts();
+        self.add_all(entries, row_changes);
+        self.use_up_all(user, uids);
+        self.set_day(day);
+    }
+
+    /// Lets go the reply to the user's file of that name, where there is one. Takes no memory.
+    pub fn release(&mut self, user: UserId, older: &Option<FileUid>)
+        ensures state { self.new.state ≡ record {
+          entries = self.old.state.entries;
+          used = self.old.state.used;
+          kept = rules.release user older.now self.old.state.kept;
+          day = self.old.state.day;
+        } }
+        ensures files { self.old.room.files ≤ self.new.room.files }
+    {
+        match older {
+            Some(file) => {
+                let _was_there = self.records.release(user, file);
+            }
+            None => {}
+        }
+    }
+
+    /// Keeps the reply to the user's file of that name, where it has one. It has no reply yet. Takes no memory.
+    pub fn keep(&mut self, user: UserId, newer: Option<FileUid>, reply: Vec<u8>)
+        requires room { 0 < self.old.room.files }
+        requires absent { IfSome newer (λ file. reply_kept user file self.old.state.kept ≡ None) }
+        ensures state { self.new.state ≡ record {
+          entries = self.old.state.entries;
+          used = self.old.state.used;
+          kept = rules.keep user newer reply.items self.old.state.kept;
+          day = self.old.state.day;
+        } }
+    {
+        match newer {
+            Some(file) => self.records.keep(user, file, reply),
+            None => {}
+        }
+    }
+
+    /// Sets the business day.
+    fn set_day(&mut self, day: Day)
+        ensures state { self.new.state ≡ record {
+          entries = self.old.state.entries;
+          used = self.old.state.used;
+          kept = self.old.state.kept;
+          day = day;
+        } }
+        ensures room { self.new.room ≡ self.old.room }
+    {
+        self.day = day;
+    }
+}

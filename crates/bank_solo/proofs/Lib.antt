@@ -1,0 +1,3 @@
+pub mod Named
+mod Unnamed
+mod Accounts

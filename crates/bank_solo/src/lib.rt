@@ -1,0 +1,9 @@
+//! A bank for one caller: its book and all of its accounts. For an event the accounts that it names are lent to the book, and
+//! no others; behind its step, or where it is given up, all are at home again.
+#![tactic(auto)]
+
+mod laws;
+mod solo;
+
+pub use laws::unnamed_accounts_stay;
+pub use solo::SoloBank;

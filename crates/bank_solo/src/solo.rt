@@ -1,0 +1,178 @@
+//! A book with all accounts of its bank. An event's step is prepared on the accounts that it names, and taken or given up.
+
+ghost use Rattle.std.specs.Prelude.{◌≡◌, [], OnOk, OnErr, IfOk};
+ghost use Rattle.ofx_types.specs.Calendar.{IsMoment};
+ghost use Rattle.bank_model.specs.SetupForm.{IsWithinLimits};
+ghost use Rattle.bank_model.specs.Rules.{IsLegal, opening_state, state_after, answer_to, named};
+ghost use Rattle.bank_accounts.specs.HeldAccounts.{AreHeld};
+ghost use Rattle.bank_accounts.specs.AtHome.{AreLent};
+ghost use Rattle.bank_core.specs.BookView.{HasRoom};
+ghost use Rattle.bank_solo.specs.Solo.{AreAccountsIn, accounts_in};
+
+use crate::laws::unnamed_accounts_stay;
+use bank_accounts::{Account, Held, Home};
+use bank_core::{Book, Prepared};
+use bank_model::{Event, Printer, Setup};
+use ofx_types::{AcctId, Moment, OutOfMemory};
+use std::alloc::Global;
+use std::marker::Model;
+
+/// A bank for one caller.
+#[derive(Drop)]
+pub struct SoloBank<P: Printer> {
+    book: Book<P>,
+    home: Home,
+    held: Held,
+}
+
+impl<P: Printer> Model for SoloBank<P> {
+    ghost use Rattle.bank_model.specs.SetupForm.{IsWithinLimits};
+    ghost use Rattle.bank_accounts.specs.AtHome.{AreLent};
+    ghost use Rattle.bank_solo.specs.Solo.{SoloView, accounts_in};
+
+    ghost Value = { SoloView };
+
+    ghost view = { λ b. record { setup = b.book.setup; state = b.book.state; room = b.book.room; held = b.held } };
+
+    ghost invariant = { λ b. IsWithinLimits b.book.setup × AreLent (accounts_in b.book.setup b.book.state) b.home b.held };
+}
+
+impl<P: Printer> SoloBank<P> {
+    /// A bank of that setup that opens.
+    pub fn begin(alloc: Global, setup: Setup, printer: P) -> Result<SoloBank<P>, OutOfMemory>
+        requires { IsWithinLimits setup }
+        ensures setup { IfOk result (λ bank. bank.setup ≡ setup) }
+        ensures state { IfOk result (λ bank. bank.state ≡ opening_state) }
+        ensures home { IfOk result (λ bank. bank.held ≡ []) }
+    {
+        let (book, accounts) = Book::begin(alloc, setup, printer)?;
+        SoloBank::new(alloc, book, accounts)
+    }
+
+    /// The bank of a book, with all of its accounts.
+    pub fn new(
+        alloc: Global,
+        book: Book<P>,
+        accounts: Vec<Account>,
+    ) -> Result<SoloBank<P>, OutOfMemory>
+        requires within { IsWithinLimits book.setup }
+        requires accounts { AreAccountsIn book.setup book.state accounts.items }
+        ensures setup { IfOk result (λ bank. bank.setup ≡ book.setup) }
+        ensures state { IfOk result (λ bank. bank.state ≡ book.state) }
+        ensures home { IfOk result (λ bank. bank.held ≡ []) }
+    {
+        let home = Home::from_vec(alloc, accounts)?;
+        Ok(SoloBank {
+            book,
+            home,
+            held: Held::new(alloc),
+        })
+    }
+
+    /// The book, lent.
+    pub fn book(&self) -> &Book<P>
+        ensures setup { result.now.setup ≡ self.now.setup }
+        ensures state { result.now.state ≡ self.now.state }
+        ensures within { IsWithinLimits self.now.setup }
+    {
+        &self.book
+    }
+
+    /// What the event answers at that moment, and the state that it leaves. The accounts that it names are lent for its step,
+    /// which `adopt` takes and `give_up` doesn't. All memory of the event is taken here; where it is refused, all
+    /// accounts are at home.
+    pub fn prepare(
+        &mut self,
+        alloc: Global,
+        event: &Event,
+        at: Moment,
+    ) -> Result<Prepared, OutOfMemory>
+        requires moment { IsMoment at.0 }
+        requires legal { IsLegal self.old.setup self.old.state at event.now }
+        requires home { self.old.held ≡ [] }
+        ensures setup { self.new.setup ≡ self.old.setup }
+        ensures state { self.new.state ≡ self.old.state }
+        ensures of { IfOk result (λ prepared. prepared.setup ≡ self.old.setup) }
+        ensures before { IfOk result (λ prepared. prepared.before ≡ self.old.state) }
+        ensures event { IfOk result (λ prepared. prepared.event ≡ event.now) }
+        ensures after { IfOk result (λ prepared. prepared.after ≡ state_after self.old.setup self.old.state at event.now) }
+        ensures reply { IfOk result (λ prepared. prepared.reply ≡ answer_to self.old.setup self.old.state at event.now) }
+        ensures room { IfOk result (λ prepared. HasRoom self.new.room self.old.state prepared.after) }
+        ensures named { OnOk result (AreHeld self.new.held (named self.old.setup self.old.state event.now)) }
+        ensures refused { OnErr result (self.new.held ≡ []) }
+    {
+        self.lend(alloc, event)?;
+        match self.book.answer(alloc, &mut self.held, event, at) {
+            Ok(prepared) => Ok(prepared),
+            Err(OutOfMemory) => {
+                self.home.receive(&mut self.held);
+                Err(OutOfMemory)
+            }
+        }
+    }
+
+    /// Lends the accounts that the event names, and no others.
+    fn lend(&mut self, alloc: Global, event: &Event) -> Result<(), OutOfMemory>
+        requires { self.old.held ≡ [] }
+        ensures setup { self.new.setup ≡ self.old.setup }
+        ensures state { self.new.state ≡ self.old.state }
+        ensures named { OnOk result (AreHeld self.new.held (named self.old.setup self.old.state event.now)) }
+        ensures refused { OnErr result (self.new.held ≡ []) }
+    {
+        let numbers = self.book.named(alloc, event)?;
+        self.home.lend(&mut self.held, &numbers)
+    }
+
+    /// Takes the step that was prepared, and gives the bytes of its reply. All accounts are at home then. Takes no memory.
+    pub fn adopt(&mut self, at: Moment, prepared: Prepared) -> Vec<u8>
+        requires of { prepared.setup ≡ self.old.setup }
+        requires made { prepared.before ≡ self.old.state }
+        requires after { prepared.after ≡ state_after self.old.setup self.old.state at prepared.event }
+        requires room { HasRoom self.old.room self.old.state prepared.after }
+        requires named { AreHeld self.old.held (named self.old.setup self.old.state prepared.event) }
+        ensures setup { self.new.setup ≡ self.old.setup }
+        ensures state { self.new.state ≡ prepared.after }
+        ensures home { self.new.held ≡ [] }
+        ensures reply { result.items ≡ prepared.reply }
+    {
+        unnamed_accounts_stay();
+        let reply = self.book.adopt(&mut self.held, prepared);
+        self.home.receive(&mut self.held);
+        reply
+    }
+
+    /// Gives up what was prepared: the accounts that were lent for it are at home again. Takes no memory.
+    pub fn give_up(&mut self)
+        ensures setup { self.new.setup ≡ self.old.setup }
+        ensures state { self.new.state ≡ self.old.state }
+        ensures home { self.new.held ≡ [] }
+    {
+        self.home.receive(&mut self.held);
+    }
+
+    /// Makes an event happen at that moment, and gives its reply. Where memory is refused, nothing has happened.
+    pub fn step(&mut self, alloc: Global, event: &Event, at: Moment) -> Result<Vec<u8>, OutOfMemory>
+        requires moment { IsMoment at.0 }
+        requires legal { IsLegal self.old.setup self.old.state at event.now }
+        requires home { self.old.held ≡ [] }
+        ensures setup { self.new.setup ≡ self.old.setup }
+        ensures home { self.new.held ≡ [] }
+        ensures state { OnOk result (self.new.state ≡ state_after self.old.setup self.old.state at event.now) }
+        ensures reply { IfOk result (λ reply. reply.items ≡ answer_to self.old.setup self.old.state at event.now) }
+        ensures refused { OnErr result (self.new.state ≡ self.old.state) }
+    {
+        let prepared = self.prepare(alloc, event, at)?;
+        Ok(self.adopt(at, prepared))
+    }
+
+    /// The book, and its accounts in the order of their numbers.
+    pub fn into_parts(self, alloc: Global) -> Result<(Book<P>, Vec<Account>), OutOfMemory>
+        requires { self.held ≡ [] }
+        ensures setup { IfOk result (λ parts. parts.0.setup ≡ self.setup) }
+        ensures state { IfOk result (λ parts. parts.0.state ≡ self.state) }
+        ensures accounts { IfOk result (λ parts. AreAccountsIn self.setup self.state parts.1.items) }
+    {
+        let accounts = self.home.into_vec(alloc)?;
+        Ok((self.book, accounts))
+    }
+}

@@ -1,0 +1,2 @@
+pub mod BankFirst
+pub mod Each

@@ -1,0 +1,12 @@
+use Rattle.bank_telling.proofs.HistoryLemmas.{newest-behind}
+use Rattle.bank_telling.proofs.history.newest.Goals as goal
+use Rattle.std.proofs.Common.{ap, ◌∙◌}
+use Rattle.bank_model.specs.Objects.{history_of}
+use Rattle.bank_telling.specs.Telling.{last_number_from}
+
+pub returns : goal.returns
+returns c =
+    c.last_number.ensures
+    ∙ ap (λ l. last_number_from c.last_number-before.result (history_of c.args.object l)) c.entries.ensures
+    ∙ newest-behind c.args.object c.args.draft.now.before.entries c.args.draft.now.entries c.last_number-before.result
+    (c.last_number-before.ensures ∙ ap (λ l. last_number_from 0 (history_of c.args.object l)) c.entries_before.ensures)

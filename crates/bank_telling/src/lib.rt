@@ -1,0 +1,10 @@
+//! What a client is told of a bank: statements of accounts, and histories of objects.
+#![tactic(auto)]
+
+mod history;
+mod statement;
+mod tokens;
+
+pub use history::{is_lost, last_number, newest, told_history};
+pub use statement::statement_of;
+pub use tokens::{family_of_object, number_text, token_of};

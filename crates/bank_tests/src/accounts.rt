@@ -1,0 +1,44 @@
+//! Accounts are held, found and given other balances.
+
+use bank_accounts::{Account, Balance, Balances, Held};
+use ofx_types::{AcctId, Cents};
+use std::test::Fail;
+
+#[test]
+fn holds_accounts(rt: HostRuntime) -> Result<(), Fail> {
+    let mut held = Held::new(rt.alloc());
+    held.add(Account::new(AcctId(0), Cents(10_000)))?;
+    held.add(Account::new(AcctId(3), Cents(5)))?;
+    assert_eq!(rt; held.accounts().len(), 2);
+    assert_eq!(rt; held.balance(AcctId(3)), Some(Cents(5)));
+    assert_eq!(rt; held.balance(AcctId(1)), None);
+    assert_eq!(rt; held.pop().map(|account| account.number()), Some(AcctId(3)));
+    assert_eq!(rt; held.pop().map(|account| account.number()), Some(AcctId(0)));
+    assert!(rt; held.pop().is_none());
+    Ok(())
+}
+
+#[test]
+fn gives_balances(rt: HostRuntime) -> Result<(), Fail> {
+    let mut held = Held::new(rt.alloc());
+    held.add(Account::new(AcctId(0), Cents(10_000)))?;
+    held.add(Account::new(AcctId(3), Cents(5)))?;
+    let mut balances = Balances::new(rt.alloc());
+    held.settle(&balances);
+    assert_eq!(rt; held.balance(AcctId(3)), Some(Cents(5)));
+    balances.reserve(2)?;
+    balances.give(Balance {
+        account: AcctId(3),
+        amount: Cents(6),
+    });
+    balances.give(Balance {
+        account: AcctId(3),
+        amount: Cents(7),
+    });
+    assert_eq!(rt; balances.get(AcctId(3)), Some(Cents(7)));
+    assert_eq!(rt; balances.get(AcctId(0)), None);
+    held.settle(&balances);
+    assert_eq!(rt; held.balance(AcctId(0)), Some(Cents(10_000)));
+    assert_eq!(rt; held.balance(AcctId(3)), Some(Cents(7)));
+    Ok(())
+}

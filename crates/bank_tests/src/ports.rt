@@ -1,0 +1,151 @@
+//! Sources, sinks, keepers and clocks: the forms in memory, and what no clause says of the adapters.
+
+use ofx_ports::{
+    Clock, Failed, FetchFault, Keeper, MemClock, MemKeeper, MemSink, MemSource, PutFault,
+    ReaderSource, Sink, Source, SystemClock, WriterSink,
+};
+use ofx_types::Moment;
+use std::io::{Error, ErrorKind, Read};
+use std::test::Fail;
+use std::{fs, io};
+
+#[test]
+fn a_source_gives_its_bytes(rt: HostRuntime) -> Result<(), Fail> {
+    let mut source = MemSource::new(rt.alloc(), b"abc")?;
+    let mut into = [0u8; 8];
+    assert_eq!(rt; source.read(&mut into), Ok(3));
+    assert_eq!(rt; &into[..3], b"abc".as_slice());
+    assert_eq!(rt; source.left().len(), 0);
+    assert_eq!(rt; source.read(&mut into), Ok(0));
+    assert_eq!(rt; source.calls(), 2);
+    Ok(())
+}
+
+#[test]
+fn a_source_fails_where_it_is_told_to(rt: HostRuntime) -> Result<(), Fail> {
+    let mut source = MemSource::failing(rt.alloc(), b"abc", 1, &[2])?;
+    let mut into = [0u8; 8];
+    assert_eq!(rt; source.read(&mut into), Ok(1));
+    assert_eq!(rt; source.read(&mut into), Err(Failed));
+    assert_eq!(rt; source.left(), b"bc".as_slice());
+    assert_eq!(rt; source.read(&mut into), Ok(1));
+    assert_eq!(rt; into[0], b'b');
+    Ok(())
+}
+
+#[test]
+fn a_sink_holds_what_it_took(rt: HostRuntime) -> Result<(), Fail> {
+    let mut sink = MemSink::new(rt.alloc(), 4)?;
+    assert_eq!(rt; sink.write(b"abc"), Ok(3));
+    assert_eq!(rt; sink.write(b"de"), Err(Failed));
+    assert_eq!(rt; sink.write(b"d"), Ok(1));
+    assert_eq!(rt; sink.held(), b"abcd".as_slice());
+    assert_eq!(rt; sink.calls(), 3);
+    Ok(())
+}
+
+#[test]
+fn a_sink_fails_where_it_is_told_to(rt: HostRuntime) -> Result<(), Fail> {
+    let mut sink = MemSink::failing(rt.alloc(), 4, 1, &[1])?;
+    assert_eq!(rt; sink.write(b"ab"), Err(Failed));
+    assert_eq!(rt; sink.write(b"ab"), Ok(1));
+    assert_eq!(rt; sink.held(), b"a".as_slice());
+    Ok(())
+}
+
+#[test]
+fn a_keeper_keeps_records(rt: HostRuntime) -> Result<(), Fail> {
+    let mut keeper = MemKeeper::new(rt.alloc());
+    let mut into = b"before".to_vec(rt.alloc())?;
+    assert_eq!(rt; keeper.append(b"one"), Ok(()));
+    assert_eq!(rt; keeper.append(b"two"), Ok(()));
+    assert_eq!(rt; keeper.len(), 2);
+    assert_eq!(rt; keeper.fetch(1, &mut into), Ok(()));
+    assert_eq!(rt; into.as_slice(), b"one".as_slice());
+    assert_eq!(rt; keeper.record_count(), 2);
+    assert_eq!(rt; keeper.record(2), b"two".as_slice());
+    assert_eq!(rt; keeper.settle(), Ok(false));
+    assert_eq!(rt; keeper.calls(), 4);
+    assert_eq!(rt; keeper.faults(), 0);
+    Ok(())
+}
+
+#[test]
+fn a_keeper_settles_what_landed(rt: HostRuntime) -> Result<(), Fail> {
+    let mut keeper = MemKeeper::failing(rt.alloc(), &[1, 2, 4, 6], &[1])?;
+    let mut into = Vec::new(rt.alloc());
+    assert_eq!(rt; keeper.append(b"one"), Err(PutFault::Failed));
+    assert_eq!(rt; keeper.settle(), Err(Failed));
+    assert_eq!(rt; keeper.settle(), Ok(true));
+    assert_eq!(rt; keeper.append(b"two"), Err(PutFault::Failed));
+    assert_eq!(rt; keeper.settle(), Ok(false));
+    assert_eq!(rt; keeper.len(), 1);
+    assert_eq!(rt; keeper.fetch(1, &mut into), Err(FetchFault::Failed));
+    assert_eq!(rt; keeper.fetch(1, &mut into), Ok(()));
+    assert_eq!(rt; into.as_slice(), b"one".as_slice());
+    assert_eq!(rt; keeper.faults(), 4);
+    Ok(())
+}
+
+#[test]
+fn a_clock_answers_in_order(rt: HostRuntime) -> Result<(), Fail> {
+    let mut clock = MemClock::new(rt.alloc(), &[Moment(5), Moment(7)])?;
+    assert_eq!(rt; clock.now(), Moment(5));
+    assert_eq!(rt; clock.now(), Moment(7));
+    assert_eq!(rt; clock.now(), Moment(7));
+    Ok(())
+}
+
+// Is cut short by a signal at the first read, gives one byte at the second, and fails from then on.
+#[derive(Drop)]
+struct Halting {
+    reads: u8,
+}
+
+impl Read for Halting {
+    fn read(&mut self, buf: &mut [u8]) -> io::Result<usize> {
+        self.reads = self.reads.saturating_add(1);
+        match (self.reads, buf) {
+            (1, _) => Err(Error::new(ErrorKind::Interrupted, "a signal came")),
+            (2, [first, ..]) => {
+                *first = b'a';
+                Ok(1)
+            }
+            _ => Err(Error::new(ErrorKind::Other, "broken")),
+        }
+    }
+}
+
+#[test]
+fn a_reader_is_a_source(rt: HostRuntime) {
+    let mut source = ReaderSource::new(Halting { reads: 0 });
+    let mut into = [0u8; 8];
+    assert_eq!(rt; source.read(&mut into), Ok(1));
+    assert_eq!(rt; into[0], b'a');
+    assert_eq!(rt; source.read(&mut into), Err(Failed));
+}
+
+#[test]
+fn a_path_that_cannot_be_opened_fails(rt: HostRuntime) {
+    let mut source = ReaderSource::opened(fs::open(&rt, "no/such/file"));
+    let mut into = [0u8; 8];
+    assert_eq!(rt; source.read(&mut into), Err(Failed));
+    assert_eq!(rt; source.read(&mut into), Err(Failed));
+}
+
+#[test]
+fn a_writer_is_a_sink(rt: HostRuntime) -> Result<(), Fail> {
+    let mut out = Vec::new(rt.alloc());
+    let mut sink = WriterSink::new(&mut out);
+    assert_eq!(rt; sink.write(b"abc"), Ok(3));
+    drop(sink);
+    assert_eq!(rt; out.as_slice(), b"abc".as_slice());
+    Ok(())
+}
+
+#[test]
+fn the_system_has_a_clock(rt: HostRuntime) {
+    let mut clock = SystemClock::new(&rt);
+    let start_of_2020 = Moment(1_577_836_800);
+    assert!(rt; start_of_2020 < clock.now());
+}

@@ -1,0 +1,8 @@
+-- Any bytes at the front of the range are left by a torn write.
+use Rattle.std.proofs.Common.{arith}
+use Rattle.disk_keeper.proofs.DiskLemmas.{torn_overlaid}
+use Rattle.disk_keeper.proofs.memory.crash.torn.Goals as goal
+
+pub returns : goal.returns
+returns c =
+    rw (c.in_ok-new.ensures, c.deref.ensures.value) (torn_overlaid c.args.old.now c.args.at c.args.size c.in_ok-front.front.items (omega (arith, c.if-at-old.false)) c.in_ok-front.ensures)

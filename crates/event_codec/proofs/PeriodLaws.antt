@@ -1,0 +1,49 @@
+-- A period that is read is the one that was written.
+use Rattle.std.proofs.Common.{◌≡◌, ℕ, zero, suc, ◌<◌, ◌≤◌, List, [], ◌∷◌, ◌++◌, slice_get, Option, Some, refl, sym, ap, subst, arith}
+use Rattle.std.specs.Prelude.{IfSome}
+use Rattle.ofx_types.specs.TextRules.{IsText}
+use Rattle.ofx_types.specs.Calendar.{IsMoment, IsDay}
+use Rattle.ofx_types.specs.declared.number.Moment.{Moment}
+use Rattle.ofx_types.specs.declared.number.Day.{Day}
+use Rattle.ofx_types.specs.declared.account.AcctKind.{AcctKind}
+use Rattle.ofx_types.specs.declared.account.AcctKind.TheVariants.{Checking, Savings, MoneyMarket, CreditLine}
+use Rattle.ofx_types.specs.declared.account.AcctName.{AcctName}
+use Rattle.ofx_types.specs.declared.recurring.Freq.{Freq}
+use Rattle.ofx_types.specs.declared.recurring.Freq.TheVariants.{Weekly, Biweekly, TwiceMonthly, Monthly, FourWeeks, Bimonthly, Quarterly, Semiannually, Annually}
+use Rattle.ofx_types.specs.declared.recurring.Recur.{Recur}
+use Rattle.ofx_types.specs.declared.mail.MailText.{MailText}
+use Rattle.ofx_types.specs.declared.transfer.XferInfo.{XferInfo}
+use Rattle.ofx_types.specs.declared.request.Period.{Period}
+use Rattle.bank_model.specs.Sound.{HasLength, IsSoundAccount, IsSoundRecur, IsSoundInfo, IsSoundMail, IsSoundPeriod}
+use Rattle.record_fields.specs.FieldCoding.{u16_bytes, i64_bytes, moment_bytes, day_bytes, flag_bytes, text_bytes, optional_bytes, kind_number, acct_bytes, freq_number, recur_bytes, info_bytes, mail_bytes}
+use Rattle.event_codec.specs.Coding.{period_bytes}
+use Rattle.record_fields.specs.FieldTexts.{HasAccountTexts, HasInfoTexts, HasMailTexts}
+use Rattle.record_fields.specs.FieldReading.{filled_text_at, choice_at, optional_at, moment_at, day_at, count_at}
+use Rattle.record_fields.specs.PartReading.{account_kinds, acct_at, frequencies, recur_at, info_at, mail_at}
+use Rattle.event_codec.specs.AskReading.{period_at}
+use Rattle.record_fields.specs.Standing.{StandsAt, IsField}
+use Rattle.record_fields.proofs.Steps.{ok_is, joined, apart, step}
+use Rattle.record_fields.proofs.NumberLaws.{choice_field, optional_field, flag_field}
+use Rattle.record_fields.proofs.BoundedLaws.{count_field, amount_field, moment_field, day_field}
+use Rattle.record_fields.proofs.TextLaws.{filled_field}
+
+abbrev IsMaybeMoment : Option Moment → Type 0
+IsMaybeMoment o = IfSome o (λ (at : Moment). IsMoment at.0)
+
+optional_moment : IsField (optional_at moment_at) (optional_bytes moment_bytes) IsMaybeMoment
+optional_moment = optional_field moment_field
+
+pub period_field : IsField period_at period_bytes IsSoundPeriod
+unfolding period_at period_bytes
+period_field = record {
+  stands = λ rec at found bytes le e.
+      let a = step optional_moment rec at _ found bytes le e in
+      let b = step optional_moment rec a.next _ found bytes a.stands.within a.rest in
+      let c = step flag_field rec b.next _ found bytes b.stands.within b.rest in
+      let made : Period × ℕ = (record { start = a.value; end = b.value; include = c.value }, c.next) in
+      subst (λ (f : Period × ℕ). StandsAt rec at (period_bytes f.0) f.1 × IsSoundPeriod f.0) {x = made} (ok_is made found c.rest) (joined (joined a.stands b.stands) c.stands, (a.fits, b.fits));
+  again = λ rec at x next le p fits.
+      let c = apart rec at (optional_bytes moment_bytes x.start ++ optional_bytes moment_bytes x.end) (flag_bytes x.include) next le p in
+      let b = apart rec at (optional_bytes moment_bytes x.start) (optional_bytes moment_bytes x.end) c.mid le c.first in
+      rw (optional_moment.again rec at x.start b.mid le b.first fits.0, optional_moment.again rec b.mid x.end c.mid b.first.within b.second fits.1, flag_field.again rec c.mid x.include next c.first.within c.second tt) refl;
+}

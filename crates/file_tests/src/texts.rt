@@ -1,0 +1,114 @@
+//! Texts and uids at their edges, and a copied file.
+
+use ofx_types::{
+    AcctKind, AcctName, Ask, Duplicate, FileUid, Lines, Period, RequestFile, Sequence, Text,
+    TextFault, TrnUid,
+};
+use std::alloc::Global;
+use std::test::Fail;
+
+fn text(alloc: Global, bytes: &[u8]) -> Result<Text, Fail> {
+    Ok(Text::new(alloc, bytes, 32)?)
+}
+
+/// The copy outlives its text.
+#[test]
+fn texts_are_trimmed(rt: HostRuntime) -> Result<(), Fail> {
+    for (bytes, wanted) in [
+        (b" \t\r\nal ice\n ".as_slice(), b"al ice".as_slice()),
+        (b" \r\n".as_slice(), b"".as_slice()),
+    ] {
+        let copy = text(rt.alloc(), bytes)?.copy()?;
+        assert_eq!(rt; copy.as_bytes(), wanted);
+        assert!(rt; copy == text(rt.alloc(), wanted)?);
+    }
+    Ok(())
+}
+
+/// Bytes, the most that a text may have, and its fault. Length comes first.
+const NO_TEXTS: &[(&[u8], u32, TextFault)] = &[
+    (b"four5", 4, TextFault::TooLong(5)),
+    (b" a\x01bcd ", 3, TextFault::TooLong(5)),
+    (b" a\x01b", 3, TextFault::BadByte(1)),
+    (b"\0", 3, TextFault::BadByte(0)),
+];
+
+#[test]
+fn texts_have_a_limit_and_no_control_bytes(rt: HostRuntime) {
+    for (bytes, most, fault) in NO_TEXTS.iter() {
+        assert!(rt; Text::new(rt.alloc(), bytes, *most).err() == Some(*fault));
+    }
+}
+
+/// The letters and digits, which are 36 bytes.
+const LONGEST: &[u8] = b"abcdefghijklmnopqrstuvwxyz0123456789";
+
+/// Bytes, and the faults of a TRNUID and of a file's uid.
+const UIDS: &[(&[u8], Option<TextFault>, Option<TextFault>)] = &[
+    (LONGEST, None, None),
+    (
+        b"abcdefghijklmnopqrstuvwxyz0123456789+",
+        Some(TextFault::TooLong(37)),
+        Some(TextFault::TooLong(37)),
+    ),
+    (b" ", Some(TextFault::Empty), Some(TextFault::Empty)),
+    (b" NONE ", None, Some(TextFault::Empty)),
+    (b"none", None, None),
+    (b"a\tb", None, Some(TextFault::BadByte(1))),
+];
+
+#[test]
+fn uids_have_1_to_36_bytes(rt: HostRuntime) -> Result<(), Fail> {
+    for (bytes, of_transaction, of_file) in UIDS.iter() {
+        assert!(rt; TrnUid::new(bytes).err() == *of_transaction);
+        assert!(rt; FileUid::new(bytes).err() == *of_file);
+    }
+    let own = TrnUid::new(LONGEST).ok().ok_or("36 bytes are a uid")?;
+    assert_eq!(rt; own.copy()?.as_bytes(), LONGEST);
+    let file = FileUid::new(b" none\t")
+        .ok()
+        .ok_or("small letters are a uid")?;
+    assert_eq!(rt; file.copy()?.as_bytes(), b"none".as_slice());
+    Ok(())
+}
+
+fn statement(alloc: Global) -> Result<Ask, Fail> {
+    let account = AcctName {
+        bank: text(alloc, b"121099999")?,
+        number: text(alloc, b"1001")?,
+        kind: AcctKind::Checking,
+    };
+    let period = Period {
+        start: None,
+        end: None,
+        include: true,
+    };
+    let trnuid = TrnUid::new(b"s1").ok().ok_or("a uid")?;
+    Ok(Ask::Statement(trnuid, account, Some(period)))
+}
+
+#[test]
+fn a_request_file_is_copied(rt: HostRuntime) -> Result<(), Fail> {
+    let alloc = rt.alloc();
+    let mut asks = Sequence::new(alloc);
+    asks.push(statement(alloc)?)?;
+    let file = RequestFile {
+        version: 160,
+        older: None,
+        newer: FileUid::new(b"u1").ok(),
+        user: text(alloc, b"alice")?,
+        pass: text(alloc, b"secret")?,
+        asks,
+    };
+    let copy = file.copy()?;
+    assert_eq!(rt; copy.version, 160);
+    assert!(rt; copy.user == file.user);
+    let [Ask::Statement(trnuid, account, Some(_))] = copy.asks.items() else {
+        return Err("a statement".into());
+    };
+    assert_eq!(rt; trnuid.as_bytes(), b"s1".as_slice());
+    assert_eq!(rt; account.number.as_bytes(), b"1001".as_slice());
+    let none: Lines = Sequence::new(alloc);
+    assert!(rt; none.into_vec().is_empty());
+    Ok(())
+}

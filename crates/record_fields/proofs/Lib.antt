@@ -1,0 +1,5 @@
+pub mod Steps
+pub mod NumberLaws
+pub mod BoundedLaws
+pub mod TextLaws
+pub mod PartLaws

@@ -1,0 +1,27 @@
+-- How the answers of calls stand to what reading gives.
+use Rattle.std.specs.Prelude.{◌≡◌, ℕ, Result, Ok, Err}
+use Rattle.record_fields.specs.declared.fault.RecordFault.{RecordFault}
+use Rattle.record_fields.specs.declared.fault.RecordFault.TheVariants as faults
+
+-- A refusal is the place of the first field without a form, unless memory was refused.
+abbrev pub Fails : {A : Type 0} → RecordFault → Result A ℕ → Type 0
+Fails (faults.Version n) read = ⊥
+Fails (faults.Bad at) read = read ≡ Err at
+Fails faults.OutOfMemory read = Unit {0}
+
+-- A call answers what reading gives.
+abbrev pub Gives : {A : Type 0} → Result A RecordFault → Result A ℕ → Type 0
+Gives (Ok x) read = read ≡ Ok x
+Gives (Err fault) read = Fails fault read
+
+-- The same of a call whose value is seen by a view.
+abbrev pub GivesBy : {A B : Type 0} → (A → B) → Result A RecordFault → Result B ℕ → Type 0
+GivesBy view (Ok x) read = read ≡ Ok (view x)
+GivesBy view (Err fault) read = Fails fault read
+
+-- The same of a whole record.
+abbrev pub GivesWhole : {A : Type 0} → Result A RecordFault → Result A RecordFault → Type 0
+GivesWhole (Ok x) read = read ≡ Ok x
+GivesWhole (Err (faults.Version n)) read = read ≡ Err (faults.Version n)
+GivesWhole (Err (faults.Bad at)) read = read ≡ Err (faults.Bad at)
+GivesWhole (Err faults.OutOfMemory) read = Unit {0}

@@ -1,0 +1,6 @@
+pub mod FieldCoding
+pub mod FieldTexts
+pub mod FieldReading
+pub mod PartReading
+pub mod Answers
+pub mod Standing

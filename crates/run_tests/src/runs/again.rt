@@ -1,0 +1,56 @@
+//! A file with a name that comes again in a later run.
+
+use super::written_over;
+use crate::sample::{reply_with, request_with};
+use crate::transfer::{PAID, POSTED, SOURCE_BALANCE, TRANSFER};
+use ofx_ports::{MemClock, MemKeeper};
+use ofx_types::Moment;
+use std::test::Fail;
+
+/// The name of a file.
+pub const NAMED: (&str, &str) = ("NEWFILEUID:NONE", "NEWFILEUID:week");
+
+/// What the first reply to the named file with the transfer tells.
+const FIRST: [(&str, &str); 5] = [NAMED, POSTED, PAID, SOURCE_BALANCE, SOURCE_BALANCE];
+
+/// 31 January 2024 at 12:00:00, and twice an hour later.
+const AN_HOUR_APART: [Moment; 3] = [
+    Moment(1_706_702_400),
+    Moment(1_706_706_000),
+    Moment(1_706_706_000),
+];
+
+/// The moment an hour later.
+const AT_ONE: (&str, &str) = ("20240131120000", "20240131130000");
+
+/// What the plain file is told an hour later. The sample's reply tells its moment four times.
+const LATER: [(&str, &str); 7] = [
+    AT_ONE,
+    AT_ONE,
+    AT_ONE,
+    AT_ONE,
+    PAID,
+    SOURCE_BALANCE,
+    SOURCE_BALANCE,
+];
+
+/// An hour later, in another run over the same records, its reply still has the first moment. The transfer is posted once,
+/// which the statement of a third run shows.
+#[test]
+fn a_named_file_that_comes_again_is_answered_by_the_same_bytes(
+    rt: HostRuntime,
+) -> Result<(), Fail> {
+    let alloc = rt.alloc();
+    let named = request_with(alloc, &[NAMED, TRANSFER])?;
+    let plain = request_with(alloc, &[])?;
+    let mut clock = MemClock::new(alloc, &AN_HOUR_APART)?;
+    let mut keeper = MemKeeper::new(alloc);
+    let first = written_over(alloc, &[&named], &mut keeper, &mut clock)?;
+    let again = written_over(alloc, &[&named], &mut keeper, &mut clock)?;
+    assert_eq!(rt; first, reply_with(alloc, &FIRST)?);
+    assert_eq!(rt; again, first);
+    assert_eq!(rt; keeper.record_count(), 2);
+    let last = written_over(alloc, &[&plain], &mut keeper, &mut clock)?;
+    assert_eq!(rt; last, reply_with(alloc, &LATER)?);
+    Ok(())
+}

@@ -1,0 +1,84 @@
+//! What is due on a later day: the frame `DUE` among files.
+
+mod closing;
+
+use super::written_by_clock;
+use crate::sample::request_with;
+use crate::transfer::TRANSFER;
+use ofx_ports::MemClock;
+use ofx_types::Moment;
+use std::test::Fail;
+
+/// 31 January 2024 at 12:00:00.
+pub const NOON: Moment = Moment(1_706_702_400);
+
+/// 1 February 2024 at 00:00:05.
+pub const NEXT_DAY: Moment = Moment(1_706_745_605);
+
+/// A transfer of 10.00 out of 1001, which has 100.00, in front of the statement request. It is due on 1 February.
+const WAITING: [(&str, &str); 2] = [TRANSFER, DUE_LATER];
+
+pub const DUE_LATER: (&str, &str) = (
+    "<TRNAMT>10.00\r\n",
+    "<TRNAMT>10.00\r\n<DTDUE>20240201000000\r\n",
+);
+
+/// A transfer of 10.00 every month, the first on 1 February.
+const MONTHLY: [(&str, &str); 4] = [
+    TRANSFER,
+    DUE_LATER,
+    (
+        "<INTRATRNRQ>\r\n<TRNUID>t1\r\n",
+        "<RECINTRATRNRQ>\r\n<TRNUID>t1\r\n<RECINTRARQ>\r\n<RECURRINST>\r\n<FREQ>MONTHLY\r\n</RECURRINST>\r\n",
+    ),
+    (
+        "</INTRARQ>\r\n</INTRATRNRQ>",
+        "</INTRARQ>\r\n</RECINTRARQ>\r\n</RECINTRATRNRQ>",
+    ),
+];
+
+/// What stands before the lines of the due runs, and what behind them.
+fn parted<'a>(written: &'a str, lines: &str) -> (&'a str, &'a str) {
+    written.split_once(lines).unwrap_or((written, ""))
+}
+
+#[test]
+fn a_transfer_is_posted_on_its_day(rt: HostRuntime) -> Result<(), Fail> {
+    let alloc = rt.alloc();
+    let asked = request_with(alloc, &WAITING)?;
+    let plain = request_with(alloc, &[])?;
+    let mut clock = MemClock::new(alloc, &[NOON, NEXT_DAY])?;
+    let written = written_by_clock(alloc, &[&asked, "DUE\n", &plain], &mut clock)?;
+    let (before, behind) = parted(&written, "</OFX>\r\nDUE 1\nFILE ");
+    assert!(rt; before.contains("<BALAMT>100.00\r\n"));
+    assert!(rt; behind.contains("<BALAMT>90.00\r\n"));
+    Ok(())
+}
+
+/// The business day doesn't go back with the clock.
+#[test]
+fn a_transfer_is_posted_while_the_clock_goes_back(rt: HostRuntime) -> Result<(), Fail> {
+    let alloc = rt.alloc();
+    let asked = request_with(alloc, &WAITING)?;
+    let plain = request_with(alloc, &[])?;
+    let mut clock = MemClock::new(alloc, &[NOON, NEXT_DAY, NOON])?;
+    let written = written_by_clock(alloc, &[&asked, &plain, "DUE\n", &plain], &mut clock)?;
+    let (before, behind) = parted(&written, "</OFX>\r\nDUE 1\nFILE ");
+    assert!(rt; before.contains("<DTSERVER>20240201000005\r\n"));
+    assert!(rt; behind.contains("<BALAMT>90.00\r\n"));
+    Ok(())
+}
+
+/// It is made on 31 January, and posted on 1 February. The next is too far ahead.
+#[test]
+fn a_recurring_transfer_is_made_and_posted(rt: HostRuntime) -> Result<(), Fail> {
+    let alloc = rt.alloc();
+    let asked = request_with(alloc, &MONTHLY)?;
+    let plain = request_with(alloc, &[])?;
+    let mut clock = MemClock::new(alloc, &[NOON, NOON, NEXT_DAY])?;
+    let written = written_by_clock(alloc, &[&asked, "DUE\nDUE\nDUE\n", &plain], &mut clock)?;
+    let (before, behind) = parted(&written, "</OFX>\r\nDUE 1\nDUE 1\nDUE 0\nFILE ");
+    assert!(rt; before.contains("<BALAMT>100.00\r\n"));
+    assert!(rt; behind.contains("<BALAMT>90.00\r\n"));
+    Ok(())
+}
