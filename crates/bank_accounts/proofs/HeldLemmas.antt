@@ -14,7 +14,7 @@ use Rattle.bank_accounts.specs.BalancesView.{amount_given}
 use Rattle.bank_accounts.specs.declared.balances.Balance.{Balance}
 use Rattle.bank_accounts.specs.HeldAccounts.{NumbersRise, balance_held, IsHeld, with_amount, settled}
 
-abbrev number_of : AccountView → AcctId
+abbrev pub number_of : AccountView → AcctId
 number_of account = account.number
 
 abbrev amount_of : AccountView → Cents

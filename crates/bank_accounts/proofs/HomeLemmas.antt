@@ -1,7 +1,7 @@
 -- Accounts that are lent, one after another, and come back.
-use Rattle.std.proofs.Common.{◌≡◌, ℕ, false, Result, Ok, Err, zero, suc, ◌+◌, ◌<◌, ◌≤◌, ◌⊎◌, inl, inr, pos, List, [], ◌∷◌, ◌++◌, length, length-append, Option, None, Some, map, take, drop, reverse, set, get_or, refl, ap, ◌∙◌, sym, subst, arith}
+use Rattle.std.proofs.Common.{◌≡◌, ℕ, false, Result, Ok, Err, zero, suc, ◌+◌, ◌<◌, ◌≤◌, ◌⊎◌, inl, inr, pos, List, [], ◌∷◌, ◌++◌, length, length-append, Option, None, Some, map, take, drop, set, get_or, refl, ap, ◌∙◌, sym, subst, arith}
 use Rattle.std.proofs.lemmas.Bool.{cases_eq}
-use Rattle.std.proofs.lemmas.List.{append_assoc, map-append, take-append-drop, take-map, take_more, reverse-append, get_or-map, get_or_at, get_or_append_left, get_or-set_same, get_or-set_other, get_or_past, length-set, length-map, ext_get_or}
+use Rattle.std.proofs.lemmas.List.{append_assoc, map-append, take-append-drop, take-map, take_more, get_or-map, get_or_at, get_or_append_left, get_or-set_same, get_or-set_other, get_or_past, length-set, length-map, ext_get_or}
 use Rattle.std.proofs.lemmas.List.Elements.{All-nil, All-push, All-pop, Contains-append_left, Contains-append_cases, Contains-push}
 use Rattle.std.specs.List.{All, Contains}
 use Rattle.std.specs.List.Sorted.{IsStrictlyIncreasing}
@@ -11,10 +11,7 @@ use Rattle.ofx_types.specs.declared.number.AcctId.{AcctId}
 use Rattle.bank_accounts.specs.AccountView.{AccountView}
 use Rattle.bank_accounts.specs.HeldAccounts.{NumbersRise, IsHeld}
 use Rattle.bank_accounts.specs.AtHome.{at_home, AreUnderNumbers, AreAllHome, AreNumbered, IsLentOrHome, AreLent}
-use Rattle.bank_accounts.proofs.HeldLemmas.{rising_front}
-
-abbrev number_of : AccountView → AcctId
-number_of account = account.number
+use Rattle.bank_accounts.proofs.HeldLemmas.{number_of, rising_front}
 
 abbrev rank : AcctId → ℕ
 rank number = number.0
@@ -230,21 +227,6 @@ lent_next all places held held' numbers i number before home known rising within
         }
 
 -- ---- a row of accounts as places, and back
-
-pub row_step : (all : List (Option AccountView)) (xs ys : List AccountView) (places : List (Option AccountView)) (account : AccountView) → all ≡ map Some xs ++ reverse places → xs ≡ ys ++ account ∷ [] → all ≡ map Some ys ++ reverse (places ++ Some account ∷ [])
-row_step all xs ys places account is last =
-    is
-    ∙ ap (λ (zs : List AccountView). map Some zs ++ reverse places) last
-    ∙ ap (λ (front : List (Option AccountView)). front ++ reverse places) (map-append Some ys (account ∷ []))
-    ∙ append_assoc (map Some ys) (Some account ∷ []) (reverse places)
-    ∙ ap (λ (rest : List (Option AccountView)). map Some ys ++ rest) (sym (reverse-append places (Some account ∷ [])))
-
-pub places_step : (all places front : List (Option AccountView)) (accounts : List AccountView) (account : AccountView) → all ≡ places ++ map Some (reverse accounts) → places ≡ front ++ Some account ∷ [] → all ≡ front ++ map Some (reverse (accounts ++ account ∷ []))
-places_step all places front accounts account is last =
-    is
-    ∙ ap (λ (ps : List (Option AccountView)). ps ++ map Some (reverse accounts)) last
-    ∙ append_assoc front (Some account ∷ []) (map Some (reverse accounts))
-    ∙ ap (λ (rest : List AccountView). front ++ map Some rest) (sym (reverse-append accounts (account ∷ [])))
 
 -- a place is never empty where all are at home
 pub no_empty_place : (all places front : List (Option AccountView)) (rest : List (Option AccountView)) → AreAllHome all → all ≡ places ++ rest → places ≡ front ++ None ∷ [] → ⊥

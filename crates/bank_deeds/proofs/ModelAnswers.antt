@@ -16,7 +16,7 @@ use Rattle.bank_model.specs.declared.setup.Setup.{Setup}
 use Rattle.bank_model.specs.declared.event.State.{State}
 use Rattle.bank_model.specs.SetupLookups.{account_of}
 use Rattle.bank_model.specs.Models.{model_of}
-use Rattle.bank_model.specs.Deeds.{judged, changed_model, model_object_of, model_entries_on, first_change}
+use Rattle.bank_model.specs.Deeds.{judged, changed_model, model_object_of, model_entries_on}
 use Rattle.bank_model.specs.Sound.{IsSoundDeed}
 use Rattle.bank_model.proofs.SetupWords.{some_is}
 use Rattle.bank_ledger.specs.declared.row_change.RowChange.TheVariants.{NoModel}
@@ -45,7 +45,6 @@ change_from setup S user only id recur info also row none is =
 pub record IsSetModelEntry (setup : Setup) (S : State) (trnuid : List ℕ) (id : ℕ) (recur : Recur) (info : XferInfo) (also : Bool) (number : ℕ) (object : ObjectId) (uid : List ℕ) (row told : ModelRow) : Type 0 where
   pub next : IsNext setup S (entry_of number object uid (SetModel told also))
   pub gives : GivesRows S.entries (SetModel told also) (changes.Model row)
-  pub first : first_change (own_entries setup S trnuid (ModifyModel id recur info also)) ≡ Some (SetModel told also)
   pub entries : entry_of number object uid (SetModel told also) ∷ [] ≡ own_entries setup S trnuid (ModifyModel id recur info also)
 
 pub IsSetModelEntry-of : (setup : Setup) (S : State) (user : UserId) (only : Option AcctId) (trnuid : List ℕ) (id : ℕ) (recur : Recur) (info : XferInfo) (also : Bool) (number : ℕ) (object : ObjectId) (uid : List ℕ) (row told : ModelRow) → IsSoundState setup S → IsSoundDeed (ModifyModel id recur info also) → judged setup S user only (ModifyModel id recur info also) ≡ 0 → number ≡ length S.entries + 1 → object ≡ model_object_of setup row.from → uid ≡ trnuid → option_map (changed_model S.day recur info) (model_of id S.entries) ≡ Some row → told ≡ row → IsSetModelEntry setup S trnuid id recur info also number object uid row told
@@ -62,7 +61,6 @@ IsSetModelEntry-of setup S user only trnuid id recur info also number object uid
     record {
       next = next;
       gives = set_model_gives S told row also next.lawful is_told;
-      first = ap first_change (sym entries);
       entries = entries;
     }
 

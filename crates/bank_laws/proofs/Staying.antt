@@ -10,7 +10,6 @@ use Rattle.bank_model.specs.Stores.{Store}
 use Rattle.bank_laws.specs.Folding.{IsFolded}
 use Rattle.bank_laws.specs.Histories.{AllFollow, IsInOrder, IsLater}
 use Rattle.bank_laws.specs.Told.{empty_store}
-use Rattle.bank_laws.proofs.Events.{Grows}
 use Rattle.bank_laws.proofs.Numbers.{newest_few, newest_grows, rows_at_first, rows_stay}
 
 pub empty_right : (setup : Setup) (S : State) (name : ObjectName) (object : ObjectId) → IsInOrder setup S → IsFolded (empty_store name) object S.entries
@@ -28,6 +27,3 @@ pub stays_later : (setup : Setup) (S T : State) (store : Store) (object : Object
 stays_later setup S T store object sound next later right =
     subst (IsFolded store object) (sym later.1)
     (right_longer setup store object S.entries later.0 sound.follow (subst (AllFollow setup []) later.1 next.follow) right)
-
-pub stays_grown : (setup : Setup) (S T : State) (store : Store) (object : ObjectId) → Grows setup S T → IsInOrder setup S → IsFolded store object S.entries → IsFolded store object T.entries
-stays_grown setup S T store object grows sound right = stays_later setup S T store object sound (grows.order sound) grows.later right

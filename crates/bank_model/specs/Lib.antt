@@ -21,3 +21,5 @@ pub mod Directory
 pub mod SetupKeys
 pub mod Naming
 pub mod Events
+pub mod Log
+pub mod LegalLog

@@ -39,7 +39,7 @@ use Rattle.bank_model.specs.Deeds.{deed_answer, next_entry, mail_object}
 use Rattle.bank_model.specs.Sync.{sync_answer}
 use Rattle.bank_model.specs.Polls.{is_poll}
 use Rattle.bank_model.specs.Due.{Task, has_number, last_day, may_post, posts, may_spawn, spawns, first_task, to_make, to_post}
-use Rattle.bank_model.specs.Sound.{IsSound, HasLength}
+use Rattle.bank_model.specs.Sound.{IsSound, IsTextWithin}
 
 -- A bank opens with no history. The business day begins at 1 January 1900.
 abbrev pub opening_state : State
@@ -217,7 +217,7 @@ IsLegal setup S at (File user file) = (user.0 < length setup.users) × IsSound f
 IsLegal setup S at (Post id) = may_post setup (raised S at) (row_of id S.entries) ≡ true
 IsLegal setup S at (Spawn id place) = may_spawn setup (raised S at) id place ≡ true
 IsLegal setup S at (Letter user subject body) =
-    (user.0 < length setup.users) × HasLength 64 subject × HasLength 10000 body × (has_number setup (raised S at) ≡ true)
+    (user.0 < length setup.users) × IsTextWithin 64 subject × IsTextWithin 10000 body × (has_number setup (raised S at) ≡ true)
 
 -- ---- which event the bank makes next by itself
 

@@ -3,6 +3,7 @@ use Rattle.std.specs.Prelude.{◌≡◌, ◌≢◌, ℕ, ◌<◌, ◌≤◌, ◌
 use Rattle.std.specs.Option.{IfSome}
 use Rattle.std.specs.List.{AllByRecursion}
 use Rattle.ofx_types.specs.Calendar.{IsMoment, IsDay}
+use Rattle.ofx_types.specs.TextRules.{IsText, IsTrnUid, IsFileUid}
 use Rattle.ofx_types.specs.DeedForm.{family_of}
 use Rattle.ofx_types.specs.SyncForm.{object_family}
 use Rattle.ofx_types.specs.PrintedFile.{is_mail_ask}
@@ -26,11 +27,17 @@ use Rattle.ofx_types.specs.declared.request.Ask.TheVariants.{Statement, One, Syn
 use Rattle.ofx_types.specs.declared.request.RequestFile.{RequestFile}
 
 -- a text of 1 byte up to the limit
-abbrev pub HasLength : ℕ → List ℕ → Type 0
-HasLength most text = (0 < length text) × (length text ≤ most)
+pub record IsTextWithin (most : ℕ) (text : List ℕ) : Type 0 where
+  pub is_text : IsText text
+  pub is_there : 0 < length text
+  pub is_within : length text ≤ most
+
+-- A client's TRNUID isn't `0`, which marks what the bank does by itself.
+abbrev pub IsClientUid : List ℕ → Type 0
+IsClientUid trnuid = (trnuid ≢ codes "0") × IsTrnUid trnuid
 
 abbrev pub IsSoundAccount : AcctName → Type 0
-IsSoundAccount account = HasLength 32 account.bank × HasLength 32 account.number
+IsSoundAccount account = IsTextWithin 32 account.bank × IsTextWithin 32 account.number
 
 -- Both moments lie in the years 1900 to 9999.
 abbrev pub IsSoundPeriod : Period → Type 0
@@ -51,13 +58,13 @@ IsId id = id ≤ 9999999999
 abbrev pub IsSoundRecur : Recur → Type 0
 IsSoundRecur recur = IfSome recur.count (λ (count : ℕ). (0 < count) × (count ≤ 999))
 
--- The texts of a mail aren't empty, and it was written in the years 1900 to 9999.
+-- A mail was written in the years 1900 to 9999.
 pub record IsSoundMail (mail : MailText) : Type 0 where
   pub created : IsMoment mail.created.0
-  pub sender : HasLength 32 mail.sender
-  pub target : HasLength 32 mail.target
-  pub subject : HasLength 64 mail.subject
-  pub body : HasLength 10000 mail.body
+  pub sender : IsTextWithin 32 mail.sender
+  pub target : IsTextWithin 32 mail.target
+  pub subject : IsTextWithin 64 mail.subject
+  pub body : IsTextWithin 10000 mail.body
 
 abbrev pub IsSoundDeed : Deed → Type 0
 IsSoundDeed (Transfer info) = IsSoundInfo info
@@ -77,12 +84,12 @@ IsSoundObject (objects.BankMail account) = IsSoundAccount account
 IsSoundObject objects.Mail = Unit {0}
 
 abbrev pub IsSoundKind : SyncKind → Type 0
-IsSoundKind (After token) = HasLength 64 token
+IsSoundKind (After token) = IsTextWithin 64 token
 IsSoundKind TokenOnly = Unit {0}
 IsSoundKind Refresh = Unit {0}
 
 abbrev pub IsSoundPair : Family → List ℕ × Deed → Type 0
-IsSoundPair family deed = (deed.0 ≢ codes "0") × IsSoundDeed deed.1 × (family_of deed.1 ≡ family)
+IsSoundPair family deed = IsClientUid deed.0 × IsSoundDeed deed.1 × (family_of deed.1 ≡ family)
 
 pub record IsSoundSync (ask : SyncAsk) : Type 0 where
   pub object : IsSoundObject ask.object
@@ -90,20 +97,22 @@ pub record IsSoundSync (ask : SyncAsk) : Type 0 where
   pub few : length ask.deeds ≤ 65535
   pub deeds : AllByRecursion (IsSoundPair (object_family ask.object)) ask.deeds
 
--- No TRNUID is `0`, which marks what the bank does by itself.
 abbrev pub IsSoundAsk : Ask → Type 0
-IsSoundAsk (Statement trnuid account period) = (trnuid ≢ codes "0") × IsSoundAccount account × IfSome period IsSoundPeriod
-IsSoundAsk (One trnuid deed) = (trnuid ≢ codes "0") × IsSoundDeed deed
+IsSoundAsk (Statement trnuid account period) = IsClientUid trnuid × IsSoundAccount account × IfSome period IsSoundPeriod
+IsSoundAsk (One trnuid deed) = IsClientUid trnuid × IsSoundDeed deed
 IsSoundAsk (Sync ask) = IsSoundSync ask
 
 -- the versions of the header
 abbrev pub IsVersion : ℕ → Type 0
 IsVersion version = (version ≡ 102) ⊎ ((version ≡ 103) ⊎ ((version ≡ 151) ⊎ (version ≡ 160)))
 
--- A file is sound where all its values are within their bounds, and what the bank is asked stands before mail. The user's name and password aren't looked at, since
--- a file that has become an event doesn't need them.
+-- A file is sound where its texts and uids are such as `Text::new`, `TrnUid::new` and `FileUid::new` give, all its values are
+-- within their bounds, and what the bank is asked stands before mail. The user's name and password aren't looked at, since a
+-- file that has become an event doesn't need them.
 pub record IsSound (file : RequestFile) : Type 0 where
   pub version : IsVersion file.version
+  pub older : IfSome file.older IsFileUid
+  pub newer : IfSome file.newer IsFileUid
   pub few : length file.asks ≤ 65535
   pub bank_first : file.asks ≡ filter (λ (ask : Ask). not (is_mail_ask ask)) file.asks ++ filter is_mail_ask file.asks
   pub asks : AllByRecursion IsSoundAsk file.asks

@@ -59,9 +59,6 @@ unfolding day_number
 reads date v =
     cond-true _ _ _ (is_civil_from date.year date.month date.day v) ∙ ap Some (sym (day_on_is date v.low v.day_in.0))
 
-pub day_on_in_calendar : (date : CivilDate) → Valid date.year date.month date.day → IsDay (day_on date)
-day_on_in_calendar date v = (number_takes date.year date.month date.day (day_on date) (reads date v)).0
-
 pub civil_of-day_on : (date : CivilDate) → is_civil date.year date.month date.day ≡ true → civil_of (day_on date) ≡ date
 civil_of-day_on date e =
     let is = number_takes date.year date.month date.day (day_on date) (reads date (is_civil_valid _ _ _ e)) in
@@ -73,12 +70,7 @@ pub record IsLate (date : CivilDate) : Type 0 where
   pub month_in : IsInRange 1 12 date.month
   pub day_in : IsInRange 1 (days_of_month date.year date.month) date.day
 
--- its day lies in the calendar up to the year 9999
-pub late_in_calendar : (date : CivilDate) → IsLate date → date.year ≤ 9999 → IsDay (day_on date)
-late_in_calendar date late high =
-    day_on_in_calendar date (record { low = late.low; high = high; month_in = late.month_in; day_in = late.day_in })
-
--- and behind it from the year 10000 on
+-- from the year 10000 on its day is after the calendar
 pub late_past_end : (date : CivilDate) → IsLate date → 9999 < date.year → pos 2932896 <ℤ day_on date
 late_past_end date late high =
     let first = day_count-day_of_year (pos date.year) date.month date.day late.day_in.0 in

@@ -90,6 +90,23 @@ now_set id at one new series is_there same other = named (eqb id other) refl
     named true e = subst (λ (n : ℕ). series_found n (set series at new) ≡ Some new) (eqb-true id other e) (find-set (is_named id) series at new is_there.place is_there.within (eq-eqb new.row.id id same))
     named false e = find_past (is_named other) series at new one (ap (λ (o : Series). eqb o.row.id other) is_there.element ∙ ap (λ n. eqb n other) (found_id id one series is_there.found) ∙ e) (ap (λ n. eqb n other) same ∙ e)
 
+-- the one of that id is the new one
+now_found : (id : ℕ) (one : Series) (old new : List Series) → IsNow id one old new → series_found id new ≡ Some one
+now_found id one old new now = now id ∙ ap (λ (b : Bool). cond b (Some one) (series_found id old)) (eq-eqb id id refl)
+
+-- The recurring transfer has this row, and its next one is at the place 0.
+abbrev pub BeginsSo : ModelRow → List Series → Type 0
+BeginsSo row series = (row_found row.id series ≡ Some row) × (place_found row.id series ≡ 0)
+
+begins : (row : ModelRow) (cancelled : Bool) (series : List Series) → series_found row.id series ≡ Some (record { row = row; cancelled = cancelled; place = 0 }) → BeginsSo row series
+begins row cancelled series found = (ap (option_map (λ (one : Series). one.row)) found, ap place_in_series found)
+
+pub begins_set : (series new : List Series) (at : ℕ) (held : Series) (row : ModelRow) → IsAt row.id at held series
+    → new ≡ set series at (record { row = row; cancelled = held.cancelled; place = 0 }) → BeginsSo row new
+begins_set series new at held row there same =
+    let one : Series = record { row = row; cancelled = held.cancelled; place = 0 } in
+    subst (BeginsSo row) (sym same) (begins row held.cancelled (set series at one) (now_found row.id one series (set series at one) (now_set row.id at held one series there refl)))
+
 pub ids_set : (id at : ℕ) (one new : Series) (series : List Series) → IsAt id at one series → new.row.id ≡ id → ids_of (set series at new) ≡ ids_of series
 ids_set id at one new series is_there same =
     map-set_same (λ (o : Series). o.row.id) series at new one (same ∙ sym (found_id id one series is_there.found) ∙ sym (ap (λ (o : Series). o.row.id) is_there.element))
@@ -116,6 +133,12 @@ now_pushed new series none other = find-append (is_named other) series (new ∷ 
         alone : (found : Option Series) → option_or found None ≡ found
         alone None = refl
         alone (Some one) = refl
+
+pub begins_pushed : (series new : List Series) (row : ModelRow) → series_found row.id series ≡ None
+    → new ≡ series ++ record { row = row; cancelled = false; place = 0 } ∷ [] → BeginsSo row new
+begins_pushed series new row none same =
+    let one : Series = record { row = row; cancelled = false; place = 0 } in
+    subst (BeginsSo row) (sym same) (begins row false (series ++ one ∷ []) (now_found row.id one series (series ++ one ∷ []) (now_pushed one series none)))
 
 apart_pushed : (x new : Series) (series : List Series) → eqb x.row.id new.row.id ≡ false → AllByRecursion (λ id. eqb x.row.id id ≡ false) (ids_of series) → AllByRecursion (λ id. eqb x.row.id id ≡ false) (ids_of (series ++ new ∷ []))
 apart_pushed x new [] apart all = (apart, tt)

@@ -1,6 +1,6 @@
 //! The rows of a bank's recurring transfers, with how many transfers each has made.
 
-ghost use Rattle.std.specs.Prelude.{◌≡◌, ◌+◌, ◌<◌, ◌≤◌, ◌∷◌, ◌++◌, [], List, ◌==◌, is_some, true, OnOk};
+ghost use Rattle.std.specs.Prelude.{◌≡◌, ◌+◌, ◌<◌, ◌≤◌, ◌∷◌, ◌++◌, [], List, ◌==◌, Some, is_some, true, OnOk};
 ghost use Rattle.std.specs.Option.{option_copied, option_map};
 ghost use Rattle.std.specs.List.{find, position};
 ghost use Rattle.ofx_types.specs.Calendar.{IsDay};
@@ -103,6 +103,8 @@ impl Models {
         ensures stands { (entries : List Entry) (entry : Entry) → StandsFor self.old entries
             → GivesModel entries entry.change row
             → StandsFor self.new (entries ++ entry ∷ []) }
+        ensures row { row_found row.id self.new.series ≡ Some row }
+        ensures place { place_found row.id self.new.series ≡ 0 }
         ensures room { self.old.room ≤ self.new.room + 1 }
     {
         match place_of(&self.series, row.id) {

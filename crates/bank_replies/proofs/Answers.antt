@@ -27,7 +27,6 @@ use Rattle.bank_rules.proofs.Lists.{all_append}
 use Rattle.bank_rules.proofs.StateLemmas.{IsAllowed-from_code}
 use Rattle.msg_parts.specs.SoundParts.{IsTextWithin, mail_family, family_of_change}
 use Rattle.msg_sync.specs.SoundSyncs.{IsSoundAnswer, IsSoundToldIn}
-use Rattle.bank_replies.specs.Texts.{HasDeedTexts, HasPairTexts}
 use Rattle.bank_replies.specs.Telling.{IsToldChange, IsToldEntry, IsTellable}
 use Rattle.bank_replies.proofs.Values.{uid_within}
 use Rattle.bank_replies.proofs.Verdicts.{code_short}
@@ -78,10 +77,10 @@ tellable_by setup S T more grows are told same tellable = record {
 pub may_still : (setup : Setup) (S T : State) (user : UserId) (at : Moment) → MayAsk setup S user at → IsTellable setup T → MayAsk setup T user at
 may_still setup S T user at may tellable = record { within = may.within; tellable = tellable; moment = may.moment; known = may.known }
 
-allowed_begins : (setup : Setup) (S : State) (user : UserId) (only : Option AcctId) (at : Moment) (trnuid : List ℕ) (deed : Deed) → MayAsk setup S user at → file.IsSoundDeed deed → HasDeedTexts deed → IsTextWithin 36 trnuid → code_of setup S user only at trnuid deed ≡ 0 → Begins setup (family_of deed) (done setup S user at trnuid deed)
-allowed_begins setup S user only at trnuid deed may sound texts uid none =
+allowed_begins : (setup : Setup) (S : State) (user : UserId) (only : Option AcctId) (at : Moment) (trnuid : List ℕ) (deed : Deed) → MayAsk setup S user at → file.IsSoundDeed deed → IsTextWithin 36 trnuid → code_of setup S user only at trnuid deed ≡ 0 → Begins setup (family_of deed) (done setup S user at trnuid deed)
+allowed_begins setup S user only at trnuid deed may sound uid none =
     let allowed = IsAllowed-from_code setup S user only at trnuid deed none in
-    done_begins setup S user only at trnuid deed may.within may.tellable may.moment may.known sound texts uid allowed.judged allowed.few
+    done_begins setup S user only at trnuid deed may.within may.tellable may.moment may.known sound uid allowed.judged allowed.few
 
 added_told : (setup : Setup) (S : State) (user : UserId) (at : Moment) (trnuid : List ℕ) (deed : Deed) (code : ℕ) → (code ≡ 0 → Begins setup (family_of deed) (done setup S user at trnuid deed)) → AllByRecursion (IsToldEntry setup) (added setup S user at trnuid deed code)
 added_told setup S user at trnuid deed code allowed = by_code (eqb code 0) refl
@@ -90,12 +89,12 @@ added_told setup S user at trnuid deed code allowed = by_code (eqb code 0) refl
     by_code true is = let here = allowed (eqb-true code 0 is) in subst (AllByRecursion (IsToldEntry setup)) (sym here.are) (here.first, here.more)
     by_code false is = tt
 
-pub tellable_deed : (setup : Setup) (S : State) (user : UserId) (only : Option AcctId) (at : Moment) (trnuid : List ℕ) (deed : Deed) → MayAsk setup S user at → file.IsSoundDeed deed → HasDeedTexts deed → IsTextWithin 36 trnuid → IsTellable setup (deed_answer setup S user only at trnuid deed).after
+pub tellable_deed : (setup : Setup) (S : State) (user : UserId) (only : Option AcctId) (at : Moment) (trnuid : List ℕ) (deed : Deed) → MayAsk setup S user at → file.IsSoundDeed deed → IsTextWithin 36 trnuid → IsTellable setup (deed_answer setup S user only at trnuid deed).after
 unfolding deed_answer
-tellable_deed setup S user only at trnuid deed may sound texts uid =
+tellable_deed setup S user only at trnuid deed may sound uid =
     let code : ℕ = code_of setup S user only at trnuid deed in
     tellable_by setup S (after_deed S user trnuid code (added setup S user at trnuid deed code)) (added setup S user at trnuid deed code) (grows_deed setup S user only at trnuid deed) refl
-    (added_told setup S user at trnuid deed code (allowed_begins setup S user only at trnuid deed may sound texts uid)) refl may.tellable
+    (added_told setup S user at trnuid deed code (allowed_begins setup S user only at trnuid deed may sound uid)) refl may.tellable
 
 deed_reply : (setup : Setup) (S : State) (user : UserId) (at : Moment) (trnuid : List ℕ) (deed : Deed) (code : ℕ) → IsTextWithin 36 trnuid → code ≤ 65535 → (code ≡ 0 → Begins setup (family_of deed) (done setup S user at trnuid deed)) → IsSoundAnswer (record { trnuid = trnuid; family = family_of deed; code = code; change = first_change (added setup S user at trnuid deed code) })
 deed_reply setup S user at trnuid deed code uid short allowed = by_code (eqb code 0) refl
@@ -112,26 +111,26 @@ deed_reply setup S user at trnuid deed code uid short allowed = by_code (eqb cod
     by_code false is = refused_sound trnuid (family_of deed) code uid (λ none. (let same : eqb code 0 ≡ true = eq-eqb code 0 none in cc)) short
 
 -- The answer to a deed is sound, and of the deed's family.
-pub deed_sound : (setup : Setup) (S : State) (user : UserId) (only : Option AcctId) (at : Moment) (trnuid : List ℕ) (deed : Deed) → MayAsk setup S user at → file.IsSoundDeed deed → HasDeedTexts deed → IsTextWithin 36 trnuid → IsSoundToldIn (family_of deed) (deed_answer setup S user only at trnuid deed).reply
+pub deed_sound : (setup : Setup) (S : State) (user : UserId) (only : Option AcctId) (at : Moment) (trnuid : List ℕ) (deed : Deed) → MayAsk setup S user at → file.IsSoundDeed deed → IsTextWithin 36 trnuid → IsSoundToldIn (family_of deed) (deed_answer setup S user only at trnuid deed).reply
 unfolding deed_answer
-deed_sound setup S user only at trnuid deed may sound texts uid =
+deed_sound setup S user only at trnuid deed may sound uid =
     let code : ℕ = code_of setup S user only at trnuid deed in
-    (deed_reply setup S user at trnuid deed code uid (code_short setup S user only at trnuid deed) (allowed_begins setup S user only at trnuid deed may sound texts uid), refl)
+    (deed_reply setup S user at trnuid deed code uid (code_short setup S user only at trnuid deed) (allowed_begins setup S user only at trnuid deed may sound uid), refl)
 
 -- ---- deeds one after another
 
-pub deeds_sound : (setup : Setup) (S : State) (user : UserId) (only : Option AcctId) (at : Moment) (family : Family) (deeds : List (List ℕ × Deed)) → MayAsk setup S user at → AllByRecursion (file.IsSoundPair family) deeds → AllByRecursion HasPairTexts deeds → AllByRecursion (IsSoundToldIn family) (deed_answers setup S user only at deeds).replies
+pub deeds_sound : (setup : Setup) (S : State) (user : UserId) (only : Option AcctId) (at : Moment) (family : Family) (deeds : List (List ℕ × Deed)) → MayAsk setup S user at → AllByRecursion (file.IsSoundPair family) deeds → AllByRecursion (IsSoundToldIn family) (deed_answers setup S user only at deeds).replies
 unfolding deed_answers
-deeds_sound setup S user only at family [] may sound texts = tt
-deeds_sound setup S user only at family (deed ∷ deeds) may sound texts =
-    let uid = uid_within deed.0 texts.0.0 in
+deeds_sound setup S user only at family [] may sound = tt
+deeds_sound setup S user only at family (deed ∷ deeds) may sound =
+    let uid = uid_within deed.0 sound.0.0.1 in
     let next : State = (deed_answer setup S user only at deed.0 deed.1).after in
-    let here = deed_sound setup S user only at deed.0 deed.1 may sound.0.1 texts.0.1 uid in
-    let after = tellable_deed setup S user only at deed.0 deed.1 may sound.0.1 texts.0.1 uid in
-    ((here.0, here.1 ∙ sound.0.2), deeds_sound setup next user only at family deeds (may_still setup S next user at may after) sound.1 texts.1)
+    let here = deed_sound setup S user only at deed.0 deed.1 may sound.0.1 uid in
+    let after = tellable_deed setup S user only at deed.0 deed.1 may sound.0.1 uid in
+    ((here.0, here.1 ∙ sound.0.2), deeds_sound setup next user only at family deeds (may_still setup S next user at may after) sound.1)
 
 -- deeds that are refused with all others
-pub all_refused : (family : Family) (code : ℕ) (deeds : List (List ℕ × Deed)) → code ≢ 0 → code ≤ 65535 → AllByRecursion HasPairTexts deeds → AllByRecursion (IsSoundToldIn family) (map (refused_with family code) deeds)
-all_refused family code [] some short texts = tt
-all_refused family code (deed ∷ deeds) some short texts =
-    ((refused_sound deed.0 family code (uid_within deed.0 texts.0.0) some short, refl), all_refused family code deeds some short texts.1)
+pub all_refused : (family : Family) (code : ℕ) (deeds : List (List ℕ × Deed)) → code ≢ 0 → code ≤ 65535 → AllByRecursion (file.IsSoundPair family) deeds → AllByRecursion (IsSoundToldIn family) (map (refused_with family code) deeds)
+all_refused family code [] some short sound = tt
+all_refused family code (deed ∷ deeds) some short sound =
+    ((refused_sound deed.0 family code (uid_within deed.0 sound.0.0.1) some short, refl), all_refused family code deeds some short sound.1)

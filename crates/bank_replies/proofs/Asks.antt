@@ -24,7 +24,6 @@ use Rattle.bank_model.specs.Sync.{sync_on, sync_answer}
 use Rattle.bank_model.specs.Rules.{statement_reply, ask_answer, ask_answers}
 use Rattle.bank_model.specs.Sound as file
 use Rattle.ofx_file.specs.Written.{IsSoundAskReply}
-use Rattle.bank_replies.specs.Texts.{HasAskTexts}
 use Rattle.bank_replies.proofs.Values.{uid_within}
 use Rattle.bank_replies.proofs.States.{tellable_ask}
 use Rattle.bank_replies.proofs.Answers.{MayAsk, may_still, deed_sound}
@@ -35,21 +34,21 @@ use Rattle.bank_replies.proofs.Statements.{statement_sound}
 abbrev pub AreSmall : Setup → State → Type 0
 AreSmall setup S = (account : AcctId) → unsigned_abs (balance setup S.entries account) ≤ 9999999999999
 
-ask_sound : (setup : Setup) (S : State) (user : UserId) (at : Moment) (ask : Ask) → MayAsk setup S user at → AreSmall setup S → file.IsSoundAsk ask → HasAskTexts ask → IsSoundAskReply (ask_answer setup S user at ask).reply
+ask_sound : (setup : Setup) (S : State) (user : UserId) (at : Moment) (ask : Ask) → MayAsk setup S user at → AreSmall setup S → file.IsSoundAsk ask → IsSoundAskReply (ask_answer setup S user at ask).reply
 unfolding ask_answer
-ask_sound setup S user at (Statement trnuid name period) may small sound texts =
-    statement_sound setup S at trnuid name period (own_account setup user name) may.within may.tellable may.moment small (uid_within trnuid texts.0) sound.1 texts.1 sound.2
-ask_sound setup S user at (One trnuid deed) may small sound texts = (deed_sound setup S user None at trnuid deed may sound.1 texts.1 (uid_within trnuid texts.0)).0
-ask_sound setup S user at (Sync ask) may small sound texts = sync_sound setup S user at ask may sound texts.0 texts.1
+ask_sound setup S user at (Statement trnuid name period) may small sound =
+    statement_sound setup S at trnuid name period (own_account setup user name) may.within may.tellable may.moment small (uid_within trnuid sound.0.1) sound.1 sound.2
+ask_sound setup S user at (One trnuid deed) may small sound = (deed_sound setup S user None at trnuid deed may sound.1 (uid_within trnuid sound.0.1)).0
+ask_sound setup S user at (Sync ask) may small sound = sync_sound setup S user at ask may sound
 
 -- What each ask keeps, and what keeps the balances small, does so for all.
-pub asks_sound : (setup : Setup) (Q : State → Type 0) (S : State) (user : UserId) (at : Moment) (asks : List Ask) → ((T : State) → Q T → AreSmall setup T) → ((T : State) (ask : Ask) → Q T → file.IsSoundAsk ask → Q (ask_answer setup T user at ask).after) → MayAsk setup S user at → Q S → AllByRecursion file.IsSoundAsk asks → AllByRecursion HasAskTexts asks → AllByRecursion IsSoundAskReply (ask_answers setup S user at asks).replies
+pub asks_sound : (setup : Setup) (Q : State → Type 0) (S : State) (user : UserId) (at : Moment) (asks : List Ask) → ((T : State) → Q T → AreSmall setup T) → ((T : State) (ask : Ask) → Q T → file.IsSoundAsk ask → Q (ask_answer setup T user at ask).after) → MayAsk setup S user at → Q S → AllByRecursion file.IsSoundAsk asks → AllByRecursion IsSoundAskReply (ask_answers setup S user at asks).replies
 unfolding ask_answers
-asks_sound setup Q S user at [] small keeps may holds sound texts = tt
-asks_sound setup Q S user at (ask ∷ asks) small keeps may holds sound texts =
+asks_sound setup Q S user at [] small keeps may holds sound = tt
+asks_sound setup Q S user at (ask ∷ asks) small keeps may holds sound =
     let next : State = (ask_answer setup S user at ask).after in (
-      ask_sound setup S user at ask may (small S holds) sound.0 texts.0,
-      asks_sound setup Q next user at asks small keeps (may_still setup S next user at may (tellable_ask setup S user at ask may sound.0 texts.0)) (keeps S ask holds sound.0) sound.1 texts.1,
+      ask_sound setup S user at ask may (small S holds) sound.0,
+      asks_sound setup Q next user at asks small keeps (may_still setup S next user at may (tellable_ask setup S user at ask may sound.0)) (keeps S ask holds sound.0) sound.1,
     )
 
 -- ---- replies stand in the message sets of their asks

@@ -35,7 +35,6 @@ use Rattle.bank_laws.proofs.Done.{along, modify_model_entries, cancel_model_entr
 use Rattle.msg_parts.specs.SoundParts.{IsTextWithin, IsSoundAccount, family_of_change}
 use Rattle.msg_deed.specs.SoundDeeds.{IsSoundInfo}
 use Rattle.msg_mail.specs.SoundMails.{IsSoundMail, IsSoundMailRow}
-use Rattle.bank_replies.specs.Texts.{HasDeedTexts}
 use Rattle.bank_replies.specs.Telling.{IsToldChange, IsToldEntry, IsTellable}
 use Rattle.bank_replies.proofs.Values.{account_sound, info_sound, mail_sound, zero_within}
 use Rattle.bank_replies.proofs.Words.{user_within}
@@ -86,39 +85,39 @@ mail_told setup user about mail within known account sound = record { about = ac
 few_ids : (setup : Setup) (count : ℕ) → IsWithinLimits setup → count + 1 ≤ setup.entries → count + 1 ≤ 9999999999
 few_ids setup count within few = let most = within.lines.entries_high in omega arith
 
-pub done_begins : (setup : Setup) (S : State) (user : UserId) (only : Option AcctId) (at : Moment) (trnuid : List ℕ) (deed : Deed) → IsWithinLimits setup → IsTellable setup S → IsMoment at.0 → user.0 < length setup.users → file.IsSoundDeed deed → HasDeedTexts deed → IsTextWithin 36 trnuid → judged setup S user only deed ≡ 0 → length S.entries + length (done setup S user at trnuid deed) ≤ setup.entries → Begins setup (family_of deed) (done setup S user at trnuid deed)
+pub done_begins : (setup : Setup) (S : State) (user : UserId) (only : Option AcctId) (at : Moment) (trnuid : List ℕ) (deed : Deed) → IsWithinLimits setup → IsTellable setup S → IsMoment at.0 → user.0 < length setup.users → file.IsSoundDeed deed → IsTextWithin 36 trnuid → judged setup S user only deed ≡ 0 → length S.entries + length (done setup S user at trnuid deed) ≤ setup.entries → Begins setup (family_of deed) (done setup S user at trnuid deed)
 unfolding judged done
-done_begins setup S user only at trnuid (Transfer info) within tellable moment known sound texts uid none few =
+done_begins setup S user only at trnuid (Transfer info) within tellable moment known sound uid none few =
     begins setup _ _ _ [] refl refl uid
-    (new_row_told (length S.entries + 1) at S.day info (few_ids setup (length S.entries) within few) moment tellable.day (info_sound info sound texts))
+    (new_row_told (length S.entries + 1) at S.day info (few_ids setup (length S.entries) within few) moment tellable.day (info_sound info sound))
     (at_intra setup info.from within) tt
-done_begins setup S user only at trnuid (ModifyTransfer id info) within tellable moment known sound texts uid none few =
+done_begins setup S user only at trnuid (ModifyTransfer id info) within tellable moment known sound uid none few =
     let free = free_to_modify setup user only (row_of id S.entries) info S.day none in
     begins setup _ _ _ [] (modify_entries setup S user at trnuid id info free.row free.is) refl uid
-    (changed_row_told S.day info free.row tellable.day (info_sound info sound.1 texts) (known_row setup id S.entries free.row tellable.entries free.is))
+    (changed_row_told S.day info free.row tellable.day (info_sound info sound.1) (known_row setup id S.entries free.row tellable.entries free.is))
     (at_intra setup free.row.from within) tt
-done_begins setup S user only at trnuid (CancelTransfer id) within tellable moment known sound texts uid none few =
+done_begins setup S user only at trnuid (CancelTransfer id) within tellable moment known sound uid none few =
     let free = free_to_cancel setup user only (row_of id S.entries) none in
     begins setup _ _ _ [] (cancel_entries setup S user at trnuid id free.row free.is) refl uid sound (at_intra setup free.row.from within) tt
-done_begins setup S user only at trnuid (Model recur info) within tellable moment known sound texts uid none few =
+done_begins setup S user only at trnuid (Model recur info) within tellable moment known sound uid none few =
     begins setup _ _ _ [] refl refl uid
-    (new_model_told (length S.entries + 1) S.day recur info (few_ids setup (length S.entries) within few) tellable.day sound.0 (info_sound info sound.1 texts))
+    (new_model_told (length S.entries + 1) S.day recur info (few_ids setup (length S.entries) within few) tellable.day sound.0 (info_sound info sound.1))
     (at_recurring setup (account_of setup info.from) (own_known setup user only (account_of setup info.from) (own_model setup user only info S.day none))) tt
-done_begins setup S user only at trnuid (ModifyModel id recur info also) within tellable moment known sound texts uid none few =
+done_begins setup S user only at trnuid (ModifyModel id recur info also) within tellable moment known sound uid none few =
     let free = free_model_to_modify setup user only (model_of id S.entries) (is_model_dropped id S.entries) info S.day none in
-    let terms = info_sound info sound.2 texts in
+    let terms = info_sound info sound.2 in
     begins setup _ _ _ _ (modify_model_entries setup S user at trnuid id recur info also free.row free.is) refl uid
     (changed_model_told S.day recur info free.row tellable.day sound.1 terms (known_model setup id S.entries free.row tellable.entries free.is))
     (at_recurring setup (account_of setup free.row.from) (own_known setup user only (account_of setup free.row.from) free.own))
     (along_told setup S (with_new_terms info) also id within tellable (new_terms_told S.entries info terms))
-done_begins setup S user only at trnuid (CancelModel id also) within tellable moment known sound texts uid none few =
+done_begins setup S user only at trnuid (CancelModel id also) within tellable moment known sound uid none few =
     let free = free_model_to_cancel setup user only (model_of id S.entries) (is_model_dropped id S.entries) none in
     begins setup _ _ _ _ (cancel_model_entries setup S user at trnuid id also free.row free.is) refl uid sound
     (at_recurring setup (account_of setup free.row.from) (own_known setup user only (account_of setup free.row.from) free.own))
     (along_told setup S dropping also id within tellable (λ row here. (here.0.id, refl)))
-done_begins setup S user only at trnuid (BankMail about mail) within tellable moment known sound texts uid none few =
+done_begins setup S user only at trnuid (BankMail about mail) within tellable moment known sound uid none few =
     begins setup _ _ _ [] refl refl uid
-    (mail_told setup user (Some about) mail within known (account_sound about sound.0 texts.0) (mail_sound mail sound.1 texts.1))
+    (mail_told setup user (Some about) mail within known (account_sound about sound.0) (mail_sound mail sound.1))
     (at_letters setup (account_of setup about) (own_known setup user only (account_of setup about) (own_letter setup user only about mail none))) tt
-done_begins setup S user only at trnuid (Mail mail) within tellable moment known sound texts uid none few =
-    begins setup _ _ _ [] refl refl uid (mail_told setup user None mail within known tt (mail_sound mail sound texts)) (omega arith) tt
+done_begins setup S user only at trnuid (Mail mail) within tellable moment known sound uid none few =
+    begins setup _ _ _ [] refl refl uid (mail_told setup user None mail within known tt (mail_sound mail sound)) (omega arith) tt

@@ -12,6 +12,5 @@ pub mod Statements
 pub mod Asks
 pub mod SoundReplies
 pub mod Runs
-pub mod SpelledTexts
 pub mod SoundFiles
 pub mod SpelledFiles

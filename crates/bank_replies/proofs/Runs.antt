@@ -23,9 +23,8 @@ use Rattle.bank_rules.proofs.StateLemmas.{IsSoundState-step}
 use Rattle.bank_rules.proofs.RunLaws.{IsSoundState-run}
 use Rattle.bank_rules.proofs.Lists.{all_append}
 use Rattle.ofx_file.specs.Written.{RepliesReadBack}
-use Rattle.bank_replies.specs.Texts.{HasTexts, HasEventTexts}
 use Rattle.bank_replies.specs.Telling.{IsTellable}
-use Rattle.bank_replies.specs.Replies.{new_reply, IsReply, HaveTexts}
+use Rattle.bank_replies.specs.Replies.{new_reply, IsReply}
 use Rattle.bank_rules.proofs.Lists.{all_filter}
 use Rattle.bank_replies.proofs.SoundReplies.{new_sound}
 use Rattle.bank_replies.proofs.States.{tellable_opening, tellable_step}
@@ -64,9 +63,9 @@ all_kept user (Some newer) reply kept all is = all_append (λ (r : KeptReply). I
 
 -- ---- files
 
-new_is : (setup : Setup) (S : State) (user : UserId) (at : Moment) (sent : RequestFile) → RepliesReadBack → IsWithinLimits setup → Holds setup S → IsMoment at.0 → user.0 < length setup.users → file.IsSound sent → HasTexts sent → IsReply (reply_text (new_reply setup S user at sent))
-new_is setup S user at sent law within holds moment known sound texts =
-    (new_reply setup S user at sent, refl, law (new_reply setup S user at sent) (new_sound setup S user at sent within holds.sound holds.tellable moment known sound texts))
+new_is : (setup : Setup) (S : State) (user : UserId) (at : Moment) (sent : RequestFile) → RepliesReadBack → IsWithinLimits setup → Holds setup S → IsMoment at.0 → user.0 < length setup.users → file.IsSound sent → IsReply (reply_text (new_reply setup S user at sent))
+new_is setup S user at sent law within holds moment known sound =
+    (new_reply setup S user at sent, refl, law (new_reply setup S user at sent) (new_sound setup S user at sent within holds.sound holds.tellable moment known sound))
 
 kept_new : (setup : Setup) (S : State) (user : UserId) (at : Moment) (sent : RequestFile) → AreReplies S.kept → IsReply (new_outcome setup S user at sent).reply → AreReplies (new_outcome setup S user at sent).after.kept
 unfolding new_outcome
@@ -82,36 +81,36 @@ anew : (setup : Setup) (S : State) (user : UserId) (at : Moment) (sent : Request
 unfolding new_outcome
 anew setup S user at sent is = is
 
-file_replies : (setup : Setup) (S : State) (user : UserId) (at : Moment) (sent : RequestFile) → RepliesReadBack → IsWithinLimits setup → Holds setup S → IsMoment at.0 → user.0 < length setup.users → file.IsSound sent → HasTexts sent → AreReplies (state_after setup S at (File user sent)).kept × IsReply (answer_to setup S at (File user sent))
+file_replies : (setup : Setup) (S : State) (user : UserId) (at : Moment) (sent : RequestFile) → RepliesReadBack → IsWithinLimits setup → Holds setup S → IsMoment at.0 → user.0 < length setup.users → file.IsSound sent → AreReplies (state_after setup S at (File user sent)).kept × IsReply (answer_to setup S at (File user sent))
 unfolding file_outcome
-file_replies setup S user at sent law within holds moment known sound texts =
+file_replies setup S user at sent law within holds moment known sound =
     kept_or setup (raised S at) user at sent (kept_for (raised S at) user sent.newer) holds.kept (kept_reply user (raised S at) sent.newer holds.kept)
-    (anew setup S user at sent (new_is setup S user at sent law within holds moment known sound texts))
+    (anew setup S user at sent (new_is setup S user at sent law within holds moment known sound))
 
 -- ---- runs
 
-replies_step : (setup : Setup) (S : State) (at : Moment) (event : Event) → RepliesReadBack → IsWithinLimits setup → Holds setup S → IsMoment at.0 → IsLegal setup S at event → HasEventTexts event → AreReplies (state_after setup S at event).kept
-replies_step setup S at (File user sent) law within holds moment legal texts = (file_replies setup S user at sent law within holds moment legal.0 legal.1 texts).0
-replies_step setup S at (Post id) law within holds moment legal texts = holds.kept
-replies_step setup S at (Spawn id place) law within holds moment legal texts = holds.kept
-replies_step setup S at (Letter user subject body) law within holds moment legal texts = holds.kept
+replies_step : (setup : Setup) (S : State) (at : Moment) (event : Event) → RepliesReadBack → IsWithinLimits setup → Holds setup S → IsMoment at.0 → IsLegal setup S at event → AreReplies (state_after setup S at event).kept
+replies_step setup S at (File user sent) law within holds moment legal = (file_replies setup S user at sent law within holds moment legal.0 legal.1).0
+replies_step setup S at (Post id) law within holds moment legal = holds.kept
+replies_step setup S at (Spawn id place) law within holds moment legal = holds.kept
+replies_step setup S at (Letter user subject body) law within holds moment legal = holds.kept
 
-holds_all : (setup : Setup) (S : State) (run : List Happening) → RepliesReadBack → IsWithinLimits setup → Holds setup S → AreLegal setup S run → HaveTexts run → Holds setup (after_all setup S run)
-holds_all setup S [] law within holds legal texts = holds
-holds_all setup S (first ∷ more) law within holds legal texts =
+holds_all : (setup : Setup) (S : State) (run : List Happening) → RepliesReadBack → IsWithinLimits setup → Holds setup S → AreLegal setup S run → Holds setup (after_all setup S run)
+holds_all setup S [] law within holds legal = holds
+holds_all setup S (first ∷ more) law within holds legal =
     holds_all setup (state_after setup S first.at first.event) more law within (record {
       sound = IsSoundState-step setup S first.at first.event within holds.sound legal.0.0 legal.0.1;
-      tellable = tellable_step setup S first.at first.event within holds.tellable legal.0.0 legal.0.1 texts.0;
-      kept = replies_step setup S first.at first.event law within holds legal.0.0 legal.0.1 texts.0;
-    }) legal.1 texts.1
+      tellable = tellable_step setup S first.at first.event within holds.tellable legal.0.0 legal.0.1;
+      kept = replies_step setup S first.at first.event law within holds legal.0.0 legal.0.1;
+    }) legal.1
 
-holds_run : (setup : Setup) (run : List Happening) → RepliesReadBack → IsWithinLimits setup → AreLegal setup opening_state run → HaveTexts run → Holds setup (after_all setup opening_state run)
-holds_run setup run law within legal texts =
-    holds_all setup opening_state run law within (record { sound = IsSoundState-run setup [] within tt; tellable = tellable_opening setup; kept = tt }) legal texts
+holds_run : (setup : Setup) (run : List Happening) → RepliesReadBack → IsWithinLimits setup → AreLegal setup opening_state run → Holds setup (after_all setup opening_state run)
+holds_run setup run law within legal =
+    holds_all setup opening_state run law within (record { sound = IsSoundState-run setup [] within tt; tellable = tellable_opening setup; kept = tt }) legal
 
-pub told_run : (setup : Setup) (run : List Happening) → RepliesReadBack → IsWithinLimits setup → AreLegal setup opening_state run → HaveTexts run → IsTellable setup (after_all setup opening_state run)
-told_run setup run law within legal texts = (holds_run setup run law within legal texts).tellable
+pub told_run : (setup : Setup) (run : List Happening) → RepliesReadBack → IsWithinLimits setup → AreLegal setup opening_state run → IsTellable setup (after_all setup opening_state run)
+told_run setup run law within legal = (holds_run setup run law within legal).tellable
 
-pub run_answer : (setup : Setup) (run : List Happening) (user : UserId) (at : Moment) (sent : RequestFile) → RepliesReadBack → IsWithinLimits setup → AreLegal setup opening_state run → HaveTexts run → IsMoment at.0 → user.0 < length setup.users → file.IsSound sent → HasTexts sent → IsReply (answer_to setup (after_all setup opening_state run) at (File user sent))
-run_answer setup run user at sent law within legal texts moment known sound told =
-    (file_replies setup (after_all setup opening_state run) user at sent law within (holds_run setup run law within legal texts) moment known sound told).1
+pub run_answer : (setup : Setup) (run : List Happening) (user : UserId) (at : Moment) (sent : RequestFile) → RepliesReadBack → IsWithinLimits setup → AreLegal setup opening_state run → IsMoment at.0 → user.0 < length setup.users → file.IsSound sent → IsReply (answer_to setup (after_all setup opening_state run) at (File user sent))
+run_answer setup run user at sent law within legal moment known sound =
+    (file_replies setup (after_all setup opening_state run) user at sent law within (holds_run setup run law within legal) moment known sound).1

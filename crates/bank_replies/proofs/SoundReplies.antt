@@ -31,7 +31,6 @@ use Rattle.bank_rules.proofs.StateLemmas.{IsSoundState-raised, IsSoundState-ask}
 use Rattle.bank_rules.proofs.MoneyLemmas.{balance-most}
 use Rattle.msg_sync.specs.SoundSyncs.{IsSoundSyncReply}
 use Rattle.ofx_file.specs.Written.{IsSoundAskReply, IsSoundReplyFile}
-use Rattle.bank_replies.specs.Texts.{HasAskTexts, HasTexts}
 use Rattle.bank_replies.specs.Telling.{IsTellable}
 use Rattle.bank_replies.specs.Replies.{new_reply}
 use Rattle.bank_replies.proofs.Values.{object_sound, zero_within}
@@ -49,10 +48,10 @@ version_is version (inr (inr (inl is))) = ap is_version is
 version_is version (inr (inr (inr is))) = ap is_version is
 
 -- A reply to a sound file: its answers are sound, and those to mail stand last.
-reply_with : (code : ℕ) (at : Moment) (sent : RequestFile) (answers : List AskReply) → code ≤ 65535 → IsMoment at.0 → file.IsSound sent → HasTexts sent → IsLast is_mail_reply answers → AllByRecursion IsSoundAskReply answers → IsSoundReplyFile (record { version = sent.version; newer = sent.newer; signon = code; moment = at; replies = answers })
-reply_with code at sent answers short moment sound texts last all = record {
+reply_with : (code : ℕ) (at : Moment) (sent : RequestFile) (answers : List AskReply) → code ≤ 65535 → IsMoment at.0 → file.IsSound sent → IsLast is_mail_reply answers → AllByRecursion IsSoundAskReply answers → IsSoundReplyFile (record { version = sent.version; newer = sent.newer; signon = code; moment = at; replies = answers })
+reply_with code at sent answers short moment sound last all = record {
   version = version_is sent.version sound.version;
-  newer = texts.newer;
+  newer = sound.newer;
   signon = record { is_code = short; moment = moment };
   bank_first = last;
   replies = all;
@@ -66,15 +65,15 @@ small_balances setup within T sound account =
     let least = sound.covered account in
     omega (arith, ints)
 
-pub new_sound : (setup : Setup) (S : State) (user : UserId) (at : Moment) (sent : RequestFile) → IsWithinLimits setup → IsSoundState setup S → IsTellable setup S → IsMoment at.0 → user.0 < length setup.users → file.IsSound sent → HasTexts sent → IsSoundReplyFile (new_reply setup S user at sent)
+pub new_sound : (setup : Setup) (S : State) (user : UserId) (at : Moment) (sent : RequestFile) → IsWithinLimits setup → IsSoundState setup S → IsTellable setup S → IsMoment at.0 → user.0 < length setup.users → file.IsSound sent → IsSoundReplyFile (new_reply setup S user at sent)
 unfolding reply_file
-new_sound setup S user at sent within standing tellable moment known sound texts =
+new_sound setup S user at sent within standing tellable moment known sound =
     let now : State = raised S at in
     let may : MayAsk setup now user at = record { within = within; tellable = tellable_raised setup S at tellable moment; moment = moment; known = known } in
-    reply_with 0 at sent (ask_answers setup now user at sent.asks).replies (omega arith) moment sound texts
+    reply_with 0 at sent (ask_answers setup now user at sent.asks).replies (omega arith) moment sound
     (last_alike is_mail_ask is_mail_reply sent.asks (ask_answers setup now user at sent.asks).replies (asks_alike setup now user at sent.asks) sound.bank_first)
     (asks_sound setup (IsSoundState setup) now user at sent.asks (small_balances setup within)
-    (λ T ask holds known_ask. IsSoundState-ask setup T user at ask within holds moment known_ask) may (IsSoundState-raised setup S at standing moment) sound.asks texts.asks)
+    (λ T ask holds known_ask. IsSoundState-ask setup T user at ask within holds moment known_ask) may (IsSoundState-raised setup S at standing moment) sound.asks)
 
 pub new_answer : (setup : Setup) (S : State) (user : UserId) (at : Moment) (sent : RequestFile) → kept_for (raised S at) user sent.newer ≡ None → answer_to setup S at (File user sent) ≡ reply_text (new_reply setup S user at sent)
 unfolding file_outcome new_outcome
@@ -82,26 +81,26 @@ new_answer setup S user at sent none = ap (λ (kept : Option (List ℕ)). (outco
 
 -- ---- the reply to a file whose signon failed
 
-pub denial_sound : (sent : RequestFile) (at : Moment) → IsMoment at.0 → file.IsSound sent → HasTexts sent → IsSoundReplyFile (denial sent at)
+pub denial_sound : (sent : RequestFile) (at : Moment) → IsMoment at.0 → file.IsSound sent → IsSoundReplyFile (denial sent at)
 unfolding denial
-denial_sound sent at moment sound texts = reply_with 15500 at sent [] (omega arith) moment sound texts refl tt
+denial_sound sent at moment sound = reply_with 15500 at sent [] (omega arith) moment sound refl tt
 
 -- ---- the reply to a poll
 
-token_sound : (setup : Setup) (S : State) (ask : SyncAsk) (found : Option ObjectId) → IsWithinLimits setup → IsTellable setup S → file.IsSoundSync ask → HasAskTexts (Sync ask) → IsSoundSyncReply (told_token ask (newest_if_any S found))
-token_sound setup S ask None within tellable sound texts = record { object = object_sound ask.object sound.object texts.0; token = zero_within 64 (omega arith); replies = tt }
-token_sound setup S ask (Some found) within tellable sound texts = record {
-  object = object_sound ask.object sound.object texts.0;
+token_sound : (setup : Setup) (S : State) (ask : SyncAsk) (found : Option ObjectId) → IsWithinLimits setup → IsTellable setup S → file.IsSoundSync ask → IsSoundSyncReply (told_token ask (newest_if_any S found))
+token_sound setup S ask None within tellable sound = record { object = object_sound ask.object sound.object; token = zero_within 64 (omega arith); replies = tt }
+token_sound setup S ask (Some found) within tellable sound = record {
+  object = object_sound ask.object sound.object;
   token = token_within (newest found S.entries) (token_few setup S found within tellable);
   replies = tt;
 }
 
-polled_sound : (setup : Setup) (S : State) (user : UserId) (asks : List Ask) → IsWithinLimits setup → IsTellable setup S → AllByRecursion file.IsSoundAsk asks → AllByRecursion HasAskTexts asks → AllByRecursion IsSoundAskReply (flat_map (poll_answer setup S user) asks)
-polled_sound setup S user [] within tellable sound texts = tt
-polled_sound setup S user (Statement trnuid account period ∷ asks) within tellable sound texts = polled_sound setup S user asks within tellable sound.1 texts.1
-polled_sound setup S user (One trnuid deed ∷ asks) within tellable sound texts = polled_sound setup S user asks within tellable sound.1 texts.1
-polled_sound setup S user (Sync ask ∷ asks) within tellable sound texts =
-    (token_sound setup S ask (object_named setup user ask.object) within tellable sound.0 texts.0, polled_sound setup S user asks within tellable sound.1 texts.1)
+polled_sound : (setup : Setup) (S : State) (user : UserId) (asks : List Ask) → IsWithinLimits setup → IsTellable setup S → AllByRecursion file.IsSoundAsk asks → AllByRecursion IsSoundAskReply (flat_map (poll_answer setup S user) asks)
+polled_sound setup S user [] within tellable sound = tt
+polled_sound setup S user (Statement trnuid account period ∷ asks) within tellable sound = polled_sound setup S user asks within tellable sound.1
+polled_sound setup S user (One trnuid deed ∷ asks) within tellable sound = polled_sound setup S user asks within tellable sound.1
+polled_sound setup S user (Sync ask ∷ asks) within tellable sound =
+    (token_sound setup S ask (object_named setup user ask.object) within tellable sound.0, polled_sound setup S user asks within tellable sound.1)
 
 token_object : (ask : SyncAsk) (token : Option ℕ) → ask.object ≡ (told_token ask token).object
 token_object ask None = refl
@@ -122,9 +121,9 @@ all_polls sent poll =
     let both = and_parts (is_unnamed sent) (are_polls sent.asks) poll in
     (and_parts _ (list_all is_poll_ask sent.asks) both.1).1
 
-pub poll_sound : (setup : Setup) (S : State) (user : UserId) (at : Moment) (sent : RequestFile) → IsWithinLimits setup → IsTellable setup S → IsMoment at.0 → file.IsSound sent → HasTexts sent → is_poll sent ≡ true → IsSoundReplyFile (poll_reply setup S user at sent)
+pub poll_sound : (setup : Setup) (S : State) (user : UserId) (at : Moment) (sent : RequestFile) → IsWithinLimits setup → IsTellable setup S → IsMoment at.0 → file.IsSound sent → is_poll sent ≡ true → IsSoundReplyFile (poll_reply setup S user at sent)
 unfolding poll_reply
-poll_sound setup S user at sent within tellable moment sound texts poll =
-    reply_with 0 at sent (flat_map (poll_answer setup S user) sent.asks) (omega arith) moment sound texts
+poll_sound setup S user at sent within tellable moment sound poll =
+    reply_with 0 at sent (flat_map (poll_answer setup S user) sent.asks) (omega arith) moment sound
     (last_alike is_mail_ask is_mail_reply sent.asks (flat_map (poll_answer setup S user) sent.asks) (polls_alike setup S user sent.asks (all_polls sent poll)) sound.bank_first)
-    (polled_sound setup S user sent.asks within tellable sound.asks texts.asks)
+    (polled_sound setup S user sent.asks within tellable sound.asks)

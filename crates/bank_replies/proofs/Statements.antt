@@ -22,7 +22,6 @@ use Rattle.bank_laws.specs.Histories.{AllFollow}
 use Rattle.msg_parts.specs.SoundParts.{IsTextWithin}
 use Rattle.msg_statement.specs.SoundStatements.{IsSoundLine, IsSoundList}
 use Rattle.ofx_file.specs.Written.{IsSoundAskReply}
-use Rattle.bank_replies.specs.Texts.{HasAccountTexts}
 use Rattle.bank_replies.specs.Telling.{IsToldEntry, IsTellable}
 use Rattle.bank_rules.proofs.Lists.{all_filter, all_map, all_flat, all_both}
 use Rattle.bank_replies.proofs.Values.{account_sound}
@@ -103,16 +102,16 @@ list_sound setup S at name (Some period) within tellable moment sound = by_choic
     }
     by_choice false = tt
 
-pub statement_sound : (setup : Setup) (S : State) (at : Moment) (trnuid : List ℕ) (name : AcctName) (period : Option Period) (found : Option AcctId) → IsWithinLimits setup → IsTellable setup S → IsMoment at.0 → ((account : AcctId) → unsigned_abs (balance setup S.entries account) ≤ 9999999999999) → IsTextWithin 36 trnuid → file.IsSoundAccount name → HasAccountTexts name → IfSome period file.IsSoundPeriod → IsSoundAskReply (statement_reply setup S at trnuid name period found)
-statement_sound setup S at trnuid name period None within tellable moment small uid account texts sound =
+pub statement_sound : (setup : Setup) (S : State) (at : Moment) (trnuid : List ℕ) (name : AcctName) (period : Option Period) (found : Option AcctId) → IsWithinLimits setup → IsTellable setup S → IsMoment at.0 → ((account : AcctId) → unsigned_abs (balance setup S.entries account) ≤ 9999999999999) → IsTextWithin 36 trnuid → file.IsSoundAccount name → IfSome period file.IsSoundPeriod → IsSoundAskReply (statement_reply setup S at trnuid name period found)
+statement_sound setup S at trnuid name period None within tellable moment small uid account sound =
     record { is_uid = uid; is_code = omega arith; is_body = (λ (none : 2003 ≡ 0). omega arith) }
-statement_sound setup S at trnuid name period (Some found) within tellable moment small uid account texts sound = record {
+statement_sound setup S at trnuid name period (Some found) within tellable moment small uid account sound = record {
   is_uid = uid;
   is_code = omega arith;
   is_body = (
     refl,
     record {
-      account = account_sound name account texts;
+      account = account_sound name account;
       list = list_sound setup S at name period within tellable moment sound;
       ledger = small found;
       available = small found;

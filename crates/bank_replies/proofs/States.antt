@@ -7,7 +7,6 @@ use Rattle.ofx_types.specs.Calendar.{IsMoment, IsDay, day_of}
 use Rattle.ofx_types.specs.declared.number.Day.{Day}
 use Rattle.ofx_types.specs.declared.number.Moment.{Moment}
 use Rattle.ofx_types.specs.declared.number.UserId.{UserId}
-use Rattle.ofx_types.specs.TextRules.{IsText}
 use Rattle.ofx_types.specs.declared.transfer.TransferRow.{TransferRow}
 use Rattle.ofx_types.specs.declared.recurring.ModelRow.{ModelRow}
 use Rattle.ofx_types.specs.SyncForm.{object_family}
@@ -37,7 +36,6 @@ use Rattle.bank_laws.specs.Histories.{IsInOrder}
 use Rattle.bank_laws.proofs.Events.{order_opening, grows_raised, grows_stage}
 use Rattle.bank_rules.proofs.Lists.{all_append}
 use Rattle.bank_laws.proofs.Places.{at_intra}
-use Rattle.bank_replies.specs.Texts.{HasDeedTexts, HasPairTexts, HasAskTexts, HasEventTexts}
 use Rattle.bank_replies.specs.Telling.{IsToldEntry, IsTellable}
 use Rattle.bank_replies.proofs.Values.{uid_within, text_within, zero_within, bank_within}
 use Rattle.bank_replies.proofs.Words.{user_within}
@@ -89,8 +87,8 @@ spawns_told setup S id place (Some row) (Some date) is on within tellable few =
       tt,
     )
 
-letter_told : (setup : Setup) (S : State) (user : UserId) (at : Moment) (subject body : List ℕ) → IsWithinLimits setup → IsMoment at.0 → user.0 < length setup.users → file.HasLength 64 subject → file.HasLength 10000 body → IsText subject → IsText body → IsToldEntry setup (letter_entry setup S user at subject body)
-letter_told setup S user at subject body within moment known short long subject_is body_is = record {
+letter_told : (setup : Setup) (S : State) (user : UserId) (at : Moment) (subject body : List ℕ) → IsWithinLimits setup → IsMoment at.0 → user.0 < length setup.users → file.IsTextWithin 64 subject → file.IsTextWithin 10000 body → IsToldEntry setup (letter_entry setup S user at subject body)
+letter_told setup S user at subject body within moment known subject_is body_is = record {
   trnuid = zero_within 36 (omega arith);
   change = record {
     about = tt;
@@ -99,8 +97,8 @@ letter_told setup S user at subject body within moment known short long subject_
       created = moment;
       sender = bank_within;
       target = user_within setup user within known;
-      subject = text_within 64 subject short subject_is;
-      body = text_within 10000 body long body_is;
+      subject = text_within 64 subject subject_is;
+      body = text_within 10000 body body_is;
     };
   };
   object = omega arith;
@@ -115,16 +113,16 @@ with_more setup S T more order are same tellable told = record {
 
 -- ---- stages
 
--- A moment lies in the years 1900 to 9999, and what a user of the setup asks is sound and has texts.
+-- A moment lies in the years 1900 to 9999, and what a user of the setup asks is sound.
 abbrev pub IsToldStage : Setup → Stage → Type 0
 IsToldStage setup (stages.day at) = IsMoment at.0
 IsToldStage setup (stages.deed user only at trnuid what) =
-    IsMoment at.0 × (user.0 < length setup.users) × file.IsSoundDeed what × HasDeedTexts what × IsTextWithin 36 trnuid
+    IsMoment at.0 × (user.0 < length setup.users) × file.IsSoundDeed what × IsTextWithin 36 trnuid
 IsToldStage setup (stages.names user older newer reply) = Unit {0}
 IsToldStage setup (stages.post at id) = IsMoment at.0
 IsToldStage setup (stages.spawn id place) = Unit {0}
 IsToldStage setup (stages.letter user at subject body) =
-    IsMoment at.0 × (user.0 < length setup.users) × file.HasLength 64 subject × file.HasLength 10000 body × IsText subject × IsText body
+    IsMoment at.0 × (user.0 < length setup.users) × file.IsTextWithin 64 subject × file.IsTextWithin 10000 body
 
 order_after : (setup : Setup) (S : State) (stage : Stage) → MayCome setup S stage → IsTellable setup S → IsInOrder setup (after_stage setup S stage)
 order_after setup S stage may tellable = (grows_stage setup S stage may).order tellable.order
@@ -133,7 +131,7 @@ tellable_stage : (setup : Setup) (S : State) (stage : Stage) → IsWithinLimits 
 unfolding spawns
 tellable_stage setup S (stages.day at) within may known tellable = tellable_raised setup S at tellable known
 tellable_stage setup S (stages.deed user only at trnuid what) within may known tellable =
-    tellable_deed setup S user only at trnuid what (record { within = within; tellable = tellable; moment = known.0; known = known.1 }) known.2 known.3 known.4
+    tellable_deed setup S user only at trnuid what (record { within = within; tellable = tellable; moment = known.0; known = known.1 }) known.2 known.3
 tellable_stage setup S (stages.names user older newer reply) within may known tellable =
     record { order = order_after setup S (stages.names user older newer reply) may tellable; entries = tellable.entries; day = tellable.day }
 tellable_stage setup S (stages.post at id) within may known tellable =
@@ -145,7 +143,7 @@ tellable_stage setup S (stages.spawn id place) within may known tellable =
     (spawns_told setup S id place (model_of id S.entries) (place_date (model_of id S.entries) place) refl refl within tellable (next_id setup S within both.1))
 tellable_stage setup S (stages.letter user at subject body) within may known tellable =
     with_more setup S _ (letter_entry setup S user at subject body ∷ []) (order_after setup S (stages.letter user at subject body) may tellable) refl refl tellable
-    (letter_told setup S user at subject body within known.0 known.1 known.2 known.3 known.4 known.5, tt)
+    (letter_told setup S user at subject body within known.0 known.1 known.2 known.3, tt)
 
 tellable_to : (setup : Setup) (S T : State) → IsWithinLimits setup → IsTellable setup S → Leads setup (IsToldStage setup) S T → IsTellable setup T
 tellable_to setup S T within tellable leads =
@@ -153,37 +151,37 @@ tellable_to setup S T within tellable leads =
 
 -- ---- asks
 
-told_deeds : (setup : Setup) (user : UserId) (at : Moment) (family : Family) (deeds : List (List ℕ × Deed)) → IsMoment at.0 → user.0 < length setup.users → AllByRecursion (file.IsSoundPair family) deeds → AllByRecursion HasPairTexts deeds → AllByRecursion (IsKnownDeed (IsToldStage setup) user at) deeds
-told_deeds setup user at family [] moment known sound texts = tt
-told_deeds setup user at family (deed ∷ deeds) moment known sound texts =
-    (λ only. (moment, known, sound.0.1, texts.0.1, uid_within deed.0 texts.0.0), told_deeds setup user at family deeds moment known sound.1 texts.1)
+told_deeds : (setup : Setup) (user : UserId) (at : Moment) (family : Family) (deeds : List (List ℕ × Deed)) → IsMoment at.0 → user.0 < length setup.users → AllByRecursion (file.IsSoundPair family) deeds → AllByRecursion (IsKnownDeed (IsToldStage setup) user at) deeds
+told_deeds setup user at family [] moment known sound = tt
+told_deeds setup user at family (deed ∷ deeds) moment known sound =
+    (λ only. (moment, known, sound.0.1, uid_within deed.0 sound.0.0.1), told_deeds setup user at family deeds moment known sound.1)
 
-told_ask : (setup : Setup) (user : UserId) (at : Moment) (ask : Ask) → IsMoment at.0 → user.0 < length setup.users → file.IsSoundAsk ask → HasAskTexts ask → IsKnownAsk (IsToldStage setup) user at ask
-told_ask setup user at (Statement trnuid name period) moment known sound texts = tt
-told_ask setup user at (One trnuid deed) moment known sound texts = λ only. (moment, known, sound.1, texts.1, uid_within trnuid texts.0)
-told_ask setup user at (Sync ask) moment known sound texts = told_deeds setup user at (object_family ask.object) ask.deeds moment known sound.deeds texts.1
+told_ask : (setup : Setup) (user : UserId) (at : Moment) (ask : Ask) → IsMoment at.0 → user.0 < length setup.users → file.IsSoundAsk ask → IsKnownAsk (IsToldStage setup) user at ask
+told_ask setup user at (Statement trnuid name period) moment known sound = tt
+told_ask setup user at (One trnuid deed) moment known sound = λ only. (moment, known, sound.1, uid_within trnuid sound.0.1)
+told_ask setup user at (Sync ask) moment known sound = told_deeds setup user at (object_family ask.object) ask.deeds moment known sound.deeds
 
-told_asks : (setup : Setup) (user : UserId) (at : Moment) (asks : List Ask) → IsMoment at.0 → user.0 < length setup.users → AllByRecursion file.IsSoundAsk asks → AllByRecursion HasAskTexts asks → AllByRecursion (IsKnownAsk (IsToldStage setup) user at) asks
-told_asks setup user at [] moment known sound texts = tt
-told_asks setup user at (ask ∷ asks) moment known sound texts = (told_ask setup user at ask moment known sound.0 texts.0, told_asks setup user at asks moment known sound.1 texts.1)
+told_asks : (setup : Setup) (user : UserId) (at : Moment) (asks : List Ask) → IsMoment at.0 → user.0 < length setup.users → AllByRecursion file.IsSoundAsk asks → AllByRecursion (IsKnownAsk (IsToldStage setup) user at) asks
+told_asks setup user at [] moment known sound = tt
+told_asks setup user at (ask ∷ asks) moment known sound = (told_ask setup user at ask moment known sound.0, told_asks setup user at asks moment known sound.1)
 
-pub tellable_unless : (setup : Setup) (S : State) (user : UserId) (at : Moment) (ask : SyncAsk) (code : Option ℕ) → MayAsk setup S user at → file.IsSoundSync ask → AllByRecursion HasPairTexts ask.deeds → IsTellable setup (deeds_or_rejection setup S user at ask code).after
-tellable_unless setup S user at ask code may sound texts =
+pub tellable_unless : (setup : Setup) (S : State) (user : UserId) (at : Moment) (ask : SyncAsk) (code : Option ℕ) → MayAsk setup S user at → file.IsSoundSync ask → IsTellable setup (deeds_or_rejection setup S user at ask code).after
+tellable_unless setup S user at ask code may sound =
     tellable_to setup S _ may.within may.tellable
-    (leads_unless setup (IsToldStage setup) S user at ask code (told_deeds setup user at (object_family ask.object) ask.deeds may.moment may.known sound.deeds texts))
+    (leads_unless setup (IsToldStage setup) S user at ask code (told_deeds setup user at (object_family ask.object) ask.deeds may.moment may.known sound.deeds))
 
-pub tellable_ask : (setup : Setup) (S : State) (user : UserId) (at : Moment) (ask : Ask) → MayAsk setup S user at → file.IsSoundAsk ask → HasAskTexts ask → IsTellable setup (ask_answer setup S user at ask).after
-tellable_ask setup S user at ask may sound texts =
-    tellable_to setup S _ may.within may.tellable (leads_ask setup (IsToldStage setup) S user at ask (told_ask setup user at ask may.moment may.known sound texts))
+pub tellable_ask : (setup : Setup) (S : State) (user : UserId) (at : Moment) (ask : Ask) → MayAsk setup S user at → file.IsSoundAsk ask → IsTellable setup (ask_answer setup S user at ask).after
+tellable_ask setup S user at ask may sound =
+    tellable_to setup S _ may.within may.tellable (leads_ask setup (IsToldStage setup) S user at ask (told_ask setup user at ask may.moment may.known sound))
 
 -- ---- any event
 
-told_event : (setup : Setup) (S : State) (at : Moment) (event : Event) → IsMoment at.0 → IsLegal setup S at event → HasEventTexts event → IsKnownEvent (IsToldStage setup) at event
-told_event setup S at (File user sent) moment legal texts = (moment, told_asks setup user at sent.asks moment legal.0 legal.1.asks texts.asks, λ reply. tt)
-told_event setup S at (Post id) moment legal texts = (moment, moment)
-told_event setup S at (Spawn id place) moment legal texts = (moment, tt)
-told_event setup S at (Letter user subject body) moment legal texts = (moment, (moment, legal.0, legal.1, legal.2, texts.0, texts.1))
+told_event : (setup : Setup) (S : State) (at : Moment) (event : Event) → IsMoment at.0 → IsLegal setup S at event → IsKnownEvent (IsToldStage setup) at event
+told_event setup S at (File user sent) moment legal = (moment, told_asks setup user at sent.asks moment legal.0 legal.1.asks, λ reply. tt)
+told_event setup S at (Post id) moment legal = (moment, moment)
+told_event setup S at (Spawn id place) moment legal = (moment, tt)
+told_event setup S at (Letter user subject body) moment legal = (moment, (moment, legal.0, legal.1, legal.2))
 
-pub tellable_step : (setup : Setup) (S : State) (at : Moment) (event : Event) → IsWithinLimits setup → IsTellable setup S → IsMoment at.0 → IsLegal setup S at event → HasEventTexts event → IsTellable setup (state_after setup S at event)
-tellable_step setup S at event within tellable moment legal texts =
-    tellable_to setup S _ within tellable (leads_step setup (IsToldStage setup) S at event legal (told_event setup S at event moment legal texts))
+pub tellable_step : (setup : Setup) (S : State) (at : Moment) (event : Event) → IsWithinLimits setup → IsTellable setup S → IsMoment at.0 → IsLegal setup S at event → IsTellable setup (state_after setup S at event)
+tellable_step setup S at event within tellable moment legal =
+    tellable_to setup S _ within tellable (leads_step setup (IsToldStage setup) S at event legal (told_event setup S at event moment legal))

@@ -32,7 +32,6 @@ use Rattle.bank_laws.proofs.Numbers.{newest_few}
 use Rattle.bank_laws.proofs.Places.{one_family, named_place}
 use Rattle.msg_parts.specs.SoundParts.{IsTextWithin, family_of_change}
 use Rattle.msg_sync.specs.SoundSyncs.{IsSoundToldIn, IsSoundSyncReply}
-use Rattle.bank_replies.specs.Texts.{HasObjectTexts, HasPairTexts}
 use Rattle.bank_replies.specs.Telling.{IsToldChange, IsToldEntry, IsTellable}
 use Rattle.bank_rules.proofs.Lists.{all_filter, all_map, all_flat}
 use Rattle.bank_replies.proofs.Values.{object_sound, zero_within}
@@ -134,12 +133,12 @@ rejected : (reject : Bool) (number : ℕ) (kind : SyncKind) → IfSome (rejectio
 rejected true number kind = missed kind number
 rejected false number kind = tt
 
-done_or_rejected : (setup : Setup) (S : State) (user : UserId) (at : Moment) (ask : SyncAsk) (code : Option ℕ) → IfSome code IsRefusal → MayAsk setup S user at → file.IsSoundSync ask → AllByRecursion HasPairTexts ask.deeds → AllByRecursion (IsSoundToldIn (object_family ask.object)) (deeds_or_rejection setup S user at ask code).replies
+done_or_rejected : (setup : Setup) (S : State) (user : UserId) (at : Moment) (ask : SyncAsk) (code : Option ℕ) → IfSome code IsRefusal → MayAsk setup S user at → file.IsSoundSync ask → AllByRecursion (IsSoundToldIn (object_family ask.object)) (deeds_or_rejection setup S user at ask code).replies
 unfolding deeds_or_rejection
-done_or_rejected setup S user at ask None refusal may sound texts =
-    deeds_sound setup S user (account_about setup user ask.object) at (object_family ask.object) ask.deeds may sound.deeds texts
-done_or_rejected setup S user at ask (Some code) refusal may sound texts =
-    all_refused (object_family ask.object) code ask.deeds refusal.0 refusal.1 texts
+done_or_rejected setup S user at ask None refusal may sound =
+    deeds_sound setup S user (account_about setup user ask.object) at (object_family ask.object) ask.deeds may sound.deeds
+done_or_rejected setup S user at ask (Some code) refusal may sound =
+    all_refused (object_family ask.object) code ask.deeds refusal.0 refusal.1 sound.deeds
 
 -- ---- the answer
 
@@ -150,25 +149,25 @@ token_few setup S object within tellable =
     let limit = within.lines.entries_high in
     omega arith
 
-on_sound : (setup : Setup) (S : State) (user : UserId) (at : Moment) (ask : SyncAsk) (found : Option ObjectId) → object_named setup user ask.object ≡ found → MayAsk setup S user at → file.IsSoundSync ask → HasObjectTexts ask.object → AllByRecursion HasPairTexts ask.deeds → IsSoundSyncReply (sync_on setup S user at ask found).reply
+on_sound : (setup : Setup) (S : State) (user : UserId) (at : Moment) (ask : SyncAsk) (found : Option ObjectId) → object_named setup user ask.object ≡ found → MayAsk setup S user at → file.IsSoundSync ask → IsSoundSyncReply (sync_on setup S user at ask found).reply
 unfolding sync_on
-on_sound setup S user at ask None is may sound object texts = record {
-  object = object_sound ask.object sound.object object;
+on_sound setup S user at ask None is may sound = record {
+  object = object_sound ask.object sound.object;
   token = zero_within 64 (omega arith);
-  replies = all_refused (object_family ask.object) 2003 ask.deeds (λ (none : 2003 ≡ 0). omega arith) (omega arith) texts;
+  replies = all_refused (object_family ask.object) 2003 ask.deeds (λ (none : 2003 ≡ 0). omega arith) (omega arith) sound.deeds;
 }
-on_sound setup S user at ask (Some found) is may sound object texts =
+on_sound setup S user at ask (Some found) is may sound =
     let code : Option ℕ = rejection ask.reject (newest found S.entries) ask.kind in
-    let done = done_or_rejected setup S user at ask code (rejected ask.reject (newest found S.entries) ask.kind) may sound texts in
-    let tellable = tellable_unless setup S user at ask code may sound texts in
+    let done = done_or_rejected setup S user at ask code (rejected ask.reject (newest found S.entries) ask.kind) may sound in
+    let tellable = tellable_unless setup S user at ask code may sound in
     let told = history_in setup user ask found S.entries is may.tellable.entries in
     record {
-      object = object_sound ask.object sound.object object;
+      object = object_sound ask.object sound.object;
       token = token_within (newest found (deeds_or_rejection setup S user at ask code).after.entries) (token_few setup (deeds_or_rejection setup S user at ask code).after found may.within tellable);
       replies = all_append (IsSoundToldIn (object_family ask.object)) (history_told setup.window found (object_family ask.object) S.entries ask.kind) (deeds_or_rejection setup S user at ask code).replies
           (told_in setup (object_family ask.object) found S.entries ask.kind may.tellable.entries told) done;
     }
 
-pub sync_sound : (setup : Setup) (S : State) (user : UserId) (at : Moment) (ask : SyncAsk) → MayAsk setup S user at → file.IsSoundSync ask → HasObjectTexts ask.object → AllByRecursion HasPairTexts ask.deeds → IsSoundSyncReply (sync_answer setup S user at ask).reply
+pub sync_sound : (setup : Setup) (S : State) (user : UserId) (at : Moment) (ask : SyncAsk) → MayAsk setup S user at → file.IsSoundSync ask → IsSoundSyncReply (sync_answer setup S user at ask).reply
 unfolding sync_answer
-sync_sound setup S user at ask may sound object texts = on_sound setup S user at ask (object_named setup user ask.object) refl may sound object texts
+sync_sound setup S user at ask may sound = on_sound setup S user at ask (object_named setup user ask.object) refl may sound

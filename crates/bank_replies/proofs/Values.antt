@@ -1,6 +1,6 @@
 -- Texts and values of a sound file are within the limits of their elements.
 use Rattle.std.proofs.Common.{ℕ, ◌≤◌, List, codes, refl, arith}
-use Rattle.ofx_types.specs.TextRules.{IsText, IsTrnUid}
+use Rattle.ofx_types.specs.TextRules.{IsTrnUid}
 use Rattle.ofx_types.specs.declared.account.AcctName.{AcctName}
 use Rattle.ofx_types.specs.declared.mail.MailText.{MailText}
 use Rattle.ofx_types.specs.declared.transfer.XferInfo.{XferInfo}
@@ -11,42 +11,41 @@ use Rattle.msg_parts.specs.SoundParts.{IsTextWithin, IsSoundAccount}
 use Rattle.msg_deed.specs.SoundDeeds.{IsSoundInfo}
 use Rattle.msg_mail.specs.SoundMails.{IsSoundMail}
 use Rattle.msg_sync.specs.SoundSyncs.{IsSoundObject}
-use Rattle.bank_replies.specs.Texts.{HasAccountTexts, HasInfoTexts, HasMailTexts, HasObjectTexts}
 
-pub text_within : (most : ℕ) (text : List ℕ) → file.HasLength most text → IsText text → IsTextWithin most text
-text_within most text long is = record { is_text = is; is_there = long.0; is_within = long.1 }
+pub text_within : (most : ℕ) (text : List ℕ) → file.IsTextWithin most text → IsTextWithin most text
+text_within most text is = record { is_text = is.is_text; is_there = is.is_there; is_within = is.is_within }
 
 pub uid_within : (uid : List ℕ) → IsTrnUid uid → IsTextWithin 36 uid
 uid_within uid is = record { is_text = is.is_text; is_there = is.is_there; is_within = is.is_within }
 
-pub account_sound : (account : AcctName) → file.IsSoundAccount account → HasAccountTexts account → IsSoundAccount account
-account_sound account sound texts = record {
-  bank = text_within 32 account.bank sound.0 texts.0;
-  number = text_within 32 account.number sound.1 texts.1;
+pub account_sound : (account : AcctName) → file.IsSoundAccount account → IsSoundAccount account
+account_sound account sound = record {
+  bank = text_within 32 account.bank sound.0;
+  number = text_within 32 account.number sound.1;
 }
 
-pub info_sound : (info : XferInfo) → file.IsSoundInfo info → HasInfoTexts info → IsSoundInfo info
-info_sound info sound texts = record {
-  from = account_sound info.from sound.from texts.0;
-  to = account_sound info.to sound.to texts.1;
+pub info_sound : (info : XferInfo) → file.IsSoundInfo info → IsSoundInfo info
+info_sound info sound = record {
+  from = account_sound info.from sound.from;
+  to = account_sound info.to sound.to;
   amount = sound.amount;
   due = sound.due;
 }
 
-pub mail_sound : (mail : MailText) → file.IsSoundMail mail → HasMailTexts mail → IsSoundMail mail
-mail_sound mail sound texts = record {
+pub mail_sound : (mail : MailText) → file.IsSoundMail mail → IsSoundMail mail
+mail_sound mail sound = record {
   created = sound.created;
-  sender = text_within 32 mail.sender sound.sender texts.sender;
-  target = text_within 32 mail.target sound.target texts.target;
-  subject = text_within 64 mail.subject sound.subject texts.subject;
-  body = text_within 10000 mail.body sound.body texts.body;
+  sender = text_within 32 mail.sender sound.sender;
+  target = text_within 32 mail.target sound.target;
+  subject = text_within 64 mail.subject sound.subject;
+  body = text_within 10000 mail.body sound.body;
 }
 
-pub object_sound : (object : ObjectName) → file.IsSoundObject object → HasObjectTexts object → IsSoundObject object
-object_sound (objects.Intra account) sound texts = account_sound account sound texts
-object_sound (objects.RecIntra account) sound texts = account_sound account sound texts
-object_sound (objects.BankMail account) sound texts = account_sound account sound texts
-object_sound objects.Mail sound texts = tt
+pub object_sound : (object : ObjectName) → file.IsSoundObject object → IsSoundObject object
+object_sound (objects.Intra account) sound = account_sound account sound
+object_sound (objects.RecIntra account) sound = account_sound account sound
+object_sound (objects.BankMail account) sound = account_sound account sound
+object_sound objects.Mail sound = tt
 
 -- ---- the bank's own texts
 

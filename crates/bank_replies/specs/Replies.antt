@@ -1,6 +1,5 @@
 -- The replies of a bank, and that they read back.
 use Rattle.std.specs.Prelude.{◌≡◌, ℕ, List}
-use Rattle.std.specs.List.{AllByRecursion}
 use Rattle.ofx_types.specs.FileForm.{SpellsReply}
 use Rattle.ofx_types.specs.ReplyForm.{reply_text}
 use Rattle.ofx_types.specs.Wire.{wire_file}
@@ -11,8 +10,6 @@ use Rattle.ofx_types.specs.declared.reply.ReplyFile.{ReplyFile}
 use Rattle.bank_model.specs.declared.setup.Setup.{Setup}
 use Rattle.bank_model.specs.declared.event.State.{State}
 use Rattle.bank_model.specs.Rules.{raised, ask_answers, reply_file}
-use Rattle.bank_rules.specs.Runs.{Happening}
-use Rattle.bank_replies.specs.Texts.{HasEventTexts}
 
 -- the reply to a file that is answered anew
 abbrev pub new_reply : Setup → State → UserId → Moment → RequestFile → ReplyFile
@@ -26,7 +23,3 @@ ReadsBack reply = SpellsReply (reply_text reply) (wire_file reply)
 -- The bytes are the printed form of a reply, and this reads back.
 abbrev pub IsReply : List ℕ → Type 0
 IsReply bytes = (reply : ReplyFile) × (bytes ≡ reply_text reply) × ReadsBack reply
-
--- The texts of each event are texts.
-abbrev pub HaveTexts : List Happening → Type 0
-HaveTexts run = AllByRecursion (λ (happening : Happening). HasEventTexts happening.event) run

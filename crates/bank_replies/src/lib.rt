@@ -2,16 +2,14 @@
 //! `bank_model` and the forms of `ofx_types`.
 //!
 //! Every state that a bank comes to is one whose history may be told (`told_states`), and whatever a bank answers in such a
-//! state is a sound reply (`replies`). A file that comes again is answered by the kept bytes of an earlier reply. The texts of a
-//! file that bytes spell are such as these laws ask for (`spelled`). Clients' request files read back too (`requests`).
+//! state is a sound reply (`replies`). A file that comes again is answered by the kept bytes of an earlier reply. Clients'
+//! request files read back too (`requests`).
 #![tactic(auto)]
 
 mod replies;
 mod requests;
-mod spelled;
 mod told_states;
 
 pub use replies::{answers_are_replies, denials_read_back, new_replies_read_back, polls_read_back};
-pub use requests::{requests_read_back, spelled_files_have_all_texts};
-pub use spelled::spelled_files_have_texts;
+pub use requests::{requests_read_back, spelled_files_have_signons};
 pub use told_states::told_states_last;

@@ -15,9 +15,8 @@ ghost use Rattle.bank_model.specs.Polls.{is_poll, poll_reply};
 ghost use Rattle.bank_model.specs.Rules.{raised, opening_state, kept_for, answer_to, denial};
 ghost use Rattle.bank_rules.specs.Runs.{Happening, after_all, AreLegal};
 ghost use Rattle.bank_rules.specs.Standing.{IsSoundState};
-ghost use Rattle.bank_replies.specs.Texts.{HasTexts};
 ghost use Rattle.bank_replies.specs.Telling.{IsTellable};
-ghost use Rattle.bank_replies.specs.Replies.{new_reply, ReadsBack, IsReply, HaveTexts};
+ghost use Rattle.bank_replies.specs.Replies.{new_reply, ReadsBack, IsReply};
 
 use ofx_file::replies_read_back;
 
@@ -29,7 +28,7 @@ pub fn new_replies_read_back()
         → answer_to setup S at (File user file) ≡ reply_text (new_reply setup S user at file) }
     ensures back { (setup : Setup) (S : State) (user : UserId) (at : Moment) (file : RequestFile) → IsWithinLimits setup
         → IsSoundState setup S → IsTellable setup S → IsMoment at.0 → user.0 < length setup.users → IsSound file
-        → HasTexts file → ReadsBack (new_reply setup S user at file) }
+        → ReadsBack (new_reply setup S user at file) }
 {
     replies_read_back();
 }
@@ -38,12 +37,12 @@ pub fn new_replies_read_back()
 /// back; so it is with the kept bytes with which a file that comes again is answered. The reply to a poll reads back too.
 pub fn answers_are_replies()
     ensures file { (setup : Setup) (run : List Happening) (user : UserId) (at : Moment) (file : RequestFile)
-        → IsWithinLimits setup → AreLegal setup opening_state run → HaveTexts run → IsMoment at.0
-        → user.0 < length setup.users → IsSound file → HasTexts file
+        → IsWithinLimits setup → AreLegal setup opening_state run → IsMoment at.0
+        → user.0 < length setup.users → IsSound file
         → IsReply (answer_to setup (after_all setup opening_state run) at (File user file)) }
     ensures poll { (setup : Setup) (run : List Happening) (user : UserId) (at : Moment) (file : RequestFile)
-        → IsWithinLimits setup → AreLegal setup opening_state run → HaveTexts run → IsMoment at.0
-        → IsSound file → HasTexts file → is_poll file ≡ true
+        → IsWithinLimits setup → AreLegal setup opening_state run → IsMoment at.0
+        → IsSound file → is_poll file ≡ true
         → ReadsBack (poll_reply setup (after_all setup opening_state run) user at file) }
 {
     replies_read_back();
@@ -51,7 +50,7 @@ pub fn answers_are_replies()
 
 /// The reply to a file whose signon failed reads back.
 pub fn denials_read_back()
-    ensures { (file : RequestFile) (at : Moment) → IsMoment at.0 → IsSound file → HasTexts file → ReadsBack (denial file at) }
+    ensures { (file : RequestFile) (at : Moment) → IsMoment at.0 → IsSound file → ReadsBack (denial file at) }
 {
     replies_read_back();
 }
@@ -59,7 +58,7 @@ pub fn denials_read_back()
 /// The reply to a poll reads back.
 pub fn polls_read_back()
     ensures { (setup : Setup) (S : State) (user : UserId) (at : Moment) (file : RequestFile) → IsWithinLimits setup
-        → IsTellable setup S → IsMoment at.0 → IsSound file → HasTexts file → is_poll file ≡ true
+        → IsTellable setup S → IsMoment at.0 → IsSound file → is_poll file ≡ true
         → ReadsBack (poll_reply setup S user at file) }
 {
     replies_read_back();

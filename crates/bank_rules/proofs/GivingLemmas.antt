@@ -1,18 +1,17 @@
 -- What an entry that may come next gives to transfers and to recurring transfers, behind the entries of a sound state.
 use Rattle.std.proofs.Common.{◌≡◌, ◌≢◌, ℕ, ◌+◌, ◌≤◌, Bool, true, false, List, length, Option, None, Some, refl, ap, ◌∙◌, arith}
 use Rattle.std.specs.Prelude.{is_some}
-use Rattle.std.specs.Option.{option_map}
 use Rattle.ofx_types.specs.Printable.{IsPrintableRow}
 use Rattle.ofx_types.specs.declared.number.Day.{Day}
 use Rattle.ofx_types.specs.declared.transfer.TransferRow.{TransferRow}
 use Rattle.ofx_types.specs.declared.transfer.XferCode.{XferCode}
 use Rattle.ofx_types.specs.declared.transfer.XferCode.TheVariants.{Waiting, Posted, NoFunds, Cancelled}
-use Rattle.ofx_types.specs.declared.transfer.Change.TheVariants.{NewTransfer, SetTransfer, DropTransfer, NewModel, SetModel, DropModel}
+use Rattle.ofx_types.specs.declared.transfer.Change.TheVariants.{NewTransfer, SetTransfer, NewModel, SetModel, DropModel}
 use Rattle.ofx_types.specs.declared.recurring.ModelRow.{ModelRow}
 use Rattle.bank_model.specs.declared.entry.Entry.{Entry}
 use Rattle.bank_model.specs.declared.setup.Setup.{Setup}
 use Rattle.bank_model.specs.declared.event.State.{State}
-use Rattle.bank_model.specs.Ledger.{is_dropped, with_code, row_of}
+use Rattle.bank_model.specs.Ledger.{is_dropped, row_of}
 use Rattle.bank_model.specs.Models.{model_of, next_place}
 use Rattle.bank_model.specs.Judging.{is_cancelled}
 use Rattle.bank_model.specs.Due.{place_date}
@@ -47,9 +46,6 @@ pub set_given : (setup : Setup) (S : State) (row : TransferRow) → IsLawful S.e
 set_given setup S row lawful told =
     let found = found_set S.entries row (row_of row.id S.entries) refl lawful in
     ((refl, uncancelled row.code told.told, found.0), λ waiting. found.1)
-
-pub dropped_given : (S : State) (id : ℕ) (found : TransferRow) → row_of id S.entries ≡ Some found → GivesRow S.entries (DropTransfer id) (with_code Cancelled found)
-dropped_given S id found there = ap (option_map (with_code Cancelled)) there
 
 -- ---- the recurring transfers that transfers leave, or that make them
 

@@ -91,9 +91,6 @@ inside_all setup [] sound = All-nil (IsInside setup)
 inside_all setup (entry ∷ entries) sound =
     All-append (IsInside setup) (posting_of entry.number (row_in entry.change)) _ (inside_row setup entry.number (row_in entry.change) sound.0) (inside_all setup entries sound.1)
 
-id_at : ℕ → AcctId
-id_at place = record { 0 = place }
-
 sum_least : (f : AcctId → ℤ) → ((a : AcctId) → pos 0 ≤ℤ f a) → (start : ℤ) (ids : List AcctId) → start ≤ℤ fold (λ (sum : ℤ) (a : AcctId). sum +ℤ f a) start ids
 sum_least f positive start [] = omega (arith, ints)
 sum_least f positive start (a ∷ ids) =

@@ -100,10 +100,6 @@ made_next setup S object trnuid row sound id next waits good = record {
 
 -- ---- a transfer that waits is set or dropped
 
-found_waits : (found : Option TransferRow) (row : TransferRow) → found ≡ Some row → is_waiting row.code ≡ true → waits found ≡ true
-found_waits None row is wait = cc
-found_waits (Some held) row is wait = let e : held ≡ row = cc in ap (λ (r : TransferRow). is_waiting r.code) e ∙ wait
-
 found_of : (found : Option TransferRow) (row given : TransferRow) → found ≡ Some row → is_waiting row.code ≡ true → row.model ≡ given.model → row.from ≡ given.from → IsOfWaiting given found
 found_of found row given is wait model from = subst (IsOfWaiting given) (sym is) (wait, model, from)
 

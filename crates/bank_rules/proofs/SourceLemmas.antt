@@ -22,10 +22,6 @@ use Rattle.bank_rules.proofs.RowLemmas.{AreMade, model_made, model_of-0}
 abbrev after_model : ℕ → Option ModelRow → Change → Option ModelRow
 after_model id found change = or_model_before found (if_model_named id (model_in change))
 
-same_from : (from : AcctName) (found : Option ModelRow) (model : ModelRow) → found ≡ Some model → IfSome found (λ (m : ModelRow). m.from ≡ from) → model.from ≡ from
-same_from from None model is known = cc
-same_from from (Some m) model is known = let e : m ≡ model = cc in ap (λ (x : ModelRow). x.from) (sym e) ∙ known
-
 source_is : (found : Option ModelRow) (from : AcctName) → option_map (λ (m : ModelRow). m.from) found ≡ Some from → IfSome found (λ (m : ModelRow). m.from ≡ from)
 source_is None from is = tt
 source_is (Some m) from is = let e : m.from ≡ from = cc in e

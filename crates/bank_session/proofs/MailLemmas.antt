@@ -13,7 +13,7 @@ use Rattle.ofx_types.specs.declared.told.Told.{Told}
 use Rattle.ofx_types.specs.declared.told.Note.TheVariants.{Plain, Place, NoUser, Full}
 use Rattle.bank_model.specs.Due.{has_number}
 use Rattle.bank_model.specs.Rules.{IsLegal}
-use Rattle.bank_model.specs.Sound.{HasLength}
+use Rattle.bank_model.specs.Sound.{IsTextWithin}
 use Rattle.bank_model.specs.declared.setup.Setup.{Setup}
 use Rattle.bank_model.specs.declared.event.State.{State}
 use Rattle.bank_model.specs.declared.event.Event.TheVariants.{Letter}
@@ -65,7 +65,7 @@ pub body_at_end : (left' : Option (List ℕ)) (ahead : List ℕ) (answer : Resul
 body_at_end left' ahead (Ok body) at_end is = at_end is.small
 body_at_end left' ahead (Err stop) at_end is = tt
 
-pub body_fits : (ahead : List ℕ) (answer : Result (List ℕ) Stop) → ReadsBody ahead answer → IfOk answer (HasLength 10000)
+pub body_fits : (ahead : List ℕ) (answer : Result (List ℕ) Stop) → ReadsBody ahead answer → IfOk answer (IsTextWithin 10000)
 body_fits ahead (Ok body) is = is.fits
 body_fits ahead (Err stop) is = tt
 

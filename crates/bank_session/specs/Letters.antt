@@ -8,7 +8,7 @@ use Rattle.ofx_types.specs.declared.number.UserId.{UserId}
 use Rattle.ofx_types.specs.declared.number.Moment.{Moment}
 use Rattle.bank_model.specs.Due.{has_number}
 use Rattle.bank_model.specs.Rules.{IsLegal, state_after, letter_entry}
-use Rattle.bank_model.specs.Sound.{HasLength}
+use Rattle.bank_model.specs.Sound.{IsTextWithin}
 use Rattle.bank_model.specs.declared.setup.Setup.{Setup}
 use Rattle.bank_model.specs.declared.setup.User.{User}
 use Rattle.bank_model.specs.declared.event.State.{State}
@@ -27,7 +27,7 @@ use Rattle.bank_session.specs.declared.stop.Stop.TheVariants as stops
 pub record IsBody (input body : List ℕ) : Type 0 where
   pub small : length input ≤ 262144
   pub is_trimmed : body ≡ trimmed input
-  pub fits : HasLength 10000 body
+  pub fits : IsTextWithin 10000 body
   pub is_clean : position is_refused_in_text body ≡ None
 
 -- Where the bytes are told the body is that of all of them.
@@ -84,8 +84,8 @@ IsAddressed bank name (Err fault) = CauseOf bank name fault
 -- A letter may be written to this user, with a number that is left.
 pub record CanWrite (bank : BookView) (to : UserId × ℕ) (subject body : List ℕ) : Type 0 where
   pub known : to.0.0 < length bank.setup.users
-  pub subject_fits : HasLength 64 subject
-  pub body_fits : HasLength 10000 body
+  pub subject_fits : IsTextWithin 64 subject
+  pub body_fits : IsTextWithin 10000 body
   pub left : has_number bank.setup bank.state ≡ true
   pub next : to.1 ≡ length bank.state.entries + 1
 

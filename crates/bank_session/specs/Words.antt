@@ -2,7 +2,7 @@
 use Rattle.std.specs.Prelude.{◌≡◌, ℕ, List, [], ◌∷◌, codes, Option, None, Some}
 use Rattle.ofx_types.specs.DateForm.{IsDate}
 use Rattle.ofx_types.specs.declared.number.Moment.{Moment}
-use Rattle.bank_model.specs.Sound.{HasLength}
+use Rattle.bank_model.specs.Sound.{IsTextWithin}
 
 -- `--at` and a date, or nothing: then each frame has the moment that the clock shows.
 abbrev pub IsMomentOption : List (List ℕ) → Option Moment → Type 0
@@ -29,7 +29,7 @@ pub record AreMailWords (words : List (List ℕ)) (name subject : List ℕ) : Ty
   pub setup : List ℕ
   pub records : List ℕ
   pub spelled : words ≡ codes "mail" ∷ setup ∷ records ∷ name ∷ subject ∷ []
-  pub subject_fits : HasLength 64 subject
+  pub subject_fits : IsTextWithin 64 subject
 
 -- Words that ask for a letter, whoever it is for.
 abbrev pub AskForLetter : List (List ℕ) → Type 0

@@ -2,7 +2,7 @@
 
 ghost use Rattle.std.specs.Prelude.{◌≤◌, IfOk, OnOk, IfErr};
 ghost use Rattle.std.specs.Io.KnownBytes.{IsAtEnd};
-ghost use Rattle.bank_model.specs.Sound.{HasLength};
+ghost use Rattle.bank_model.specs.Sound.{IsTextWithin};
 ghost use Rattle.bank_session.specs.Letters.{IsBodyOf, ReadsBody};
 ghost use Rattle.bank_session.specs.MailEnd.{StopsReading};
 
@@ -17,7 +17,7 @@ const MOST_BODY: u32 = 10_000;
 
 /// The body that all bytes of the input are.
 pub fn read_body<B: Source>(alloc: Global, input: &mut B) -> Result<Text, Stop>
-    ensures fits { IfOk result (HasLength 10000) }
+    ensures fits { IfOk result (IsTextWithin 10000) }
     ensures found { IfOk result (IsBodyOf (B.left input.old)) }
     ensures at_end { OnOk result (IsAtEnd (B.left input.new)) }
     ensures later { B.faults input.old ≤ B.faults input.new }

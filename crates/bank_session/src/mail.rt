@@ -1,7 +1,7 @@
 //! The command `mail`: a letter to a user of a bank that opens from its records.
 
 ghost use Rattle.std.specs.Prelude.{◌≡◌, ◌≢◌, ◌≤◌, ℕ, false, List, Option, Some, Err};
-ghost use Rattle.bank_model.specs.Sound.{HasLength};
+ghost use Rattle.bank_model.specs.Sound.{IsTextWithin};
 ghost use Rattle.bank_session.specs.Words.{AreMailWords, AskForLetter};
 ghost use Rattle.bank_session.specs.Outside.{outside};
 ghost use Rattle.bank_session.specs.Letters.{CanWrite, user_named};
@@ -56,7 +56,7 @@ fn send<A: Source, B: Source, W: Sink, K: Keeper, C: Clock>(
     keeper: &mut K,
     clock: &mut C,
 ) -> Result<(), Stop>
-    requires subject { HasLength 64 subject.now }
+    requires subject { IsTextWithin 64 subject.now }
     requires settled { K.unsettled keeper.old ≡ false }
     ensures ends { MailEndsSo name.now subject.now
         (outside (A.left setup.old) (A.faults setup.old) (B.left input.old) (B.faults input.old) (W.held out.old) (W.faults out.old) (K.records keeper.old) (K.faults keeper.old) (C.told clock.old))
@@ -80,7 +80,7 @@ fn send_at<B: Source, W: Sink, K: Keeper, C: Clock>(
     keeper: &mut K,
     clock: &mut C,
 ) -> Result<(), Stop>
-    requires subject { HasLength 64 subject.now }
+    requires subject { IsTextWithin 64 subject.now }
     requires settled { K.unsettled keeper.old ≡ false }
     // Whatever stands of the source of the setup:
     ensures ends { (setup_left setup_left' : Option (List ℕ)) (setup_faults setup_faults' : ℕ) → MailEnds desk.old name.now subject.now
@@ -104,8 +104,8 @@ fn write_letter<W: Sink, K: Keeper, C: Clock>(
     keeper: &mut K,
     clock: &mut C,
 ) -> Result<(), Stop>
-    requires subject { HasLength 64 subject.now }
-    requires body { HasLength 10000 body }
+    requires subject { IsTextWithin 64 subject.now }
+    requires body { IsTextWithin 10000 body }
     requires settled { K.unsettled keeper.old ≡ false }
     // Whatever stands of the input and of the source of the setup:
     ensures ends { (setup_left setup_left' left left' : Option (List ℕ)) (setup_faults setup_faults' faults faults' : ℕ) → LetterEnds desk.old name.now subject.now body

@@ -1,7 +1,7 @@
 //! The words of the command lines that have a form.
 
 ghost use Rattle.std.specs.Prelude.{◌≡◌, ◌↔◌, IsTrue};
-ghost use Rattle.bank_model.specs.Sound.{HasLength};
+ghost use Rattle.bank_model.specs.Sound.{IsTextWithin};
 ghost use Rattle.bank_session.specs.Words.{AreWords, AreDueWords, AskForLetter, IsMomentOption};
 ghost use Rattle.bank_session.specs.WordsRead.{Reads, ReadsCommand, ReadsOther, IsNamedBy};
 
@@ -91,7 +91,7 @@ fn are_due_words(words: &[Text]) -> bool
 
 /// Whether a word may be the subject of a letter.
 fn is_subject(word: &Text) -> bool
-    ensures { IsTrue result ↔ HasLength 64 word.now }
+    ensures { IsTrue result ↔ IsTextWithin 64 word.now }
 {
     let length = word.as_bytes().len();
     0 < length && length <= MOST_SUBJECT

@@ -49,7 +49,7 @@ fn is_sound_mail(mail: &MailText) -> bool
 
 /// Whether a letter of this subject and this body may be written: the subject has 1 to 64 bytes, the body 1 to 10,000.
 pub fn is_sound_letter(subject: &Text, body: &Text) -> bool
-    ensures { IsTrue result ↔ (bounds.HasLength 64 subject.now × bounds.HasLength 10000 body.now) }
+    ensures { IsTrue result ↔ (bounds.IsTextWithin 64 subject.now × bounds.IsTextWithin 10000 body.now) }
 {
     is_text(subject, MOST_SUBJECT) && is_text(body, MOST_BODY)
 }

@@ -1,14 +1,17 @@
 //! Request files: their asks, their synchronisations, and the order of both.
 
-ghost use Rattle.std.specs.Prelude.{◌≡◌, ◌↔◌, ◌≢◌, ◌++◌, not, filter, IsTrue, codes};
+ghost use Rattle.std.specs.Prelude.{◌≡◌, ◌↔◌, ◌++◌, not, filter, IsTrue};
 ghost use Rattle.std.specs.Option.{IfSome};
 ghost use Rattle.std.specs.List.{AllByRecursion, list_all, position};
 ghost use Rattle.ofx_types.specs.PrintedFile as files;
+ghost use Rattle.ofx_types.specs.TextRules.{IsFileUid};
 ghost use Rattle.bank_model.specs.Sound as bounds;
 
 use crate::deed::is_sound_deed;
 use crate::value::{is_moment_option, is_sound_account, is_text};
-use ofx_types::{Ask, Deed, Family, ObjectName, Period, RequestFile, SyncAsk, SyncKind, TrnUid};
+use ofx_types::{
+    Ask, Deed, Family, FileUid, ObjectName, Period, RequestFile, SyncAsk, SyncKind, TrnUid,
+};
 
 /// The most asks of a file, and the most deeds of a synchronisation.
 const MOST_ASKS: usize = 65_535;
@@ -20,8 +23,19 @@ const MOST_TOKEN: usize = 64;
 pub fn is_sound(file: &RequestFile) -> bool
     ensures { IsTrue result ↔ bounds.IsSound file.now }
 {
+    known(&file.older);
+    known(&file.newer);
     let asks = file.asks.items();
     is_version(file.version) && asks.len() <= MOST_ASKS && is_bank_first(asks) && are_sound(asks)
+}
+
+/// What the type keeps of each file uid, for the prover: nothing runs here.
+fn known(uid: &Option<FileUid>)
+    ensures { IfSome uid.now IsFileUid }
+{
+    if let Some(uid) = uid {
+        let _bytes = uid.as_bytes();
+    }
 }
 
 /// Whether it is a version of the header.
@@ -145,7 +159,7 @@ fn is_family(family: Family, wanted: Family) -> bool
 
 /// Whether a client may give the uid: `0` marks what the bank does by itself.
 fn is_client_uid(trnuid: &TrnUid) -> bool
-    ensures { IsTrue result ↔ (trnuid.now ≢ codes "0") }
+    ensures { IsTrue result ↔ bounds.IsClientUid trnuid.now }
 {
     trnuid.as_bytes() != b"0".as_slice()
 }

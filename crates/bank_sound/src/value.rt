@@ -18,14 +18,14 @@ pub(crate) fn is_sound_account(account: &AcctName) -> bool
 
 /// Whether a name has 1 to 32 bytes.
 pub(crate) fn is_name(text: &Text) -> bool
-    ensures { IsTrue result ↔ bounds.HasLength 32 text.now }
+    ensures { IsTrue result ↔ bounds.IsTextWithin 32 text.now }
 {
     is_text(text, MOST_BYTES)
 }
 
-/// Whether a text has 1 byte up to a limit.
+/// Whether a text has 1 byte up to a limit; that it is trimmed and clean its type keeps.
 pub(crate) fn is_text(text: &Text, most: usize) -> bool
-    ensures { IsTrue result ↔ bounds.HasLength most text.now }
+    ensures { IsTrue result ↔ bounds.IsTextWithin most text.now }
 {
     let length = text.as_bytes().len();
     0 < length && length <= most

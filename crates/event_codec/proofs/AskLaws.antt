@@ -15,7 +15,6 @@ use Rattle.ofx_types.specs.declared.request.Period.{Period}
 use Rattle.bank_model.specs.Sound.{IsSoundPeriod, IsSoundAsk}
 use Rattle.record_fields.specs.FieldCoding.{u16_bytes, uid_bytes, acct_bytes, optional_bytes}
 use Rattle.event_codec.specs.Coding.{period_bytes, deed_bytes, sync_bytes, ask_bytes, asks_bytes}
-use Rattle.event_codec.specs.Texts.{HasAskTexts}
 use Rattle.record_fields.specs.FieldReading.{optional_at}
 use Rattle.event_codec.specs.AskReading.{period_at, statement_at, wanted_behind, one_at, sync_ask_at, ask_of, ask_at, asks_from, asks_at}
 use Rattle.record_fields.specs.Standing.{IsBytes, StandsAt, IsField}
@@ -26,8 +25,8 @@ use Rattle.record_fields.proofs.BoundedLaws.{u16_field}
 use Rattle.record_fields.proofs.TextLaws.{given_uid_field, nothing_stands}
 use Rattle.record_fields.proofs.PartLaws.{acct_field}
 use Rattle.event_codec.proofs.PeriodLaws.{period_field}
-use Rattle.event_codec.proofs.DeedLaws.{IsOf, deed_field}
-use Rattle.event_codec.proofs.SyncLaws.{IsAllowed, renumbered, same_place, all_both, all_of_both, sync_field}
+use Rattle.event_codec.proofs.DeedLaws.{IsOf, renumbered, deed_field}
+use Rattle.event_codec.proofs.SyncLaws.{IsAllowed, not_behind, same_place, sync_field}
 use Rattle.event_codec.proofs.AskOrder.{AreInOrder, bank_first, in_order}
 
 abbrev IsMaybePeriod : Option Period → Type 0
@@ -37,7 +36,7 @@ optional_period : IsField (optional_at period_at) (optional_bytes period_bytes) 
 optional_period = optional_field period_field
 
 abbrev IsGoodAsk : Bool → Ask → Type 0
-IsGoodAsk mail ask = (IsSoundAsk ask × HasAskTexts ask) × IsAllowed mail (is_mail_ask ask)
+IsGoodAsk mail ask = IsSoundAsk ask × IsAllowed mail (is_mail_ask ask)
 
 record AskStands (mail : Bool) (rec : List ℕ) (at : ℕ) (found : Ask × ℕ) : Type 0 where
   stands : StandsAt rec at (ask_bytes found.0) found.1
@@ -55,7 +54,7 @@ statement_stands mail rec at next found bytes free lead e =
     let made : Ask × ℕ = (asks.Statement uid.value account.value period.value, period.next) in
     subst (AskStands mail rec at) {x = made} (ok_is made found period.rest) (record {
       stands = joined (joined (joined lead uid.stands) account.stands) period.stands;
-      good = (((uid.fits.0, account.fits.0, period.fits), (uid.fits.1, account.fits.1)), not_mail mail false free);
+      good = ((uid.fits, account.fits, period.fits), not_mail mail false free);
     })
 
 mail_is : (family : Family) → is_mail_family family ≡ true → family ≡ families.Mail
@@ -80,7 +79,7 @@ one_stands mail rec at next found bytes lead e =
     let made : Ask × ℕ = (asks.One uid.value deed.value, deed.next) in
     subst (AskStands mail rec at) {x = made} (ok_is made found deed.rest) (record {
       stands = joined (joined lead uid.stands) deed.stands;
-      good = (((uid.fits.0, deed.fits.0.0), (uid.fits.1, deed.fits.0.1)), allowed_of mail deed.value deed.fits.1);
+      good = ((uid.fits, deed.fits.0), allowed_of mail deed.value deed.fits.1);
     })
 
 sync_stands : (mail : Bool) (rec : List ℕ) (at next : ℕ) (found : Ask × ℕ) → IsBytes rec → StandsAt rec at (3 ∷ []) next → sync_ask_at mail rec next ≡ Ok found → AskStands mail rec at found
@@ -100,10 +99,6 @@ ask_of_stands mail kind rec at next found bytes p e =
     let g = pass_ok (nat_eq kind 3) at (sync_ask_at mail rec next) found e in
     sync_stands mail rec at next found bytes (renumbered kind 3 rec at next g.0 p) g.1))
 
-not_behind : (mail : Bool) → IsAllowed mail false → mail ≡ false
-not_behind true h = absurd (let t : false ≡ true = h refl in cc)
-not_behind false h = refl
-
 ask_again : (mail : Bool) (rec : List ℕ) (at : ℕ) (ask : Ask) (next : ℕ) → at ≤ length rec → StandsAt rec at (ask_bytes ask) next → IsGoodAsk mail ask → ask_at mail rec at ≡ Ok (ask, next)
 unfolding ask_at ask_of ask_bytes statement_at one_at sync_ask_at
 ask_again mail rec at (asks.Statement trnuid account period) next le p fits =
@@ -113,17 +108,17 @@ ask_again mail rec at (asks.Statement trnuid account period) next le p fits =
     rw (
       u8_field.again rec at 1 b.mid le b.first (omega arith),
       not_behind mail fits.1,
-      given_uid_field.again rec b.mid trnuid c.mid b.first.within b.second (fits.0.0.0, fits.0.1.0),
-      acct_field.again rec c.mid account d.mid c.first.within c.second (fits.0.0.1, fits.0.1.1),
-      optional_period.again rec d.mid period next d.first.within d.second fits.0.0.2,
+      given_uid_field.again rec b.mid trnuid c.mid b.first.within b.second fits.0.0,
+      acct_field.again rec c.mid account d.mid c.first.within c.second fits.0.1,
+      optional_period.again rec d.mid period next d.first.within d.second fits.0.2,
     ) refl
 ask_again mail rec at (asks.One trnuid deed) next le p fits =
     let c = apart rec at (2 ∷ uid_bytes trnuid) (deed_bytes deed) next le p in
     let b = apart rec at (2 ∷ []) (uid_bytes trnuid) c.mid le c.first in
     rw (
       u8_field.again rec at 2 b.mid le b.first (omega arith),
-      given_uid_field.again rec b.mid trnuid c.mid b.first.within b.second (fits.0.0.0, fits.0.1.0),
-      (deed_field (wanted_behind mail)).again rec c.mid deed next c.first.within c.second ((fits.0.0.1, fits.0.1.1), of_allowed mail deed fits.1),
+      given_uid_field.again rec b.mid trnuid c.mid b.first.within b.second fits.0.0,
+      (deed_field (wanted_behind mail)).again rec c.mid deed next c.first.within c.second (fits.0.1, of_allowed mail deed fits.1),
     ) refl
 ask_again mail rec at (asks.Sync ask) next le p fits =
     let b = apart rec at (3 ∷ []) (sync_bytes ask) next le p in
@@ -141,13 +136,10 @@ ask_field mail = record {
 
 -- ---- lists of asks
 
-abbrev IsKeptAsk : Ask → Type 0
-IsKeptAsk ask = IsSoundAsk ask × HasAskTexts ask
-
 record AsksStand (n : ℕ) (mail : Bool) (rec : List ℕ) (at : ℕ) (found : List Ask × ℕ) : Type 0 where
   stands : StandsAt rec at (flat_map ask_bytes found.0) found.1
   counted : length found.0 ≡ n
-  good : AllByRecursion IsKeptAsk found.0
+  good : AllByRecursion IsSoundAsk found.0
   ordered : AreInOrder mail found.0
 
 asks_stand : (n : ℕ) (mail : Bool) (rec : List ℕ) (at : ℕ) (found : List Ask × ℕ) → IsBytes rec → at ≤ length rec → asks_from n mail rec at ≡ Ok found → AsksStand n mail rec at found
@@ -163,7 +155,7 @@ asks_stand (suc n) mail rec at found bytes le e =
     let whole : StandsAt rec at (flat_map ask_bytes (a.value ∷ b.0.0)) b.0.1 = subst (λ (t : List ℕ). StandsAt rec at t b.0.1) (sym (flat_map-cons ask_bytes a.value b.0.0)) (joined a.stands rest.stands) in
     subst (AsksStand (suc n) mail rec at) {x = made} (ok_is made found b.2) (record { stands = whole; counted = ap suc rest.counted; good = (a.fits.0, rest.good); ordered = (a.fits.1, rest.ordered) })
 
-asks_again : (mail : Bool) (rec : List ℕ) (at : ℕ) (xs : List Ask) (next : ℕ) → at ≤ length rec → StandsAt rec at (flat_map ask_bytes xs) next → AllByRecursion IsKeptAsk xs → AreInOrder mail xs → asks_from (length xs) mail rec at ≡ Ok (xs, next)
+asks_again : (mail : Bool) (rec : List ℕ) (at : ℕ) (xs : List Ask) (next : ℕ) → at ≤ length rec → StandsAt rec at (flat_map ask_bytes xs) next → AllByRecursion IsSoundAsk xs → AreInOrder mail xs → asks_from (length xs) mail rec at ≡ Ok (xs, next)
 unfolding asks_from
 asks_again mail rec at [] next le p good ordered = ap (λ (n : ℕ). Ok ([], n)) (sym (same_place rec at next le p))
 asks_again mail rec at (x ∷ xs) next le p good ordered =
@@ -178,9 +170,8 @@ asks_field = record {
       let a = step u16_field rec at _ found bytes le e in
       let b = asks_stand a.value false rec a.next found bytes a.stands.within a.rest in
       let head : StandsAt rec at (u16_bytes (length found.0)) a.next = subst (λ (n : ℕ). StandsAt rec at (u16_bytes n) a.next) (sym b.counted) a.stands in
-      let good = all_both IsSoundAsk HasAskTexts found.0 b.good in
-      (joined head b.stands, record { few = omega (arith, a.fits, b.counted); bank_first = bank_first found.0 b.ordered; sound = good.0; texts = good.1 });
+      (joined head b.stands, record { few = omega (arith, a.fits, b.counted); bank_first = bank_first found.0 b.ordered; sound = b.good });
   again = λ rec at x next le p fits.
       let a = apart rec at (u16_bytes (length x)) (flat_map ask_bytes x) next le p in
-      rw (u16_field.again rec at (length x) a.mid le a.first (omega (arith, fits.few)), asks_again false rec a.mid x next a.first.within a.second (all_of_both IsSoundAsk HasAskTexts x fits.sound fits.texts) (in_order x fits.bank_first)) refl;
+      rw (u16_field.again rec at (length x) a.mid le a.first (omega (arith, fits.few)), asks_again false rec a.mid x next a.first.within a.second fits.sound (in_order x fits.bank_first)) refl;
 }

@@ -72,10 +72,6 @@ abbrev AreBank : List Ask → Type 0
 AreBank [] = Unit {0}
 AreBank (x ∷ xs) = (is_mail_ask x ≡ false) × AreBank xs
 
-not_true : (b : Bool) → not b ≡ true → b ≡ false
-not_true true h = absurd cc
-not_true false h = refl
-
 filtered_bank : (asks : List Ask) → AreBank (filter is_bank_ask asks)
 filtered_bank [] = tt
 filtered_bank (x ∷ xs) = by_cases (is_mail_ask x) refl (filtered_bank xs)

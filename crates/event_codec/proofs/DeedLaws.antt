@@ -9,7 +9,6 @@ use Rattle.ofx_types.specs.declared.transfer.Family.TheVariants as families
 use Rattle.bank_model.specs.Sound.{IsSoundDeed}
 use Rattle.record_fields.specs.FieldCoding.{u64_bytes, flag_bytes, acct_bytes, recur_bytes, info_bytes, mail_bytes}
 use Rattle.event_codec.specs.Coding.{deed_bytes}
-use Rattle.event_codec.specs.Texts.{HasDeedTexts}
 use Rattle.event_codec.specs.AskReading.{transfer_at, modify_transfer_at, cancel_transfer_at, model_at, modify_model_at, cancel_model_at, bank_mail_at, mail_deed_at, deed_of, is_kind_of, is_wanted, deed_at}
 use Rattle.record_fields.specs.Standing.{IsBytes, StandsAt, IsField}
 use Rattle.record_fields.proofs.Steps.{ok_is, pass_ok, fork, joined, apart, step}
@@ -85,14 +84,11 @@ wanted_of : (wanted : Option Family) (deed : Deed) → IsOf wanted deed → is_w
 wanted_of None deed h = refl
 wanted_of (Some family) deed h = subst (λ (f : Family). is_kind_of f (deed_kind deed) ≡ true) h (family_kind deed)
 
-abbrev IsGoodDeed : Deed → Type 0
-IsGoodDeed deed = IsSoundDeed deed × HasDeedTexts deed
-
 -- ---- a deed behind its kind
 
 record DeedStands (kind : ℕ) (rec : List ℕ) (at : ℕ) (found : Deed × ℕ) : Type 0 where
   stands : StandsAt rec at (deed_bytes found.0) found.1
-  good : IsGoodDeed found.0
+  good : IsSoundDeed found.0
   is_kind : deed_kind found.0 ≡ kind
 
 transfer_stands : (rec : List ℕ) (at next : ℕ) (found : Deed × ℕ) → IsBytes rec → StandsAt rec at (1 ∷ []) next → transfer_at rec next ≡ Ok found → DeedStands 1 rec at found
@@ -100,7 +96,7 @@ unfolding transfer_at deed_bytes
 transfer_stands rec at next found bytes lead e =
     let info = step info_field rec next _ found bytes lead.within e in
     let made : Deed × ℕ = (deeds.Transfer info.value, info.next) in
-    subst (DeedStands 1 rec at) {x = made} (ok_is made found info.rest) (record { stands = joined lead info.stands; good = (info.fits.0, info.fits.1); is_kind = refl })
+    subst (DeedStands 1 rec at) {x = made} (ok_is made found info.rest) (record { stands = joined lead info.stands; good = info.fits; is_kind = refl })
 
 modify_transfer_stands : (rec : List ℕ) (at next : ℕ) (found : Deed × ℕ) → IsBytes rec → StandsAt rec at (2 ∷ []) next → modify_transfer_at rec next ≡ Ok found → DeedStands 2 rec at found
 unfolding modify_transfer_at deed_bytes
@@ -108,14 +104,14 @@ modify_transfer_stands rec at next found bytes lead e =
     let id = step id_field rec next _ found bytes lead.within e in
     let info = step info_field rec id.next _ found bytes id.stands.within id.rest in
     let made : Deed × ℕ = (deeds.ModifyTransfer id.value info.value, info.next) in
-    subst (DeedStands 2 rec at) {x = made} (ok_is made found info.rest) (record { stands = joined (joined lead id.stands) info.stands; good = ((id.fits, info.fits.0), info.fits.1); is_kind = refl })
+    subst (DeedStands 2 rec at) {x = made} (ok_is made found info.rest) (record { stands = joined (joined lead id.stands) info.stands; good = (id.fits, info.fits); is_kind = refl })
 
 cancel_transfer_stands : (rec : List ℕ) (at next : ℕ) (found : Deed × ℕ) → IsBytes rec → StandsAt rec at (3 ∷ []) next → cancel_transfer_at rec next ≡ Ok found → DeedStands 3 rec at found
 unfolding cancel_transfer_at deed_bytes
 cancel_transfer_stands rec at next found bytes lead e =
     let id = step id_field rec next _ found bytes lead.within e in
     let made : Deed × ℕ = (deeds.CancelTransfer id.value, id.next) in
-    subst (DeedStands 3 rec at) {x = made} (ok_is made found id.rest) (record { stands = joined lead id.stands; good = (id.fits, tt); is_kind = refl })
+    subst (DeedStands 3 rec at) {x = made} (ok_is made found id.rest) (record { stands = joined lead id.stands; good = id.fits; is_kind = refl })
 
 model_stands : (rec : List ℕ) (at next : ℕ) (found : Deed × ℕ) → IsBytes rec → StandsAt rec at (4 ∷ []) next → model_at rec next ≡ Ok found → DeedStands 4 rec at found
 unfolding model_at deed_bytes
@@ -123,7 +119,7 @@ model_stands rec at next found bytes lead e =
     let recur = step recur_field rec next _ found bytes lead.within e in
     let info = step info_field rec recur.next _ found bytes recur.stands.within recur.rest in
     let made : Deed × ℕ = (deeds.Model recur.value info.value, info.next) in
-    subst (DeedStands 4 rec at) {x = made} (ok_is made found info.rest) (record { stands = joined (joined lead recur.stands) info.stands; good = ((recur.fits, info.fits.0), info.fits.1); is_kind = refl })
+    subst (DeedStands 4 rec at) {x = made} (ok_is made found info.rest) (record { stands = joined (joined lead recur.stands) info.stands; good = (recur.fits, info.fits); is_kind = refl })
 
 modify_model_stands : (rec : List ℕ) (at next : ℕ) (found : Deed × ℕ) → IsBytes rec → StandsAt rec at (5 ∷ []) next → modify_model_at rec next ≡ Ok found → DeedStands 5 rec at found
 unfolding modify_model_at deed_bytes
@@ -133,7 +129,7 @@ modify_model_stands rec at next found bytes lead e =
     let info = step info_field rec recur.next _ found bytes recur.stands.within recur.rest in
     let pending = step flag_field rec info.next _ found bytes info.stands.within info.rest in
     let made : Deed × ℕ = (deeds.ModifyModel id.value recur.value info.value pending.value, pending.next) in
-    subst (DeedStands 5 rec at) {x = made} (ok_is made found pending.rest) (record { stands = joined (joined (joined (joined lead id.stands) recur.stands) info.stands) pending.stands; good = ((id.fits, recur.fits, info.fits.0), info.fits.1); is_kind = refl })
+    subst (DeedStands 5 rec at) {x = made} (ok_is made found pending.rest) (record { stands = joined (joined (joined (joined lead id.stands) recur.stands) info.stands) pending.stands; good = (id.fits, recur.fits, info.fits); is_kind = refl })
 
 cancel_model_stands : (rec : List ℕ) (at next : ℕ) (found : Deed × ℕ) → IsBytes rec → StandsAt rec at (6 ∷ []) next → cancel_model_at rec next ≡ Ok found → DeedStands 6 rec at found
 unfolding cancel_model_at deed_bytes
@@ -141,7 +137,7 @@ cancel_model_stands rec at next found bytes lead e =
     let id = step id_field rec next _ found bytes lead.within e in
     let pending = step flag_field rec id.next _ found bytes id.stands.within id.rest in
     let made : Deed × ℕ = (deeds.CancelModel id.value pending.value, pending.next) in
-    subst (DeedStands 6 rec at) {x = made} (ok_is made found pending.rest) (record { stands = joined (joined lead id.stands) pending.stands; good = (id.fits, tt); is_kind = refl })
+    subst (DeedStands 6 rec at) {x = made} (ok_is made found pending.rest) (record { stands = joined (joined lead id.stands) pending.stands; good = id.fits; is_kind = refl })
 
 bank_mail_stands : (rec : List ℕ) (at next : ℕ) (found : Deed × ℕ) → IsBytes rec → StandsAt rec at (7 ∷ []) next → bank_mail_at rec next ≡ Ok found → DeedStands 7 rec at found
 unfolding bank_mail_at deed_bytes
@@ -149,16 +145,16 @@ bank_mail_stands rec at next found bytes lead e =
     let account = step acct_field rec next _ found bytes lead.within e in
     let mail = step mail_field rec account.next _ found bytes account.stands.within account.rest in
     let made : Deed × ℕ = (deeds.BankMail account.value mail.value, mail.next) in
-    subst (DeedStands 7 rec at) {x = made} (ok_is made found mail.rest) (record { stands = joined (joined lead account.stands) mail.stands; good = ((account.fits.0, mail.fits.0), (account.fits.1, mail.fits.1)); is_kind = refl })
+    subst (DeedStands 7 rec at) {x = made} (ok_is made found mail.rest) (record { stands = joined (joined lead account.stands) mail.stands; good = (account.fits, mail.fits); is_kind = refl })
 
 mail_deed_stands : (rec : List ℕ) (at next : ℕ) (found : Deed × ℕ) → IsBytes rec → StandsAt rec at (8 ∷ []) next → mail_deed_at rec next ≡ Ok found → DeedStands 8 rec at found
 unfolding mail_deed_at deed_bytes
 mail_deed_stands rec at next found bytes lead e =
     let mail = step mail_field rec next _ found bytes lead.within e in
     let made : Deed × ℕ = (deeds.Mail mail.value, mail.next) in
-    subst (DeedStands 8 rec at) {x = made} (ok_is made found mail.rest) (record { stands = joined lead mail.stands; good = (mail.fits.0, mail.fits.1); is_kind = refl })
+    subst (DeedStands 8 rec at) {x = made} (ok_is made found mail.rest) (record { stands = joined lead mail.stands; good = mail.fits; is_kind = refl })
 
-renumbered : (kind k : ℕ) (rec : List ℕ) (at next : ℕ) → nat_eq kind k ≡ true → StandsAt rec at (kind ∷ []) next → StandsAt rec at (k ∷ []) next
+pub renumbered : (kind k : ℕ) (rec : List ℕ) (at next : ℕ) → nat_eq kind k ≡ true → StandsAt rec at (kind ∷ []) next → StandsAt rec at (k ∷ []) next
 renumbered kind k rec at next h p = subst (λ (n : ℕ). StandsAt rec at (n ∷ []) next) (eqb-true _ _ h) p
 
 numbered : (kind k : ℕ) (rec : List ℕ) (at : ℕ) (found : Deed × ℕ) → nat_eq kind k ≡ true → DeedStands k rec at found → DeedStands kind rec at found
@@ -177,7 +173,7 @@ deed_of_stands kind rec at next found bytes p e =
     let g = pass_ok (nat_eq kind 8) at (mail_deed_at rec next) found e in
     numbered kind 8 rec at found g.0 (mail_deed_stands rec at next found bytes (renumbered kind 8 rec at next g.0 p) g.1))))))))
 
-deed_again : (wanted : Option Family) (rec : List ℕ) (at : ℕ) (deed : Deed) (next : ℕ) → at ≤ length rec → StandsAt rec at (deed_bytes deed) next → IsGoodDeed deed → is_wanted wanted (deed_kind deed) ≡ true → deed_at wanted rec at ≡ Ok (deed, next)
+deed_again : (wanted : Option Family) (rec : List ℕ) (at : ℕ) (deed : Deed) (next : ℕ) → at ≤ length rec → StandsAt rec at (deed_bytes deed) next → IsSoundDeed deed → is_wanted wanted (deed_kind deed) ≡ true → deed_at wanted rec at ≡ Ok (deed, next)
 unfolding deed_at deed_of deed_bytes transfer_at modify_transfer_at cancel_transfer_at model_at modify_model_at cancel_model_at bank_mail_at mail_deed_at
 deed_again wanted rec at (deeds.Transfer info) next le p fits h =
     let p0 = apart rec at (1 ∷ []) (info_bytes info) next le p in
@@ -192,15 +188,15 @@ deed_again wanted rec at (deeds.ModifyTransfer id info) next le p fits h =
     rw (
       u8_field.again rec at 2 p0.mid le p0.first (omega arith),
       h,
-      id_field.again rec p0.mid id p1.mid p0.first.within p0.second fits.0.0,
-      info_field.again rec p1.mid info next p1.first.within p1.second (fits.0.1, fits.1),
+      id_field.again rec p0.mid id p1.mid p0.first.within p0.second fits.0,
+      info_field.again rec p1.mid info next p1.first.within p1.second fits.1,
     ) refl
 deed_again wanted rec at (deeds.CancelTransfer id) next le p fits h =
     let p0 = apart rec at (3 ∷ []) (u64_bytes id) next le p in
     rw (
       u8_field.again rec at 3 p0.mid le p0.first (omega arith),
       h,
-      id_field.again rec p0.mid id next p0.first.within p0.second fits.0,
+      id_field.again rec p0.mid id next p0.first.within p0.second fits,
     ) refl
 deed_again wanted rec at (deeds.Model recur info) next le p fits h =
     let p1 = apart rec at (4 ∷ recur_bytes recur) (info_bytes info) next le p in
@@ -208,8 +204,8 @@ deed_again wanted rec at (deeds.Model recur info) next le p fits h =
     rw (
       u8_field.again rec at 4 p0.mid le p0.first (omega arith),
       h,
-      recur_field.again rec p0.mid recur p1.mid p0.first.within p0.second fits.0.0,
-      info_field.again rec p1.mid info next p1.first.within p1.second (fits.0.1, fits.1),
+      recur_field.again rec p0.mid recur p1.mid p0.first.within p0.second fits.0,
+      info_field.again rec p1.mid info next p1.first.within p1.second fits.1,
     ) refl
 deed_again wanted rec at (deeds.ModifyModel id recur info pending) next le p fits h =
     let p3 = apart rec at (5 ∷ u64_bytes id ++ recur_bytes recur ++ info_bytes info) (flag_bytes pending) next le p in
@@ -219,9 +215,9 @@ deed_again wanted rec at (deeds.ModifyModel id recur info pending) next le p fit
     rw (
       u8_field.again rec at 5 p0.mid le p0.first (omega arith),
       h,
-      id_field.again rec p0.mid id p1.mid p0.first.within p0.second fits.0.0,
-      recur_field.again rec p1.mid recur p2.mid p1.first.within p1.second fits.0.1,
-      info_field.again rec p2.mid info p3.mid p2.first.within p2.second (fits.0.2, fits.1),
+      id_field.again rec p0.mid id p1.mid p0.first.within p0.second fits.0,
+      recur_field.again rec p1.mid recur p2.mid p1.first.within p1.second fits.1,
+      info_field.again rec p2.mid info p3.mid p2.first.within p2.second fits.2,
       flag_field.again rec p3.mid pending next p3.first.within p3.second tt,
     ) refl
 deed_again wanted rec at (deeds.CancelModel id pending) next le p fits h =
@@ -230,7 +226,7 @@ deed_again wanted rec at (deeds.CancelModel id pending) next le p fits h =
     rw (
       u8_field.again rec at 6 p0.mid le p0.first (omega arith),
       h,
-      id_field.again rec p0.mid id p1.mid p0.first.within p0.second fits.0,
+      id_field.again rec p0.mid id p1.mid p0.first.within p0.second fits,
       flag_field.again rec p1.mid pending next p1.first.within p1.second tt,
     ) refl
 deed_again wanted rec at (deeds.BankMail account mail) next le p fits h =
@@ -239,8 +235,8 @@ deed_again wanted rec at (deeds.BankMail account mail) next le p fits h =
     rw (
       u8_field.again rec at 7 p0.mid le p0.first (omega arith),
       h,
-      acct_field.again rec p0.mid account p1.mid p0.first.within p0.second (fits.0.0, fits.1.0),
-      mail_field.again rec p1.mid mail next p1.first.within p1.second (fits.0.1, fits.1.1),
+      acct_field.again rec p0.mid account p1.mid p0.first.within p0.second fits.0,
+      mail_field.again rec p1.mid mail next p1.first.within p1.second fits.1,
     ) refl
 deed_again wanted rec at (deeds.Mail mail) next le p fits h =
     let p0 = apart rec at (8 ∷ []) (mail_bytes mail) next le p in
@@ -250,7 +246,7 @@ deed_again wanted rec at (deeds.Mail mail) next le p fits h =
       mail_field.again rec p0.mid mail next p0.first.within p0.second fits,
     ) refl
 
-pub deed_field : (wanted : Option Family) → IsField (deed_at wanted) deed_bytes (λ deed. (IsSoundDeed deed × HasDeedTexts deed) × IsOf wanted deed)
+pub deed_field : (wanted : Option Family) → IsField (deed_at wanted) deed_bytes (λ deed. IsSoundDeed deed × IsOf wanted deed)
 unfolding deed_at
 deed_field wanted = record {
   stands = λ rec at found bytes le e.

@@ -1,31 +1,18 @@
 -- A period that is read is the one that was written.
-use Rattle.std.proofs.Common.{◌≡◌, ℕ, zero, suc, ◌<◌, ◌≤◌, List, [], ◌∷◌, ◌++◌, slice_get, Option, Some, refl, sym, ap, subst, arith}
+use Rattle.std.proofs.Common.{ℕ, ◌++◌, Option, refl, subst}
 use Rattle.std.specs.Prelude.{IfSome}
-use Rattle.ofx_types.specs.TextRules.{IsText}
-use Rattle.ofx_types.specs.Calendar.{IsMoment, IsDay}
+use Rattle.ofx_types.specs.Calendar.{IsMoment}
 use Rattle.ofx_types.specs.declared.number.Moment.{Moment}
-use Rattle.ofx_types.specs.declared.number.Day.{Day}
-use Rattle.ofx_types.specs.declared.account.AcctKind.{AcctKind}
-use Rattle.ofx_types.specs.declared.account.AcctKind.TheVariants.{Checking, Savings, MoneyMarket, CreditLine}
-use Rattle.ofx_types.specs.declared.account.AcctName.{AcctName}
-use Rattle.ofx_types.specs.declared.recurring.Freq.{Freq}
-use Rattle.ofx_types.specs.declared.recurring.Freq.TheVariants.{Weekly, Biweekly, TwiceMonthly, Monthly, FourWeeks, Bimonthly, Quarterly, Semiannually, Annually}
-use Rattle.ofx_types.specs.declared.recurring.Recur.{Recur}
-use Rattle.ofx_types.specs.declared.mail.MailText.{MailText}
-use Rattle.ofx_types.specs.declared.transfer.XferInfo.{XferInfo}
 use Rattle.ofx_types.specs.declared.request.Period.{Period}
-use Rattle.bank_model.specs.Sound.{HasLength, IsSoundAccount, IsSoundRecur, IsSoundInfo, IsSoundMail, IsSoundPeriod}
-use Rattle.record_fields.specs.FieldCoding.{u16_bytes, i64_bytes, moment_bytes, day_bytes, flag_bytes, text_bytes, optional_bytes, kind_number, acct_bytes, freq_number, recur_bytes, info_bytes, mail_bytes}
+use Rattle.bank_model.specs.Sound.{IsSoundPeriod}
+use Rattle.record_fields.specs.FieldCoding.{moment_bytes, flag_bytes, optional_bytes}
 use Rattle.event_codec.specs.Coding.{period_bytes}
-use Rattle.record_fields.specs.FieldTexts.{HasAccountTexts, HasInfoTexts, HasMailTexts}
-use Rattle.record_fields.specs.FieldReading.{filled_text_at, choice_at, optional_at, moment_at, day_at, count_at}
-use Rattle.record_fields.specs.PartReading.{account_kinds, acct_at, frequencies, recur_at, info_at, mail_at}
+use Rattle.record_fields.specs.FieldReading.{optional_at, moment_at}
 use Rattle.event_codec.specs.AskReading.{period_at}
 use Rattle.record_fields.specs.Standing.{StandsAt, IsField}
 use Rattle.record_fields.proofs.Steps.{ok_is, joined, apart, step}
-use Rattle.record_fields.proofs.NumberLaws.{choice_field, optional_field, flag_field}
-use Rattle.record_fields.proofs.BoundedLaws.{count_field, amount_field, moment_field, day_field}
-use Rattle.record_fields.proofs.TextLaws.{filled_field}
+use Rattle.record_fields.proofs.NumberLaws.{optional_field, flag_field}
+use Rattle.record_fields.proofs.BoundedLaws.{moment_field}
 
 abbrev IsMaybeMoment : Option Moment → Type 0
 IsMaybeMoment o = IfSome o (λ (at : Moment). IsMoment at.0)

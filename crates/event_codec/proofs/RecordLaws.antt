@@ -3,18 +3,16 @@ use Rattle.std.proofs.Common.{◌≡◌, ℕ, ◌^◌, ◌<◌, ◌≤◌, Bool,
 use Rattle.std.proofs.lemmas.Bool.{eqb-true, eqb-false, eq-eqb, leb-true, le-leb}
 use Rattle.std.proofs.lemmas.List.{append-nil, drop_all}
 use Rattle.ofx_types.specs.Calendar.{IsMoment}
-use Rattle.ofx_types.specs.TextRules.{IsText}
 use Rattle.ofx_types.specs.declared.number.Moment.{Moment}
 use Rattle.ofx_types.specs.declared.number.UserId.{UserId}
 use Rattle.ofx_types.specs.declared.request.RequestFile.{RequestFile}
-use Rattle.bank_model.specs.Sound.{IsVersion, IsSound, IsId, HasLength}
+use Rattle.bank_model.specs.Sound.{IsVersion, IsSound, IsId, IsTextWithin}
 use Rattle.bank_model.specs.declared.event.Event.{Event}
 use Rattle.bank_model.specs.declared.event.Event.TheVariants.{File, Post, Spawn, Letter}
 use Rattle.record_fields.specs.declared.fault.RecordFault.{RecordFault}
 use Rattle.record_fields.specs.declared.fault.RecordFault.TheVariants as faults
 use Rattle.record_fields.specs.FieldCoding.{u8_bytes, u16_bytes, u32_bytes, u64_bytes, i64_bytes, text_bytes, file_uid_bytes}
 use Rattle.event_codec.specs.Coding.{asks_bytes, file_bytes, kind_of_event, event_bytes, coded}
-use Rattle.event_codec.specs.Texts.{HasKeptTexts}
 use Rattle.event_codec.specs.Records.{IsWithinBounds, IsShort, IsTyped, Codes}
 use Rattle.bank_model.specs.Events.{without_signon}
 use Rattle.event_codec.specs.Reading.{version_at, file_event_at, post_at, spawn_at, letter_at, event_of, kind_at, behind_version, placed, record_read}
@@ -75,11 +73,11 @@ version_field = record {
 
 -- An event is within its bounds and typed.
 abbrev pub IsKeepable : Event → Type 0
-IsKeepable (File user file) = IsShort user.0 × IsSound file × HasKeptTexts file
+IsKeepable (File user file) = IsShort user.0 × IsSound file
 IsKeepable (Post id) = IsId id
 IsKeepable (Spawn model place) = IsId model × IsShort place
 IsKeepable (Letter user subject body) =
-    IsShort user.0 × (IsText subject × HasLength 64 subject) × (IsText body × HasLength 10000 body)
+    IsShort user.0 × IsTextWithin 64 subject × IsTextWithin 10000 body
 
 pub record EventStands (kind : ℕ) (rec : List ℕ) (at : ℕ) (found : Event × ℕ) : Type 0 where
   pub stands : StandsAt rec at (event_bytes found.0) found.1
@@ -98,11 +96,10 @@ file_stands rec at found bytes le e =
     let file : RequestFile = record { version = version.value; older = older.value; newer = newer.value; user = []; pass = []; asks = asks.value } in
     let by : UserId = record { 0 = user.value } in
     let made : Event × ℕ = (File by file, asks.next) in
-    let sound : IsSound file = record { version = version.fits; few = asks.fits.few; bank_first = asks.fits.bank_first; asks = asks.fits.sound } in
-    let texts : HasKeptTexts file = record { older = older.fits; newer = newer.fits; asks = asks.fits.texts } in
+    let sound : IsSound file = record { version = version.fits; older = older.fits; newer = newer.fits; few = asks.fits.few; bank_first = asks.fits.bank_first; asks = asks.fits.sound } in
     let whole : EventStands 1 rec at made = record {
       stands = joined user.stands (joined (joined (joined version.stands older.stands) newer.stands) asks.stands);
-      keepable = (user.fits, sound, texts);
+      keepable = (user.fits, sound);
       nameless = refl;
       is_kind = refl;
     } in
@@ -133,7 +130,7 @@ letter_stands rec at found bytes le e =
     let made : Event × ℕ = (Letter by subject.value body.value, body.next) in
     let whole : EventStands 4 rec at made = record {
       stands = joined (joined user.stands subject.stands) body.stands;
-      keepable = (user.fits, (subject.fits.1, subject.fits.0), (body.fits.1, body.fits.0));
+      keepable = (user.fits, subject.fits, body.fits);
       nameless = refl;
       is_kind = refl;
     } in
@@ -161,12 +158,12 @@ event_again rec at (File user file) next le p fits =
     let a = apart rec u.mid (u16_bytes file.version ++ file_uid_bytes file.older ++ file_uid_bytes file.newer) (asks_bytes file.asks) next u.first.within u.second in
     let n = apart rec u.mid (u16_bytes file.version ++ file_uid_bytes file.older) (file_uid_bytes file.newer) a.mid u.first.within a.first in
     let o = apart rec u.mid (u16_bytes file.version) (file_uid_bytes file.older) n.mid u.first.within n.first in
-    let asks : AreAsks file.asks = record { few = fits.1.few; bank_first = fits.1.bank_first; sound = fits.1.asks; texts = fits.2.asks } in
+    let asks : AreAsks file.asks = record { few = fits.1.few; bank_first = fits.1.bank_first; sound = fits.1.asks } in
     rw (
       u32_field.again rec at user.0 u.mid le u.first fits.0,
       version_field.again rec u.mid file.version o.mid u.first.within o.first fits.1.version,
-      file_uid_field.again rec o.mid file.older n.mid o.first.within o.second fits.2.older,
-      file_uid_field.again rec n.mid file.newer a.mid n.first.within n.second fits.2.newer,
+      file_uid_field.again rec o.mid file.older n.mid o.first.within o.second fits.1.older,
+      file_uid_field.again rec n.mid file.newer a.mid n.first.within n.second fits.1.newer,
       asks_field.again rec a.mid file.asks next a.first.within a.second asks,
     ) refl
 event_again rec at (Post id) next le p fits = rw (id_field.again rec at id next le p fits) refl
@@ -178,8 +175,8 @@ event_again rec at (Letter user subject body) next le p fits =
     let s = apart rec at (u32_bytes user.0) (text_bytes subject) b.mid le b.first in
     rw (
       u32_field.again rec at user.0 s.mid le s.first fits.0,
-      text64.again rec s.mid subject b.mid s.first.within s.second (fits.1.1, fits.1.0),
-      text10000.again rec b.mid body next b.first.within b.second (fits.2.1, fits.2.0),
+      text64.again rec s.mid subject b.mid s.first.within s.second fits.1,
+      text10000.again rec b.mid body next b.first.within b.second fits.2,
     ) refl
 
 -- ---- what stands behind the version
@@ -259,19 +256,19 @@ within_of : (event : Event) → IsKeepable event → IsWithinBounds event
 within_of (File user file) k = k.1
 within_of (Post id) k = k
 within_of (Spawn model place) k = k.0
-within_of (Letter user subject body) k = (k.1.1, k.2.1)
+within_of (Letter user subject body) k = (k.1, k.2)
 
 typed_of : (event : Event) → IsKeepable event → IsTyped event
-typed_of (File user file) k = (k.0, k.2)
+typed_of (File user file) k = k.0
 typed_of (Post id) k = tt
 typed_of (Spawn model place) k = k.1
-typed_of (Letter user subject body) k = (k.0, k.1.0, k.2.0)
+typed_of (Letter user subject body) k = k.0
 
 keepable_of : (event : Event) → IsWithinBounds event → IsTyped event → IsKeepable event
-keepable_of (File user file) within typed = (typed.0, within, typed.1)
+keepable_of (File user file) within typed = (typed, within)
 keepable_of (Post id) within typed = within
 keepable_of (Spawn model place) within typed = (within, typed)
-keepable_of (Letter user subject body) within typed = (typed.0, (typed.1, within.0), (typed.2, within.1))
+keepable_of (Letter user subject body) within typed = (typed, within.0, within.1)
 
 pub record_codes : (rec : List ℕ) (found : Event × Moment) → IsBytes rec → record_read rec ≡ Ok found → Codes rec found.1 found.0 × (found.0 ≡ without_signon found.0)
 unfolding record_read coded

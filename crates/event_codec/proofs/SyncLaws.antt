@@ -14,7 +14,6 @@ use Rattle.ofx_types.specs.declared.sync.SyncAsk.{SyncAsk}
 use Rattle.bank_model.specs.Sound.{IsSoundObject, IsSoundKind, IsSoundPair, IsSoundSync}
 use Rattle.record_fields.specs.FieldCoding.{u16_bytes, flag_bytes, text_bytes, uid_bytes, acct_bytes, list_bytes}
 use Rattle.event_codec.specs.Coding.{deed_bytes, pair_bytes, object_bytes, sync_kind_bytes, sync_bytes}
-use Rattle.event_codec.specs.Texts.{HasObjectTexts, HasKindText, HasPairTexts, HasSyncTexts}
 use Rattle.event_codec.specs.AskReading.{intra_at, rec_intra_at, bank_mail_object_at, object_of, object_at, after_at, sync_kind_at, pair_at, pairs_from, pairs_at, sync_at}
 use Rattle.record_fields.specs.Standing.{IsBytes, StandsAt, IsField}
 use Rattle.record_fields.proofs.Steps.{bind_ok, done, ok_is, pass_ok, guard_ok, fork, joined, apart, step}
@@ -22,7 +21,7 @@ use Rattle.record_fields.proofs.NumberLaws.{u8_field, flag_field, next_is}
 use Rattle.record_fields.proofs.BoundedLaws.{u16_field}
 use Rattle.record_fields.proofs.TextLaws.{given_uid_field, nothing_stands}
 use Rattle.record_fields.proofs.PartLaws.{acct_field, text64}
-use Rattle.event_codec.proofs.DeedLaws.{deed_field}
+use Rattle.event_codec.proofs.DeedLaws.{renumbered, deed_field}
 
 -- ---- objects
 
@@ -31,7 +30,7 @@ abbrev pub IsAllowed : Bool → Bool → Type 0
 IsAllowed is_behind_mail is_mail = is_behind_mail ≡ true → is_mail ≡ true
 
 abbrev IsGoodObject : Bool → ObjectName → Type 0
-IsGoodObject mail object = (IsSoundObject object × HasObjectTexts object) × IsAllowed mail (is_mail_family (object_family object))
+IsGoodObject mail object = IsSoundObject object × IsAllowed mail (is_mail_family (object_family object))
 
 record ObjectStands (mail : Bool) (rec : List ℕ) (at : ℕ) (found : ObjectName × ℕ) : Type 0 where
   stands : StandsAt rec at (object_bytes found.0) found.1
@@ -67,10 +66,7 @@ mail_stands : (mail : Bool) (rec : List ℕ) (at next : ℕ) (found : ObjectName
 unfolding object_bytes
 mail_stands mail rec at next found lead e =
     let made : ObjectName × ℕ = (objects.Mail, next) in
-    subst (ObjectStands mail rec at) {x = made} (ok_is made found e) (record { stands = lead; good = ((tt, tt), λ behind. refl) })
-
-pub renumbered : (kind k : ℕ) (rec : List ℕ) (at next : ℕ) → nat_eq kind k ≡ true → StandsAt rec at (kind ∷ []) next → StandsAt rec at (k ∷ []) next
-renumbered kind k rec at next h p = subst (λ (n : ℕ). StandsAt rec at (n ∷ []) next) (eqb-true _ _ h) p
+    subst (ObjectStands mail rec at) {x = made} (ok_is made found e) (record { stands = lead; good = (tt, λ behind. refl) })
 
 object_of_stands : (mail : Bool) (kind : ℕ) (rec : List ℕ) (at next : ℕ) (found : ObjectName × ℕ) → IsBytes rec → (mail && ltb kind 3) ≡ false → StandsAt rec at (kind ∷ []) next → object_of kind rec at next ≡ Ok found → ObjectStands mail rec at found
 unfolding object_of
@@ -86,7 +82,7 @@ and_false : (b : Bool) → (b && false) ≡ false
 and_false true = refl
 and_false false = refl
 
-not_behind : (mail : Bool) → IsAllowed mail false → mail ≡ false
+pub not_behind : (mail : Bool) → IsAllowed mail false → mail ≡ false
 not_behind true h = absurd (let t : false ≡ true = h refl in cc)
 not_behind false h = refl
 
@@ -104,7 +100,7 @@ object_again mail rec at (objects.BankMail account) next le p fits =
 object_again mail rec at objects.Mail next le p fits =
     rw (u8_field.again rec at 3 next le p (omega arith), and_false mail) refl
 
-pub object_field : (mail : Bool) → IsField (object_at mail) object_bytes (λ object. (IsSoundObject object × HasObjectTexts object) × IsAllowed mail (is_mail_family (object_family object)))
+pub object_field : (mail : Bool) → IsField (object_at mail) object_bytes (λ object. IsSoundObject object × IsAllowed mail (is_mail_family (object_family object)))
 unfolding object_at
 object_field mail = record {
   stands = λ rec at found bytes le e.
@@ -116,7 +112,7 @@ object_field mail = record {
 }
 
 -- an object that stands behind no mail ask
-pub plain_object_field : IsField (object_at false) object_bytes (λ object. IsSoundObject object × HasObjectTexts object)
+pub plain_object_field : IsField (object_at false) object_bytes IsSoundObject
 plain_object_field = record {
   stands = λ rec at found bytes le e. let s = (object_field false).stands rec at found bytes le e in (s.0, s.1.0);
   again = λ rec at object next le p fits. (object_field false).again rec at object next le p (fits, λ behind. absurd cc);
@@ -124,12 +120,9 @@ plain_object_field = record {
 
 -- ---- how much of a history is asked for
 
-abbrev IsGoodKind : SyncKind → Type 0
-IsGoodKind kind = IsSoundKind kind × HasKindText kind
-
 record KindStands (rec : List ℕ) (at : ℕ) (found : SyncKind × ℕ) : Type 0 where
   stands : StandsAt rec at (sync_kind_bytes found.0) found.1
-  good : IsGoodKind found.0
+  good : IsSoundKind found.0
 
 after_stands : (rec : List ℕ) (at next : ℕ) (found : SyncKind × ℕ) → IsBytes rec → StandsAt rec at (0 ∷ []) next → after_at rec next ≡ Ok found → KindStands rec at found
 unfolding after_at sync_kind_bytes
@@ -138,7 +131,7 @@ after_stands rec at next found bytes lead e =
     let made : SyncKind × ℕ = (After token.value, token.next) in
     subst (KindStands rec at) {x = made} (ok_is made found token.rest) (record { stands = joined lead token.stands; good = token.fits })
 
-kind_stands : (rec : List ℕ) (at next : ℕ) (kind : SyncKind) (found : SyncKind × ℕ) → StandsAt rec at (sync_kind_bytes kind) next → IsGoodKind kind → done (kind, next) ≡ done found → KindStands rec at found
+kind_stands : (rec : List ℕ) (at next : ℕ) (kind : SyncKind) (found : SyncKind × ℕ) → StandsAt rec at (sync_kind_bytes kind) next → IsSoundKind kind → done (kind, next) ≡ done found → KindStands rec at found
 kind_stands rec at next kind found lead good e =
     let made : SyncKind × ℕ = (kind, next) in
     subst (KindStands rec at) {x = made} (ok_is made found e) (record { stands = lead; good = good })
@@ -148,11 +141,11 @@ sync_kind_went : (kind : ℕ) (rec : List ℕ) (at next : ℕ) (found : SyncKind
 unfolding sync_kind_bytes
 sync_kind_went kind rec at next found bytes p e =
     fork (nat_eq kind 0) e (λ h e. after_stands rec at next found bytes (renumbered kind 0 rec at next h p) e) (λ _ e.
-    fork (nat_eq kind 1) e (λ h e. kind_stands rec at next TokenOnly found (renumbered kind 1 rec at next h p) (tt, tt) e) (λ _ e.
+    fork (nat_eq kind 1) e (λ h e. kind_stands rec at next TokenOnly found (renumbered kind 1 rec at next h p) tt e) (λ _ e.
     let g = pass_ok (nat_eq kind 2) at (Ok (Refresh, next)) found e in
-    kind_stands rec at next Refresh found (renumbered kind 2 rec at next g.0 p) (tt, tt) g.1))
+    kind_stands rec at next Refresh found (renumbered kind 2 rec at next g.0 p) tt g.1))
 
-sync_kind_again : (rec : List ℕ) (at : ℕ) (kind : SyncKind) (next : ℕ) → at ≤ length rec → StandsAt rec at (sync_kind_bytes kind) next → IsGoodKind kind → sync_kind_at rec at ≡ Ok (kind, next)
+sync_kind_again : (rec : List ℕ) (at : ℕ) (kind : SyncKind) (next : ℕ) → at ≤ length rec → StandsAt rec at (sync_kind_bytes kind) next → IsSoundKind kind → sync_kind_at rec at ≡ Ok (kind, next)
 unfolding sync_kind_at sync_kind_bytes after_at
 sync_kind_again rec at (After token) next le p fits =
     let a = apart rec at (0 ∷ []) (text_bytes token) next le p in
@@ -160,7 +153,7 @@ sync_kind_again rec at (After token) next le p fits =
 sync_kind_again rec at TokenOnly next le p fits = rw (u8_field.again rec at 1 next le p (omega arith)) refl
 sync_kind_again rec at Refresh next le p fits = rw (u8_field.again rec at 2 next le p (omega arith)) refl
 
-pub sync_kind_field : IsField sync_kind_at sync_kind_bytes (λ kind. IsSoundKind kind × HasKindText kind)
+pub sync_kind_field : IsField sync_kind_at sync_kind_bytes IsSoundKind
 unfolding sync_kind_at
 sync_kind_field = record {
   stands = λ rec at found bytes le e.
@@ -172,27 +165,24 @@ sync_kind_field = record {
 
 -- ---- deeds under their uids
 
-abbrev IsGoodPair : Family → List ℕ × Deed → Type 0
-IsGoodPair family pair = IsSoundPair family pair × HasPairTexts pair
-
-pair_field : (family : Family) → IsField (pair_at family) pair_bytes (IsGoodPair family)
+pair_field : (family : Family) → IsField (pair_at family) pair_bytes (IsSoundPair family)
 unfolding pair_at
 pair_field family = record {
   stands = λ rec at found bytes le e.
       let a = step given_uid_field rec at _ found bytes le e in
       let b = step (deed_field (Some family)) rec a.next _ found bytes a.stands.within a.rest in
       let made : (List ℕ × Deed) × ℕ = ((a.value, b.value), b.next) in
-      subst (λ (f : (List ℕ × Deed) × ℕ). StandsAt rec at (pair_bytes f.0) f.1 × IsGoodPair family f.0) {x = made} (ok_is made found b.rest)
-      (joined a.stands b.stands, ((a.fits.0, b.fits.0.0, b.fits.1), (a.fits.1, b.fits.0.1)));
+      subst (λ (f : (List ℕ × Deed) × ℕ). StandsAt rec at (pair_bytes f.0) f.1 × IsSoundPair family f.0) {x = made} (ok_is made found b.rest)
+      (joined a.stands b.stands, (a.fits, b.fits.0, b.fits.1));
   again = λ rec at x next le p fits.
       let b = apart rec at (uid_bytes x.0) (deed_bytes x.1) next le p in
-      rw (given_uid_field.again rec at x.0 b.mid le b.first (fits.0.0, fits.1.0), (deed_field (Some family)).again rec b.mid x.1 next b.first.within b.second ((fits.0.1, fits.1.1), fits.0.2)) refl;
+      rw (given_uid_field.again rec at x.0 b.mid le b.first fits.0, (deed_field (Some family)).again rec b.mid x.1 next b.first.within b.second (fits.1, fits.2)) refl;
 }
 
 record PairsStand (n : ℕ) (family : Family) (rec : List ℕ) (at : ℕ) (found : List (List ℕ × Deed) × ℕ) : Type 0 where
   stands : StandsAt rec at (flat_map pair_bytes found.0) found.1
   counted : length found.0 ≡ n
-  good : AllByRecursion (IsGoodPair family) found.0
+  good : AllByRecursion (IsSoundPair family) found.0
 
 pairs_stand : (n : ℕ) (family : Family) (rec : List ℕ) (at : ℕ) (found : List (List ℕ × Deed) × ℕ) → IsBytes rec → at ≤ length rec → pairs_from n family rec at ≡ Ok found → PairsStand n family rec at found
 unfolding pairs_from
@@ -211,7 +201,7 @@ pairs_stand (suc n) family rec at found bytes le e =
 pub same_place : (rec : List ℕ) (at next : ℕ) → at ≤ length rec → StandsAt rec at [] next → next ≡ at
 same_place rec at next le p = omega (arith, next_is rec at [] next le p)
 
-pairs_again : (family : Family) (rec : List ℕ) (at : ℕ) (pairs : List (List ℕ × Deed)) (next : ℕ) → at ≤ length rec → StandsAt rec at (flat_map pair_bytes pairs) next → AllByRecursion (IsGoodPair family) pairs → pairs_from (length pairs) family rec at ≡ Ok (pairs, next)
+pairs_again : (family : Family) (rec : List ℕ) (at : ℕ) (pairs : List (List ℕ × Deed)) (next : ℕ) → at ≤ length rec → StandsAt rec at (flat_map pair_bytes pairs) next → AllByRecursion (IsSoundPair family) pairs → pairs_from (length pairs) family rec at ≡ Ok (pairs, next)
 unfolding pairs_from
 pairs_again family rec at [] next le p good = ap (λ (n : ℕ). Ok ([], n)) (sym (same_place rec at next le p))
 pairs_again family rec at (x ∷ xs) next le p good =
@@ -219,18 +209,9 @@ pairs_again family rec at (x ∷ xs) next le p good =
     let a = apart rec at (pair_bytes x) (flat_map pair_bytes xs) next le q in
     rw ((pair_field family).again rec at x a.mid le a.first good.0, pairs_again family rec a.mid xs next a.first.within a.second good.1) refl
 
-pub all_both : {A : Type 0} (P Q : A → Type 0) (xs : List A) → AllByRecursion (λ x. P x × Q x) xs → AllByRecursion P xs × AllByRecursion Q xs
-all_both P Q [] h = (tt, tt)
-all_both P Q (x ∷ xs) h = let rest = all_both P Q xs h.1 in ((h.0.0, rest.0), (h.0.1, rest.1))
-
-pub all_of_both : {A : Type 0} (P Q : A → Type 0) (xs : List A) → AllByRecursion P xs → AllByRecursion Q xs → AllByRecursion (λ x. P x × Q x) xs
-all_of_both P Q [] h k = tt
-all_of_both P Q (x ∷ xs) h k = ((h.0, k.0), all_of_both P Q xs h.1 k.1)
-
 record AreGoodPairs (family : Family) (pairs : List (List ℕ × Deed)) : Type 0 where
   few : length pairs ≤ 65535
   sound : AllByRecursion (IsSoundPair family) pairs
-  texts : AllByRecursion HasPairTexts pairs
 
 pairs_field : (family : Family) → IsField (pairs_at family) (list_bytes pair_bytes) (AreGoodPairs family)
 unfolding pairs_at
@@ -239,19 +220,18 @@ pairs_field family = record {
       let a = step u16_field rec at _ found bytes le e in
       let b = pairs_stand a.value family rec a.next found bytes a.stands.within a.rest in
       let head : StandsAt rec at (u16_bytes (length found.0)) a.next = subst (λ (n : ℕ). StandsAt rec at (u16_bytes n) a.next) (sym b.counted) a.stands in
-      let good = all_both (IsSoundPair family) HasPairTexts found.0 b.good in
-      (joined head b.stands, record { few = omega (arith, a.fits, b.counted); sound = good.0; texts = good.1 });
+      (joined head b.stands, record { few = omega (arith, a.fits, b.counted); sound = b.good });
   again = λ rec at x next le p fits.
       let a = apart rec at (u16_bytes (length x)) (flat_map pair_bytes x) next le p in
-      rw (u16_field.again rec at (length x) a.mid le a.first (omega (arith, fits.few)), pairs_again family rec a.mid x next a.first.within a.second (all_of_both (IsSoundPair family) HasPairTexts x fits.sound fits.texts)) refl;
+      rw (u16_field.again rec at (length x) a.mid le a.first (omega (arith, fits.few)), pairs_again family rec a.mid x next a.first.within a.second fits.sound) refl;
 }
 
 -- ---- synchronisations
 
 abbrev IsGoodSync : Bool → SyncAsk → Type 0
-IsGoodSync mail ask = (IsSoundSync ask × HasSyncTexts ask) × IsAllowed mail (is_mail_family (object_family ask.object))
+IsGoodSync mail ask = IsSoundSync ask × IsAllowed mail (is_mail_family (object_family ask.object))
 
-pub sync_field : (mail : Bool) → IsField (sync_at mail) sync_bytes (λ ask. (IsSoundSync ask × HasSyncTexts ask) × IsAllowed mail (is_mail_family (object_family ask.object)))
+pub sync_field : (mail : Bool) → IsField (sync_at mail) sync_bytes (λ ask. IsSoundSync ask × IsAllowed mail (is_mail_family (object_family ask.object)))
 unfolding sync_at sync_bytes
 sync_field mail = record {
   stands = λ rec at found bytes le e.
@@ -262,16 +242,16 @@ sync_field mail = record {
       let made : SyncAsk × ℕ = (record { object = a.value; kind = b.value; reject = c.value; deeds = d.value }, d.next) in
       subst (λ (f : SyncAsk × ℕ). StandsAt rec at (sync_bytes f.0) f.1 × IsGoodSync mail f.0) {x = made} (ok_is made found d.rest) (
         joined (joined (joined a.stands b.stands) c.stands) d.stands,
-        ((record { object = a.fits.0.0; kind = b.fits.0; few = d.fits.few; deeds = d.fits.sound }, record { object = a.fits.0.1; kind = b.fits.1; deeds = d.fits.texts }), a.fits.1),
+        (record { object = a.fits.0; kind = b.fits; few = d.fits.few; deeds = d.fits.sound }, a.fits.1),
       );
   again = λ rec at x next le p fits.
       let d = apart rec at (object_bytes x.object ++ sync_kind_bytes x.kind ++ flag_bytes x.reject) (list_bytes pair_bytes x.deeds) next le p in
       let c = apart rec at (object_bytes x.object ++ sync_kind_bytes x.kind) (flag_bytes x.reject) d.mid le d.first in
       let b = apart rec at (object_bytes x.object) (sync_kind_bytes x.kind) c.mid le c.first in
-      let deeds : AreGoodPairs (object_family x.object) x.deeds = record { few = fits.0.0.few; sound = fits.0.0.deeds; texts = fits.0.1.deeds } in
+      let deeds : AreGoodPairs (object_family x.object) x.deeds = record { few = fits.0.few; sound = fits.0.deeds } in
       rw (
-        (object_field mail).again rec at x.object b.mid le b.first ((fits.0.0.object, fits.0.1.object), fits.1),
-        sync_kind_field.again rec b.mid x.kind c.mid b.first.within b.second (fits.0.0.kind, fits.0.1.kind),
+        (object_field mail).again rec at x.object b.mid le b.first (fits.0.object, fits.1),
+        sync_kind_field.again rec b.mid x.kind c.mid b.first.within b.second fits.0.kind,
         flag_field.again rec c.mid x.reject d.mid c.first.within c.second tt,
         (pairs_field (object_family x.object)).again rec d.mid x.deeds next d.first.within d.second deeds,
       ) refl;

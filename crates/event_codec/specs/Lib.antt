@@ -1,5 +1,4 @@
 pub mod Coding
-pub mod Texts
 pub mod Records
 pub mod AskReading
 pub mod Reading

@@ -1,16 +1,14 @@
 -- Which records code which events, and the state that a bank comes to by its records.
 use Rattle.std.specs.Prelude.{◌≡◌, ℕ, ◌<◌, ◌^◌, List, [], ◌∷◌}
 use Rattle.ofx_types.specs.Calendar.{IsMoment}
-use Rattle.ofx_types.specs.TextRules.{IsText}
 use Rattle.ofx_types.specs.declared.number.Moment.{Moment}
-use Rattle.bank_model.specs.Sound.{IsSound, IsId, HasLength}
+use Rattle.bank_model.specs.Sound.{IsSound, IsId, IsTextWithin}
 use Rattle.bank_model.specs.Rules.{IsLegal, state_after}
 use Rattle.bank_model.specs.declared.setup.Setup.{Setup}
 use Rattle.bank_model.specs.declared.event.State.{State}
 use Rattle.bank_model.specs.declared.event.Event.{Event}
 use Rattle.bank_model.specs.declared.event.Event.TheVariants.{File, Post, Spawn, Letter}
 use Rattle.event_codec.specs.Coding.{coded}
-use Rattle.event_codec.specs.Texts.{HasKeptTexts}
 
 -- The values of an event are within their bounds: a file is sound, an id has at most ten digits, and a letter's subject has 1 to
 -- 64 bytes and its body 1 to 10,000.
@@ -18,19 +16,18 @@ abbrev pub IsWithinBounds : Event → Type 0
 IsWithinBounds (File user file) = IsSound file
 IsWithinBounds (Post id) = IsId id
 IsWithinBounds (Spawn model place) = IsId model
-IsWithinBounds (Letter user subject body) = HasLength 64 subject × HasLength 10000 body
+IsWithinBounds (Letter user subject body) = IsTextWithin 64 subject × IsTextWithin 10000 body
 
 -- a number of four bytes
 abbrev pub IsShort : ℕ → Type 0
 IsShort n = n < 2 ^ 32
 
--- What the types of the program keep of an event: its texts are texts, and the numbers of users and of places in a series
--- have four bytes.
+-- What the types of the program keep of an event: the numbers of users and of places in a series have four bytes.
 abbrev pub IsTyped : Event → Type 0
-IsTyped (File user file) = IsShort user.0 × HasKeptTexts file
+IsTyped (File user file) = IsShort user.0
 IsTyped (Post id) = Unit {0}
 IsTyped (Spawn model place) = IsShort place
-IsTyped (Letter user subject body) = IsShort user.0 × IsText subject × IsText body
+IsTyped (Letter user subject body) = IsShort user.0
 
 -- A record codes an event at a moment of the years 1900 to 9999, all of whose values are within their bounds. Events that
 -- differ in the name and the password of a file's user alone have the same record.

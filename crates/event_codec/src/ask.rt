@@ -8,7 +8,6 @@ ghost use Rattle.ofx_types.specs.SyncForm.{is_mail_family};
 ghost use Rattle.ofx_types.specs.PrintedFile.{is_mail_ask};
 ghost use Rattle.bank_model.specs.Sound.{IsSoundAsk};
 ghost use Rattle.record_fields.specs.Answers.{Gives};
-ghost use Rattle.event_codec.specs.Texts.{HasAskTexts};
 ghost use Rattle.record_fields.specs.FieldCoding.{optional_bytes, moment_bytes};
 ghost use Rattle.event_codec.specs.Coding.{period_bytes, ask_bytes, asks_bytes};
 ghost use Rattle.record_fields.specs.FieldReading.{optional_at, moment_at};
@@ -255,7 +254,6 @@ pub fn get_asks(alloc: Global, rec: &[u8], at: usize) -> Result<(Asks, usize), R
 fn put_ask(ask: &Ask, out: &mut Vec<u8>) -> Result<(), OutOfMemory>
     requires { IsSoundAsk ask.now }
     ensures bytes { OnOk result (out.new.items ≡ out.old.items ++ ask_bytes ask.now) }
-    ensures typed { OnOk result (HasAskTexts ask.now) }
     ensures kept { StartsWith out.new.items out.old.items }
 {
     match ask {
@@ -283,7 +281,6 @@ pub fn put_asks(value: &Asks, out: &mut Vec<u8>) -> Result<(), OutOfMemory>
     requires few { length value.now ≤ 65535 }
     requires sound { AllByRecursion IsSoundAsk value.now }
     ensures bytes { OnOk result (out.new.items ≡ out.old.items ++ asks_bytes value.now) }
-    ensures typed { OnOk result (AllByRecursion HasAskTexts value.now) }
     ensures kept { StartsWith out.new.items out.old.items }
 {
     let asks = value.items();

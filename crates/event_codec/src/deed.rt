@@ -4,7 +4,6 @@ ghost use Rattle.std.specs.Prelude.{◌≡◌, ◌≤◌, ◌++◌, ◌∷◌, l
 ghost use Rattle.std.specs.Io.{StartsWith};
 ghost use Rattle.bank_model.specs.Sound.{IsSoundDeed};
 ghost use Rattle.record_fields.specs.Answers.{Gives};
-ghost use Rattle.event_codec.specs.Texts.{HasDeedTexts};
 ghost use Rattle.record_fields.specs.FieldCoding.{u64_bytes};
 ghost use Rattle.event_codec.specs.Coding.{deed_bytes};
 ghost use Rattle.event_codec.specs.AskReading.{is_wanted, deed_at, deed_of, transfer_at, modify_transfer_at, cancel_transfer_at, model_at, modify_model_at, cancel_model_at, bank_mail_at, mail_deed_at};
@@ -174,7 +173,6 @@ fn put_kind_and_id(kind: u8, id: &u64, out: &mut Vec<u8>) -> Result<(), OutOfMem
 pub(crate) fn put_deed(deed: &Deed, out: &mut Vec<u8>) -> Result<(), OutOfMemory>
     requires { IsSoundDeed deed.now }
     ensures bytes { OnOk result (out.new.items ≡ out.old.items ++ deed_bytes deed.now) }
-    ensures typed { OnOk result (HasDeedTexts deed.now) }
     ensures kept { StartsWith out.new.items out.old.items }
 {
     match deed {

@@ -4,12 +4,10 @@ ghost use Rattle.std.specs.Prelude.{◌≡◌, ◌≢◌, ◌≤◌, ◌++◌, �
 ghost use Rattle.std.specs.Io.{StartsWith};
 ghost use Rattle.ofx_types.specs.Calendar.{IsMoment};
 ghost use Rattle.ofx_types.specs.declared.number.Moment.{Moment};
-ghost use Rattle.ofx_types.specs.TextRules.{IsText};
-ghost use Rattle.bank_model.specs.Sound.{IsSound, HasLength};
+ghost use Rattle.bank_model.specs.Sound.{IsSound, IsTextWithin};
 ghost use Rattle.bank_model.specs.declared.event.Event.{Event};
 ghost use Rattle.record_fields.specs.declared.fault.RecordFault.{RecordFault};
 ghost use Rattle.record_fields.specs.Answers.{Gives, GivesWhole};
-ghost use Rattle.event_codec.specs.Texts.{HasKeptTexts};
 ghost use Rattle.record_fields.specs.FieldCoding.{u32_bytes, u64_bytes, text_bytes};
 ghost use Rattle.event_codec.specs.Coding.{kind_of_event, file_bytes, event_bytes};
 ghost use Rattle.bank_model.specs.Events.{without_signon};
@@ -69,7 +67,7 @@ fn put_event(event: &Event, out: &mut Vec<u8>) -> Result<(), OutOfMemory>
 fn put_file_of(user: UserId, file: &RequestFile, out: &mut Vec<u8>) -> Result<(), OutOfMemory>
     requires { IsSound file.now }
     ensures bytes { OnOk result (out.new.items ≡ out.old.items ++ (u32_bytes user.0 ++ file_bytes file.now)) }
-    ensures typed { OnOk result (IsShort user.0 × HasKeptTexts file.now) }
+    ensures typed { OnOk result (IsShort user.0) }
     ensures kept { StartsWith out.new.items out.old.items }
 {
     put_u32(&user.0, out)?;
@@ -91,11 +89,11 @@ fn put_letter(
     body: &Text,
     out: &mut Vec<u8>,
 ) -> Result<(), OutOfMemory>
-    requires subject { HasLength 64 subject.now }
-    requires body { HasLength 10000 body.now }
+    requires subject { IsTextWithin 64 subject.now }
+    requires body { IsTextWithin 10000 body.now }
     ensures bytes { OnOk result (out.new.items
         ≡ out.old.items ++ (u32_bytes user.0 ++ text_bytes subject.now ++ text_bytes body.now)) }
-    ensures typed { OnOk result (IsShort user.0 × IsText subject.now × IsText body.now) }
+    ensures typed { OnOk result (IsShort user.0) }
     ensures kept { StartsWith out.new.items out.old.items }
 {
     put_u32(&user.0, out)?;
@@ -107,7 +105,6 @@ fn put_letter(
 fn put_file(file: &RequestFile, out: &mut Vec<u8>) -> Result<(), OutOfMemory>
     requires { IsSound file.now }
     ensures bytes { OnOk result (out.new.items ≡ out.old.items ++ file_bytes file.now) }
-    ensures typed { OnOk result (HasKeptTexts file.now) }
     ensures kept { StartsWith out.new.items out.old.items }
 {
     put_u16(&file.version, out)?;

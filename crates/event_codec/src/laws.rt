@@ -15,8 +15,6 @@ ghost use Rattle.event_codec.specs.Reading.{IsRecordFault};
 ghost use Rattle.event_codec.specs.Coding.{coded, object_bytes, asks_bytes};
 ghost use Rattle.ofx_types.specs.TextRules.{IsText, IsTrnUid, IsFileUid};
 ghost use Rattle.bank_model.specs.Sound.{IsSoundAccount, IsSoundRecur, IsSoundMail, IsSoundObject};
-ghost use Rattle.record_fields.specs.FieldTexts.{HasAccountTexts, HasMailTexts};
-ghost use Rattle.event_codec.specs.Texts.{HasObjectTexts};
 ghost use Rattle.record_fields.specs.PartReading.{acct_at, recur_at, mail_at};
 ghost use Rattle.event_codec.specs.AskReading.{object_at, asks_at};
 ghost use Rattle.event_codec.specs.AskList.{AreAsks};
@@ -24,7 +22,7 @@ ghost use Rattle.record_fields.specs.Standing.{IsBytes, IsField};
 
 /// Objects and lists of asks are read as they are written.
 pub fn asks_read_back()
-    ensures object { IsField (object_at false) object_bytes (λ object. IsSoundObject object × HasObjectTexts object) }
+    ensures object { IsField (object_at false) object_bytes IsSoundObject }
     ensures asks { IsField asks_at asks_bytes AreAsks }
 {}
 

@@ -5,7 +5,6 @@ ghost use Rattle.std.specs.Io.{StartsWith};
 ghost use Rattle.std.specs.List.{AllByRecursion};
 ghost use Rattle.bank_model.specs.Sound.{IsSoundObject, IsSoundKind, IsSoundPair, IsSoundSync};
 ghost use Rattle.record_fields.specs.Answers.{Gives};
-ghost use Rattle.event_codec.specs.Texts.{HasObjectTexts, HasKindText, HasPairTexts, HasSyncTexts};
 ghost use Rattle.record_fields.specs.FieldCoding.{list_bytes};
 ghost use Rattle.event_codec.specs.Coding.{object_bytes, sync_kind_bytes, pair_bytes, sync_bytes};
 ghost use Rattle.event_codec.specs.AskReading.{object_at, object_of, intra_at, rec_intra_at, bank_mail_object_at, sync_kind_at, after_at, pair_at, pairs_from, pairs_at, sync_at};
@@ -107,7 +106,6 @@ fn bank_mail(alloc: Global, rec: &[u8], at: usize) -> Result<(ObjectName, usize)
 pub fn put_object(value: &ObjectName, out: &mut Vec<u8>) -> Result<(), OutOfMemory>
     requires { IsSoundObject value.now }
     ensures bytes { OnOk result (out.new.items ≡ out.old.items ++ object_bytes value.now) }
-    ensures typed { OnOk result (HasObjectTexts value.now) }
     ensures kept { StartsWith out.new.items out.old.items }
 {
     match value {
@@ -156,7 +154,6 @@ fn get_sync_kind(alloc: Global, rec: &[u8], at: usize) -> Result<(SyncKind, usiz
 fn put_sync_kind(kind: &SyncKind, out: &mut Vec<u8>) -> Result<(), OutOfMemory>
     requires { IsSoundKind kind.now }
     ensures bytes { OnOk result (out.new.items ≡ out.old.items ++ sync_kind_bytes kind.now) }
-    ensures typed { OnOk result (HasKindText kind.now) }
     ensures kept { StartsWith out.new.items out.old.items }
 {
     match kind {
@@ -226,7 +223,6 @@ fn get_pairs(
 fn put_pair(pair: &(TrnUid, Deed), family: Family, out: &mut Vec<u8>) -> Result<(), OutOfMemory>
     requires { IsSoundPair family pair.now }
     ensures bytes { OnOk result (out.new.items ≡ out.old.items ++ pair_bytes pair.now) }
-    ensures typed { OnOk result (HasPairTexts pair.now) }
     ensures kept { StartsWith out.new.items out.old.items }
 {
     put_trnuid(&pair.0, out)?;
@@ -238,7 +234,6 @@ fn put_pairs(pairs: &[(TrnUid, Deed)], family: Family, out: &mut Vec<u8>) -> Res
     requires few { length pairs.now ≤ 65535 }
     requires sound { AllByRecursion (IsSoundPair family) pairs.now }
     ensures bytes { OnOk result (out.new.items ≡ out.old.items ++ list_bytes pair_bytes pairs.now) }
-    ensures typed { OnOk result (AllByRecursion HasPairTexts pairs.now) }
     ensures kept { StartsWith out.new.items out.old.items }
 {
     put_u16(&(pairs.len() as u16), out)?;
@@ -278,7 +273,6 @@ pub(crate) fn get_sync(
 pub(crate) fn put_sync(ask: &SyncAsk, out: &mut Vec<u8>) -> Result<(), OutOfMemory>
     requires { IsSoundSync ask.now }
     ensures bytes { OnOk result (out.new.items ≡ out.old.items ++ sync_bytes ask.now) }
-    ensures typed { OnOk result (HasSyncTexts ask.now) }
     ensures kept { StartsWith out.new.items out.old.items }
 {
     put_object(&ask.object, out)?;

@@ -69,9 +69,6 @@ number_clean n h = All-weaker (λ b. IsTrue (is_ascii_digit b)) (λ b. IsTrue (i
 abbrev written : List ℕ → List ℕ → Field
 written name value = record { name = name; raw = 32 ∷ value; end = crlf }
 
-field_printed : (name value : List ℕ) → print_field (written name value) ≡ field_line name value
-field_printed name value = simp append_assoc
-
 field_is : (name value : List ℕ) → IsToken name → AllPass is_value_byte value → IsField (written name value)
 field_is name value token clean = record { name = token; raw = All-cons (λ b. IsTrue (is_value_byte b)) 32 value refl clean }
 

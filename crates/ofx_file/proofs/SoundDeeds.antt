@@ -1,6 +1,7 @@
--- A deed that is read is within the bounds of a bank: its accounts, its amount, its due day, its id and its count, and the
--- texts and the moment of a mail.
-use Rattle.std.proofs.Common.{◌≡◌, ◌≢◌, inl, inr, ℕ, zero, suc, ◌<◌, ◌≤◌, ◌^◌, Bool, true, false, cond, ◌&&◌, nat_le, ℤ, pos, negsuc, unsigned_abs, List, length, Option, None, Some, codes, refl, ap, ◌∙◌, arith, rules}
+-- What is read is within the bounds of a bank: texts and uids; and of a deed its accounts, its amount, its due day, its id and
+-- its count, and the texts and the moment of a mail.
+use Rattle.std.proofs.Common.{◌≡◌, inl, inr, ℕ, zero, suc, ◌<◌, ◌≤◌, ◌^◌, Bool, true, false, cond, ◌&&◌, nat_le, ℤ, pos, negsuc, unsigned_abs, List, [], length, take, Option, None, Some, codes, append-nil, refl, sym, ap, subst, ◌∙◌, arith, rules}
+use Rattle.std.proofs.Math.Seq.{take-append_seam}
 use Rattle.std.proofs.lemmas.Bool.{and_parts, leb-true}
 use Rattle.std.proofs.lemmas.Int.{ints}
 use Rattle.std.proofs.lemmas.Str.Parse.{IsNumeralModel, numerals_by_value, digits_value_short}
@@ -9,15 +10,17 @@ use Rattle.std.specs.List.{list_all}
 use Rattle.std.specs.Option.{IfSome}
 use Rattle.std.specs.Prelude.{unwrap_or}
 use Rattle.std.specs.Str.Parse.{digits_value}
-use Rattle.ofx_types.proofs.Trimming.{faultless}
-use Rattle.ofx_types.specs.TextRules.{is_refused_in_text}
+use Rattle.ofx_types.proofs.Trimming.{faultless, text_of_faultless, file_uid_of_faultless}
+use Rattle.ofx_types.specs.TextRules.{is_refused_in_text, IsFileUid}
+use Rattle.ofx_types.specs.ValueForm.{decoded, StandsFor}
+use Rattle.ofx_types.specs.HeaderForm.{IsHeaderLine, IsUidValue}
 use Rattle.ofx_types.specs.Calendar.{IsMoment, IsDay, day_of}
 use Rattle.ofx_types.specs.Digits.{signed}
 use Rattle.ofx_types.specs.AmountForm.{IsAmount}
 use Rattle.ofx_types.specs.NumberReading.{is_number_within, number_at}
 use Rattle.ofx_types.specs.Nodes.{Item}
 use Rattle.ofx_types.specs.FormWords.{IsTextIn, id_of, IsIdIn}
-use Rattle.ofx_types.specs.RequestForm.{IsAccount}
+use Rattle.ofx_types.specs.RequestForm.{IsTrnUidOf, IsAccount}
 use Rattle.ofx_types.specs.TransferForm.{IsMaybeDue, HasXferInfo}
 use Rattle.ofx_types.specs.RecurringForm.{IsMaybeCount, HasRecur, HasEachInfo}
 use Rattle.ofx_types.specs.DeedForm.{IsDeedRequest}
@@ -32,16 +35,39 @@ use Rattle.ofx_types.specs.declared.transfer.Deed.TheVariants.{Transfer, ModifyT
 use Rattle.ofx_types.specs.declared.mail.MailText.{MailText}
 use Rattle.ofx_types.specs.declared.sync.ObjectName.{ObjectName}
 use Rattle.ofx_types.specs.declared.sync.ObjectName.TheVariants as objects
-use Rattle.bank_model.specs.Sound.{HasLength, IsSoundAccount, IsSoundInfo, IsSoundRecur, IsId, IsSoundMail, IsSoundDeed, IsSoundObject}
+use Rattle.bank_model.specs.Sound.{IsTextWithin, IsClientUid, IsSoundAccount, IsSoundInfo, IsSoundRecur, IsId, IsSoundMail, IsSoundDeed, IsSoundObject}
+
+-- ---- texts and uids
+
+-- what a value stands for is a text within its limit
+pub text_within : (most : ℕ) (value text : List ℕ) → most < 2 ^ 32 → StandsFor most value text → IsTextWithin most text
+text_within most value text small stands = record {
+  is_text = text_of_faultless most (decoded value) text text refl stands.value (sym stands.is_faultless) small;
+  is_there = stands.is_there;
+  is_within = (faultless is_refused_in_text most text stands.is_faultless).0;
+}
+
+within : (name : List ℕ) (most : ℕ) (parent : Item) (text : List ℕ) → most < 2 ^ 32 → IsTextIn name most parent text → IsTextWithin most text
+within name most parent text small t = text_within most t.child.node.text text small t.stands
+
+pub client_uid : (wrapper : Item) (trnuid : List ℕ) → IsTrnUidOf wrapper trnuid → IsClientUid trnuid
+client_uid wrapper trnuid u =
+    let text = within (codes "TRNUID") 36 wrapper trnuid (omega arith) u.text in
+    (u.is_own, record { is_text = text.is_text; is_there = text.is_there; is_within = text.is_within })
+
+take_whole : (text : List ℕ) → take (length text) text ≡ text
+take_whole text = ap (take (length text)) (sym (append-nil text)) ∙ take-append_seam text []
+
+pub file_uid : (tag value line : List ℕ) (uid : Option (List ℕ)) → IsHeaderLine tag value line → IsUidValue value uid → IfSome uid IsFileUid
+file_uid tag value line None has is = tt
+file_uid tag value line (Some uid) has is =
+    subst IsFileUid (take_whole uid) (file_uid_of_faultless has.raw uid uid (take_whole uid) (sym is.0 ∙ has.meant) (sym is.1)).1
 
 -- ---- accounts
 
-pub within : (name : List ℕ) (most : ℕ) (parent : Item) (text : List ℕ) → IsTextIn name most parent text → HasLength most text
-within name most parent text t = (t.stands.is_there, (faultless is_refused_in_text most text t.stands.is_faultless).0)
-
 pub sound_account : (aggregate : Item) (account : AcctName) → IsAccount aggregate account → IsSoundAccount account
 sound_account aggregate account a =
-    (within (codes "BANKID") 32 aggregate account.bank a.bank, within (codes "ACCTID") 32 aggregate account.number a.number)
+    (within (codes "BANKID") 32 aggregate account.bank (omega arith) a.bank, within (codes "ACCTID") 32 aggregate account.number (omega arith) a.number)
 
 -- ---- amounts
 
@@ -137,10 +163,10 @@ sound_deed request (Mail mail) r = absurd r
 sound_text : (item : Item) (mail : MailText) → IsMailText item mail → IsSoundMail mail
 sound_text item mail m = record {
   created = m.created.stands.is_moment;
-  sender = within (codes "FROM") 32 item mail.sender m.sender;
-  target = within (codes "TO") 32 item mail.target m.target;
-  subject = within (codes "SUBJECT") 64 item mail.subject m.subject;
-  body = within (codes "MSGBODY") 10000 item mail.body m.body;
+  sender = within (codes "FROM") 32 item mail.sender (omega arith) m.sender;
+  target = within (codes "TO") 32 item mail.target (omega arith) m.target;
+  subject = within (codes "SUBJECT") 64 item mail.subject (omega arith) m.subject;
+  body = within (codes "MSGBODY") 10000 item mail.body (omega arith) m.body;
 }
 
 sound_mail : (parent : Item) (mail : MailText) → HasMail parent mail → IsSoundMail mail
@@ -153,9 +179,9 @@ mail_deed transaction deed r = absurd r
 
 -- ---- transactions and objects
 
-pub sound_transaction : (transaction : Item) (deed : List ℕ × Deed) → IsTransaction transaction deed → (deed.0 ≢ codes "0") × IsSoundDeed deed.1
-sound_transaction transaction deed (inl d) = (d.has_trnuid.is_own, sound_deed d.request deed.1 d.is_request)
-sound_transaction transaction deed (inr d) = (d.has_trnuid.is_own, mail_deed transaction deed.1 d.is_request)
+pub sound_transaction : (transaction : Item) (deed : List ℕ × Deed) → IsTransaction transaction deed → IsClientUid deed.0 × IsSoundDeed deed.1
+sound_transaction transaction deed (inl d) = (client_uid transaction deed.0 d.has_trnuid, sound_deed d.request deed.1 d.is_request)
+sound_transaction transaction deed (inr d) = (client_uid transaction deed.0 d.has_trnuid, mail_deed transaction deed.1 d.is_request)
 
 pub sound_object : (sync : Item) (object : ObjectName) → HasObject sync object → IsSoundObject object
 sound_object sync (objects.Intra account) (from, only, is) = sound_account from account is

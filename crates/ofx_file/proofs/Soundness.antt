@@ -31,12 +31,10 @@ use Rattle.ofx_types.specs.declared.request.Ask.TheVariants.{Statement, One, Syn
 use Rattle.ofx_types.specs.declared.request.RequestFile.{RequestFile}
 use Rattle.bank_model.specs.Sound.{IsSoundPeriod, IsSoundKind, IsSoundPair, IsSoundSync, IsSoundAsk, IsVersion, IsSound}
 use Rattle.ofx_tape.specs.Slices.{ArePlaced, AreSlices}
-use Rattle.ofx_types.proofs.Trimming.{faultless}
-use Rattle.ofx_types.specs.TextRules.{is_refused_in_text}
 use Rattle.ofx_tree.proofs.FormLaws.{bytes_same, bytes_self}
 use Rattle.ofx_tree.proofs.Chosen.{all_chosen, all_filtered}
 use Rattle.ofx_file.proofs.Names.{name_has}
-use Rattle.ofx_file.proofs.SoundDeeds.{sound_account, sound_transaction, sound_object}
+use Rattle.ofx_file.proofs.SoundDeeds.{text_within, client_uid, file_uid, sound_account, sound_transaction, sound_object}
 
 -- ---- how many bytes tags take
 
@@ -150,12 +148,12 @@ sound_statement : (item : Item) (ask : Ask) → IsStatement item ask → IsSound
 sound_statement item ask s =
     let P : Ask → Type 0 = λ a. IsSoundAsk a in
     subst P (sym s.is_statement)
-    (s.has_trnuid.is_own, sound_account s.bankacctfrom s.account s.is_account, sound_maybe_period s.stmtrq s.period s.is_period)
+    (client_uid item s.trnuid s.has_trnuid, sound_account s.bankacctfrom s.account s.is_account, sound_maybe_period s.stmtrq s.period s.is_period)
 
 -- ---- synchronisations
 
 sound_kind : (choice : Item) (kind : SyncKind) → IsKind choice kind → IsSoundKind kind
-sound_kind choice (After token) (name, stands) = (stands.is_there, (faultless is_refused_in_text 64 token stands.is_faultless).0)
+sound_kind choice (After token) (name, stands) = text_within 64 choice.node.text token (omega arith) stands
 sound_kind choice TokenOnly k = tt
 sound_kind choice Refresh k = tt
 
@@ -369,6 +367,8 @@ sound_file bytes file s slices h =
     let P : List Ask → Type 0 = λ asks. AllByRecursion IsSoundAsk asks in
     record {
       version = sound_version file.version s.header.is_known;
+      older = file_uid (codes "OLDFILEUID") s.header.older_value s.header.line_8 file.older s.header.has_older s.header.is_older;
+      newer = file_uid (codes "NEWFILEUID") s.header.newer_value s.header.line_9 file.newer s.header.has_newer s.header.is_newer;
       few = rw r.are_asks (omega arith);
       bank_first = in_order r.bank r.mail file.asks r.are_asks
           (mail_set false (codes "BANKMSGSRQV1") bank_names bank_no_mail s.ofx r.bank r.are_bank)

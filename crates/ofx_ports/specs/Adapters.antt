@@ -3,6 +3,8 @@ use Rattle.std.specs.Prelude.{ℕ, List, Option, None, Some, Result, IsErr}
 use Rattle.std.specs.Io.KnownBytes.{ReadConsumes}
 use Rattle.ofx_ports.specs.declared.adapters.reader.ReaderSource.{ReaderSource}
 use Rattle.ofx_ports.specs.declared.adapters.writer.WriterSink.{WriterSink}
+use Rattle.ofx_ports.specs.declared.adapters.tcp_link.TcpLink.{TcpLink}
+use Rattle.ofx_ports.specs.declared.adapters.tcp_door.TcpDoor.{TcpDoor}
 
 -- the reader, if it was ever opened
 abbrev pub source_reader : {R : Type 0} → ReaderSource R → Option R
@@ -25,3 +27,17 @@ abbrev pub ReadsThrough : {R E : Type 0} → (R → Option (List ℕ)) → Optio
 ReadsThrough remaining None new r into = IsErr r
 ReadsThrough remaining (Some old) None r into = ⊥
 ReadsThrough remaining (Some old) (Some new) r into = ReadConsumes (remaining old) (remaining new) r into
+
+-- the number of reads and of writes of a link that failed
+abbrev pub link_read_faults : {S : Type 0} → TcpLink S → ℕ
+link_read_faults link = link.read_faults
+
+abbrev pub link_write_faults : {S : Type 0} → TcpLink S → ℕ
+link_write_faults link = link.write_faults
+
+-- the number of calls of a doorway that failed, and how often it said that it is closed
+abbrev pub door_faults : {T : Type 0} → TcpDoor T → ℕ
+door_faults door = door.faults
+
+abbrev pub door_closings : {T : Type 0} → TcpDoor T → ℕ
+door_closings door = door.closings

@@ -5,3 +5,5 @@ pub mod Calls
 pub mod States
 pub mod Trail
 pub mod Adapters
+pub mod Doors
+pub mod Given

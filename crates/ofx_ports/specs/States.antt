@@ -50,3 +50,20 @@ abbrev pub later_moments : List Moment → List Moment
 later_moments [] = []
 later_moments (m ∷ []) = m ∷ []
 later_moments (m ∷ n ∷ ms) = n ∷ ms
+
+pub record LinkState : Type 0 where
+  -- what the peer sends
+  pub incoming : SourceState
+  -- what it takes
+  pub outgoing : SinkState
+
+pub record DoorState : Type 0 where
+  -- the links that it will give
+  pub coming : List LinkState
+  -- the links that it gave, in order, as they were then
+  pub given : List LinkState
+  -- the links that it took back, in order
+  pub back : List LinkState
+  -- how often it answered that it is closed
+  pub closings : ℕ
+  pub calls : Calls

@@ -1,7 +1,9 @@
-//! The adapters: they stand over the standard library's readers, writers and clocks, and tell nothing of what those hold.
+//! The adapters: they stand over the standard library's readers, writers, sockets and clocks, and tell nothing of what those hold.
 
 pub mod reader;
 pub mod system_clock;
+pub mod tcp_door;
+pub mod tcp_link;
 pub mod writer;
 
 // How often a call that a signal cut short is made again before it counts as a fault.

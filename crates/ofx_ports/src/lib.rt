@@ -1,25 +1,35 @@
-//! What a bank and a client ask of the outside: bytes to read and to write, records to keep, and the time. Each is a
-//! trait whose clauses say what a call does to what the outside tells of itself, and count its faults. The memory
-//! forms tell all that they hold and fail where they are told to. The adapters stand over the standard library's
-//! readers, writers and clocks, and tell nothing.
+//! What a bank and a client ask of the outside: bytes to read and to write, records to keep, the time, links to peers, and
+//! doorways where links come in. Each is a trait whose clauses say what a call does to what the outside tells of
+//! itself, and count its faults. The memory forms tell all that they hold and fail where they are told to. The
+//! adapters stand over the standard library's readers, writers, sockets and clocks, and tell nothing.
 #![tactic(auto)]
 
 mod adapters;
 mod clock;
+mod doorway;
 mod fault;
+mod gate;
 mod keeper;
+mod link;
 mod memory;
 mod sink;
 mod source;
 
 pub use adapters::reader::ReaderSource;
 pub use adapters::system_clock::SystemClock;
+pub use adapters::tcp_door::{TcpDoor, listen};
+pub use adapters::tcp_link::{LINK_SECONDS, TcpLink};
 pub use adapters::writer::WriterSink;
 pub use clock::Clock;
+pub use doorway::Doorway;
 pub use fault::{Failed, FetchFault, PutFault};
+pub use gate::{Gate, OpenGate};
 pub use keeper::Keeper;
+pub use link::Link;
 pub use memory::clock::MemClock;
+pub use memory::door::MemDoor;
 pub use memory::keeper::MemKeeper;
+pub use memory::link::MemLink;
 pub use memory::schedule::Schedule;
 pub use memory::sink::MemSink;
 pub use memory::source::MemSource;

@@ -1,9 +1,7 @@
 -- Accounts, transfers and mails that are read are those that were written.
-use Rattle.std.proofs.Common.{◌≡◌, ℕ, zero, suc, ◌<◌, ◌≤◌, List, [], ◌∷◌, ◌++◌, slice_get, Option, Some, refl, sym, ap, subst, arith}
+use Rattle.std.proofs.Common.{◌≡◌, ℕ, zero, suc, ◌<◌, ◌≤◌, [], ◌∷◌, ◌++◌, slice_get, Option, Some, refl, sym, ap, subst, arith}
 use Rattle.std.specs.Prelude.{IfSome}
-use Rattle.ofx_types.specs.TextRules.{IsText}
-use Rattle.ofx_types.specs.Calendar.{IsMoment, IsDay}
-use Rattle.ofx_types.specs.declared.number.Moment.{Moment}
+use Rattle.ofx_types.specs.Calendar.{IsDay}
 use Rattle.ofx_types.specs.declared.number.Day.{Day}
 use Rattle.ofx_types.specs.declared.account.AcctKind.{AcctKind}
 use Rattle.ofx_types.specs.declared.account.AcctKind.TheVariants.{Checking, Savings, MoneyMarket, CreditLine}
@@ -13,15 +11,13 @@ use Rattle.ofx_types.specs.declared.recurring.Freq.TheVariants.{Weekly, Biweekly
 use Rattle.ofx_types.specs.declared.recurring.Recur.{Recur}
 use Rattle.ofx_types.specs.declared.mail.MailText.{MailText}
 use Rattle.ofx_types.specs.declared.transfer.XferInfo.{XferInfo}
-use Rattle.ofx_types.specs.declared.request.Period.{Period}
-use Rattle.bank_model.specs.Sound.{HasLength, IsSoundAccount, IsSoundRecur, IsSoundInfo, IsSoundMail, IsSoundPeriod}
-use Rattle.record_fields.specs.FieldCoding.{u16_bytes, i64_bytes, moment_bytes, day_bytes, flag_bytes, text_bytes, optional_bytes, kind_number, acct_bytes, freq_number, recur_bytes, info_bytes, mail_bytes}
-use Rattle.record_fields.specs.FieldTexts.{HasAccountTexts, HasInfoTexts, HasMailTexts}
-use Rattle.record_fields.specs.FieldReading.{filled_text_at, choice_at, optional_at, moment_at, day_at, count_at}
+use Rattle.bank_model.specs.Sound.{IsTextWithin, IsSoundAccount, IsSoundRecur, IsSoundInfo, IsSoundMail}
+use Rattle.record_fields.specs.FieldCoding.{u16_bytes, i64_bytes, day_bytes, text_bytes, optional_bytes, kind_number, acct_bytes, freq_number, recur_bytes, info_bytes, mail_bytes}
+use Rattle.record_fields.specs.FieldReading.{filled_text_at, choice_at, optional_at, day_at, count_at}
 use Rattle.record_fields.specs.PartReading.{account_kinds, acct_at, frequencies, recur_at, info_at, mail_at}
 use Rattle.record_fields.specs.Standing.{StandsAt, IsField}
 use Rattle.record_fields.proofs.Steps.{ok_is, joined, apart, step}
-use Rattle.record_fields.proofs.NumberLaws.{choice_field, optional_field, flag_field}
+use Rattle.record_fields.proofs.NumberLaws.{choice_field, optional_field}
 use Rattle.record_fields.proofs.BoundedLaws.{count_field, amount_field, moment_field, day_field}
 use Rattle.record_fields.proofs.TextLaws.{filled_field}
 
@@ -30,10 +26,6 @@ there x = Some x
 
 some_is : {A : Type 0} (x y : A) → there x ≡ there y → x ≡ y
 some_is x y h = cc
-
--- a text of an event
-abbrev pub IsFilled : ℕ → List ℕ → Type 0
-IsFilled most text = HasLength most text × IsText text
 
 abbrev IsCount : Option ℕ → Type 0
 IsCount o = IfSome o (λ n. (0 < n) × (n ≤ 999))
@@ -65,19 +57,16 @@ kind_small CreditLine = omega arith
 kind_field : IsField (choice_at account_kinds) (λ kind. kind_number kind ∷ []) (λ kind. Unit {0})
 kind_field = choice_field account_kinds kind_number (record { there = kind_there; back = kind_back; small = kind_small })
 
-pub text32 : IsField (filled_text_at 32) text_bytes (IsFilled 32)
+pub text32 : IsField (filled_text_at 32) text_bytes (IsTextWithin 32)
 text32 = filled_field 32 (omega arith)
 
-pub text64 : IsField (filled_text_at 64) text_bytes (IsFilled 64)
+pub text64 : IsField (filled_text_at 64) text_bytes (IsTextWithin 64)
 text64 = filled_field 64 (omega arith)
 
-pub text10000 : IsField (filled_text_at 10000) text_bytes (IsFilled 10000)
+pub text10000 : IsField (filled_text_at 10000) text_bytes (IsTextWithin 10000)
 text10000 = filled_field 10000 (omega arith)
 
-abbrev IsGoodAccount : AcctName → Type 0
-IsGoodAccount account = IsSoundAccount account × HasAccountTexts account
-
-pub acct_field : IsField acct_at acct_bytes (λ account. IsSoundAccount account × HasAccountTexts account)
+pub acct_field : IsField acct_at acct_bytes IsSoundAccount
 unfolding acct_at acct_bytes
 acct_field = record {
   stands = λ rec at found bytes le e.
@@ -85,14 +74,14 @@ acct_field = record {
       let b = step text32 rec a.next _ found bytes a.stands.within a.rest in
       let c = step kind_field rec b.next _ found bytes b.stands.within b.rest in
       let made : AcctName × ℕ = (record { bank = a.value; number = b.value; kind = c.value }, c.next) in
-      subst (λ (f : AcctName × ℕ). StandsAt rec at (acct_bytes f.0) f.1 × IsGoodAccount f.0) {x = made} (ok_is made found c.rest)
-      (joined (joined a.stands b.stands) c.stands, ((a.fits.0, b.fits.0), (a.fits.1, b.fits.1)));
+      subst (λ (f : AcctName × ℕ). StandsAt rec at (acct_bytes f.0) f.1 × IsSoundAccount f.0) {x = made} (ok_is made found c.rest)
+      (joined (joined a.stands b.stands) c.stands, (a.fits, b.fits));
   again = λ rec at x next le p fits.
       let c = apart rec at (text_bytes x.bank ++ text_bytes x.number) (kind_number x.kind ∷ []) next le p in
       let b = apart rec at (text_bytes x.bank) (text_bytes x.number) c.mid le c.first in
       rw (
-        text32.again rec at x.bank b.mid le b.first (fits.0.0, fits.1.0),
-        text32.again rec b.mid x.number c.mid b.first.within b.second (fits.0.1, fits.1.1),
+        text32.again rec at x.bank b.mid le b.first fits.0,
+        text32.again rec b.mid x.number c.mid b.first.within b.second fits.1,
         kind_field.again rec c.mid x.kind next c.first.within c.second tt,
       ) refl;
 }
@@ -155,10 +144,7 @@ recur_field = record {
 optional_day : IsField (optional_at day_at) (optional_bytes day_bytes) IsDue
 optional_day = optional_field day_field
 
-abbrev IsGoodInfo : XferInfo → Type 0
-IsGoodInfo info = IsSoundInfo info × HasInfoTexts info
-
-pub info_field : IsField info_at info_bytes (λ info. IsSoundInfo info × HasInfoTexts info)
+pub info_field : IsField info_at info_bytes IsSoundInfo
 unfolding info_at info_bytes
 info_field = record {
   stands = λ rec at found bytes le e.
@@ -167,26 +153,23 @@ info_field = record {
       let c = step amount_field rec b.next _ found bytes b.stands.within b.rest in
       let d = step optional_day rec c.next _ found bytes c.stands.within c.rest in
       let made : XferInfo × ℕ = (record { from = a.value; to = b.value; amount = c.value; due = d.value }, d.next) in
-      subst (λ (f : XferInfo × ℕ). StandsAt rec at (info_bytes f.0) f.1 × IsGoodInfo f.0) {x = made} (ok_is made found d.rest)
-      (joined (joined (joined a.stands b.stands) c.stands) d.stands, (record { from = a.fits.0; to = b.fits.0; amount = c.fits; due = d.fits }, (a.fits.1, b.fits.1)));
+      subst (λ (f : XferInfo × ℕ). StandsAt rec at (info_bytes f.0) f.1 × IsSoundInfo f.0) {x = made} (ok_is made found d.rest)
+      (joined (joined (joined a.stands b.stands) c.stands) d.stands, record { from = a.fits; to = b.fits; amount = c.fits; due = d.fits });
   again = λ rec at x next le p fits.
       let d = apart rec at (acct_bytes x.from ++ acct_bytes x.to ++ i64_bytes x.amount.0) (optional_bytes day_bytes x.due) next le p in
       let c = apart rec at (acct_bytes x.from ++ acct_bytes x.to) (i64_bytes x.amount.0) d.mid le d.first in
       let b = apart rec at (acct_bytes x.from) (acct_bytes x.to) c.mid le c.first in
       rw (
-        acct_field.again rec at x.from b.mid le b.first (fits.0.from, fits.1.0),
-        acct_field.again rec b.mid x.to c.mid b.first.within b.second (fits.0.to, fits.1.1),
-        amount_field.again rec c.mid x.amount d.mid c.first.within c.second fits.0.amount,
-        optional_day.again rec d.mid x.due next d.first.within d.second fits.0.due,
+        acct_field.again rec at x.from b.mid le b.first fits.from,
+        acct_field.again rec b.mid x.to c.mid b.first.within b.second fits.to,
+        amount_field.again rec c.mid x.amount d.mid c.first.within c.second fits.amount,
+        optional_day.again rec d.mid x.due next d.first.within d.second fits.due,
       ) refl;
 }
 
 -- ---- mails
 
-abbrev IsGoodMail : MailText → Type 0
-IsGoodMail mail = IsSoundMail mail × HasMailTexts mail
-
-pub mail_field : IsField mail_at mail_bytes (λ mail. IsSoundMail mail × HasMailTexts mail)
+pub mail_field : IsField mail_at mail_bytes IsSoundMail
 unfolding mail_at mail_bytes
 mail_field = record {
   stands = λ rec at found bytes le e.
@@ -196,12 +179,9 @@ mail_field = record {
       let d = step text64 rec c.next _ found bytes c.stands.within c.rest in
       let f = step text10000 rec d.next _ found bytes d.stands.within d.rest in
       let made : MailText × ℕ = (record { created = a.value; sender = b.value; target = c.value; subject = d.value; body = f.value }, f.next) in
-      subst (λ (m : MailText × ℕ). StandsAt rec at (mail_bytes m.0) m.1 × IsGoodMail m.0) {x = made} (ok_is made found f.rest) (
+      subst (λ (m : MailText × ℕ). StandsAt rec at (mail_bytes m.0) m.1 × IsSoundMail m.0) {x = made} (ok_is made found f.rest) (
         joined (joined (joined (joined a.stands b.stands) c.stands) d.stands) f.stands,
-        (
-          record { created = a.fits; sender = b.fits.0; target = c.fits.0; subject = d.fits.0; body = f.fits.0 },
-          record { sender = b.fits.1; target = c.fits.1; subject = d.fits.1; body = f.fits.1 },
-        ),
+        record { created = a.fits; sender = b.fits; target = c.fits; subject = d.fits; body = f.fits },
       );
   again = λ rec at x next le p fits.
       let f = apart rec at (i64_bytes x.created.0 ++ text_bytes x.sender ++ text_bytes x.target ++ text_bytes x.subject) (text_bytes x.body) next le p in
@@ -209,10 +189,10 @@ mail_field = record {
       let c = apart rec at (i64_bytes x.created.0 ++ text_bytes x.sender) (text_bytes x.target) d.mid le d.first in
       let b = apart rec at (i64_bytes x.created.0) (text_bytes x.sender) c.mid le c.first in
       rw (
-        moment_field.again rec at x.created b.mid le b.first fits.0.created,
-        text32.again rec b.mid x.sender c.mid b.first.within b.second (fits.0.sender, fits.1.sender),
-        text32.again rec c.mid x.target d.mid c.first.within c.second (fits.0.target, fits.1.target),
-        text64.again rec d.mid x.subject f.mid d.first.within d.second (fits.0.subject, fits.1.subject),
-        text10000.again rec f.mid x.body next f.first.within f.second (fits.0.body, fits.1.body),
+        moment_field.again rec at x.created b.mid le b.first fits.created,
+        text32.again rec b.mid x.sender c.mid b.first.within b.second fits.sender,
+        text32.again rec c.mid x.target d.mid c.first.within c.second fits.target,
+        text64.again rec d.mid x.subject f.mid d.first.within d.second fits.subject,
+        text10000.again rec f.mid x.body next f.first.within f.second fits.body,
       ) refl;
 }

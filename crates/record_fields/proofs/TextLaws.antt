@@ -9,7 +9,7 @@ use Rattle.ofx_types.specs.TextRules.{trimmed, is_refused_in_text, is_refused_in
 use Rattle.ofx_types.specs.TextOutcome.{text_fault, trnuid_fault, file_uid_fault}
 use Rattle.ofx_types.specs.declared.text.TextFault.TheVariants.{Empty}
 use Rattle.ofx_types.proofs.Trimming.{faultless, guard_none}
-use Rattle.bank_model.specs.Sound.{HasLength}
+use Rattle.bank_model.specs.Sound.{IsTextWithin, IsClientUid}
 use Rattle.bank_model.proofs.SetupWords.{bytes_eq_is, bytes_eq_self}
 use Rattle.record_fields.specs.FieldCoding.{u16_bytes, text_bytes, uid_bytes, file_uid_bytes}
 use Rattle.record_fields.specs.FieldReading.{◌>>=◌, bytes_at, is_text, text_at, filled_text_at, is_trnuid, trnuid_at, given_uid_at, is_file_uid, file_uid_at}
@@ -107,16 +107,16 @@ text_field most small = record {
       rw (u16_field.again rec at (length text) a.mid le a.first (omega (arith, fits.0)), bytes_again (length text) rec at a.mid text next a.first.within a.second refl, is_text-true most text fits.0 fits.1) refl;
 }
 
-pub filled_field : (most : ℕ) → most < 2 ^ 16 → IsField (filled_text_at most) text_bytes (λ text. HasLength most text × IsText text)
+pub filled_field : (most : ℕ) → most < 2 ^ 16 → IsField (filled_text_at most) text_bytes (IsTextWithin most)
 unfolding filled_text_at
 filled_field most small = record {
   stands = λ rec at found bytes le e.
       let s = step (text_field most small) rec at (λ text. cond (nat_eq (length text.0) 0) (Err at) (Ok text)) found bytes le e in
       let g = guard_ok (nat_eq (length s.value) 0) at (Ok (s.value, s.next)) found s.rest in
-      subst (λ (f : List ℕ × ℕ). StandsAt rec at (text_bytes f.0) f.1 × (HasLength most f.0 × IsText f.0)) (ok_is (s.value, s.next) found g.1)
-      (s.stands, ((filled s.value g.0, s.fits.0), s.fits.1));
+      subst (λ (f : List ℕ × ℕ). StandsAt rec at (text_bytes f.0) f.1 × IsTextWithin most f.0) (ok_is (s.value, s.next) found g.1)
+      (s.stands, record { is_text = s.fits.1; is_there = filled s.value g.0; is_within = s.fits.0 });
   again = λ rec at text next le p fits.
-      rw ((text_field most small).again rec at text next le p (fits.0.1, fits.1), not_empty text fits.0.0) refl;
+      rw ((text_field most small).again rec at text next le p (fits.is_within, fits.is_text), not_empty text fits.is_there) refl;
 }
 
 -- ---- uids
@@ -137,14 +137,14 @@ trnuid_field = record {
       rw (u8_field.again rec at (length uid) a.mid le a.first (omega (arith, fits.is_within)), bytes_again (length uid) rec at a.mid uid next a.first.within a.second refl, is_trnuid-true uid fits) refl;
 }
 
-pub given_uid_field : IsField given_uid_at uid_bytes (λ uid. (uid ≢ codes "0") × IsTrnUid uid)
+pub given_uid_field : IsField given_uid_at uid_bytes IsClientUid
 unfolding given_uid_at
 given_uid_field = record {
   stands = λ rec at found bytes le e.
       let s = step trnuid_field rec at (λ uid. cond (bytes_eq uid.0 (codes "0")) (Err at) (Ok uid)) found bytes le e in
       let g = guard_ok (bytes_eq s.value (codes "0")) at (Ok (s.value, s.next)) found s.rest in
       let differ : s.value ≢ codes "0" = λ same. let word : bytes_eq s.value (codes "0") ≡ true = ap (λ (t : List ℕ). bytes_eq t (codes "0")) same in cc in
-      subst (λ (f : List ℕ × ℕ). StandsAt rec at (uid_bytes f.0) f.1 × ((f.0 ≢ codes "0") × IsTrnUid f.0)) (ok_is (s.value, s.next) found g.1)
+      subst (λ (f : List ℕ × ℕ). StandsAt rec at (uid_bytes f.0) f.1 × IsClientUid f.0) (ok_is (s.value, s.next) found g.1)
       (s.stands, (differ, s.fits));
   again = λ rec at uid next le p fits.
       rw (trnuid_field.again rec at uid next le p fits.1, other uid (codes "0") fits.0) refl;

@@ -1,5 +1,4 @@
 pub mod FieldCoding
-pub mod FieldTexts
 pub mod FieldReading
 pub mod PartReading
 pub mod Answers

@@ -4,7 +4,6 @@ ghost use Rattle.std.specs.Prelude.{◌≡◌, ◌≤◌, ◌++◌, length, slic
 ghost use Rattle.std.specs.Io.{StartsWith};
 ghost use Rattle.bank_model.specs.Sound.{IsSoundAccount};
 ghost use Rattle.record_fields.specs.Answers.{Gives};
-ghost use Rattle.record_fields.specs.FieldTexts.{HasAccountTexts};
 ghost use Rattle.record_fields.specs.FieldCoding.{acct_bytes, kind_number};
 ghost use Rattle.record_fields.specs.FieldReading.{choice_at};
 ghost use Rattle.record_fields.specs.PartReading.{account_kinds, acct_at};
@@ -71,7 +70,6 @@ pub fn get_acct(alloc: Global, rec: &[u8], at: usize) -> Result<(AcctName, usize
 pub fn put_acct(value: &AcctName, out: &mut Vec<u8>) -> Result<(), OutOfMemory>
     requires { IsSoundAccount value.now }
     ensures bytes { OnOk result (out.new.items ≡ out.old.items ++ acct_bytes value.now) }
-    ensures typed { OnOk result (HasAccountTexts value.now) }
     ensures kept { StartsWith out.new.items out.old.items }
 {
     put_text(&value.bank, out)?;

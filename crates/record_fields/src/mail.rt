@@ -4,7 +4,6 @@ ghost use Rattle.std.specs.Prelude.{◌≡◌, ◌≤◌, ◌++◌, length, IfOk
 ghost use Rattle.std.specs.Io.{StartsWith};
 ghost use Rattle.bank_model.specs.Sound.{IsSoundMail};
 ghost use Rattle.record_fields.specs.Answers.{Gives};
-ghost use Rattle.record_fields.specs.FieldTexts.{HasMailTexts};
 ghost use Rattle.record_fields.specs.FieldCoding.{mail_bytes};
 ghost use Rattle.record_fields.specs.PartReading.{mail_at};
 
@@ -45,7 +44,6 @@ pub fn get_mail(alloc: Global, rec: &[u8], at: usize) -> Result<(MailText, usize
 pub fn put_mail(value: &MailText, out: &mut Vec<u8>) -> Result<(), OutOfMemory>
     requires { IsSoundMail value.now }
     ensures bytes { OnOk result (out.new.items ≡ out.old.items ++ mail_bytes value.now) }
-    ensures typed { OnOk result (HasMailTexts value.now) }
     ensures kept { StartsWith out.new.items out.old.items }
 {
     put_i64(&value.created.0, out)?;

@@ -3,7 +3,6 @@
 ghost use Rattle.std.specs.Prelude.{◌≡◌, ◌≤◌, ◌++◌, true, false, length, IfOk, OnOk, MatchOption};
 ghost use Rattle.std.specs.Io.{StartsWith};
 ghost use Rattle.record_fields.specs.Answers.{Gives};
-ghost use Rattle.ofx_types.specs.TextRules.{IsText};
 ghost use Rattle.record_fields.specs.FieldCoding.{text_bytes};
 ghost use Rattle.record_fields.specs.FieldReading.{is_text, text_at, filled_text_at};
 
@@ -74,7 +73,6 @@ pub fn get_filled_text(
 pub fn put_text(value: &Text, out: &mut Vec<u8>) -> Result<(), OutOfMemory>
     requires { length value.now ≤ 65535 }
     ensures bytes { OnOk result (out.new.items ≡ out.old.items ++ text_bytes value.now) }
-    ensures typed { OnOk result (IsText value.now) }
     ensures kept { StartsWith out.new.items out.old.items }
 {
     let bytes = value.as_bytes();

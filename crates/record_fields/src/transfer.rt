@@ -4,7 +4,6 @@ ghost use Rattle.std.specs.Prelude.{◌≡◌, ◌≤◌, ◌++◌, length, IfOk
 ghost use Rattle.std.specs.Io.{StartsWith};
 ghost use Rattle.bank_model.specs.Sound.{IsSoundInfo};
 ghost use Rattle.record_fields.specs.Answers.{Gives};
-ghost use Rattle.record_fields.specs.FieldTexts.{HasInfoTexts};
 ghost use Rattle.record_fields.specs.FieldCoding.{info_bytes, optional_bytes, day_bytes};
 ghost use Rattle.record_fields.specs.FieldReading.{optional_at, day_at};
 ghost use Rattle.record_fields.specs.PartReading.{info_at};
@@ -70,7 +69,6 @@ fn put_optional_day(day: Option<Day>, out: &mut Vec<u8>) -> Result<(), OutOfMemo
 pub fn put_info(info: &XferInfo, out: &mut Vec<u8>) -> Result<(), OutOfMemory>
     requires { IsSoundInfo info.now }
     ensures bytes { OnOk result (out.new.items ≡ out.old.items ++ info_bytes info.now) }
-    ensures typed { OnOk result (HasInfoTexts info.now) }
     ensures kept { StartsWith out.new.items out.old.items }
 {
     put_acct(&info.from, out)?;

@@ -4,8 +4,6 @@ ghost use Rattle.std.specs.Prelude.{◌≡◌, ◌≢◌, ◌≤◌, ◌++◌, t
 ghost use Rattle.std.specs.Io.{StartsWith};
 ghost use Rattle.record_fields.specs.declared.fault.RecordFault.{RecordFault};
 ghost use Rattle.record_fields.specs.Answers.{Gives};
-ghost use Rattle.std.specs.Option.{IfSome};
-ghost use Rattle.ofx_types.specs.TextRules.{IsTrnUid, IsFileUid};
 ghost use Rattle.record_fields.specs.FieldCoding.{uid_bytes, file_uid_bytes};
 ghost use Rattle.record_fields.specs.FieldReading.{is_trnuid, is_file_uid, trnuid_at, given_uid_at, file_uid_at};
 
@@ -101,7 +99,6 @@ pub fn get_file_uid(rec: &[u8], at: usize) -> Result<(Option<FileUid>, usize), R
 #[tactic(auto, unfolding(crate::specs::FieldCoding::uid_bytes))]
 pub fn put_trnuid(value: &TrnUid, out: &mut Vec<u8>) -> Result<(), OutOfMemory>
     ensures bytes { OnOk result (out.new.items ≡ out.old.items ++ uid_bytes value.now) }
-    ensures typed { OnOk result (IsTrnUid value.now) }
     ensures kept { StartsWith out.new.items out.old.items }
 {
     let bytes = value.as_bytes();
@@ -114,7 +111,6 @@ pub fn put_trnuid(value: &TrnUid, out: &mut Vec<u8>) -> Result<(), OutOfMemory>
 #[tactic(auto, unfolding(crate::specs::FieldCoding::uid_bytes))]
 pub fn put_file_uid(value: &Option<FileUid>, out: &mut Vec<u8>) -> Result<(), OutOfMemory>
     ensures bytes { OnOk result (out.new.items ≡ out.old.items ++ file_uid_bytes value.now) }
-    ensures typed { OnOk result (IfSome value.now IsFileUid) }
     ensures kept { StartsWith out.new.items out.old.items }
 {
     match value {

@@ -7,7 +7,7 @@ ghost use Rattle.bank_model.specs.Models as models;
 ghost use Rattle.bank_model.specs.Due as rules;
 ghost use Rattle.bank_model.specs.Polls as polls;
 ghost use Rattle.bank_model.specs.Rules.{IsLegal, raised};
-ghost use Rattle.bank_model.specs.Sound.{IsSound, HasLength};
+ghost use Rattle.bank_model.specs.Sound.{IsSound, IsTextWithin};
 
 use crate::book::Book;
 use crate::book::answer::later;
@@ -45,8 +45,8 @@ impl<P: Printer> Book<P> {
 
     /// Whether the bank may write a letter of this subject and this body to that user.
     fn may_write(&self, user: UserId, subject: &Text, body: &Text) -> bool
-        ensures { IsTrue result ↔ ((user.0 < length self.now.setup.users) × HasLength 64 subject.now
-            × HasLength 10000 body.now × (rules.has_number self.now.setup self.now.state ≡ true)) }
+        ensures { IsTrue result ↔ ((user.0 < length self.now.setup.users) × IsTextWithin 64 subject.now
+            × IsTextWithin 10000 body.now × (rules.has_number self.now.setup self.now.state ≡ true)) }
     {
         self.has_user(user) && is_sound_letter(subject, body) && self.has_number()
     }

@@ -71,7 +71,7 @@ impl<R: Read + Drop> Source for ReaderSource<R> {
 }
 
 // Reads once, and again where a signal cut the read short.
-fn read_retrying<R: Read>(reader: &mut R, into: &mut [u8]) -> Result<usize, Failed>
+pub(super) fn read_retrying<R: Read>(reader: &mut R, into: &mut [u8]) -> Result<usize, Failed>
     ensures count { IfOk result (λ n. n ≤ length into.new) }
     ensures bytes { ReadConsumes (R.remaining reader.old) (R.remaining reader.new) result into.new }
 {

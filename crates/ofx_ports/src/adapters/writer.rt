@@ -57,7 +57,7 @@ impl<W: Write + Drop> Sink for WriterSink<W> {
 }
 
 // Writes once, and again where a signal cut the write short. The answer is the number of bytes taken, at least one.
-fn write_retrying<W: Write>(writer: &mut W, bytes: &[u8]) -> Result<usize, Failed>
+pub(super) fn write_retrying<W: Write>(writer: &mut W, bytes: &[u8]) -> Result<usize, Failed>
     ensures count { IfOk result (λ n. (0 < n) × (n ≤ length bytes.now)) }
     ensures taken { WriteAppends (W.contents writer.old) (W.contents writer.new) result bytes.now }
 {

@@ -5,9 +5,9 @@ use Rattle.bank_replies.proofs.Runs.{told_run, run_answer}
 use Rattle.bank_replies.proofs.replies.answers_are_replies.Goals as goal
 
 pub returns-clause-file : goal.returns-clause-file
-returns-clause-file c = λ setup run user at sent within legal texts moment known sound told.
-    run_answer setup run user at sent c.replies_read_back.ensures within legal texts moment known sound told
+returns-clause-file c = λ setup run user at sent within legal moment known sound.
+    run_answer setup run user at sent c.replies_read_back.ensures within legal moment known sound
 
 pub returns-clause-poll : goal.returns-clause-poll
-returns-clause-poll c = λ setup run user at sent within legal texts moment sound told poll.
-    c.replies_read_back.ensures _ (poll_sound setup (after_all setup opening_state run) user at sent within (told_run setup run c.replies_read_back.ensures within legal texts) moment sound told poll)
+returns-clause-poll c = λ setup run user at sent within legal moment sound poll.
+    c.replies_read_back.ensures _ (poll_sound setup (after_all setup opening_state run) user at sent within (told_run setup run c.replies_read_back.ensures within legal) moment sound poll)

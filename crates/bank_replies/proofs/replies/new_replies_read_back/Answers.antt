@@ -5,5 +5,5 @@ pub returns-clause-answer : goal.returns-clause-answer
 returns-clause-answer c = new_answer
 
 pub returns-clause-back : goal.returns-clause-back
-returns-clause-back c = λ setup S user at sent within standing tellable moment known sound texts.
-    c.replies_read_back.ensures _ (new_sound setup S user at sent within standing tellable moment known sound texts)
+returns-clause-back c = λ setup S user at sent within standing tellable moment known sound.
+    c.replies_read_back.ensures _ (new_sound setup S user at sent within standing tellable moment known sound)

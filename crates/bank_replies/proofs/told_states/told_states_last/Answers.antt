@@ -11,4 +11,4 @@ pub returns-clause-day : goal.returns-clause-day
 returns-clause-day c = tellable_raised
 
 pub returns-clause-ask : goal.returns-clause-ask
-returns-clause-ask c = λ setup S user at ask within tellable moment known sound texts. tellable_ask setup S user at ask (record { within = within; tellable = tellable; moment = moment; known = known }) sound texts
+returns-clause-ask c = λ setup S user at ask within tellable moment known sound. tellable_ask setup S user at ask (record { within = within; tellable = tellable; moment = moment; known = known }) sound

@@ -1,4 +1,4 @@
-use Rattle.std.proofs.Common.{◌≡◌, ◌+◌, ◌≤◌, length, sym, subst}
+use Rattle.std.proofs.Common.{◌+◌, ◌≤◌, length, sym, subst}
 use Rattle.bank_rules.specs.Next.{IsNext}
 use Rattle.bank_ledger.specs.Changes.{GivesRows}
 use Rattle.bank_ledger.specs.DraftView.{DraftView, drafted}

@@ -1,4 +1,4 @@
-use Rattle.std.proofs.Common.{sym, ap, ◌∙◌, subst}
+use Rattle.std.proofs.Common.{sym, ap, ◌∙◌}
 use Rattle.bank_model.specs.Ledger.{balance}
 use Rattle.bank_ledger.specs.DraftView.{DraftView, drafted}
 use Rattle.bank_ledger.proofs.EnteringLemmas.{balance_before-is, balance_given-is}

@@ -1,6 +1,6 @@
 use Rattle.std.proofs.Common.{◌++◌, ◌∷◌, [], sym, subst, ◌∙◌, ap, set, false}
 use Rattle.bank_recur.specs.ModelsView.{Series, ModelsView, StandsFor, IsOnce}
-use Rattle.bank_recur.proofs.StandsLemmas.{is_at, once_set, none_found, once_pushed, stands_set, stands_pushed}
+use Rattle.bank_recur.proofs.StandsLemmas.{is_at, once_set, none_found, once_pushed, begins_set, begins_pushed, stands_set, stands_pushed}
 use Rattle.bank_recur.proofs.models.Models.put.Goals as goal
 
 pub invariant_of-self : goal.invariant_of-self
@@ -25,3 +25,23 @@ returns-in-None-clause-stands c entries entry stands gives =
     let none = none_found c.args.row.id c.self.inside.series.items c.deref.result.now c.place_of.result c.place_of.ensures c.deref.ensures.value c.in-None.is in
     let held = subst (λ (v : ModelsView). StandsFor v entries) (sym c.self.view_is) stands in
     stands_pushed _ _ entries entry c.args.row held none gives (c.push_reserved.ensures.items ∙ ap (λ (s : Series). c.self.inside.series.items ++ s ∷ []) c.new.ensures)
+
+pub returns-in-Some-clause-row : goal.returns-in-Some-clause-row
+returns-in-Some-clause-row c =
+    let there = is_at c.args.row.id c.in-Some.at c.index_mut.result.now c.self.inside.series.items c.deref.result.now c.place_of.result c.place_of.ensures c.deref.ensures.value c.in-Some.is c.index_mut.ensures.value in
+    (begins_set c.self.inside.series.items _ c.in-Some.at c.index_mut.result.now c.args.row there (ap (set c.self.inside.series.items c.in-Some.at) c.begin_anew.ensures)).0
+
+pub returns-in-Some-clause-place : goal.returns-in-Some-clause-place
+returns-in-Some-clause-place c =
+    let there = is_at c.args.row.id c.in-Some.at c.index_mut.result.now c.self.inside.series.items c.deref.result.now c.place_of.result c.place_of.ensures c.deref.ensures.value c.in-Some.is c.index_mut.ensures.value in
+    (begins_set c.self.inside.series.items _ c.in-Some.at c.index_mut.result.now c.args.row there (ap (set c.self.inside.series.items c.in-Some.at) c.begin_anew.ensures)).1
+
+pub returns-in-None-clause-row : goal.returns-in-None-clause-row
+returns-in-None-clause-row c =
+    let none = none_found c.args.row.id c.self.inside.series.items c.deref.result.now c.place_of.result c.place_of.ensures c.deref.ensures.value c.in-None.is in
+    (begins_pushed c.self.inside.series.items _ c.args.row none (c.push_reserved.ensures.items ∙ ap (λ (s : Series). c.self.inside.series.items ++ s ∷ []) c.new.ensures)).0
+
+pub returns-in-None-clause-place : goal.returns-in-None-clause-place
+returns-in-None-clause-place c =
+    let none = none_found c.args.row.id c.self.inside.series.items c.deref.result.now c.place_of.result c.place_of.ensures c.deref.ensures.value c.in-None.is in
+    (begins_pushed c.self.inside.series.items _ c.args.row none (c.push_reserved.ensures.items ∙ ap (λ (s : Series). c.self.inside.series.items ++ s ∷ []) c.new.ensures)).1

@@ -1,0 +1,41 @@
+-- What is written in parts.
+use Rattle.std.proofs.Common.{◌≡◌, ℕ, ◌+◌, ◌-◌, ◌≤◌, List, ◌++◌, length, take, drop, Option, Result, Ok, Err, OnErr, sym, ap, ◌∙◌, subst, arith, length-append, length-drop}
+use Rattle.std.specs.Io.KnownBytes.{Appends}
+use Rattle.std.proofs.KnownBytes.{Appends-trans}
+use Rattle.std.proofs.lemmas.List.{take_rest, take-append-le}
+use Rattle.std.proofs.Math.Seq.{take-add, take-append-add}
+use Rattle.http_link.specs.Writing.{AppendsFront}
+
+-- the bytes behind a place, as a slice gives them
+pub rest_length : (done : ℕ) (bytes : List ℕ) → length (take (length bytes - done) (drop done bytes)) ≡ length bytes - done
+rest_length done bytes = ap length (take_rest bytes done) ∙ length-drop done bytes
+
+-- a front is written, and then more of the bytes
+pub written_more : (before mid after : Option (List ℕ)) (done count : ℕ) (bytes : List ℕ) → Appends before mid (take done bytes)
+    → Appends mid after (take count (take (length bytes - done) (drop done bytes))) → Appends before after (take (done + count) bytes)
+written_more before mid after done count bytes front more =
+    let joined : take done bytes ++ take count (take (length bytes - done) (drop done bytes)) ≡ take (done + count) bytes =
+    ap (λ (l : List ℕ). take done bytes ++ take count l) (take_rest bytes done) ∙ sym (take-add done count bytes) in
+    rw (sym joined) (Appends-trans before mid after _ _ front more)
+
+-- a front of the first of two texts is a front of both
+pub front_of_first : (before after : Option (List ℕ)) (first second : List ℕ) → AppendsFront before after first → AppendsFront before after (first ++ second)
+front_of_first before after first second part = record {
+  count = part.count;
+  within = omega (arith, part.within, length-append first second);
+  appended = subst (Appends before after) (sym (take-append-le part.count first second part.within)) part.appended;
+}
+
+-- the first of two texts and a front of the second are a front of both
+pub front_of_second : (before mid after : Option (List ℕ)) (first second : List ℕ) → Appends before mid first → AppendsFront mid after second → AppendsFront before after (first ++ second)
+front_of_second before mid after first second whole part = record {
+  count = length first + part.count;
+  within = omega (arith, part.within, length-append first second);
+  appended = subst (Appends before after) (sym (take-append-add first second part.count)) (Appends-trans before mid after first (take part.count second) whole part.appended);
+}
+
+-- where the second of two texts wasn't written whole, a front of both is
+pub part_behind : {E : Type 0} (result : Result (Unit {0}) E) (before mid after : Option (List ℕ)) (first second : List ℕ) → Appends before mid first
+    → OnErr result (AppendsFront mid after second) → OnErr result (AppendsFront before after (first ++ second))
+part_behind (Ok done) before mid after first second whole part = part
+part_behind (Err fault) before mid after first second whole part = front_of_second before mid after first second whole part

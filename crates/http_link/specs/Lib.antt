@@ -1,0 +1,4 @@
+pub mod Requests
+pub mod Incoming
+pub mod Replies
+pub mod Writing
