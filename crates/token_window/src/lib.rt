@@ -1,0 +1,14 @@
+//! The last entries of one object, which clients are told from.
+//!
+//! A `Window` holds so many entries at most: where another one comes, the oldest leaves. It knows the number of the last one
+//! that left, which is its floor, and lends the entries above a token. Its contracts say what it answers by the history that
+//! it stands for.
+#![tactic(auto)]
+
+mod laws;
+mod since;
+mod window;
+
+pub use laws::histories_by_one_more;
+pub use since::Since;
+pub use window::Window;
