@@ -30,6 +30,11 @@ abbrev pub with_amount : AccountView → Option Cents → AccountView
 with_amount account None = account
 with_amount account (Some amount) = record { number = account.number; balance = amount }
 
+-- Each of the accounts is one that is named: no other is among them.
+abbrev pub AreNamed : List AccountView → List (Option AcctId) → Type 0
+AreNamed accounts named =
+    All (λ (number : AcctId). Contains named (Some number)) (map (λ (account : AccountView). account.number) accounts)
+
 -- An account with the balance that it came to, where it came to another one.
 abbrev pub settled : List Balance → AccountView → AccountView
 settled given account = with_amount account (amount_given given account.number)

@@ -171,34 +171,6 @@ impl<P: Printer> Book<P> {
     {
         prepared.take_step(&mut self.ledger, held)
     }
-
-    /// Makes an event happen at that moment, and gives its reply.
-    ///
-    /// Where memory is refused, nothing has happened.
-    pub fn step(
-        &mut self,
-        alloc: Global,
-        held: &mut Held,
-        event: &Event,
-        at: Moment,
-    ) -> Result<Vec<u8>, OutOfMemory>
-        requires moment { IsMoment at.0 }
-        requires legal { IsLegal self.old.setup self.old.state at event.now }
-        requires named { AreHeld held.old (named self.old.setup self.old.state event.now) }
-        requires balanced { AreBalanced self.old.setup self.old.state held.old }
-        ensures setup { self.new.setup ≡ self.old.setup }
-        ensures numbers { HaveSameNumbers held.new held.old }
-        ensures balanced { AreBalanced self.new.setup self.new.state held.new }
-        ensures state { IfOk result (λ _.
-            self.new.state ≡ state_after self.old.setup self.old.state at event.now) }
-        ensures reply { IfOk result (λ reply.
-            reply.items ≡ answer_to self.old.setup self.old.state at event.now) }
-        ensures refused { OnErr result (self.new.state ≡ self.old.state) }
-        ensures refused_accounts { OnErr result (held.new ≡ held.old) }
-    {
-        let prepared = self.answer(alloc, held, event, at)?;
-        Ok(self.adopt(held, prepared))
-    }
 }
 
 /// So many items as room is made for. Where they are more than 4,294,967,295 there is no memory for them.

@@ -3,11 +3,9 @@
 ghost use Rattle.std.specs.Prelude.{◌≡◌};
 ghost use Rattle.bank_model.specs.Rules as rules;
 
+use bank_model::codes::SIGNON_INVALID;
 use ofx_types::{Moment, ReplyFile, RequestFile, Sequence};
 use std::alloc::Global;
-
-/// The status of a signon whose name and password no user has.
-const NO_SIGNON: u16 = 15_500;
 
 /// The reply at a moment to a request file whose signon failed (OFX 1.6, "Signon"): its status alone. Nothing that
 /// the file asks is answered.
@@ -18,7 +16,7 @@ pub fn denial(alloc: Global, file: RequestFile, at: Moment) -> ReplyFile
     ReplyFile {
         version: file.version,
         newer: file.newer,
-        signon: NO_SIGNON,
+        signon: SIGNON_INVALID,
         moment: at,
         replies: Sequence::new(alloc),
     }

@@ -6,8 +6,6 @@ ghost use Rattle.std.specs.List.{AllByRecursion, flat_map};
 ghost use Rattle.std.specs.Fmt.{decimal};
 ghost use Rattle.ofx_types.specs.SyncForm as forms;
 ghost use Rattle.ofx_types.specs.declared.request.Ask.TheVariants as asks;
-ghost use Rattle.bank_model.specs.SetupForm.{IsWithinLimits};
-ghost use Rattle.bank_model.specs.Objects as objects;
 ghost use Rattle.bank_model.specs.Sync as rules;
 ghost use Rattle.bank_model.specs.Sync.{sync_on, sync_answer, deed_answers};
 ghost use Rattle.bank_model.specs.Rules.{named_by, named_by_pair};
@@ -17,22 +15,13 @@ ghost use Rattle.bank_ledger.specs.DraftView.{drafted, IsSameFile};
 
 use bank_deeds::answer_deed;
 use bank_ledger::Draft;
-use bank_model::Setup;
-use bank_telling::{family_of_object, is_lost, newest, number_text, token_of, told_history};
+use bank_model::codes::{ACCOUNT_NOT_FOUND, REJECTED_WITHOUT_TOKEN, TOKEN_OUT_OF_DATE};
+use bank_telling::{is_lost, newest, number_text, token_of, told_history};
 use ofx_types::{
-    AcctId, Deed, DeedReply, Duplicate, ObjectId, ObjectName, OutOfMemory, Sequence, SyncAsk,
-    SyncKind, SyncReply, TrnUid, UserId,
+    AcctId, Deed, DeedReply, Duplicate, ObjectId, OutOfMemory, Sequence, SyncAsk, SyncKind,
+    SyncReply, TrnUid,
 };
 use std::alloc::Global;
-
-/// The account isn't the user's.
-const NOT_OWNED: u16 = 2003;
-
-/// Deeds are refused, since the client asks without a token.
-const REJECTED: u16 = 6500;
-
-/// Deeds are refused, since the client has missed something.
-const OUT_OF_DATE: u16 = 6502;
 
 /// Answers a synchronisation, and adds what its deeds do.
 ///
@@ -113,7 +102,7 @@ fn deeds_or_rejection(
         Some(code) => refused_behind(told, ask, code),
         None => {
             let user = draft.user();
-            let only = account_about(draft.setup(), user, &ask.object);
+            let only = draft.setup().account_about(user, &ask.object);
             answer_deeds(draft, alloc, only, ask.deeds.items(), told)
         }
     }
@@ -154,7 +143,7 @@ fn stranger_reply(alloc: Global, ask: &SyncAsk) -> Result<SyncReply, OutOfMemory
       replies = map (rules.refused_with (forms.object_family ask.now.object) 2003) ask.now.deeds;
     }) }
 {
-    let replies = refused_behind(Vec::new(alloc), ask, NOT_OWNED)?;
+    let replies = refused_behind(Vec::new(alloc), ask, ACCOUNT_NOT_FOUND)?;
     Ok(SyncReply {
         object: ask.object.copy()?,
         token: number_text(alloc, 0)?,
@@ -172,7 +161,7 @@ fn refused_behind(
     ensures { IfOk result (λ replies. replies.items ≡ told.items
         ++ map (rules.refused_with (forms.object_family ask.now.object) code) ask.now.deeds) }
 {
-    let family = family_of_object(&ask.object);
+    let family = ask.object.family();
     let mut replies = told;
     for deed in ask.deeds.items() {
         let trnuid = deed.0.copy()?;
@@ -184,19 +173,6 @@ fn refused_behind(
         })?;
     }
     Ok(replies)
-}
-
-/// The account of a user that an object is about, which alone counts as the user's for its deeds.
-fn account_about(setup: &Setup, user: UserId, object: &ObjectName) -> Option<AcctId>
-    requires { IsWithinLimits setup.now }
-    ensures { result ≡ objects.account_about setup.now user object.now }
-{
-    match object {
-        ObjectName::Intra(account) => setup.own_account(user, account),
-        ObjectName::RecIntra(account) => setup.own_account(user, account),
-        ObjectName::BankMail(account) => setup.own_account(user, account),
-        ObjectName::Mail => None,
-    }
 }
 
 /// The code with which all deeds are refused, where the client wants them done only if it has missed nothing.
@@ -217,10 +193,10 @@ fn unless_newest(newest: u64, kind: &SyncKind) -> Option<u16>
             if is_newest(newest, token_of(text)) {
                 return None;
             }
-            Some(OUT_OF_DATE)
+            Some(TOKEN_OUT_OF_DATE)
         }
-        SyncKind::TokenOnly => Some(REJECTED),
-        SyncKind::Refresh => Some(REJECTED),
+        SyncKind::TokenOnly => Some(REJECTED_WITHOUT_TOKEN),
+        SyncKind::Refresh => Some(REJECTED_WITHOUT_TOKEN),
     }
 }
 

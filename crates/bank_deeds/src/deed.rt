@@ -22,21 +22,11 @@ use crate::pending::pending_ids;
 use crate::transfers::{cancel, modify, transfer};
 use bank_ledger::Draft;
 use bank_mail::{judge_bank_mail, judge_mail};
+use bank_model::codes::{DONE, DUPLICATE_REQUEST, NO_ROOM};
 use bank_recur::{judge_model, judge_model_cancel, judge_model_modify};
 use bank_transfers::{judge_cancel, judge_modify, judge_transfer};
-use ofx_types::{
-    AcctId, Cents, Change, Deed, DeedReply, Duplicate, Family, OutOfMemory, TrnUid, XferInfo,
-};
+use ofx_types::{AcctId, Cents, Change, Deed, DeedReply, Duplicate, OutOfMemory, TrnUid, XferInfo};
 use std::alloc::Global;
-
-/// The code of a deed that was done.
-const DONE: u16 = 0;
-
-/// The code of a deed whose entries would be too many.
-const NO_ROOM: u16 = 2000;
-
-/// The code of a deed whose uid its user has used up.
-const USED_UP: u16 = 2019;
 
 /// Answers a deed under a uid, and adds what it does. A uid is used up whatever comes of the deed.
 ///
@@ -60,8 +50,8 @@ pub fn answer_deed(
     let pending = pending_ids(draft, alloc, deed)?;
     match code(draft, only, trnuid, deed, &pending) {
         DONE => done_reply(draft, only, trnuid, deed, &pending),
-        USED_UP => {
-            let reply = refusal(trnuid, deed, USED_UP)?;
+        DUPLICATE_REQUEST => {
+            let reply = refusal(trnuid, deed, DUPLICATE_REQUEST)?;
             Ok(reply)
         }
         code => {
@@ -117,7 +107,7 @@ fn told(
     };
     Ok(DeedReply {
         trnuid,
-        family: family_of(deed),
+        family: deed.family(),
         code: DONE,
         change: Some(change),
     })
@@ -139,7 +129,7 @@ fn code(
         deed.now }
 {
     if draft.is_used(trnuid) {
-        return USED_UP;
+        return DUPLICATE_REQUEST;
     }
     match judged(draft, only, deed) {
         DONE => room_code(draft, pending.len()),
@@ -237,22 +227,6 @@ fn perform(
     }
 }
 
-/// What a deed belongs to.
-pub fn family_of(deed: &Deed) -> Family
-    ensures { result ≡ forms.family_of deed.now }
-{
-    match deed {
-        Deed::Transfer(_) => Family::Intra,
-        Deed::ModifyTransfer(_, _) => Family::Intra,
-        Deed::CancelTransfer(_) => Family::Intra,
-        Deed::Model(_, _) => Family::RecIntra,
-        Deed::ModifyModel(_, _, _, _) => Family::RecIntra,
-        Deed::CancelModel(_, _) => Family::RecIntra,
-        Deed::BankMail(_, _) => Family::BankMail,
-        Deed::Mail(_) => Family::Mail,
-    }
-}
-
 /// The answer to a deed that is refused.
 fn refusal(trnuid: &TrnUid, deed: &Deed, code: u16) -> Result<DeedReply, OutOfMemory>
     ensures { IfOk result (λ reply. reply
@@ -260,7 +234,7 @@ fn refusal(trnuid: &TrnUid, deed: &Deed, code: u16) -> Result<DeedReply, OutOfMe
 {
     Ok(DeedReply {
         trnuid: trnuid.copy()?,
-        family: family_of(deed),
+        family: deed.family(),
         code,
         change: None,
     })

@@ -10,6 +10,6 @@ mod pending;
 mod rows;
 mod transfers;
 
-pub use deed::{answer_deed, family_of};
+pub use deed::answer_deed;
 pub use due::{post, spawn};
 pub use mail::letter;

@@ -2,11 +2,6 @@
 use Rattle.std.proofs.Common.{◌≡◌, ℕ, ◌<◌, Option, None, Some, refl, subst}
 use Rattle.std.specs.Option.{option_map}
 use Rattle.ofx_types.specs.declared.number.UserId.{UserId}
-use Rattle.ofx_types.specs.declared.request.RequestFile.{RequestFile}
-use Rattle.bank_model.specs.Rules.{denial}
-use Rattle.ofx_types.specs.Calendar.{IsMoment}
-use Rattle.ofx_types.specs.Printable.{IsPrintable}
-use Rattle.ofx_types.specs.declared.number.Moment.{Moment}
 
 some_inside : {X : Type 0} (x y : X) → Some x ≡ Some y → x ≡ y
 some_inside x y e = cc
@@ -16,8 +11,3 @@ pub user_within : (found : Option ℕ) (count : ℕ) (user : UserId) → ((place
 user_within None count user within is = cc
 user_within (Some place) count user within is =
     subst (λ (u : UserId). u.0 < count) (some_inside (record { 0 = place }) user is) (within place refl)
-
--- a failed signon may be printed
-pub denial_printable : (file : RequestFile) (at : Moment) → IsMoment at.0 → IsPrintable (denial file at)
-unfolding denial
-denial_printable file at lawful = record { moment = lawful; replies = tt }

@@ -12,8 +12,9 @@ use Rattle.bank_model.specs.declared.event.Event.TheVariants.{File}
 use Rattle.bank_model.specs.Rules.{answer_to, state_after, denial}
 use Rattle.bank_model.specs.Polls.{is_poll, poll_reply}
 use Rattle.event_codec.specs.Records.{Codes}
+use Rattle.bank_signon.specs.Signon.{IsSignedOn, IsDenied}
 use Rattle.bank_desk.specs.Keeping.{Keeps}
-use Rattle.bank_desk.specs.Answering.{Sends, FileUnkept, IsSignedOn, IsDenied}
+use Rattle.bank_desk.specs.Answering.{Sends, FileUnkept}
 use Rattle.bank_desk.specs.declared.fault.DeskFault.{DeskFault}
 use Rattle.bank_desk.specs.declared.fault.DeskFault.TheVariants.{NoMemory, AppendFailed}
 use Rattle.ofx_ports.proofs.ToldLaws.{Grows-nil}

@@ -1,47 +1,21 @@
--- What the bytes of a file are to the bank, and what is answered to them.
+-- What is answered to the bytes of a file.
 use Rattle.std.specs.Prelude.{◌≡◌, ℕ, Bool, true, false, List, [], ◌∷◌, Option, None, Some, ◌⊎◌}
-use Rattle.ofx_types.specs.FileForm.{SpellsFile, IsFaultOf}
 use Rattle.ofx_types.specs.ReplyForm.{reply_text}
-use Rattle.ofx_types.specs.declared.fault.FileFault.{FileFault}
-use Rattle.ofx_types.specs.declared.fault.FileFault.TheVariants.{Header, Syntax, Form, OutOfMemory}
 use Rattle.ofx_types.specs.declared.number.UserId.{UserId}
 use Rattle.ofx_types.specs.declared.number.Moment.{Moment}
 use Rattle.ofx_types.specs.declared.request.RequestFile.{RequestFile}
 use Rattle.bank_model.specs.declared.setup.Setup.{Setup}
 use Rattle.bank_model.specs.declared.event.State.{State}
 use Rattle.bank_model.specs.declared.event.Event.TheVariants.{File}
-use Rattle.bank_model.specs.SetupLookups.{signed_on}
 use Rattle.bank_model.specs.Rules.{answer_to, state_after, denial}
 use Rattle.bank_model.specs.Polls.{is_poll, poll_reply}
 use Rattle.ofx_ports.specs.Told.{Stays, Grows}
 use Rattle.ofx_ports.specs.Kept.{MayGrow}
 use Rattle.event_codec.specs.Records.{Codes}
+use Rattle.bank_signon.specs.Signon.{IsSignedOn, IsDenied, IsRefused}
 use Rattle.bank_desk.specs.Keeping.{AreRecordsOf}
 use Rattle.bank_desk.specs.declared.desk.Answered.{Answered}
 use Rattle.bank_desk.specs.declared.desk.Answered.TheVariants.{Sent, Bad}
-
--- A file is an event of a user where its bytes spell a request file, and the setup has this user with this password.
-pub record IsSignedOn (setup : Setup) (bytes : List ℕ) (file : RequestFile) (user : UserId) : Type 0 where
-  pub spelled : SpellsFile bytes file
-  pub signed : signed_on setup file.user file.pass ≡ Some user
-
--- Where the setup has no such user the signon failed.
-pub record IsDenied (setup : Setup) (bytes : List ℕ) (file : RequestFile) : Type 0 where
-  pub spelled : SpellsFile bytes file
-  pub unsigned : signed_on setup file.user file.pass ≡ None
-
--- The place of a fault is told. Want of memory has none.
-abbrev pub fault_place : FileFault → Option ℕ
-fault_place (Header at) = Some at
-fault_place (Syntax at) = Some at
-fault_place (Form at) = Some at
-fault_place OutOfMemory = None
-
--- Bytes that spell no file are refused: the place is that of their fault.
-pub record IsRefused (bytes : List ℕ) (place : ℕ) : Type 0 where
-  pub fault : FileFault
-  pub is_fault : IsFaultOf bytes fault
-  pub has_place : fault_place fault ≡ Some place
 
 -- A user's file that is no poll is an event: its record is kept, and its reply is sent in its envelope.
 pub record Replies (sent : List ℕ → List ℕ) (setup : Setup) (at : Moment) (before : State) (bytes line : List ℕ) (records : List (List ℕ)) (after : State) : Type 0 where

@@ -1,4 +1,3 @@
 pub mod Keeping
 pub mod Answering
-pub mod Asked
 pub mod DueSteps

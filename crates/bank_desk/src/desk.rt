@@ -16,12 +16,11 @@ ghost use Rattle.bank_desk.specs.Answering.{Answers, FileUnkept};
 
 use crate::envelope::Envelope;
 use crate::fault::DeskFault;
-use crate::judge::{Judgement, judge};
-use bank_core::denial;
 use bank_model::{Event, Setup};
 use bank_replay::{OpenFault, reopen};
+use bank_signon::{Judgement, denial_text, judge};
 use bank_solo::SoloBank;
-use ofx_file::{OfxPrinter, write_reply};
+use ofx_file::OfxPrinter;
 use ofx_ports::Keeper;
 use ofx_types::{Moment, OutOfMemory, RequestFile, UserId};
 use std::alloc::Global;
@@ -117,10 +116,10 @@ impl Desk {
         match judge(alloc, self.setup(), bytes)? {
             Judgement::Refused(place) => Ok(Answered::Bad(place)),
             Judgement::Denied(file) => Ok(Answered::Sent(denied(alloc, at, file, envelope)?)),
-            Judgement::Polled(user, file) => {
+            Judgement::Poll(user, file) => {
                 Ok(Answered::Sent(self.polled(alloc, at, user, &file, envelope)?))
             }
-            Judgement::Answered(user, file) => {
+            Judgement::Event(user, file) => {
                 let event = Event::File(user, file);
                 Ok(Answered::Sent(self.commit(alloc, keeper, at, &event, envelope)?))
             }
@@ -157,6 +156,6 @@ fn denied<E: Envelope>(
     requires { IsMoment at.0 }
     ensures { IfOk result (λ line. line.items ≡ E.sent envelope (reply_text (rules.denial file at))) }
 {
-    let reply = write_reply(alloc, &denial(alloc, file, at))?;
+    let reply = denial_text(alloc, at, file)?;
     envelope.wrap(alloc, &reply)
 }

@@ -5,7 +5,6 @@
 mod desk;
 mod envelope;
 mod fault;
-mod judge;
 mod keeping;
 
 pub use desk::{Answered, Desk};

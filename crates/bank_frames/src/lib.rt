@@ -12,6 +12,6 @@ mod whole;
 pub use ahead::Ahead;
 pub use frame_head::FrameSize;
 pub use frames::{Frame, Next, next_frame};
-pub use lines::{bad_file_line, due_work_line, framed, letter_line};
+pub use lines::{bad_file_line, due_work_line, due_work_room, framed, letter_line};
 pub use output::write_whole;
 pub use whole::{MOST_WHOLE, read_whole};

@@ -1,9 +1,10 @@
 //! The lines and the frames that are written.
 
-ghost use Rattle.std.specs.Prelude.{◌≡◌, IfOk};
+ghost use Rattle.std.specs.Prelude.{◌≡◌, ◌≤◌, [], IfOk, vec_capacity};
 ghost use Rattle.bank_frames.specs.Frames.{frame};
 ghost use Rattle.bank_frames.specs.Lines.{bad_line, due_line, mail_line};
 
+use itoa::Buffer;
 use ofx_types::OutOfMemory;
 use ofx_values::print_number;
 use std::alloc::Global;
@@ -18,14 +19,28 @@ pub fn bad_file_line(alloc: Global, place: u64) -> Result<Vec<u8>, OutOfMemory>
     Ok(line)
 }
 
-/// The line that tells how many events a run of due work had.
-pub fn due_work_line(alloc: Global, count: u64) -> Result<Vec<u8>, OutOfMemory>
-    ensures { IfOk result (λ line. line.items ≡ due_line count) }
+/// The most bytes that the line of due work has: its word, one space, a number of twenty digits, and one LF.
+const DUE_LINE: usize = 25;
+
+/// Room for the line that tells how many events a run of due work had.
+pub fn due_work_room(alloc: Global) -> Result<Vec<u8>, OutOfMemory>
+    ensures { IfOk result (λ room. (room.items ≡ []) × (25 ≤ vec_capacity room)) }
 {
-    let mut line = Vec::from_slice(alloc, b"DUE ")?;
-    print_number(count, &mut line)?;
-    line.push(b'\n')?;
-    Ok(line)
+    Ok(Vec::with_capacity(alloc, DUE_LINE)?)
+}
+
+/// The line that tells how many events a run of due work had, in the room that was made for it. Takes no memory.
+pub fn due_work_line(count: u64, room: Vec<u8>) -> Vec<u8>
+    requires { (room.items ≡ []) × (25 ≤ vec_capacity room) }
+    ensures { result.items ≡ due_line count }
+{
+    let mut buffer = Buffer::new();
+    let mut line = room;
+    line.extend_from_slice(b"DUE ").unwrap();
+    line.extend_from_slice(buffer.format(count).as_bytes())
+        .unwrap();
+    line.push(b'\n').unwrap();
+    line
 }
 
 /// The line that tells the number of a letter's entry.

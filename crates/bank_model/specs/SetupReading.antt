@@ -20,11 +20,7 @@ use Rattle.bank_model.specs.declared.setup.SetupFault.TheVariants as faults
 use Rattle.bank_model.specs.declared.setup.draft.Draft.{Draft}
 use Rattle.bank_model.specs.SetupForm.{is_word_byte, kept}
 use Rattle.bank_model.specs.SetupFault.{lines_within}
-
-infixl 10 ◌>>=◌
-abbrev pub ◌>>=◌ : {A B : Type 0} → Option A → (A → Option B) → Option B
-None >>= f = None
-(Some x) >>= f = f x
+pub use Rattle.ofx_types.specs.ValueReading.{◌>>=◌}
 
 -- nothing where the test holds
 abbrev pub unless : {A : Type 0} → Bool → Option A → Option A

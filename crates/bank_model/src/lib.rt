@@ -15,6 +15,7 @@ mod objects;
 mod once;
 mod printer;
 mod setup;
+mod submit;
 
 pub use asked::{is_after, is_positive};
 pub use directory::{Directory, Keyed};
@@ -27,3 +28,4 @@ pub use printer::Printer;
 pub use setup::{
     AccountLine, Accounts, Owners, Setup, SetupFault, User, Users, one_fault, one_setup,
 };
+pub use submit::SubmitFault;

@@ -3,3 +3,4 @@ pub mod Exactness
 pub mod OneOpening
 pub mod RunLemmas
 pub mod Taking
+mod Bounds

@@ -4,6 +4,7 @@
 
 mod fault;
 mod laws;
+mod record;
 mod records;
 mod replay;
 
@@ -11,4 +12,5 @@ pub use fault::OpenFault;
 pub use laws::{
     causes_open_nothing, one_cause, one_opening, reopened_books_are_right, reopenings_are_runs,
 };
+pub use record::record_of;
 pub use records::reopen;

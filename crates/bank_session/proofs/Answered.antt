@@ -11,11 +11,12 @@ use Rattle.bank_model.specs.declared.event.State.{State}
 use Rattle.bank_core.specs.BookView.{BookView}
 use Rattle.bank_frames.specs.Frames.{request, due_work, frame}
 use Rattle.bank_frames.specs.Lines.{bad_line, due_line}
-use Rattle.bank_desk.specs.Answering.{IsRefused, Sends, FileUnkept}
+use Rattle.bank_signon.specs.Signon.{IsRefused}
+use Rattle.bank_desk.specs.Answering.{Sends, FileUnkept}
 use Rattle.bank_desk.specs.DueSteps.{MadeRun, StoppedWork}
 use Rattle.bank_desk.specs.declared.fault.DeskFault.{DeskFault}
 use Rattle.bank_desk.specs.declared.fault.DeskFault.TheVariants.{NoMemory, AppendFailed}
-use Rattle.ofx_ports.proofs.ToldLaws.{Grows-trans, Grows-kept}
+use Rattle.ofx_ports.proofs.ToldLaws.{Grows-nil, Grows-trans, Grows-kept}
 use Rattle.bank_session.proofs.ToldLemmas.{grows_nothing, landed_or_not}
 use Rattle.bank_desk.proofs.DueEvents.{due_more, records_more}
 use Rattle.bank_session.specs.Answers.{AnswersFile, DoesDue, IsPrefixKept}
@@ -84,10 +85,9 @@ work_prefix at before after told told' landed AppendFailed own h = by (landed_or
       Grows-trans told h.between told' h.records (h.rec ∷ []) h.grows grows,
     )
 
--- a whole run that isn't told is a prefix
-pub run_prefix : (at : Moment) (before after : BookView) (told told' : Option (List (List ℕ))) (count : ℕ) → MadeRun at before after told told' count → KeepsDuePrefix before.setup at before.state told told'
-run_prefix at before after told told' count made =
-    (made.records, record { events = made.events; work = (made.is_run.are_due, made.is_run.few); kept = made.kept }, made.grows)
+-- before the first event nothing is kept
+pub no_work : (at : Moment) (before : BookView) (told : Option (List (List ℕ))) → KeepsDuePrefix before.setup at before.state told told
+no_work at before told = ([], record { events = []; work = (tt, omega arith); kept = refl }, Grows-nil told)
 
 -- a whole run with its line
 pub run_told : (at : Moment) (before after : BookView) (told told' : Option (List (List ℕ))) (count : ℕ) (line : List ℕ) → MadeRun at before after told told' count → line ≡ due_line count →

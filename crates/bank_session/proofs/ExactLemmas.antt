@@ -9,17 +9,17 @@ use Rattle.bank_model.specs.declared.event.State.{State}
 use Rattle.bank_frames.specs.Frames.{Content, request, due_work, IsLength, frame, frame_head, frame_of, Fits, BeginsNoFrame}
 use Rattle.bank_session.specs.Answers.{Turn, AreTurns, read_in}
 use Rattle.bank_session.specs.Determined.{AllFit, OneSplit, goes_on, falls_short, contents_of}
-use Rattle.bank_session.specs.RunEnd.{Taken, Finished, StoppedAtFrame}
-use Rattle.bank_session.specs.Outside.{Outside}
+use Rattle.bank_session.specs.RunEnd.{Taken, Finished, StoppedAtFrame, RunEnds}
+use Rattle.bank_session.specs.PortsView.{PortsView}
 use Rattle.bank_session.specs.Run.{EndsWithBank, EndsSo, told_of, told}
 use Rattle.ofx_types.specs.declared.told.Told.{Told}
 use Rattle.ofx_types.specs.declared.told.Note.TheVariants.{Place}
-use Rattle.bank_session.specs.Exact.{GaveUp, RefusesSetup, RefusesRecord, RefusesIllegal, Gives, AnswersAll, RefusesFrame, IsRun}
+use Rattle.bank_session.specs.Exact.{IsInterrupted, RefusesSetup, RefusesRecord, RefusesIllegal, Gives, AnswersAll, RefusesFrame, IsRun}
 use Rattle.bank_session.specs.declared.stop.Stop.{Stop}
 use Rattle.bank_session.specs.declared.stop.Stop.TheVariants as stops
 use Rattle.bank_frames.proofs.Agreement.{heads_agree, kinds_apart}
 use Rattle.bank_session.specs.OneBank.{OneBank}
-use Rattle.bank_session.proofs.Unopened.{OneSetup, Unopened, unopened, unopened_setup, unopened_record, unopened_illegal, unopened_otherwise, opens_or_gave_up, or_gave_up, wider, unspelled_setup, IsBankOf, record_refused, illegal_refused}
+use Rattle.bank_session.proofs.Unopened.{OneSetup, Unopened, unopened, unopened_setup, unopened_record, unopened_illegal, unopened_otherwise, opens_or_interrupted, or_interrupted, wider, unspelled_setup, IsBankOf, record_refused, illegal_refused}
 
 -- two files in frames before the same bytes are one
 one_frame : (a b x y : List ℕ) → IsLength (length a) → IsLength (length b) → frame a ++ x ≡ frame b ++ y → (a ≡ b) × (x ≡ y)
@@ -76,7 +76,7 @@ begun : (bytes : List ℕ) (content : Content) (rest tail : List ℕ) → Begins
 begun bytes content rest tail none fits e = none content (rest ++ tail) fits (e ∙ append_assoc (frame_of content) rest tail)
 
 -- how the turns of a run split an input that is told
-split_taken : (setup : Setup) (start : State) (before after : Outside) (ahead : List ℕ) (turns : List Turn) (state : State) (contents : List Content) (rest : List ℕ) → Gives before contents rest → Taken setup start before after turns state ahead →
+split_taken : (setup : Setup) (start : State) (before after : PortsView) (ahead : List ℕ) (turns : List Turn) (state : State) (contents : List Content) (rest : List ℕ) → Gives before contents rest → Taken setup start before after turns state ahead →
     (tail : List ℕ) × (prepend_known ahead after.input_left ≡ Some tail) × OneSplit contents (contents_of turns) rest tail
 split_taken setup start before after ahead turns state contents rest gives taken =
     let P : Option (List ℕ) → Type 0 = λ left. Consumes left (prepend_known ahead after.input_left) (read_in turns) in
@@ -120,19 +120,19 @@ stuck_split contents turns rest tail fits fits' few few' (falls_short (m ∷ ms)
     absurd (omega (arith, few', full, ap length same, length-append contents (m ∷ ms), contents_counted turns))
 
 -- what stands behind the frames of a run that stopped at a frame
-more_left : (setup : Setup) (start : State) (at : Option Moment) (before after : Outside) (place : ℕ) (stopped : StoppedAtFrame setup start at before after place) (tail : List ℕ) → prepend_known stopped.ahead after.input_left ≡ Some tail → (tail ≢ []) × (BeginsNoFrame tail ⊎ (length stopped.turns ≡ 1000000))
+more_left : (setup : Setup) (start : State) (at : Option Moment) (before after : PortsView) (place : ℕ) (stopped : StoppedAtFrame setup start at before after place) (tail : List ℕ) → prepend_known stopped.ahead after.input_left ≡ Some tail → (tail ≢ []) × (BeginsNoFrame tail ⊎ (length stopped.turns ≡ 1000000))
 more_left setup start at before after place stopped tail e =
     let P : Option (List ℕ) → Type 0 = λ coming. IfSome coming (λ rest. (rest ≢ []) × (BeginsNoFrame rest ⊎ (length stopped.turns ≡ 1000000))) in
     subst P e stopped.more
 
-no_more : (setup : Setup) (start : State) (at : Option Moment) (before after : Outside) (place : ℕ) (contents : List Content) → Gives before contents [] → StoppedAtFrame setup start at before after place → ⊥
+no_more : (setup : Setup) (start : State) (at : Option Moment) (before after : PortsView) (place : ℕ) (contents : List Content) → Gives before contents [] → StoppedAtFrame setup start at before after place → ⊥
 no_more setup start at before after place contents gives stopped =
     let split = split_taken setup start before after stopped.ahead stopped.turns stopped.state contents [] gives stopped.taken in
     let more = more_left setup start at before after place stopped split.0 split.1 in
     no_more_split contents stopped.turns split.0 gives.fit gives.few split.2 more.0 more.1
 
 -- a run that stops at a frame does so behind the contents of the input
-at_place : (setup : Setup) (start : State) (at : Option Moment) (before after : Outside) (place : ℕ) (contents : List Content) (rest : List ℕ) → Gives before contents rest → (BeginsNoFrame rest ⊎ (length contents ≡ 1000000)) → StoppedAtFrame setup start at before after place → place ≡ length (flat_map frame_of contents)
+at_place : (setup : Setup) (start : State) (at : Option Moment) (before after : PortsView) (place : ℕ) (contents : List Content) (rest : List ℕ) → Gives before contents rest → (BeginsNoFrame rest ⊎ (length contents ≡ 1000000)) → StoppedAtFrame setup start at before after place → place ≡ length (flat_map frame_of contents)
 at_place setup start at before after place contents rest gives stuck stopped =
     let split = split_taken setup start before after stopped.ahead stopped.turns stopped.state contents rest gives stopped.taken in
     let more = more_left setup start at before after place stopped split.0 split.1 in
@@ -140,7 +140,7 @@ at_place setup start at before after place contents rest gives stuck stopped =
     stuck_split contents stopped.turns rest split.0 gives.fit (turns_fit setup _ stopped.state stopped.turns stopped.taken.are_turns) gives.few stopped.taken.few split.2 stuck more.1 in
     stopped.place_is ∙ ap length (contents_read stopped.turns ∙ ap (λ (l : List Content). flat_map frame_of l) (sym same))
 
-no_end : (setup : Setup) (start : State) (at : Option Moment) (before after : Outside) (contents : List Content) (rest : List ℕ) → Gives before contents rest → rest ≢ [] → (BeginsNoFrame rest ⊎ (length contents ≡ 1000000)) → Finished setup start at before after → ⊥
+no_end : (setup : Setup) (start : State) (at : Option Moment) (before after : PortsView) (contents : List Content) (rest : List ℕ) → Gives before contents rest → rest ≢ [] → (BeginsNoFrame rest ⊎ (length contents ≡ 1000000)) → Finished setup start at before after → ⊥
 no_end setup start at before after contents rest gives some stuck finished =
     let split = split_taken setup start before after finished.ahead finished.turns finished.state contents rest gives finished.taken in
     no_end_split contents finished.turns rest split.0 (turns_fit setup _ finished.state finished.turns finished.taken.are_turns) finished.taken.few split.2 some stuck (subst IsAtEnd split.1 finished.at_end)
@@ -148,7 +148,7 @@ no_end setup start at before after contents rest gives some stuck finished =
 -- ---- a run over frames
 
 -- how a run ends that has a bank
-bank_answers : (at : Option Moment) (before after : Outside) (end : Result (Unit {0}) Stop) → EndsWithBank at before after end → AnswersAll before after (told_of end)
+bank_answers : (at : Option Moment) (before after : PortsView) (end : Result (Unit {0}) Stop) → EndsWithBank (RunEnds at) before after end → AnswersAll before after (told_of end)
 bank_answers at before after (Ok done) h = λ contents gives. inl refl
 bank_answers at before after (Err (stops.Frame place)) h = λ contents gives. absurd (no_more h.setup h.start at before after place contents gives h.ends)
 bank_answers at before after (Err stops.ReadFailed) h = λ contents gives. inr (inl (refl, inr h.ends.1))
@@ -160,7 +160,7 @@ bank_answers at before after (Err (stops.Setup line)) h = absurd h.ends
 bank_answers at before after (Err (stops.Records fault)) h = absurd h.ends
 bank_answers at before after (Err (stops.Letter fault)) h = absurd h.ends
 
-bank_refuses : (at : Option Moment) (before after : Outside) (end : Result (Unit {0}) Stop) → EndsWithBank at before after end → RefusesFrame before after (told_of end)
+bank_refuses : (at : Option Moment) (before after : PortsView) (end : Result (Unit {0}) Stop) → EndsWithBank (RunEnds at) before after end → RefusesFrame before after (told_of end)
 bank_refuses at before after (Ok done) h = λ contents rest gives some stuck. absurd (no_end h.setup h.start at before after contents rest gives some stuck h.ends)
 bank_refuses at before after (Err (stops.Frame place)) h =
     λ contents rest gives some stuck. inl (ap (λ (k : ℕ). told 4 (Place k)) (at_place h.setup h.start at before after place contents rest gives stuck h.ends))
@@ -173,7 +173,7 @@ bank_refuses at before after (Err (stops.Setup line)) h = absurd h.ends
 bank_refuses at before after (Err (stops.Records fault)) h = absurd h.ends
 bank_refuses at before after (Err (stops.Letter fault)) h = absurd h.ends
 
-bank_otherwise : (at : Option Moment) (before after : Outside) (end : Result (Unit {0}) Stop) → EndsWithBank at before after end → (told_of end).status.0 ≡ 2 → ⊥
+bank_otherwise : (at : Option Moment) (before after : PortsView) (end : Result (Unit {0}) Stop) → EndsWithBank (RunEnds at) before after end → (told_of end).status.0 ≡ 2 → ⊥
 bank_otherwise at before after (Ok done) h two = absurd (omega (arith, two))
 bank_otherwise at before after (Err (stops.Frame place)) h two = absurd (omega (arith, two))
 bank_otherwise at before after (Err stops.ReadFailed) h two = absurd (omega (arith, two))
@@ -186,65 +186,67 @@ bank_otherwise at before after (Err (stops.Records fault)) h two = h.ends
 bank_otherwise at before after (Err (stops.Letter fault)) h two = h.ends
 
 -- what a run comes to: it has no bank, or ends with the one that it has
-data Comes (at : Option Moment) (before after : Outside) (what : Told) : Type 0 where
+data Comes (at : Option Moment) (before after : PortsView) (what : Told) : Type 0 where
   without : Unopened before after what → Comes at before after what
   with_bank : (setup : Setup) (start : State) → IsBankOf before setup start → AnswersAll before after what → RefusesFrame before after what → (what.status.0 ≡ 2 → ⊥) → Comes at before after what
 
-with_its_bank : (at : Option Moment) (before after : Outside) (end : Result (Unit {0}) Stop) → EndsWithBank at before after end → Comes at before after (told_of end)
+with_its_bank : (at : Option Moment) (before after : PortsView) (end : Result (Unit {0}) Stop) → EndsWithBank (RunEnds at) before after end → Comes at before after (told_of end)
 with_its_bank at before after end h =
     with_bank h.setup h.start (record { found = h.found; stands = h.stands }) (bank_answers at before after end h) (bank_refuses at before after end h) (bank_otherwise at before after end h)
 
-comes : (at : Option Moment) (before after : Outside) (end : Result (Unit {0}) Stop) → EndsSo at before after end → Comes at before after (told_of end)
+comes : (at : Option Moment) (before after : PortsView) (end : Result (Unit {0}) Stop) → EndsSo (RunEnds at) before after end → Comes at before after (told_of end)
 comes at before after (Ok done) h = with_its_bank at before after (Ok done) h
 comes at before after (Err stop) (inl h) = without (unopened before after stop h)
 comes at before after (Err stop) (inr h) = with_its_bank at before after (Err stop) h
 
-told_comes : (at : Option Moment) (before after : Outside) (end : Result (Unit {0}) Stop) (what : Told) → what ≡ told_of end → EndsSo at before after end → Comes at before after what
+told_comes : (at : Option Moment) (before after : PortsView) (end : Result (Unit {0}) Stop) (what : Told) → what ≡ told_of end → EndsSo (RunEnds at) before after end → Comes at before after what
 told_comes at before after end what e ends = subst (Comes at before after) (sym e) (comes at before after end ends)
 
-refuses_setup : (at : Option Moment) (before after : Outside) (what : Told) → Comes at before after what → RefusesSetup before after what
-refuses_setup at before after what (without how) text left none = or_gave_up before after what _ (unopened_setup before after what how text left none)
+refuses_setup : (at : Option Moment) (before after : PortsView) (what : Told) → Comes at before after what → RefusesSetup IsInterrupted before after what
+refuses_setup at before after what (without how) text left none = or_interrupted before after what _ (unopened_setup before after what how text left none)
 refuses_setup at before after what (with_bank setup start bank answers refuses never) text left none = absurd (unspelled_setup before text setup left none bank.found)
 
-refuses_record : OneSetup → OneBank → (at : Option Moment) (before after : Outside) (what : Told) → Comes at before after what → RefusesRecord GaveUp before after what
+refuses_record : OneSetup → OneBank → (at : Option Moment) (before after : PortsView) (what : Told) → Comes at before after what → RefusesRecord IsInterrupted before after what
 refuses_record one opening at before after what (without how) setup records number place has unformed =
-    or_gave_up before after what _ (unopened_record one opening before after what how setup records number place has unformed)
+    or_interrupted before after what _ (unopened_record one opening before after what how setup records number place has unformed)
 refuses_record one opening at before after what (with_bank found start bank answers refuses never) setup records number place has unformed =
     absurd (record_refused one opening before setup found start records number place has unformed bank)
 
-refuses_illegal : OneSetup → OneBank → (at : Option Moment) (before after : Outside) (what : Told) → Comes at before after what → RefusesIllegal GaveUp before after what
+refuses_illegal : OneSetup → OneBank → (at : Option Moment) (before after : PortsView) (what : Told) → Comes at before after what → RefusesIllegal IsInterrupted before after what
 refuses_illegal one opening at before after what (without how) setup records number has illegal =
-    or_gave_up before after what _ (unopened_illegal one opening before after what how setup records number has illegal)
+    or_interrupted before after what _ (unopened_illegal one opening before after what how setup records number has illegal)
 refuses_illegal one opening at before after what (with_bank found start bank answers refuses never) setup records number has illegal =
     absurd (illegal_refused one opening before setup found start records number has illegal bank)
 
-refuses_frame : OneSetup → OneBank → (at : Option Moment) (before after : Outside) (what : Told) → Comes at before after what → RefusesFrame before after what
+refuses_frame : OneSetup → OneBank → (at : Option Moment) (before after : PortsView) (what : Told) → Comes at before after what → RefusesFrame before after what
 refuses_frame one opening at before after what (without how) contents rest gives some stuck =
-    inr (wider before after what (opens_or_gave_up one opening before after what gives.setup gives.start gives.opens how))
+    inr (wider before after what (opens_or_interrupted one opening before after what gives.setup gives.start gives.opens how))
 refuses_frame one opening at before after what (with_bank setup start bank answers refuses never) contents rest gives some stuck = refuses contents rest gives some stuck
 
-answers_all : OneSetup → OneBank → (at : Option Moment) (before after : Outside) (what : Told) → Comes at before after what → AnswersAll before after what
+answers_all : OneSetup → OneBank → (at : Option Moment) (before after : PortsView) (what : Told) → Comes at before after what → AnswersAll before after what
 answers_all one opening at before after what (without how) contents gives =
-    inr (wider before after what (opens_or_gave_up one opening before after what gives.setup gives.start gives.opens how))
+    inr (wider before after what (opens_or_interrupted one opening before after what gives.setup gives.start gives.opens how))
 answers_all one opening at before after what (with_bank setup start bank answers refuses never) contents gives = answers contents gives
 
 -- what a run comes to, by its end
-pub is_run : OneSetup → OneBank → (at : Option Moment) (before after : Outside) (end : Result (Unit {0}) Stop) (what : Told) → what ≡ told_of end → EndsSo at before after end → IsRun at before after what
+pub is_run : OneSetup → OneBank → (at : Option Moment) (before after : PortsView) (end : Result (Unit {0}) Stop) (what : Told) → what ≡ told_of end → EndsSo (RunEnds at) before after end → IsRun at before after what
 is_run one opening at before after end what e ends =
     let how = told_comes at before after end what e ends in
     record {
-      ends = record { end = end; told_is = e; ends = ends };
-      refuses_setup = refuses_setup at before after what how;
-      refuses_record = refuses_record one opening at before after what how;
-      refuses_illegal = refuses_illegal one opening at before after what how;
+      command = record {
+        ends = record { end = end; told_is = e; ends = ends };
+        refuses_setup = refuses_setup at before after what how;
+        refuses_record = refuses_record one opening at before after what how;
+        refuses_illegal = refuses_illegal one opening at before after what how;
+      };
       refuses_frame = refuses_frame one opening at before after what how;
       answers_all = answers_all one opening at before after what how;
     }
 
 -- no run ends as words without a form do
-never_two : (at : Option Moment) (before after : Outside) (what : Told) → Comes at before after what → what.status.0 ≡ 2 → ⊥
+never_two : (at : Option Moment) (before after : PortsView) (what : Told) → Comes at before after what → what.status.0 ≡ 2 → ⊥
 never_two at before after what (without how) two = unopened_otherwise before after what how two
 never_two at before after what (with_bank setup start bank answers refuses never) two = never two
 
-pub never_usage : (at : Option Moment) (before after : Outside) (end : Result (Unit {0}) Stop) (what : Told) → what ≡ told_of end → EndsSo at before after end → what.status.0 ≡ 2 → ⊥
+pub never_usage : (at : Option Moment) (before after : PortsView) (end : Result (Unit {0}) Stop) (what : Told) → what ≡ told_of end → EndsSo (RunEnds at) before after end → what.status.0 ≡ 2 → ⊥
 never_usage at before after end what e ends two = never_two at before after what (told_comes at before after end what e ends) two

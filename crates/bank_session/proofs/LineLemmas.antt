@@ -20,7 +20,7 @@ use Rattle.bank_frames.specs.Frames.{Content, request, due_work, frame, frame_he
 use Rattle.event_codec.specs.Coding.{coded}
 use Rattle.bank_desk.specs.Keeping.{AreRecordsOf}
 use Rattle.bank_session.specs.Answers.{AnswersFrame, AnswersFile, AreTurns}
-use Rattle.bank_desk.specs.Answering.{IsSignedOn, IsRefused, fault_place}
+use Rattle.bank_signon.specs.Signon.{IsSignedOn, IsRefused, fault_place}
 use Rattle.bank_frames.specs.Lines.{due_line, bad_line}
 use Rattle.bank_model.specs.DueRun.{after_events}
 use Rattle.bank_session.specs.Determined.{OneDueRun, OneLine, OneOutput, OneRefusal, RefusedIsUnanswered, RefusedIsUndenied, DeniedIsUnanswered, WhereAnswered, WherePolled, WhereDenied, WhereRefused, OnlyWhereRefused}

@@ -1,119 +1,94 @@
--- How a run ends that has no bank, and what one that has it comes to since before its bank opened.
-use Rattle.std.proofs.Common.{◌≡◌, ℕ, ◌≤◌, List, [], Option, Result, Ok, Err, inl, inr, sym, subst}
-use Rattle.std.proofs.KnownBytes.{Keeps-refl}
+-- What a command that has a bank comes to since before its bank opened.
+use Rattle.std.proofs.Common.{◌≡◌, ◌≢◌, ℕ, ◌≤◌, Bool, true, false, refl, List, [], Option, Result, Ok, Err, inl, inr, sym, subst}
 use Rattle.ofx_ports.specs.Told.{Stays, Grows}
-use Rattle.ofx_ports.proofs.ToldLaws.{Stays-refl, Stays-trans, Grows-nil, Grows-trans, Grows-kept}
+use Rattle.ofx_ports.proofs.ToldLaws.{Stays-trans, Grows-nil, Grows-trans, Grows-kept}
 use Rattle.ofx_ports.proofs.FaultLaws.{Rose-later}
 use Rattle.ofx_types.specs.declared.number.Moment.{Moment}
 use Rattle.bank_model.specs.declared.setup.Setup.{Setup}
 use Rattle.bank_model.specs.declared.event.State.{State}
 use Rattle.bank_core.specs.BookView.{BookView}
+use Rattle.bank_model.specs.SetupForm.{IsWithinLimits}
 use Rattle.bank_replay.specs.Opening.{Stands}
 use Rattle.bank_session.specs.Answers.{Turn}
-use Rattle.bank_session.specs.Outside.{Outside, outside}
-use Rattle.bank_session.specs.SetupRead.{IsSetupOf, StopsSetup}
-use Rattle.bank_session.specs.RecordsRead.{StopsOpening}
+use Rattle.bank_session.specs.PortsView.{PortsView}
+use Rattle.bank_session.specs.SetupRead.{IsSetupOf}
 use Rattle.bank_session.specs.RunEnd.{Taken, RunEnds}
 use Rattle.bank_session.specs.DueEnd.{DueEnds}
 use Rattle.bank_session.specs.MailEnd.{LeftAlone, LetterEnds, MailEnds}
-use Rattle.bank_session.specs.Run.{NeverOpens, EndsSo, DueEndsSo, MailEndsSo}
+use Rattle.bank_session.specs.Run.{Settles, EndsSo}
 use Rattle.bank_session.specs.declared.stop.Stop.{Stop}
 use Rattle.bank_session.specs.declared.stop.Stop.TheVariants as stops
-
--- ---- without a bank
-
--- a run that has no setup
-pub without_setup : (setup_left setup_left' left held : Option (List ℕ)) (setup_faults setup_faults' faults writes : ℕ) (records : Option (List (List ℕ))) (keeps : ℕ) (shown : Option (List Moment)) (stop : Stop) →
-    StopsSetup setup_left setup_faults setup_faults' stop →
-    NeverOpens (outside setup_left setup_faults left faults held writes records keeps shown) (outside setup_left' setup_faults' left faults held writes records keeps shown) stop
-without_setup setup_left setup_left' left held setup_faults setup_faults' faults writes records keeps shown stop cause = inl (record {
-  cause = cause;
-  unread = Keeps-refl left;
-  unkept = Stays-refl records;
-  unwritten = Keeps-refl held;
-  unseen = Stays-refl shown;
-})
-
--- a run whose bank doesn't open
-pub without_bank : (setup_left setup_left' left held : Option (List ℕ)) (setup_faults setup_faults' faults writes : ℕ) (records records' : Option (List (List ℕ))) (keeps keeps' : ℕ) (shown : Option (List Moment)) (setup : Setup) (stop : Stop) →
-    IsSetupOf setup_left setup → StopsOpening setup records keeps keeps' stop → Stays records records' →
-    NeverOpens (outside setup_left setup_faults left faults held writes records keeps shown) (outside setup_left' setup_faults' left faults held writes records' keeps' shown) stop
-without_bank setup_left setup_left' left held setup_faults setup_faults' faults writes records records' keeps keeps' shown setup stop found cause unkept = inr (record {
-  setup = setup;
-  found = found;
-  cause = cause;
-  unread = Keeps-refl left;
-  unkept = unkept;
-  unwritten = Keeps-refl held;
-  unseen = Stays-refl shown;
-})
 
 -- ---- since before the bank opened
 
 -- what it found when it opened
-pub record Opened (before : Outside) (records : Option (List (List ℕ))) (keeps : ℕ) : Type 0 where
+pub record Opened (before : PortsView) (records : Option (List (List ℕ))) (keeps : ℕ) : Type 0 where
   pub list : Stays before.records records
   pub later : before.keeper_faults ≤ keeps
 
 -- the bank that opened has this setup, and stands for the records
-pub record IsOpened (before : Outside) (bank : BookView) (setup : Setup) : Type 0 where
+pub record IsOpened (before : PortsView) (bank : BookView) (setup : Setup) : Type 0 where
   pub found : IsSetupOf before.setup_left setup
   pub own : bank.setup ≡ setup
+  pub within : IsWithinLimits setup
   pub stands : Stands setup before.records bank.state
 
-is_found : (before : Outside) (bank : BookView) (setup : Setup) → IsOpened before bank setup → IsSetupOf before.setup_left bank.setup
+is_within : (before : PortsView) (bank : BookView) (setup : Setup) → IsOpened before bank setup → IsWithinLimits bank.setup
+is_within before bank setup is = subst IsWithinLimits (sym is.own) is.within
+
+is_found : (before : PortsView) (bank : BookView) (setup : Setup) → IsOpened before bank setup → IsSetupOf before.setup_left bank.setup
 is_found before bank setup is = subst (IsSetupOf before.setup_left) (sym is.own) is.found
 
-it_stands : (before : Outside) (bank : BookView) (setup : Setup) → IsOpened before bank setup → Stands bank.setup before.records bank.state
+it_stands : (before : PortsView) (bank : BookView) (setup : Setup) → IsOpened before bank setup → Stands bank.setup before.records bank.state
 it_stands before bank setup is = subst (λ (s : Setup). Stands s before.records bank.state) (sym is.own) is.stands
 
 -- the outside as it was then
-abbrev pub at_opening : Outside → Option (List (List ℕ)) → ℕ → Outside
-at_opening before records keeps = record before { records = records; keeper_faults = keeps }
+abbrev pub at_opening : PortsView → Option (List (List ℕ)) → ℕ → Bool → PortsView
+at_opening before records keeps unsettled = record before { records = records; keeper_faults = keeps; unsettled = unsettled }
 
 -- what has grown since
-grown : (before after : Outside) (records : Option (List (List ℕ))) (keeps : ℕ) (more : List (List ℕ)) → Opened before records keeps → Grows records after.records more → Grows before.records after.records more
+grown : (before after : PortsView) (records : Option (List (List ℕ))) (keeps : ℕ) (more : List (List ℕ)) → Opened before records keeps → Grows records after.records more → Grows before.records after.records more
 grown before after records keeps more opened grows =
     Grows-trans before.records records after.records [] more (Grows-kept before.records before.records records [] (Grows-nil before.records) opened.list) grows
 
-stayed : (before after : Outside) (records : Option (List (List ℕ))) (keeps : ℕ) → Opened before records keeps → Stays records after.records → Stays before.records after.records
+stayed : (before after : PortsView) (records : Option (List (List ℕ))) (keeps : ℕ) → Opened before records keeps → Stays records after.records → Stays before.records after.records
 stayed before after records keeps opened stays = Stays-trans before.records records after.records opened.list stays
 
 -- ---- a run over frames
 
-taken_since : (setup : Setup) (start : State) (before after : Outside) (records : Option (List (List ℕ))) (keeps : ℕ) (turns : List Turn) (state : State) (ahead : List ℕ) →
-    Taken setup start (at_opening before records keeps) after turns state ahead → Taken setup start before after turns state ahead
-taken_since setup start before after records keeps turns state ahead taken = record { are_turns = taken.are_turns; few = taken.few; read = taken.read }
+taken_since : (setup : Setup) (start : State) (before after : PortsView) (records : Option (List (List ℕ))) (keeps : ℕ) (unsettled : Bool) (turns : List Turn) (state : State) (ahead : List ℕ) →
+    Taken setup start (at_opening before records keeps unsettled) after turns state ahead → Taken setup start before after turns state ahead
+taken_since setup start before after records keeps unsettled turns state ahead taken = record { are_turns = taken.are_turns; few = taken.few; read = taken.read }
 
-pub run_since : (setup : Setup) (start : State) (at : Option Moment) (before after : Outside) (records : Option (List (List ℕ))) (keeps : ℕ) (end : Result (Unit {0}) Stop) →
-    Opened before records keeps → RunEnds setup start at (at_opening before records keeps) after end → RunEnds setup start at before after end
-run_since setup start at before after records keeps (Ok done) opened h = record {
+pub run_since : (setup : Setup) (start : State) (at : Option Moment) (before after : PortsView) (records : Option (List (List ℕ))) (keeps : ℕ) (unsettled : Bool) (end : Result (Unit {0}) Stop) →
+    Opened before records keeps → RunEnds at setup start (at_opening before records keeps unsettled) after end → RunEnds at setup start before after end
+run_since setup start at before after records keeps unsettled (Ok done) opened h = record {
   turns = h.turns;
   state = h.state;
   ahead = h.ahead;
-  taken = taken_since setup start before after records keeps h.turns h.state h.ahead h.taken;
+  taken = taken_since setup start before after records keeps unsettled h.turns h.state h.ahead h.taken;
   at_end = h.at_end;
   kept = grown before after records keeps _ opened h.kept;
   written = h.written;
   moments = h.moments;
 }
-run_since setup start at before after records keeps (Err (stops.Frame place)) opened h = record {
+run_since setup start at before after records keeps unsettled (Err (stops.Frame place)) opened h = record {
   turns = h.turns;
   state = h.state;
   ahead = h.ahead;
-  taken = taken_since setup start before after records keeps h.turns h.state h.ahead h.taken;
+  taken = taken_since setup start before after records keeps unsettled h.turns h.state h.ahead h.taken;
   more = h.more;
   place_is = h.place_is;
   kept = grown before after records keeps _ opened h.kept;
   written = h.written;
   moments = h.moments;
 }
-run_since setup start at before after records keeps (Err stops.ReadFailed) opened (h, rose) = (
+run_since setup start at before after records keeps unsettled (Err stops.ReadFailed) opened (h, rose) = (
   record {
     turns = h.turns;
     state = h.state;
     ahead = h.ahead;
-    taken = taken_since setup start before after records keeps h.turns h.state h.ahead h.taken;
+    taken = taken_since setup start before after records keeps unsettled h.turns h.state h.ahead h.taken;
     no_frame = h.no_frame;
     kept = grown before after records keeps _ opened h.kept;
     written = h.written;
@@ -121,12 +96,12 @@ run_since setup start at before after records keeps (Err stops.ReadFailed) opene
   },
   rose,
 )
-run_since setup start at before after records keeps (Err stops.WriteFailed) opened (h, rose) = (
+run_since setup start at before after records keeps unsettled (Err stops.WriteFailed) opened (h, rose) = (
   record {
     turns = h.turns;
     state = h.state;
     ahead = h.ahead;
-    taken = taken_since setup start before after records keeps h.turns h.state h.ahead h.taken;
+    taken = taken_since setup start before after records keeps unsettled h.turns h.state h.ahead h.taken;
     content = h.content;
     moment = h.moment;
     line = h.line;
@@ -143,12 +118,12 @@ run_since setup start at before after records keeps (Err stops.WriteFailed) open
   },
   rose,
 )
-run_since setup start at before after records keeps (Err stops.KeeperFailed) opened (h, rose) = (
+run_since setup start at before after records keeps unsettled (Err stops.KeeperFailed) opened (h, rose) = (
   record {
     turns = h.turns;
     state = h.state;
     ahead = h.ahead;
-    taken = taken_since setup start before after records keeps h.turns h.state h.ahead h.taken;
+    taken = taken_since setup start before after records keeps unsettled h.turns h.state h.ahead h.taken;
     content = h.content;
     moment = h.moment;
     records = h.records;
@@ -162,11 +137,11 @@ run_since setup start at before after records keeps (Err stops.KeeperFailed) ope
   },
   Rose-later before.keeper_faults keeps after.keeper_faults opened.later rose,
 )
-run_since setup start at before after records keeps (Err stops.NoMemory) opened h = record {
+run_since setup start at before after records keeps unsettled (Err stops.NoMemory) opened h = record {
   turns = h.turns;
   state = h.state;
   ahead = h.ahead;
-  taken = taken_since setup start before after records keeps h.turns h.state h.ahead h.taken;
+  taken = taken_since setup start before after records keeps unsettled h.turns h.state h.ahead h.taken;
   written = h.written;
   next = h.next;
   few = h.few;
@@ -175,33 +150,16 @@ run_since setup start at before after records keeps (Err stops.NoMemory) opened 
   refused = h.refused;
   kept = grown before after records keeps _ opened h.kept;
 }
-run_since setup start at before after records keeps (Err stops.Usage) opened h = absurd h
-run_since setup start at before after records keeps (Err (stops.Setup line)) opened h = absurd h
-run_since setup start at before after records keeps (Err (stops.Records fault)) opened h = absurd h
-run_since setup start at before after records keeps (Err (stops.Letter fault)) opened h = absurd h
-
-pub run_with_bank : (bank : BookView) (setup : Setup) (at : Option Moment) (before after : Outside) (records : Option (List (List ℕ))) (keeps : ℕ) (end : Result (Unit {0}) Stop) →
-    IsOpened before bank setup → Opened before records keeps → RunEnds bank.setup bank.state at (at_opening before records keeps) after end → EndsSo at before after end
-run_with_bank bank setup at before after records keeps (Ok done) is opened ends = record {
-  setup = bank.setup;
-  start = bank.state;
-  found = is_found before bank setup is;
-  stands = it_stands before bank setup is;
-  ends = run_since bank.setup bank.state at before after records keeps (Ok done) opened ends;
-}
-run_with_bank bank setup at before after records keeps (Err stop) is opened ends = inr (record {
-  setup = bank.setup;
-  start = bank.state;
-  found = is_found before bank setup is;
-  stands = it_stands before bank setup is;
-  ends = run_since bank.setup bank.state at before after records keeps (Err stop) opened ends;
-})
+run_since setup start at before after records keeps unsettled (Err stops.Usage) opened h = absurd h
+run_since setup start at before after records keeps unsettled (Err (stops.Setup line)) opened h = absurd h
+run_since setup start at before after records keeps unsettled (Err (stops.Records fault)) opened h = absurd h
+run_since setup start at before after records keeps unsettled (Err (stops.Letter fault)) opened h = absurd h
 
 -- ---- the command `due`
 
-due_since : (setup : Setup) (start : State) (before after : Outside) (records : Option (List (List ℕ))) (keeps : ℕ) (end : Result (Unit {0}) Stop) →
-    Opened before records keeps → DueEnds setup start (at_opening before records keeps) after end → DueEnds setup start before after end
-due_since setup start before after records keeps (Ok done) opened h = record {
+pub due_since : (setup : Setup) (start : State) (before after : PortsView) (records : Option (List (List ℕ))) (keeps : ℕ) (unsettled : Bool) (end : Result (Unit {0}) Stop) →
+    Opened before records keeps → DueEnds setup start (at_opening before records keeps unsettled) after end → DueEnds setup start before after end
+due_since setup start before after records keeps unsettled (Ok done) opened h = record {
   moment = h.moment;
   line = h.line;
   records = h.records;
@@ -212,7 +170,7 @@ due_since setup start before after records keeps (Ok done) opened h = record {
   written = h.written;
   moments = h.moments;
 }
-due_since setup start before after records keeps (Err stops.WriteFailed) opened (h, rose) = (
+due_since setup start before after records keeps unsettled (Err stops.WriteFailed) opened (h, rose) = (
   record {
     moment = h.moment;
     line = h.line;
@@ -227,7 +185,7 @@ due_since setup start before after records keeps (Err stops.WriteFailed) opened 
   },
   rose,
 )
-due_since setup start before after records keeps (Err stops.KeeperFailed) opened (h, rose) = (
+due_since setup start before after records keeps unsettled (Err stops.KeeperFailed) opened (h, rose) = (
   record {
     moment = h.moment;
     records = h.records;
@@ -239,7 +197,7 @@ due_since setup start before after records keeps (Err stops.KeeperFailed) opened
   },
   Rose-later before.keeper_faults keeps after.keeper_faults opened.later rose,
 )
-due_since setup start before after records keeps (Err stops.NoMemory) opened h = record {
+due_since setup start before after records keeps unsettled (Err stops.NoMemory) opened h = record {
   unread = h.unread;
   unwritten = h.unwritten;
   next = h.next;
@@ -249,42 +207,25 @@ due_since setup start before after records keeps (Err stops.NoMemory) opened h =
   work = h.work;
   kept = grown before after records keeps _ opened h.kept;
 }
-due_since setup start before after records keeps (Err stops.ReadFailed) opened h = absurd h
-due_since setup start before after records keeps (Err (stops.Frame place)) opened h = absurd h
-due_since setup start before after records keeps (Err stops.Usage) opened h = absurd h
-due_since setup start before after records keeps (Err (stops.Setup line)) opened h = absurd h
-due_since setup start before after records keeps (Err (stops.Records fault)) opened h = absurd h
-due_since setup start before after records keeps (Err (stops.Letter fault)) opened h = absurd h
-
-pub due_with_bank : (bank : BookView) (setup : Setup) (before after : Outside) (records : Option (List (List ℕ))) (keeps : ℕ) (end : Result (Unit {0}) Stop) →
-    IsOpened before bank setup → Opened before records keeps → DueEnds bank.setup bank.state (at_opening before records keeps) after end → DueEndsSo before after end
-due_with_bank bank setup before after records keeps (Ok done) is opened ends = record {
-  setup = bank.setup;
-  start = bank.state;
-  found = is_found before bank setup is;
-  stands = it_stands before bank setup is;
-  ends = due_since bank.setup bank.state before after records keeps (Ok done) opened ends;
-}
-due_with_bank bank setup before after records keeps (Err stop) is opened ends = inr (record {
-  setup = bank.setup;
-  start = bank.state;
-  found = is_found before bank setup is;
-  stands = it_stands before bank setup is;
-  ends = due_since bank.setup bank.state before after records keeps (Err stop) opened ends;
-})
+due_since setup start before after records keeps unsettled (Err stops.ReadFailed) opened h = absurd h
+due_since setup start before after records keeps unsettled (Err (stops.Frame place)) opened h = absurd h
+due_since setup start before after records keeps unsettled (Err stops.Usage) opened h = absurd h
+due_since setup start before after records keeps unsettled (Err (stops.Setup line)) opened h = absurd h
+due_since setup start before after records keeps unsettled (Err (stops.Records fault)) opened h = absurd h
+due_since setup start before after records keeps unsettled (Err (stops.Letter fault)) opened h = absurd h
 
 -- ---- the command `mail`
 
-left_since : (before after : Outside) (records : Option (List (List ℕ))) (keeps : ℕ) → Opened before records keeps → LeftAlone (at_opening before records keeps) after → LeftAlone before after
-left_since before after records keeps opened h = record {
+left_since : (before after : PortsView) (records : Option (List (List ℕ))) (keeps : ℕ) (unsettled : Bool) → Opened before records keeps → LeftAlone (at_opening before records keeps unsettled) after → LeftAlone before after
+left_since before after records keeps unsettled opened h = record {
   unkept = stayed before after records keeps opened h.unkept;
   unwritten = h.unwritten;
   unseen = h.unseen;
 }
 
-letter_since : (bank : BookView) (name subject body : List ℕ) (before after : Outside) (records : Option (List (List ℕ))) (keeps : ℕ) (end : Result (Unit {0}) Stop) →
-    Opened before records keeps → LetterEnds bank name subject body (at_opening before records keeps) after end → LetterEnds bank name subject body before after end
-letter_since bank name subject body before after records keeps (Ok done) opened h = record {
+letter_since : (bank : BookView) (name subject body : List ℕ) (before after : PortsView) (records : Option (List (List ℕ))) (keeps : ℕ) (unsettled : Bool) (end : Result (Unit {0}) Stop) →
+    Opened before records keeps → LetterEnds bank name subject body (at_opening before records keeps unsettled) after end → LetterEnds bank name subject body before after end
+letter_since bank name subject body before after records keeps unsettled (Ok done) opened h = record {
   user = h.user;
   moment = h.moment;
   line = h.line;
@@ -296,7 +237,7 @@ letter_since bank name subject body before after records keeps (Ok done) opened 
   written = h.written;
   moments = h.moments;
 }
-letter_since bank name subject body before after records keeps (Err stops.WriteFailed) opened (h, rose) = (
+letter_since bank name subject body before after records keeps unsettled (Err stops.WriteFailed) opened (h, rose) = (
   record {
     user = h.user;
     moment = h.moment;
@@ -312,7 +253,7 @@ letter_since bank name subject body before after records keeps (Err stops.WriteF
   },
   rose,
 )
-letter_since bank name subject body before after records keeps (Err stops.KeeperFailed) opened (h, rose) = (
+letter_since bank name subject body before after records keeps unsettled (Err stops.KeeperFailed) opened (h, rose) = (
   record {
     user = h.user;
     moment = h.moment;
@@ -329,49 +270,69 @@ letter_since bank name subject body before after records keeps (Err stops.Keeper
   },
   Rose-later before.keeper_faults keeps after.keeper_faults opened.later rose,
 )
-letter_since bank name subject body before after records keeps (Err stops.NoMemory) opened h = record {
+letter_since bank name subject body before after records keeps unsettled (Err stops.NoMemory) opened h = record {
   unkept = stayed before after records keeps opened h.unkept;
   unwritten = h.unwritten;
   next = h.next;
   few = h.few;
   moments = h.moments;
 }
-letter_since bank name subject body before after records keeps (Err (stops.Letter fault)) opened (cause, left) = (cause, left_since before after records keeps opened left)
-letter_since bank name subject body before after records keeps (Err stops.ReadFailed) opened h = absurd h
-letter_since bank name subject body before after records keeps (Err (stops.Frame place)) opened h = absurd h
-letter_since bank name subject body before after records keeps (Err stops.Usage) opened h = absurd h
-letter_since bank name subject body before after records keeps (Err (stops.Setup line)) opened h = absurd h
-letter_since bank name subject body before after records keeps (Err (stops.Records fault)) opened h = absurd h
+letter_since bank name subject body before after records keeps unsettled (Err (stops.Letter fault)) opened (cause, left) = (cause, left_since before after records keeps unsettled opened left)
+letter_since bank name subject body before after records keeps unsettled (Err stops.ReadFailed) opened h = absurd h
+letter_since bank name subject body before after records keeps unsettled (Err (stops.Frame place)) opened h = absurd h
+letter_since bank name subject body before after records keeps unsettled (Err stops.Usage) opened h = absurd h
+letter_since bank name subject body before after records keeps unsettled (Err (stops.Setup line)) opened h = absurd h
+letter_since bank name subject body before after records keeps unsettled (Err (stops.Records fault)) opened h = absurd h
 
-mail_since : (bank : BookView) (name subject : List ℕ) (before after : Outside) (records : Option (List (List ℕ))) (keeps : ℕ) (end : Result (Unit {0}) Stop) →
-    Opened before records keeps → MailEnds bank name subject (at_opening before records keeps) after end → MailEnds bank name subject before after end
-mail_since bank name subject before after records keeps (Ok done) opened h = record {
+pub mail_since : (bank : BookView) (name subject : List ℕ) (before after : PortsView) (records : Option (List (List ℕ))) (keeps : ℕ) (unsettled : Bool) (end : Result (Unit {0}) Stop) →
+    Opened before records keeps → MailEnds name subject bank.setup bank.state (at_opening before records keeps unsettled) after end → MailEnds name subject bank.setup bank.state before after end
+mail_since bank name subject before after records keeps unsettled (Ok done) opened h = record {
   body = h.body;
   is_body = h.is_body;
   at_end = h.at_end;
-  ends = letter_since bank name subject h.body before after records keeps (Ok done) opened h.ends;
+  ends = letter_since bank name subject h.body before after records keeps unsettled (Ok done) opened h.ends;
 }
-mail_since bank name subject before after records keeps (Err stop) opened (inl h) = inl (record { cause = h.cause; left = left_since before after records keeps opened h.left })
-mail_since bank name subject before after records keeps (Err stop) opened (inr h) = inr (record {
+mail_since bank name subject before after records keeps unsettled (Err stop) opened (inl h) = inl (record { cause = h.cause; left = left_since before after records keeps unsettled opened h.left })
+mail_since bank name subject before after records keeps unsettled (Err stop) opened (inr h) = inr (record {
   body = h.body;
   is_body = h.is_body;
   at_end = h.at_end;
-  ends = letter_since bank name subject h.body before after records keeps (Err stop) opened h.ends;
+  ends = letter_since bank name subject h.body before after records keeps unsettled (Err stop) opened h.ends;
 })
 
-pub mail_with_bank : (bank : BookView) (setup : Setup) (name subject : List ℕ) (before after : Outside) (records : Option (List (List ℕ))) (keeps : ℕ) (end : Result (Unit {0}) Stop) →
-    IsOpened before bank setup → Opened before records keeps → MailEnds bank name subject (at_opening before records keeps) after end → MailEndsSo name subject before after end
-mail_with_bank bank setup name subject before after records keeps (Ok done) is opened ends = record {
+-- ---- any of them
+
+-- an append is to be settled exactly where it failed
+settles : (end : Result (Unit {0}) Stop) (unsettled : Bool) → (end ≢ Err stops.KeeperFailed → unsettled ≡ false) → (end ≡ Err stops.KeeperFailed → unsettled ≡ true) → Settles end unsettled
+settles (Ok done) unsettled settled failed = settled (λ e. cc)
+settles (Err stops.KeeperFailed) unsettled settled failed = failed refl
+settles (Err stops.ReadFailed) unsettled settled failed = settled (λ e. cc)
+settles (Err stops.WriteFailed) unsettled settled failed = settled (λ e. cc)
+settles (Err stops.NoMemory) unsettled settled failed = settled (λ e. cc)
+settles (Err stops.Usage) unsettled settled failed = settled (λ e. cc)
+settles (Err (stops.Setup line)) unsettled settled failed = settled (λ e. cc)
+settles (Err (stops.Frame place)) unsettled settled failed = settled (λ e. cc)
+settles (Err (stops.Records fault)) unsettled settled failed = settled (λ e. cc)
+settles (Err (stops.Letter fault)) unsettled settled failed = settled (λ e. cc)
+
+-- what was done in the bank was done since before it opened
+pub with_bank : (Works : Setup → State → PortsView → PortsView → Result (Unit {0}) Stop → Type 0) (bank : BookView) (setup : Setup) (before after : PortsView) (end : Result (Unit {0}) Stop) →
+    IsOpened before bank setup → (end ≢ Err stops.KeeperFailed → after.unsettled ≡ false) → (end ≡ Err stops.KeeperFailed → after.unsettled ≡ true) → Works bank.setup bank.state before after end → EndsSo Works before after end
+with_bank Works bank setup before after (Ok done) is settled failed ends = record {
   setup = bank.setup;
   start = bank.state;
   found = is_found before bank setup is;
+  within = is_within before bank setup is;
   stands = it_stands before bank setup is;
-  ends = mail_since bank name subject before after records keeps (Ok done) opened ends;
+  ends = ends;
+  settled = settled (λ e. cc);
 }
-mail_with_bank bank setup name subject before after records keeps (Err stop) is opened ends = inr (record {
+with_bank Works bank setup before after (Err stop) is settled failed ends = inr (record {
   setup = bank.setup;
   start = bank.state;
   found = is_found before bank setup is;
+  within = is_within before bank setup is;
   stands = it_stands before bank setup is;
-  ends = mail_since bank name subject before after records keeps (Err stop) opened ends;
+  ends = ends;
+  settled = settles (Err stop) after.unsettled settled failed;
 })

@@ -11,8 +11,8 @@ use Rattle.bank_core.specs.BookView.{BookView}
 use Rattle.bank_frames.specs.Frames.{Content, request, due_work, frame_head, frame_of, Fits, BeginsNoFrame}
 use Rattle.bank_session.specs.Answers.{AnswersFrame, Turn, AreTurns, read_in, written_in, records_in, AreMoments, IsPrefixKept, IsKeptWhereRefused}
 use Rattle.bank_frames.specs.Coming.{IsNoFrame}
-use Rattle.bank_session.specs.Outside.{Outside}
-use Rattle.bank_session.specs.Turns.{Around, around, FrameAnswered, FrameStops}
+use Rattle.bank_session.specs.PortsView.{PortsView}
+use Rattle.bank_session.specs.Turns.{TurnView, turn_view, FrameAnswered, FrameStops}
 use Rattle.bank_session.specs.TurnResult.{TurnMade, NoTurn, TurnStops}
 use Rattle.bank_session.specs.RunEnd.{Taken, Finished, StoppedBetween, StoppedAtFrame, RunEnds}
 use Rattle.bank_session.specs.EndOrStop.{EndOrStop}
@@ -25,11 +25,11 @@ use Rattle.bank_session.proofs.ToldLemmas.{grows_nothing}
 use Rattle.bank_session.proofs.MomentLemmas.{no_moments, more_moments, kept_moments, one_more_moment}
 
 -- what a run finds around it, and what is around it while some bytes are ahead
-abbrev pub found_in : Outside → Around
-found_in out = around out.input_left out.input_faults out.held out.out_faults out.records out.keeper_faults out.shown
+abbrev pub found_in : PortsView → TurnView
+found_in out = turn_view out.input_left out.input_faults out.held out.out_faults out.records out.keeper_faults out.shown
 
-abbrev pub left_in : List ℕ → Outside → Around
-left_in ahead out = around (prepend_known ahead out.input_left) out.input_faults out.held out.out_faults out.records out.keeper_faults out.shown
+abbrev pub left_in : List ℕ → PortsView → TurnView
+left_in ahead out = turn_view (prepend_known ahead out.input_left) out.input_faults out.held out.out_faults out.records out.keeper_faults out.shown
 
 -- a turn behind the turns so far
 one_more : (setup : Setup) (before mid after : State) (turns : List Turn) (turn : Turn) → AreTurns setup before turns mid → Fits turn.content → AnswersFrame setup turn.at mid turn.content turn.line turn.records after → AreTurns setup before (turns ++ turn ∷ []) after
@@ -52,7 +52,7 @@ of_run own setup P same known = subst P same known
 
 -- no turn is taken yet
 pub stands_first : (at : Option Moment) (book : BookView) (left : Option (List ℕ)) (reads : ℕ) (held : Option (List ℕ)) (writes : ℕ) (records : Option (List (List ℕ))) (keeps : ℕ) (shown : Option (List Moment)) →
-    Standing book.setup book.state at (around left reads held writes records keeps shown) 0 0 book (around (prepend_known [] left) reads held writes records keeps shown)
+    Standing book.setup book.state at (turn_view left reads held writes records keeps shown) 0 0 book (turn_view (prepend_known [] left) reads held writes records keeps shown)
 stands_first at book left reads held writes records keeps shown = record {
   turns = [];
   counted = refl;
@@ -73,7 +73,7 @@ stands_first at book left reads held writes records keeps shown = record {
     nothing_ahead (Some xs) = refl
 
 -- one turn more is taken
-pub next_turn : (setup : Setup) (start : State) (at : Option Moment) (found now then : Around) (count place : ℕ) (book after : BookView) (size : ℕ) →
+pub next_turn : (setup : Setup) (start : State) (at : Option Moment) (found now then : TurnView) (count place : ℕ) (book after : BookView) (size : ℕ) →
     Standing setup start at found count place book now → TurnMade at book after now then size → now.reads ≤ then.reads → now.writes ≤ then.writes → now.keeps ≤ then.keeps →
     Standing setup start at found (count + 1) (place + size) after then
 next_turn setup start at found now then count place book after size standing made reads writes keeps =
@@ -100,13 +100,13 @@ content_is_small (request file) fits = omega (arith, fits, head_is_short (length
 content_is_small due_work fits = omega arith
 
 -- a frame has at most 262,156 bytes
-pub frame_is_small : (at : Option Moment) (book after : BookView) (now then : Around) (size : ℕ) → TurnMade at book after now then size → size ≤ 262156
+pub frame_is_small : (at : Option Moment) (book after : BookView) (now then : TurnView) (size : ℕ) → TurnMade at book after now then size → size ≤ 262156
 frame_is_small at book after now then size made =
     let it : FrameAnswered made.moment size book after now then = made.happened in
     omega (arith, it.size_is, content_is_small it.content it.fits)
 
 -- the turns of a run that stands, with what is still to come
-taken_of : (setup : Setup) (start : State) (at : Option Moment) (before after : Outside) (count place : ℕ) (book : BookView) (now : Around) (ahead : List ℕ) →
+taken_of : (setup : Setup) (start : State) (at : Option Moment) (before after : PortsView) (count place : ℕ) (book : BookView) (now : TurnView) (ahead : List ℕ) →
     (standing : Standing setup start at (found_in before) count place book now) → count ≤ 1000000 → Keeps now.coming (prepend_known ahead after.input_left) → Taken setup start before after standing.turns book.state ahead
 taken_of setup start at before after count place book now ahead standing few kept = record {
   are_turns = standing.are_turns;
@@ -125,7 +125,7 @@ rose_since before mid now low (inl h) = inl (omega (arith, low, h))
 rose_since before mid now low (inr h) = inr h
 
 -- where no frame comes it stops at the place behind the frames so far
-pub stopped_at_frame : (setup : Setup) (start : State) (at : Option Moment) (before after : Outside) (count place : ℕ) (book : BookView) (now : Around) (ahead : List ℕ) →
+pub stopped_at_frame : (setup : Setup) (start : State) (at : Option Moment) (before after : PortsView) (count place : ℕ) (book : BookView) (now : TurnView) (ahead : List ℕ) →
     Standing setup start at (found_in before) count place book now → count ≤ 1000000 → NoTurn now (left_in ahead after) → IfSome (prepend_known ahead after.input_left) IsNoFrame → StoppedAtFrame setup start at before after place
 stopped_at_frame setup start at before after count place book now ahead standing few none no_frame = record {
   turns = standing.turns;
@@ -140,7 +140,7 @@ stopped_at_frame setup start at before after count place book now ahead standing
 }
 
 -- a run that finds nothing more has answered every frame
-pub finished : (setup : Setup) (start : State) (at : Option Moment) (before after : Outside) (count place : ℕ) (book : BookView) (now : Around) (ahead : List ℕ) →
+pub finished : (setup : Setup) (start : State) (at : Option Moment) (before after : PortsView) (count place : ℕ) (book : BookView) (now : TurnView) (ahead : List ℕ) →
     Standing setup start at (found_in before) count place book now → count ≤ 1000000 → NoTurn now (left_in ahead after) → IsAtEnd (prepend_known ahead after.input_left) → Finished setup start at before after
 finished setup start at before after count place book now ahead standing few none at_end = record {
   turns = standing.turns;
@@ -154,8 +154,8 @@ finished setup start at before after count place book now ahead standing few non
 }
 
 -- where a frame isn't answered whole the run stops
-stopped_in_frame : (setup : Setup) (start : State) (at : Option Moment) (before after : Outside) (count place : ℕ) (book : BookView) (now : Around) (ahead : List ℕ) (moment : Moment) (stop : Stop) →
-    Standing setup start at (found_in before) count place book now → count < 1000000 → AreMoments at now.shown after.shown (moment ∷ []) → FrameStops moment book now (left_in ahead after) stop → RunEnds setup start at before after (Err stop)
+stopped_in_frame : (setup : Setup) (start : State) (at : Option Moment) (before after : PortsView) (count place : ℕ) (book : BookView) (now : TurnView) (ahead : List ℕ) (moment : Moment) (stop : Stop) →
+    Standing setup start at (found_in before) count place book now → count < 1000000 → AreMoments at now.shown after.shown (moment ∷ []) → FrameStops moment book now (left_in ahead after) stop → RunEnds at setup start before after (Err stop)
 stopped_in_frame setup start at before after count place book now ahead moment stops.WriteFailed standing few moments h = (
   record {
     turns = standing.turns;
@@ -225,8 +225,8 @@ stopped_in_frame setup start at before after count place book now ahead moment (
 stopped_in_frame setup start at before after count place book now ahead moment (stops.Letter fault) standing few moments h = absurd h
 
 -- where a read fails it stops before a frame
-stopped_in_read : (setup : Setup) (start : State) (at : Option Moment) (before after : Outside) (count place : ℕ) (book : BookView) (now : Around) (ahead : List ℕ) →
-    Standing setup start at (found_in before) count place book now → count < 1000000 → TurnStops at book now (left_in ahead after) ahead stops.ReadFailed → RunEnds setup start at before after (Err stops.ReadFailed)
+stopped_in_read : (setup : Setup) (start : State) (at : Option Moment) (before after : PortsView) (count place : ℕ) (book : BookView) (now : TurnView) (ahead : List ℕ) →
+    Standing setup start at (found_in before) count place book now → count < 1000000 → TurnStops at book now (left_in ahead after) ahead stops.ReadFailed → RunEnds at setup start before after (Err stops.ReadFailed)
 stopped_in_read setup start at before after count place book now ahead standing few h = (
   record {
     turns = standing.turns;
@@ -242,8 +242,8 @@ stopped_in_read setup start at before after count place book now ahead standing 
 )
 
 -- where a turn fails the run stops
-pub stopped_in_turn : (setup : Setup) (start : State) (at : Option Moment) (before after : Outside) (count place : ℕ) (book : BookView) (now : Around) (ahead : List ℕ) (stop : Stop) →
-    Standing setup start at (found_in before) count place book now → count < 1000000 → TurnStops at book now (left_in ahead after) ahead stop → RunEnds setup start at before after (Err stop)
+pub stopped_in_turn : (setup : Setup) (start : State) (at : Option Moment) (before after : PortsView) (count place : ℕ) (book : BookView) (now : TurnView) (ahead : List ℕ) (stop : Stop) →
+    Standing setup start at (found_in before) count place book now → count < 1000000 → TurnStops at book now (left_in ahead after) ahead stop → RunEnds at setup start before after (Err stop)
 stopped_in_turn setup start at before after count place book now ahead stops.ReadFailed standing few h = stopped_in_read setup start at before after count place book now ahead standing few h
 stopped_in_turn setup start at before after count place book now ahead stop standing few h = stopped_in_frame setup start at before after count place book now ahead h.moment stop standing few h.moments h.happened
 
@@ -253,8 +253,8 @@ over None full is_full h = tt
 over (Some rest) full is_full h = (h, inr is_full)
 
 -- behind the last frame that a run answers the input ends, or the run stops
-pub ended_behind : (setup : Setup) (start : State) (at : Option Moment) (before after : Outside) (count place : ℕ) (book : BookView) (coming : Option (List ℕ)) (reads : ℕ) (ahead : List ℕ) (end : Result (Unit {0}) Stop) →
-    Standing setup start at (found_in before) count place book (around coming reads after.held after.out_faults after.records after.keeper_faults after.shown) → count ≡ 1000000 → EndOrStop coming place ahead after.input_left reads after.input_faults end → RunEnds setup start at before after end
+pub ended_behind : (setup : Setup) (start : State) (at : Option Moment) (before after : PortsView) (count place : ℕ) (book : BookView) (coming : Option (List ℕ)) (reads : ℕ) (ahead : List ℕ) (end : Result (Unit {0}) Stop) →
+    Standing setup start at (found_in before) count place book (turn_view coming reads after.held after.out_faults after.records after.keeper_faults after.shown) → count ≡ 1000000 → EndOrStop coming place ahead after.input_left reads after.input_faults end → RunEnds at setup start before after end
 ended_behind setup start at before after count place book coming reads ahead (Ok done) standing full h = record {
   turns = standing.turns;
   state = book.state;
@@ -298,7 +298,7 @@ ended_behind setup start at before after count place book coming reads ahead (Er
 ended_behind setup start at before after count place book coming reads ahead (Err (stops.Letter fault)) standing full h = absurd h
 
 -- a run that stops before its first frame has taken no turn
-pub stopped_at_once : (at : Option Moment) (book : BookView) (before after : Outside) → Standing book.setup book.state at (found_in before) 0 0 book (left_in [] after) → StoppedBetween book.setup book.state at before after
+pub stopped_at_once : (at : Option Moment) (book : BookView) (before after : PortsView) → Standing book.setup book.state at (found_in before) 0 0 book (left_in [] after) → StoppedBetween book.setup book.state at before after
 stopped_at_once at book before after standing = record {
   turns = standing.turns;
   state = book.state;

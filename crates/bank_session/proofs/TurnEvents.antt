@@ -16,7 +16,7 @@ use Rattle.event_codec.specs.Records.{Codes, Reopens}
 use Rattle.bank_frames.specs.Frames.{Content, request, due_work}
 use Rattle.bank_desk.specs.Keeping.{AreRecordsOf}
 use Rattle.bank_session.specs.Answers.{AnswersFile, AnswersFrame, Turn, AreTurns, records_in, BeginsWork, IsPrefixKept, IsKeptWhereRefused}
-use Rattle.bank_desk.specs.Answering.{IsSignedOn}
+use Rattle.bank_signon.specs.Signon.{IsSignedOn}
 use Rattle.bank_solo.proofs.Named.{found_within}
 use Rattle.bank_session.specs.BooksKept.{StoppedRunsReopen}
 use Rattle.bank_desk.proofs.DeskLemmas.{user_within}

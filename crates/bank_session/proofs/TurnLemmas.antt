@@ -10,7 +10,7 @@ use Rattle.bank_frames.specs.Frames.{Content, IsLength, length_line, frame, fram
 use Rattle.bank_session.specs.Answers.{AreMoments}
 use Rattle.bank_frames.specs.Coming.{HoldsFile, HoldsFrame, file_in, content_in, size_of}
 use Rattle.bank_session.specs.Stopping.{stop_of}
-use Rattle.bank_session.specs.Turns.{Around, HasNoLine, FrameStays, FrameStops}
+use Rattle.bank_session.specs.Turns.{TurnView, HasNoLine, FrameStays, FrameStops}
 use Rattle.bank_session.specs.TurnResult.{TurnStops}
 use Rattle.bank_frames.specs.declared.frame_head.FrameSize.{FrameSize}
 use Rattle.bank_frames.specs.declared.frames.Frame.{Frame}
@@ -93,7 +93,7 @@ begins_coming None ahead bytes tail e = tt
 begins_coming (Some xs) ahead bytes tail e = (tail ++ xs, ap (λ (l : List ℕ). l ++ xs) e ∙ append_assoc bytes tail xs)
 
 -- a frame that isn't used up
-pub stays_there : (found left : Around) (rest : Option (List ℕ)) (ahead : List ℕ) (frame : Frame) → HoldsFrame ahead frame → Keeps found.coming (prepend_known ahead rest) → left.coming ≡ prepend_known ahead rest → FrameStays (content_in ahead frame) found left
+pub stays_there : (found left : TurnView) (rest : Option (List ℕ)) (ahead : List ℕ) (frame : Frame) → HoldsFrame ahead frame → Keeps found.coming (prepend_known ahead rest) → left.coming ≡ prepend_known ahead rest → FrameStays (content_in ahead frame) found left
 stays_there found left rest ahead frame holds kept same = record {
   fits = content_fits ahead frame holds;
   unread = rw same kept;
@@ -101,14 +101,14 @@ stays_there found left rest ahead frame holds kept same = record {
 }
 
 -- a frame without a line stops the run
-pub frame_undone : (at : Moment) (before : BookView) (undone : DeskFault) (content : Content) (found left : Around) → FrameStays content found left → HasNoLine at before content found.records left.records undone → Keeps found.held left.held → (undone ≡ AppendFailed → Rose found.keeps left.keeps) → FrameStops at before found left (stop_of undone)
+pub frame_undone : (at : Moment) (before : BookView) (undone : DeskFault) (content : Content) (found left : TurnView) → FrameStays content found left → HasNoLine at before content found.records left.records undone → Keeps found.held left.held → (undone ≡ AppendFailed → Rose found.keeps left.keeps) → FrameStops at before found left (stop_of undone)
 frame_undone at before NoMemory content found left stays none unwritten rose =
     record { content = content; stays = stays; keeps = none; unwritten = unwritten }
 frame_undone at before AppendFailed content found left stays none unwritten rose =
     (record { content = content; stays = stays; keeps = none; unwritten = unwritten }, rose refl)
 
 -- a frame that stops the run does so at its moment
-pub turn_stopped : (at : Option Moment) (moment : Moment) (before : BookView) (found left : Around) (ahead : List ℕ) (stop : Stop) → AreMoments at found.shown left.shown (moment ∷ []) → FrameStops moment before found left stop → TurnStops at before found left ahead stop
+pub turn_stopped : (at : Option Moment) (moment : Moment) (before : BookView) (found left : TurnView) (ahead : List ℕ) (stop : Stop) → AreMoments at found.shown left.shown (moment ∷ []) → FrameStops moment before found left stop → TurnStops at before found left ahead stop
 turn_stopped at moment before found left ahead stops.ReadFailed moments stopped = absurd stopped
 turn_stopped at moment before found left ahead stops.WriteFailed moments stopped = record { moment = moment; moments = moments; happened = stopped }
 turn_stopped at moment before found left ahead stops.KeeperFailed moments stopped = record { moment = moment; moments = moments; happened = stopped }

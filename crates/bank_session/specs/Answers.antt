@@ -14,7 +14,8 @@ use Rattle.ofx_ports.specs.Told.{Stays, Grows}
 use Rattle.bank_frames.specs.Frames.{Content, request, due_work, frame, frame_of, Fits}
 use Rattle.bank_frames.specs.Lines.{bad_line, due_line}
 use Rattle.bank_desk.specs.Keeping.{AreRecordsOf}
-use Rattle.bank_desk.specs.Answering.{IsSignedOn, IsRefused, Replies, Polls, Denies}
+use Rattle.bank_signon.specs.Signon.{IsSignedOn, IsRefused}
+use Rattle.bank_desk.specs.Answering.{Replies, Polls, Denies}
 
 -- For any other bytes the line tells the place, and nothing changes. Nothing is kept.
 pub record IsBad (before : State) (bytes line : List ℕ) (records : List (List ℕ)) (after : State) : Type 0 where

@@ -16,7 +16,7 @@ use Rattle.event_codec.specs.Coding.{coded}
 use Rattle.bank_frames.specs.Frames.{Content, frame, frame_of, Fits}
 use Rattle.ofx_types.specs.ReplyForm.{reply_text}
 use Rattle.bank_session.specs.Answers.{AnswersFrame, AnswersFile, Turn, AreTurns, written_in, records_in, moments_in}
-use Rattle.bank_desk.specs.Answering.{IsSignedOn, IsDenied, IsRefused}
+use Rattle.bank_signon.specs.Signon.{IsSignedOn, IsDenied, IsRefused}
 use Rattle.bank_frames.specs.Lines.{bad_line}
 
 -- each file within its limit

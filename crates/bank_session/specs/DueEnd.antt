@@ -8,13 +8,13 @@ use Rattle.bank_model.specs.declared.setup.Setup.{Setup}
 use Rattle.bank_model.specs.declared.event.State.{State}
 use Rattle.bank_frames.specs.Frames.{due_work}
 use Rattle.bank_session.specs.Answers.{DoesDue, IsPrefixKept}
-use Rattle.bank_session.specs.Outside.{Outside}
+use Rattle.bank_session.specs.PortsView.{PortsView}
 use Rattle.bank_session.specs.declared.stop.Stop.{Stop}
 use Rattle.bank_session.specs.declared.stop.Stop.TheVariants as stops
 
 -- The clock gave one answer, what was due at that moment is done and kept, and its line is written. Nothing of the input was
 -- used.
-pub record DueDone (setup : Setup) (start : State) (before after : Outside) : Type 0 where
+pub record DueDone (setup : Setup) (start : State) (before after : PortsView) : Type 0 where
   pub moment : Moment
   pub line : List ℕ
   pub records : List (List ℕ)
@@ -26,7 +26,7 @@ pub record DueDone (setup : Setup) (start : State) (before after : Outside) : Ty
   pub moments : Grows before.shown after.shown (moment ∷ [])
 
 -- A write failed. All is kept, and a prefix of the line is written.
-pub record DueBroke (setup : Setup) (start : State) (before after : Outside) : Type 0 where
+pub record DueBroke (setup : Setup) (start : State) (before after : PortsView) : Type 0 where
   pub moment : Moment
   pub line : List ℕ
   pub records : List (List ℕ)
@@ -40,7 +40,7 @@ pub record DueBroke (setup : Setup) (start : State) (before after : Outside) : T
 
 -- The append of a record failed. Nothing is written. The records of a prefix of what was due are kept, and perhaps the one
 -- whose append failed is among them.
-pub record DueUnkept (setup : Setup) (start : State) (before after : Outside) : Type 0 where
+pub record DueUnkept (setup : Setup) (start : State) (before after : PortsView) : Type 0 where
   pub moment : Moment
   pub records : List (List ℕ)
   pub work : IsPrefixKept setup moment start due_work records
@@ -51,7 +51,7 @@ pub record DueUnkept (setup : Setup) (start : State) (before after : Outside) : 
 
 -- Memory was refused. Nothing is written. The clock gave at most one answer, and the records of a prefix of what was due at
 -- that moment may be kept.
-pub record DueRefused (setup : Setup) (start : State) (before after : Outside) : Type 0 where
+pub record DueRefused (setup : Setup) (start : State) (before after : PortsView) : Type 0 where
   pub unread : Keeps before.input_left after.input_left
   pub unwritten : Keeps before.held after.held
   pub next : List Moment
@@ -62,7 +62,7 @@ pub record DueRefused (setup : Setup) (start : State) (before after : Outside) :
   pub kept : Grows before.records after.records records
 
 -- What stands at each end of the command in a bank that stands in a state.
-abbrev pub DueEnds : Setup → State → Outside → Outside → Result (Unit {0}) Stop → Type 0
+abbrev pub DueEnds : Setup → State → PortsView → PortsView → Result (Unit {0}) Stop → Type 0
 DueEnds setup start before after (Ok done) = DueDone setup start before after
 DueEnds setup start before after (Err stops.WriteFailed) = DueBroke setup start before after × Rose before.out_faults after.out_faults
 DueEnds setup start before after (Err stops.KeeperFailed) = DueUnkept setup start before after × Rose before.keeper_faults after.keeper_faults

@@ -1,10 +1,11 @@
 -- Exactly where a run ends with each status, and what is told of it, as far as nothing of the outside fails and memory is
 -- there.
-use Rattle.std.specs.Prelude.{◌≡◌, ◌≢◌, ℕ, ◌≤◌, true, false, List, [], ◌++◌, length, Option, None, Some, ◌⊎◌}
+use Rattle.std.specs.Prelude.{◌≡◌, ◌≢◌, ℕ, ◌≤◌, true, false, List, [], ◌++◌, length, Option, None, Some, Result, ◌⊎◌}
 use Rattle.std.specs.List.{flat_map, AllByRecursion}
 use Rattle.ofx_ports.specs.Faults.{Rose}
 use Rattle.bank_model.specs.SetupForm.{SpellsSetup}
 use Rattle.bank_model.specs.SetupFault.{IsSetupFault}
+use Rattle.bank_model.specs.SetupLookups.{user_of}
 use Rattle.bank_model.specs.declared.setup.Setup.{Setup}
 use Rattle.bank_model.specs.Due.{has_number}
 use Rattle.bank_model.specs.Rules.{opening_state}
@@ -12,54 +13,74 @@ use Rattle.bank_model.specs.declared.event.State.{State}
 use Rattle.bank_replay.specs.Opening.{HasNoForm, IsNotLegal}
 use Rattle.event_codec.specs.Records.{Reopens}
 use Rattle.bank_frames.specs.Frames.{Content, frame_of, Fits, BeginsNoFrame}
-use Rattle.bank_session.specs.Outside.{Outside}
-use Rattle.bank_session.specs.Letters.{IsBody, HasNoBody, user_named}
-use Rattle.bank_session.specs.Run.{EndsWith, DueEndsWith, MailEndsWith, told}
+use Rattle.bank_session.specs.PortsView.{PortsView}
+use Rattle.bank_session.specs.Letters.{IsBody, HasNoBody}
+use Rattle.bank_session.specs.RunEnd.{RunEnds}
+use Rattle.bank_session.specs.DueEnd.{DueEnds}
+use Rattle.bank_session.specs.MailEnd.{MailEnds}
+use Rattle.bank_session.specs.Run.{EndsWith, told}
+use Rattle.bank_session.specs.declared.stop.Stop.{Stop}
 use Rattle.ofx_types.specs.declared.number.Moment.{Moment}
 use Rattle.ofx_types.specs.declared.number.UserId.{UserId}
 use Rattle.ofx_types.specs.declared.told.Note.TheVariants.{Plain, Place, Record, Illegal, NoUser, Full}
 use Rattle.ofx_types.specs.declared.told.Told.{Told}
 
 -- A read or a write or a call of the keeper failed, or memory was refused.
-abbrev pub GaveUp : Outside → Outside → Told → Type 0
-GaveUp before after what =
+abbrev pub IsInterrupted : PortsView → PortsView → Told → Type 0
+IsInterrupted before after what =
     ((what ≡ told 5 Plain) × (Rose before.setup_faults after.setup_faults ⊎ Rose before.input_faults after.input_faults))
     ⊎ (((what ≡ told 6 Plain) × Rose before.out_faults after.out_faults)
     ⊎ (((what ≡ told 8 Plain) × Rose before.keeper_faults after.keeper_faults) ⊎ (what ≡ told 7 Plain)))
 
--- Bytes that spell no setup end a run with 3, and the line of their fault is told.
-abbrev pub RefusesSetup : Outside → Outside → Told → Type 0
-RefusesSetup before after what =
+-- A read of the setup or a write or a call of the keeper failed, or memory was refused.
+abbrev pub IsDueInterrupted : PortsView → PortsView → Told → Type 0
+IsDueInterrupted before after what =
+    ((what ≡ told 5 Plain) × Rose before.setup_faults after.setup_faults)
+    ⊎ (((what ≡ told 6 Plain) × Rose before.out_faults after.out_faults)
+    ⊎ (((what ≡ told 8 Plain) × Rose before.keeper_faults after.keeper_faults) ⊎ (what ≡ told 7 Plain)))
+
+-- Bytes that spell no setup end a command with 3, and the line of their fault is told.
+abbrev pub RefusesSetup : (PortsView → PortsView → Told → Type 0) → PortsView → PortsView → Told → Type 0
+RefusesSetup Stopped before after what =
     (text : List ℕ) → before.setup_left ≡ Some text → ((setup : Setup) → SpellsSetup text setup → ⊥)
-    → ((line : ℕ) × IsSetupFault text line × (what ≡ told 3 (Place line))) ⊎ GaveUp before after what
+    → ((line : ℕ) × IsSetupFault text line × (what ≡ told 3 (Place line))) ⊎ Stopped before after what
 
 -- The setup is spelled, and these are the records.
-pub record HasRecords (before : Outside) (setup : Setup) (records : List (List ℕ)) : Type 0 where
+pub record HasRecords (before : PortsView) (setup : Setup) (records : List (List ℕ)) : Type 0 where
   pub text : List ℕ
   pub setup_is : before.setup_left ≡ Some text
   pub spelled : SpellsSetup text setup
   pub records_are : before.records ≡ Some records
 
--- The first record that codes no event ends a run with 9, and its number and the place of its fault are told.
-abbrev pub RefusesRecord : (Outside → Outside → Told → Type 0) → Outside → Outside → Told → Type 0
-RefusesRecord Gave before after what =
+-- The first record that codes no event ends it with 9, and its number and the place of its fault are told.
+abbrev pub RefusesRecord : (PortsView → PortsView → Told → Type 0) → PortsView → PortsView → Told → Type 0
+RefusesRecord Stopped before after what =
     (setup : Setup) (records : List (List ℕ)) (number place : ℕ) → HasRecords before setup records
-    → HasNoForm setup (Some records) number place → (what ≡ told 9 (Record number place)) ⊎ Gave before after what
+    → HasNoForm setup (Some records) number place → (what ≡ told 9 (Record number place)) ⊎ Stopped before after what
 
 -- So does the first one whose event isn't legal after those before it, and its number is told.
-abbrev pub RefusesIllegal : (Outside → Outside → Told → Type 0) → Outside → Outside → Told → Type 0
-RefusesIllegal Gave before after what =
+abbrev pub RefusesIllegal : (PortsView → PortsView → Told → Type 0) → PortsView → PortsView → Told → Type 0
+RefusesIllegal Stopped before after what =
     (setup : Setup) (records : List (List ℕ)) (number : ℕ) → HasRecords before setup records
-    → IsNotLegal setup (Some records) number → (what ≡ told 9 (Illegal number)) ⊎ Gave before after what
+    → IsNotLegal setup (Some records) number → (what ≡ told 9 (Illegal number)) ⊎ Stopped before after what
+
+-- A command that does such work ends so: what it read and wrote, and exactly where no bank opens what is told.
+pub record IsCommand (Works : Setup → State → PortsView → PortsView → Result (Unit {0}) Stop → Type 0) (Stopped : PortsView → PortsView → Told → Type 0) (before after : PortsView) (what : Told) : Type 0 where
+  pub ends : EndsWith Works before after what
+  pub refuses_setup : RefusesSetup Stopped before after what
+  pub refuses_record : RefusesRecord Stopped before after what
+  pub refuses_illegal : RefusesIllegal Stopped before after what
 
 -- The setup is spelled, and the bank comes to this state by the records.
-pub record Opens (before : Outside) (setup : Setup) (start : State) : Type 0 where
+pub record Opens (before : PortsView) (setup : Setup) (start : State) : Type 0 where
   pub records : List (List ℕ)
   pub has : HasRecords before setup records
   pub reopens : Reopens setup opening_state records start
 
+-- ---- the command `answer`
+
 -- The bank opens, and the input begins with the frames of these contents, each within its limit.
-pub record Gives (before : Outside) (contents : List Content) (rest : List ℕ) : Type 0 where
+pub record Gives (before : PortsView) (contents : List Content) (rest : List ℕ) : Type 0 where
   pub setup : Setup
   pub start : State
   pub opens : Opens before setup start
@@ -68,89 +89,67 @@ pub record Gives (before : Outside) (contents : List Content) (rest : List ℕ) 
   pub few : length contents ≤ 1000000
 
 -- Frames and nothing behind them end it with 0.
-abbrev pub AnswersAll : Outside → Outside → Told → Type 0
-AnswersAll before after what = (contents : List Content) → Gives before contents [] → (what ≡ told 0 Plain) ⊎ GaveUp before after what
+abbrev pub AnswersAll : PortsView → PortsView → Told → Type 0
+AnswersAll before after what = (contents : List Content) → Gives before contents [] → (what ≡ told 0 Plain) ⊎ IsInterrupted before after what
 
 -- Bytes behind the frames that begin no frame, or anything behind the most frames, end it with 4, and their place in the
 -- input is told.
-abbrev pub RefusesFrame : Outside → Outside → Told → Type 0
+abbrev pub RefusesFrame : PortsView → PortsView → Told → Type 0
 RefusesFrame before after what =
     (contents : List Content) (rest : List ℕ) → Gives before contents rest → rest ≢ [] → (BeginsNoFrame rest ⊎ (length contents ≡ 1000000))
-    → (what ≡ told 4 (Place (length (flat_map frame_of contents)))) ⊎ GaveUp before after what
+    → (what ≡ told 4 (Place (length (flat_map frame_of contents)))) ⊎ IsInterrupted before after what
 
--- A run over these words' moment ends so: what it read and wrote, and what is told exactly where.
-pub record IsRun (at : Option Moment) (before after : Outside) (what : Told) : Type 0 where
-  pub ends : EndsWith at before after what
-  pub refuses_setup : RefusesSetup before after what
-  pub refuses_record : RefusesRecord GaveUp before after what
-  pub refuses_illegal : RefusesIllegal GaveUp before after what
+-- The command `answer` over these words' moment ends so, and exactly where what is told.
+pub record IsRun (at : Option Moment) (before after : PortsView) (what : Told) : Type 0 where
+  pub command : IsCommand (RunEnds at) IsInterrupted before after what
   pub refuses_frame : RefusesFrame before after what
   pub answers_all : AnswersAll before after what
 
 -- ---- the command `due`
 
--- A read of the setup or a write or a call of the keeper failed, or memory was refused.
-abbrev pub GaveUpDue : Outside → Outside → Told → Type 0
-GaveUpDue before after what =
-    ((what ≡ told 5 Plain) × Rose before.setup_faults after.setup_faults)
-    ⊎ (((what ≡ told 6 Plain) × Rose before.out_faults after.out_faults)
-    ⊎ (((what ≡ told 8 Plain) × Rose before.keeper_faults after.keeper_faults) ⊎ (what ≡ told 7 Plain)))
-
--- Bytes that spell no setup end it with 3, and the line of their fault is told.
-abbrev pub RefusesDueSetup : Outside → Outside → Told → Type 0
-RefusesDueSetup before after what =
-    (text : List ℕ) → before.setup_left ≡ Some text → ((setup : Setup) → SpellsSetup text setup → ⊥)
-    → ((line : ℕ) × IsSetupFault text line × (what ≡ told 3 (Place line))) ⊎ GaveUpDue before after what
-
 -- A bank that opens ends it with 0.
-abbrev pub DoesAll : Outside → Outside → Told → Type 0
+abbrev pub DoesAll : PortsView → PortsView → Told → Type 0
 DoesAll before after what =
-    (setup : Setup) (start : State) → Opens before setup start → (what ≡ told 0 Plain) ⊎ GaveUpDue before after what
+    (setup : Setup) (start : State) → Opens before setup start → (what ≡ told 0 Plain) ⊎ IsDueInterrupted before after what
 
--- The command `due` ends so: what it read and wrote, and what is told exactly where.
-pub record IsDueCommand (before after : Outside) (what : Told) : Type 0 where
-  pub ends : DueEndsWith before after what
-  pub refuses_setup : RefusesDueSetup before after what
-  pub refuses_record : RefusesRecord GaveUpDue before after what
-  pub refuses_illegal : RefusesIllegal GaveUpDue before after what
+-- The command `due` ends so, and exactly where what is told.
+pub record IsDueCommand (before after : PortsView) (what : Told) : Type 0 where
+  pub command : IsCommand DueEnds IsDueInterrupted before after what
   pub does_all : DoesAll before after what
 
 -- ---- the command `mail`
 
 -- The bank opens, and these are the bytes of the input.
-pub record Brings (before : Outside) (setup : Setup) (start : State) (input : List ℕ) : Type 0 where
+pub record Brings (before : PortsView) (setup : Setup) (start : State) (input : List ℕ) : Type 0 where
   pub opens : Opens before setup start
   pub input_is : before.input_left ≡ Some input
 
 -- An input that is no body ends it with 4, at its first byte.
-abbrev pub RefusesBody : Outside → Outside → Told → Type 0
+abbrev pub RefusesBody : PortsView → PortsView → Told → Type 0
 RefusesBody before after what =
-    (setup : Setup) (start : State) (input : List ℕ) → Brings before setup start input → HasNoBody input → (what ≡ told 4 (Place 0)) ⊎ GaveUp before after what
+    (setup : Setup) (start : State) (input : List ℕ) → Brings before setup start input → HasNoBody input → (what ≡ told 4 (Place 0)) ⊎ IsInterrupted before after what
 
 -- A body for nobody ends it with 10,
-abbrev pub RefusesUser : List ℕ → Outside → Outside → Told → Type 0
+abbrev pub RefusesUser : List ℕ → PortsView → PortsView → Told → Type 0
 RefusesUser name before after what =
-    (setup : Setup) (start : State) (input body : List ℕ) → Brings before setup start input → IsBody input body → user_named setup name ≡ None
-    → (what ≡ told 10 NoUser) ⊎ GaveUp before after what
+    (setup : Setup) (start : State) (input body : List ℕ) → Brings before setup start input → IsBody input body → user_of setup name ≡ None
+    → (what ≡ told 10 NoUser) ⊎ IsInterrupted before after what
 
 -- and so does one for a user of a bank that has no number left.
-abbrev pub RefusesFull : List ℕ → Outside → Outside → Told → Type 0
+abbrev pub RefusesFull : List ℕ → PortsView → PortsView → Told → Type 0
 RefusesFull name before after what =
     (setup : Setup) (start : State) (input body : List ℕ) (user : UserId) → Brings before setup start input → IsBody input body
-    → user_named setup name ≡ Some user → has_number setup start ≡ false → (what ≡ told 10 Full) ⊎ GaveUp before after what
+    → user_of setup name ≡ Some user → has_number setup start ≡ false → (what ≡ told 10 Full) ⊎ IsInterrupted before after what
 
 -- A body for a user, and a number that is left, end it with 0.
-abbrev pub WritesIt : List ℕ → Outside → Outside → Told → Type 0
+abbrev pub WritesIt : List ℕ → PortsView → PortsView → Told → Type 0
 WritesIt name before after what =
     (setup : Setup) (start : State) (input body : List ℕ) (user : UserId) → Brings before setup start input → IsBody input body
-    → user_named setup name ≡ Some user → has_number setup start ≡ true → (what ≡ told 0 Plain) ⊎ GaveUp before after what
+    → user_of setup name ≡ Some user → has_number setup start ≡ true → (what ≡ told 0 Plain) ⊎ IsInterrupted before after what
 
--- The command `mail` ends so: what it read and wrote, and what is told exactly where.
-pub record IsMailCommand (name subject : List ℕ) (before after : Outside) (what : Told) : Type 0 where
-  pub ends : MailEndsWith name subject before after what
-  pub refuses_setup : RefusesSetup before after what
-  pub refuses_record : RefusesRecord GaveUp before after what
-  pub refuses_illegal : RefusesIllegal GaveUp before after what
+-- The command `mail` ends so, and exactly where what is told.
+pub record IsMailCommand (name subject : List ℕ) (before after : PortsView) (what : Told) : Type 0 where
+  pub command : IsCommand (MailEnds name subject) IsInterrupted before after what
   pub refuses_body : RefusesBody before after what
   pub refuses_user : RefusesUser name before after what
   pub refuses_full : RefusesFull name before after what

@@ -1,16 +1,15 @@
 -- Letters of the bank to a user: the body that an input is, and what writing one does.
 use Rattle.std.specs.Prelude.{◌≡◌, ℕ, ◌+◌, ◌<◌, ◌≤◌, true, false, List, length, codes, position, Option, None, Some, Result, Ok, Err}
-use Rattle.std.specs.Option.{IfSome, option_map}
-use Rattle.std.specs.Str.{bytes_eq}
+use Rattle.std.specs.Option.{IfSome}
 use Rattle.bank_frames.specs.Lines.{mail_line}
 use Rattle.ofx_types.specs.TextRules.{trimmed, is_refused_in_text}
 use Rattle.ofx_types.specs.declared.number.UserId.{UserId}
 use Rattle.ofx_types.specs.declared.number.Moment.{Moment}
 use Rattle.bank_model.specs.Due.{has_number}
 use Rattle.bank_model.specs.Rules.{IsLegal, state_after, letter_entry}
+use Rattle.bank_model.specs.SetupLookups.{user_of}
 use Rattle.bank_model.specs.Sound.{IsTextWithin}
 use Rattle.bank_model.specs.declared.setup.Setup.{Setup}
-use Rattle.bank_model.specs.declared.setup.User.{User}
 use Rattle.bank_model.specs.declared.event.State.{State}
 use Rattle.bank_model.specs.declared.event.Event.TheVariants.{Letter}
 use Rattle.bank_core.specs.BookView.{BookView}
@@ -58,25 +57,20 @@ ReadsBody input (Err (stops.Records fault)) = ⊥
 
 -- ---- the user, and the number of the entry
 
--- the user of this name, byte for byte
-abbrev pub user_named : Setup → List ℕ → Option UserId
-user_named setup name =
-    option_map (λ (place : ℕ). record { 0 = place }) (position (λ (user : User). bytes_eq user.name name) setup.users)
-
 -- The bank has this user, and no number left for an entry.
 abbrev pub IsFullFor : BookView → List ℕ → Type 0
-IsFullFor bank name = (user : UserId) × (user_named bank.setup name ≡ Some user) × (has_number bank.setup bank.state ≡ false)
+IsFullFor bank name = (user : UserId) × (user_of bank.setup name ≡ Some user) × (has_number bank.setup bank.state ≡ false)
 
 -- Why a letter whose body is there isn't written.
 abbrev pub CauseOf : BookView → List ℕ → LetterFault → Type 0
-CauseOf bank name faults.NoUser = user_named bank.setup name ≡ None
+CauseOf bank name faults.NoUser = user_of bank.setup name ≡ None
 CauseOf bank name faults.Full = IsFullFor bank name
 CauseOf bank name faults.NoBody = ⊥
 
 -- The user and the number of the next entry; or why there is none of them.
 abbrev pub IsAddressed : BookView → List ℕ → Result (UserId × ℕ) LetterFault → Type 0
 IsAddressed bank name (Ok to) =
-    (user_named bank.setup name ≡ Some to.0) × (has_number bank.setup bank.state ≡ true) × (to.1 ≡ length bank.state.entries + 1)
+    (user_of bank.setup name ≡ Some to.0) × (has_number bank.setup bank.state ≡ true) × (to.1 ≡ length bank.state.entries + 1)
 IsAddressed bank name (Err fault) = CauseOf bank name fault
 
 -- ---- the letter

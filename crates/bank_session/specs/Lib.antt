@@ -6,7 +6,7 @@ pub mod SetupRead
 pub mod RecordsRead
 pub mod Turns
 pub mod TurnResult
-pub mod Outside
+pub mod PortsView
 pub mod OneBank
 pub mod RunEnd
 pub mod DueEnd

@@ -6,12 +6,14 @@ use Rattle.ofx_ports.specs.Told.{Stays, Grows}
 use Rattle.ofx_types.specs.declared.number.UserId.{UserId}
 use Rattle.ofx_types.specs.declared.number.Moment.{Moment}
 use Rattle.bank_model.specs.Rules.{IsLegal}
+use Rattle.bank_model.specs.SetupLookups.{user_of}
+use Rattle.bank_model.specs.declared.setup.Setup.{Setup}
 use Rattle.bank_model.specs.declared.event.State.{State}
 use Rattle.bank_model.specs.declared.event.Event.TheVariants.{Letter}
 use Rattle.event_codec.specs.Records.{Codes}
 use Rattle.bank_core.specs.BookView.{BookView}
-use Rattle.bank_session.specs.Outside.{Outside}
-use Rattle.bank_session.specs.Letters.{IsBodyOf, IsNoBody, user_named, CauseOf, WritesLetter}
+use Rattle.bank_session.specs.PortsView.{PortsView}
+use Rattle.bank_session.specs.Letters.{IsBodyOf, IsNoBody, CauseOf, WritesLetter}
 use Rattle.bank_session.specs.declared.stop.LetterFault.TheVariants as faults
 use Rattle.bank_session.specs.declared.stop.Stop.{Stop}
 use Rattle.bank_session.specs.declared.stop.Stop.TheVariants as stops
@@ -19,38 +21,38 @@ use Rattle.bank_session.specs.declared.stop.Stop.TheVariants as stops
 -- ---- with the body
 
 -- The clock gave one answer, the letter to the user of this name is written at that moment and kept, and its line is written.
-pub record LetterDone (bank : BookView) (name subject body : List ℕ) (before after : Outside) : Type 0 where
+pub record LetterDone (bank : BookView) (name subject body : List ℕ) (before after : PortsView) : Type 0 where
   pub user : UserId
   pub moment : Moment
   pub line : List ℕ
   pub rec : List ℕ
   pub state : State
-  pub named : user_named bank.setup name ≡ Some user
+  pub named : user_of bank.setup name ≡ Some user
   pub writes : WritesLetter bank.setup moment bank.state user subject body line rec state
   pub kept : Grows before.records after.records (rec ∷ [])
   pub written : Appends before.held after.held line
   pub moments : Grows before.shown after.shown (moment ∷ [])
 
 -- A write failed. The letter is kept, and a prefix of the line is written.
-pub record LetterBroke (bank : BookView) (name subject body : List ℕ) (before after : Outside) : Type 0 where
+pub record LetterBroke (bank : BookView) (name subject body : List ℕ) (before after : PortsView) : Type 0 where
   pub user : UserId
   pub moment : Moment
   pub line : List ℕ
   pub rec : List ℕ
   pub state : State
   pub count : ℕ
-  pub named : user_named bank.setup name ≡ Some user
+  pub named : user_of bank.setup name ≡ Some user
   pub writes : WritesLetter bank.setup moment bank.state user subject body line rec state
   pub kept : Grows before.records after.records (rec ∷ [])
   pub written : Appends before.held after.held (take count line)
   pub moments : Grows before.shown after.shown (moment ∷ [])
 
 -- The append of the letter's record failed. Nothing is written, and the record is kept only if it has landed.
-pub record LetterUnkept (bank : BookView) (name subject body : List ℕ) (before after : Outside) : Type 0 where
+pub record LetterUnkept (bank : BookView) (name subject body : List ℕ) (before after : PortsView) : Type 0 where
   pub user : UserId
   pub moment : Moment
   pub rec : List ℕ
-  pub named : user_named bank.setup name ≡ Some user
+  pub named : user_of bank.setup name ≡ Some user
   pub legal : IsLegal bank.setup bank.state moment (Letter user subject body)
   pub codes : Codes rec moment (Letter user subject body)
   pub kept : Stays before.records after.records ⊎ Grows before.records after.records (rec ∷ [])
@@ -58,7 +60,7 @@ pub record LetterUnkept (bank : BookView) (name subject body : List ℕ) (before
   pub moments : Grows before.shown after.shown (moment ∷ [])
 
 -- Memory was refused. Nothing is written or kept, and the clock gave at most one answer.
-pub record LetterUndone (before after : Outside) : Type 0 where
+pub record LetterUndone (before after : PortsView) : Type 0 where
   pub unkept : Stays before.records after.records
   pub unwritten : Keeps before.held after.held
   pub next : List Moment
@@ -66,13 +68,13 @@ pub record LetterUndone (before after : Outside) : Type 0 where
   pub moments : Grows before.shown after.shown next
 
 -- Nothing is written or kept, and the clock wasn't read.
-pub record LeftAlone (before after : Outside) : Type 0 where
+pub record LeftAlone (before after : PortsView) : Type 0 where
   pub unkept : Stays before.records after.records
   pub unwritten : Keeps before.held after.held
   pub unseen : Stays before.shown after.shown
 
 -- What stands at each end of a letter in a bank.
-abbrev pub LetterEnds : BookView → List ℕ → List ℕ → List ℕ → Outside → Outside → Result (Unit {0}) Stop → Type 0
+abbrev pub LetterEnds : BookView → List ℕ → List ℕ → List ℕ → PortsView → PortsView → Result (Unit {0}) Stop → Type 0
 LetterEnds bank name subject body before after (Ok done) = LetterDone bank name subject body before after
 LetterEnds bank name subject body before after (Err (stops.Letter fault)) = CauseOf bank name fault × LeftAlone before after
 LetterEnds bank name subject body before after (Err stops.WriteFailed) =
@@ -103,21 +105,22 @@ StopsReading left before now (stops.Setup line) = ⊥
 StopsReading left before now (stops.Records fault) = ⊥
 
 -- Nothing is written then, and the clock wasn't read.
-pub record EndsWithoutBody (before after : Outside) (stop : Stop) : Type 0 where
+pub record EndsWithoutBody (before after : PortsView) (stop : Stop) : Type 0 where
   pub cause : StopsReading before.input_left before.input_faults after.input_faults stop
   pub left : LeftAlone before after
 
 -- ---- the command
 
 -- The letter has the body that all bytes of the input are, and the input is at its end.
-pub record EndsWithBody (bank : BookView) (name subject : List ℕ) (before after : Outside) (end : Result (Unit {0}) Stop) : Type 0 where
+pub record EndsWithBody (bank : BookView) (name subject : List ℕ) (before after : PortsView) (end : Result (Unit {0}) Stop) : Type 0 where
   pub body : List ℕ
   pub is_body : IsBodyOf before.input_left body
   pub at_end : IsAtEnd after.input_left
   pub ends : LetterEnds bank name subject body before after end
 
 -- What stands at each end of the command in a bank that stands in a state.
-abbrev pub MailEnds : BookView → List ℕ → List ℕ → Outside → Outside → Result (Unit {0}) Stop → Type 0
-MailEnds bank name subject before after (Ok done) = EndsWithBody bank name subject before after (Ok done)
-MailEnds bank name subject before after (Err stop) =
-    EndsWithoutBody before after stop ⊎ EndsWithBody bank name subject before after (Err stop)
+abbrev pub MailEnds : List ℕ → List ℕ → Setup → State → PortsView → PortsView → Result (Unit {0}) Stop → Type 0
+MailEnds name subject setup start before after (Ok done) =
+    EndsWithBody (record { setup = setup; state = start }) name subject before after (Ok done)
+MailEnds name subject setup start before after (Err stop) =
+    EndsWithoutBody before after stop ⊎ EndsWithBody (record { setup = setup; state = start }) name subject before after (Err stop)

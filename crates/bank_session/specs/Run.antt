@@ -1,20 +1,17 @@
--- A whole run: the words, the setup, the frames, and what people are told of its end.
-use Rattle.std.specs.Prelude.{◌≡◌, ℕ, List, Option, Result, Ok, Err, ◌⊎◌}
+-- A whole command: the setup, the bank, its work, and what people are told of its end.
+use Rattle.std.specs.Prelude.{◌≡◌, ℕ, Bool, true, false, Result, Ok, Err, ◌⊎◌}
 use Rattle.std.specs.Io.KnownBytes.{Keeps}
 use Rattle.ofx_ports.specs.Told.{Stays}
-use Rattle.ofx_types.specs.declared.number.Moment.{Moment}
 use Rattle.ofx_types.specs.declared.told.Note.{Note}
 use Rattle.ofx_types.specs.declared.told.Note.TheVariants.{Plain, Place, Record, Illegal, NoUser, Full}
 use Rattle.ofx_types.specs.declared.told.Told.{Told}
 use Rattle.bank_model.specs.declared.setup.Setup.{Setup}
 use Rattle.bank_model.specs.declared.event.State.{State}
+use Rattle.bank_model.specs.SetupForm.{IsWithinLimits}
 use Rattle.bank_replay.specs.Opening.{Stands}
-use Rattle.bank_session.specs.Outside.{Outside}
+use Rattle.bank_session.specs.PortsView.{PortsView}
 use Rattle.bank_session.specs.SetupRead.{IsSetupOf, StopsSetup}
 use Rattle.bank_session.specs.RecordsRead.{StopsOpening}
-use Rattle.bank_session.specs.RunEnd.{RunEnds}
-use Rattle.bank_session.specs.DueEnd.{DueEnds}
-use Rattle.bank_session.specs.MailEnd.{MailEnds}
 use Rattle.bank_session.specs.declared.stop.RecordsFault.{RecordsFault}
 use Rattle.bank_session.specs.declared.stop.RecordsFault.TheVariants.{NoForm, NotLegal}
 use Rattle.bank_session.specs.declared.stop.LetterFault.{LetterFault}
@@ -49,80 +46,59 @@ told_of (Err stops.KeeperFailed) = told 8 Plain
 told_of (Err (stops.Records fault)) = told_of_records fault
 told_of (Err (stops.Letter fault)) = told_of_letter fault
 
--- A run that has no setup reads none of its input, writes and keeps nothing, and doesn't look at the clock.
-pub record EndsWithoutSetup (before after : Outside) (stop : Stop) : Type 0 where
+-- ---- how a command ends, whatever work it does in a bank
+
+-- A command that has no setup reads none of its input, writes and keeps nothing, and doesn't look at the clock. Nothing is to be
+-- settled.
+pub record EndsWithoutSetup (before after : PortsView) (stop : Stop) : Type 0 where
   pub cause : StopsSetup before.setup_left before.setup_faults after.setup_faults stop
   pub unread : Keeps before.input_left after.input_left
   pub unkept : Stays before.records after.records
   pub unwritten : Keeps before.held after.held
   pub unseen : Stays before.shown after.shown
+  pub settled : after.unsettled ≡ false
 
--- Neither does one whose bank doesn't open from its records, though it has the setup that all bytes of its source spell.
-pub record EndsWithoutBank (before after : Outside) (stop : Stop) : Type 0 where
+-- Neither does one whose bank doesn't open from its records, though it has the setup that all bytes of its source spell. Nothing
+-- is to be settled, also where a call of the keeper failed.
+pub record EndsWithoutBank (before after : PortsView) (stop : Stop) : Type 0 where
   pub setup : Setup
   pub found : IsSetupOf before.setup_left setup
+  pub within : IsWithinLimits setup
   pub cause : StopsOpening setup before.records before.keeper_faults after.keeper_faults stop
   pub unread : Keeps before.input_left after.input_left
   pub unkept : Stays before.records after.records
   pub unwritten : Keeps before.held after.held
   pub unseen : Stays before.shown after.shown
+  pub settled : after.unsettled ≡ false
 
--- A run that stops may have had no setup, or no bank.
-abbrev pub NeverOpens : Outside → Outside → Stop → Type 0
+-- A command that stops may have had no setup, or no bank.
+abbrev pub NeverOpens : PortsView → PortsView → Stop → Type 0
 NeverOpens before after stop = EndsWithoutSetup before after stop ⊎ EndsWithoutBank before after stop
 
--- A run has the setup that all bytes of its source spell and a bank that stands for its records, and answers the frames of
--- its input.
-pub record EndsWithBank (at : Option Moment) (before after : Outside) (end : Result (Unit {0}) Stop) : Type 0 where
+-- After work in a bank an append is to be settled exactly where the work stopped since that append failed.
+abbrev pub Settles : Result (Unit {0}) Stop → Bool → Type 0
+Settles (Ok done) unsettled = unsettled ≡ false
+Settles (Err stops.KeeperFailed) unsettled = unsettled ≡ true
+Settles (Err stop) unsettled = unsettled ≡ false
+
+-- A command has the setup that all bytes of its source spell, within its limits, and a bank that stands for its records, and does
+-- its work in it.
+pub record EndsWithBank (Works : Setup → State → PortsView → PortsView → Result (Unit {0}) Stop → Type 0) (before after : PortsView) (end : Result (Unit {0}) Stop) : Type 0 where
   pub setup : Setup
   pub start : State
   pub found : IsSetupOf before.setup_left setup
+  pub within : IsWithinLimits setup
   pub stands : Stands setup before.records start
-  pub ends : RunEnds setup start at before after end
+  pub ends : Works setup start before after end
+  pub settled : Settles end after.unsettled
 
-abbrev pub EndsSo : Option Moment → Outside → Outside → Result (Unit {0}) Stop → Type 0
-EndsSo at before after (Ok done) = EndsWithBank at before after (Ok done)
-EndsSo at before after (Err stop) = NeverOpens before after stop ⊎ EndsWithBank at before after (Err stop)
+-- The work is `RunEnds at` of the command `answer`, `DueEnds` of `due`, and `MailEnds name subject` of `mail`.
+abbrev pub EndsSo : (Setup → State → PortsView → PortsView → Result (Unit {0}) Stop → Type 0) → PortsView → PortsView → Result (Unit {0}) Stop → Type 0
+EndsSo Works before after (Ok done) = EndsWithBank Works before after (Ok done)
+EndsSo Works before after (Err stop) = NeverOpens before after stop ⊎ EndsWithBank Works before after (Err stop)
 
--- A run ends so, and this is told of it.
-pub record EndsWith (at : Option Moment) (before after : Outside) (what : Told) : Type 0 where
+-- A command ends so, and this is told of it.
+pub record EndsWith (Works : Setup → State → PortsView → PortsView → Result (Unit {0}) Stop → Type 0) (before after : PortsView) (what : Told) : Type 0 where
   pub end : Result (Unit {0}) Stop
   pub told_is : what ≡ told_of end
-  pub ends : EndsSo at before after end
-
--- The command `due` has that setup and that bank, and does what is due in it.
-pub record DueEndsWithBank (before after : Outside) (end : Result (Unit {0}) Stop) : Type 0 where
-  pub setup : Setup
-  pub start : State
-  pub found : IsSetupOf before.setup_left setup
-  pub stands : Stands setup before.records start
-  pub ends : DueEnds setup start before after end
-
-abbrev pub DueEndsSo : Outside → Outside → Result (Unit {0}) Stop → Type 0
-DueEndsSo before after (Ok done) = DueEndsWithBank before after (Ok done)
-DueEndsSo before after (Err stop) = NeverOpens before after stop ⊎ DueEndsWithBank before after (Err stop)
-
--- The command ends so, and this is told of it.
-pub record DueEndsWith (before after : Outside) (what : Told) : Type 0 where
-  pub end : Result (Unit {0}) Stop
-  pub told_is : what ≡ told_of end
-  pub ends : DueEndsSo before after end
-
--- The command `mail` has that setup and that bank, and writes a letter in it.
-pub record MailEndsWithBank (name subject : List ℕ) (before after : Outside) (end : Result (Unit {0}) Stop) : Type 0 where
-  pub setup : Setup
-  pub start : State
-  pub found : IsSetupOf before.setup_left setup
-  pub stands : Stands setup before.records start
-  pub ends : MailEnds (record { setup = setup; state = start }) name subject before after end
-
-abbrev pub MailEndsSo : List ℕ → List ℕ → Outside → Outside → Result (Unit {0}) Stop → Type 0
-MailEndsSo name subject before after (Ok done) = MailEndsWithBank name subject before after (Ok done)
-MailEndsSo name subject before after (Err stop) =
-    NeverOpens before after stop ⊎ MailEndsWithBank name subject before after (Err stop)
-
--- The command ends so, and this is told of it.
-pub record MailEndsWith (name subject : List ℕ) (before after : Outside) (what : Told) : Type 0 where
-  pub end : Result (Unit {0}) Stop
-  pub told_is : what ≡ told_of end
-  pub ends : MailEndsSo name subject before after end
+  pub ends : EndsSo Works before after end

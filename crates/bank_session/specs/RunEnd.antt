@@ -9,13 +9,13 @@ use Rattle.bank_model.specs.declared.setup.Setup.{Setup}
 use Rattle.bank_model.specs.declared.event.State.{State}
 use Rattle.bank_frames.specs.Frames.{Content, frame_of, Fits, BeginsNoFrame}
 use Rattle.bank_session.specs.Answers.{AnswersFrame, Turn, AreTurns, read_in, written_in, records_in, moments_in, AreMoments, IsPrefixKept, IsKeptWhereRefused}
-use Rattle.bank_session.specs.Outside.{Outside}
+use Rattle.bank_session.specs.PortsView.{PortsView}
 use Rattle.bank_session.specs.declared.stop.Stop.{Stop}
 use Rattle.bank_session.specs.declared.stop.Stop.TheVariants as stops
 
 -- A run has taken these turns from a state, at most 1,000,000. Where the input is told it began with the frames of the turns,
 -- and behind them came the bytes that were read ahead and those that it has left.
-pub record Taken (setup : Setup) (start : State) (before after : Outside) (turns : List Turn) (state : State) (ahead : List ℕ) : Type 0 where
+pub record Taken (setup : Setup) (start : State) (before after : PortsView) (turns : List Turn) (state : State) (ahead : List ℕ) : Type 0 where
   pub are_turns : AreTurns setup start turns state
   pub few : length turns ≤ 1000000
   pub read : Consumes before.input_left (prepend_known ahead after.input_left) (read_in turns)
@@ -25,7 +25,7 @@ abbrev pub ComesNext : Content → Option (List ℕ) → Type 0
 ComesNext content coming = IfSome coming (λ rest. (tail : List ℕ) × (rest ≡ frame_of content ++ tail))
 
 -- The input was read to its end, every frame of it was answered, the records are kept and the lines are written.
-pub record Finished (setup : Setup) (start : State) (at : Option Moment) (before after : Outside) : Type 0 where
+pub record Finished (setup : Setup) (start : State) (at : Option Moment) (before after : PortsView) : Type 0 where
   pub turns : List Turn
   pub state : State
   pub ahead : List ℕ
@@ -46,7 +46,7 @@ pub record RefusedIn (setup : Setup) (state : State) (coming : Option (List ℕ)
 
 -- Memory was refused. The frames of the turns are answered whole, and nothing more is written. The clock may have been
 -- read for the next frame, and where that is a call for due work a prefix of its events may have happened and be kept.
-pub record StoppedBetween (setup : Setup) (start : State) (at : Option Moment) (before after : Outside) : Type 0 where
+pub record StoppedBetween (setup : Setup) (start : State) (at : Option Moment) (before after : PortsView) : Type 0 where
   pub turns : List Turn
   pub state : State
   pub ahead : List ℕ
@@ -60,7 +60,7 @@ pub record StoppedBetween (setup : Setup) (start : State) (at : Option Moment) (
   pub kept : Grows before.records after.records (records_in turns ++ records)
 
 -- A read failed when every frame that was read whole was answered, as far as a run answers frames.
-pub record StoppedInRead (setup : Setup) (start : State) (at : Option Moment) (before after : Outside) : Type 0 where
+pub record StoppedInRead (setup : Setup) (start : State) (at : Option Moment) (before after : PortsView) : Type 0 where
   pub turns : List Turn
   pub state : State
   pub ahead : List ℕ
@@ -72,7 +72,7 @@ pub record StoppedInRead (setup : Setup) (start : State) (at : Option Moment) (b
 
 -- More is to come at this place of the input: bytes that begin no frame, or anything behind the most frames that a run
 -- answers.
-pub record StoppedAtFrame (setup : Setup) (start : State) (at : Option Moment) (before after : Outside) (place : ℕ) : Type 0 where
+pub record StoppedAtFrame (setup : Setup) (start : State) (at : Option Moment) (before after : PortsView) (place : ℕ) : Type 0 where
   pub turns : List Turn
   pub state : State
   pub ahead : List ℕ
@@ -84,7 +84,7 @@ pub record StoppedAtFrame (setup : Setup) (start : State) (at : Option Moment) (
   pub moments : AreMoments at before.shown after.shown (moments_in turns)
 
 -- A write failed. A prefix of the line of the next frame, of which all is kept, is written behind the lines of the turns.
-pub record StoppedInLine (setup : Setup) (start : State) (at : Option Moment) (before after : Outside) : Type 0 where
+pub record StoppedInLine (setup : Setup) (start : State) (at : Option Moment) (before after : PortsView) : Type 0 where
   pub turns : List Turn
   pub state : State
   pub ahead : List ℕ
@@ -105,7 +105,7 @@ pub record StoppedInLine (setup : Setup) (start : State) (at : Option Moment) (b
 
 -- The append of a record failed. Of the next frame nothing is written. Kept of it are the records of the events that happened
 -- before, and perhaps the record whose append failed.
-pub record StoppedInKeeping (setup : Setup) (start : State) (at : Option Moment) (before after : Outside) : Type 0 where
+pub record StoppedInKeeping (setup : Setup) (start : State) (at : Option Moment) (before after : PortsView) : Type 0 where
   pub turns : List Turn
   pub state : State
   pub ahead : List ℕ
@@ -122,14 +122,14 @@ pub record StoppedInKeeping (setup : Setup) (start : State) (at : Option Moment)
   pub moments : AreMoments at before.shown after.shown (moments_in turns ++ moment ∷ [])
 
 -- What stands at each end of a run in a bank that stands in a state.
-abbrev pub RunEnds : Setup → State → Option Moment → Outside → Outside → Result (Unit {0}) Stop → Type 0
-RunEnds setup start at before after (Ok done) = Finished setup start at before after
-RunEnds setup start at before after (Err (stops.Frame place)) = StoppedAtFrame setup start at before after place
-RunEnds setup start at before after (Err stops.ReadFailed) = StoppedInRead setup start at before after × Rose before.input_faults after.input_faults
-RunEnds setup start at before after (Err stops.WriteFailed) = StoppedInLine setup start at before after × Rose before.out_faults after.out_faults
-RunEnds setup start at before after (Err stops.KeeperFailed) = StoppedInKeeping setup start at before after × Rose before.keeper_faults after.keeper_faults
-RunEnds setup start at before after (Err stops.NoMemory) = StoppedBetween setup start at before after
-RunEnds setup start at before after (Err stops.Usage) = ⊥
-RunEnds setup start at before after (Err (stops.Setup line)) = ⊥
-RunEnds setup start at before after (Err (stops.Records fault)) = ⊥
-RunEnds setup start at before after (Err (stops.Letter fault)) = ⊥
+abbrev pub RunEnds : Option Moment → Setup → State → PortsView → PortsView → Result (Unit {0}) Stop → Type 0
+RunEnds at setup start before after (Ok done) = Finished setup start at before after
+RunEnds at setup start before after (Err (stops.Frame place)) = StoppedAtFrame setup start at before after place
+RunEnds at setup start before after (Err stops.ReadFailed) = StoppedInRead setup start at before after × Rose before.input_faults after.input_faults
+RunEnds at setup start before after (Err stops.WriteFailed) = StoppedInLine setup start at before after × Rose before.out_faults after.out_faults
+RunEnds at setup start before after (Err stops.KeeperFailed) = StoppedInKeeping setup start at before after × Rose before.keeper_faults after.keeper_faults
+RunEnds at setup start before after (Err stops.NoMemory) = StoppedBetween setup start at before after
+RunEnds at setup start before after (Err stops.Usage) = ⊥
+RunEnds at setup start before after (Err (stops.Setup line)) = ⊥
+RunEnds at setup start before after (Err (stops.Records fault)) = ⊥
+RunEnds at setup start before after (Err (stops.Letter fault)) = ⊥

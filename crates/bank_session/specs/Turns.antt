@@ -15,7 +15,7 @@ use Rattle.bank_desk.specs.declared.fault.DeskFault.TheVariants.{NoMemory, Appen
 
 -- What a turn finds and leaves outside of it: what is still to come of the input, the bytes that the output holds, the records
 -- that the keeper has, the answers that the clock has given, and the three counts of faults.
-pub record Around : Type 0 where
+pub record TurnView : Type 0 where
   pub coming : Option (List ℕ)
   pub reads : ℕ
   pub held : Option (List ℕ)
@@ -24,8 +24,8 @@ pub record Around : Type 0 where
   pub keeps : ℕ
   pub shown : Option (List Moment)
 
-abbrev pub around : Option (List ℕ) → ℕ → Option (List ℕ) → ℕ → Option (List (List ℕ)) → ℕ → Option (List Moment) → Around
-around coming reads held writes records keeps shown = record {
+abbrev pub turn_view : Option (List ℕ) → ℕ → Option (List ℕ) → ℕ → Option (List (List ℕ)) → ℕ → Option (List Moment) → TurnView
+turn_view coming reads held writes records keeps shown = record {
   coming = coming;
   reads = reads;
   held = held;
@@ -54,7 +54,7 @@ HasNoLine at before content told told' NoMemory = KeepsRefused at before content
 HasNoLine at before content told told' AppendFailed = KeepsPrefix at before content told told'
 
 -- The next frame, of so many bytes, is used up, its records are kept, and its line is written whole.
-pub record FrameAnswered (at : Moment) (size : ℕ) (before after : BookView) (found left : Around) : Type 0 where
+pub record FrameAnswered (at : Moment) (size : ℕ) (before after : BookView) (found left : TurnView) : Type 0 where
   pub content : Content
   pub line : List ℕ
   pub fits : Fits content
@@ -65,13 +65,13 @@ pub record FrameAnswered (at : Moment) (size : ℕ) (before after : BookView) (f
   pub written : Appends found.held left.held line
 
 -- A frame that comes next stays where it is.
-pub record FrameStays (content : Content) (found left : Around) : Type 0 where
+pub record FrameStays (content : Content) (found left : TurnView) : Type 0 where
   pub fits : Fits content
   pub unread : Keeps found.coming left.coming
   pub begins : ComesNext content left.coming
 
 -- The write of the line for the next frame failed: its records are kept, and a prefix of the line is written.
-pub record WriteBroke (at : Moment) (before : BookView) (found left : Around) : Type 0 where
+pub record WriteBroke (at : Moment) (before : BookView) (found left : TurnView) : Type 0 where
   pub content : Content
   pub line : List ℕ
   pub after : BookView
@@ -81,21 +81,21 @@ pub record WriteBroke (at : Moment) (before : BookView) (found left : Around) : 
   pub written : Appends found.held left.held (take count line)
 
 -- The append of a record of the next frame failed: nothing is written.
-pub record AppendBroke (at : Moment) (before : BookView) (found left : Around) : Type 0 where
+pub record AppendBroke (at : Moment) (before : BookView) (found left : TurnView) : Type 0 where
   pub content : Content
   pub stays : FrameStays content found left
   pub keeps : KeepsPrefix at before content found.records left.records
   pub unwritten : Keeps found.held left.held
 
 -- Memory for the next frame was refused: nothing is written.
-pub record MemoryRefused (at : Moment) (before : BookView) (found left : Around) : Type 0 where
+pub record MemoryRefused (at : Moment) (before : BookView) (found left : TurnView) : Type 0 where
   pub content : Content
   pub stays : FrameStays content found left
   pub keeps : KeepsRefused at before content found.records left.records
   pub unwritten : Keeps found.held left.held
 
 -- Why a run stops in a frame that is there: a write or an append failed, or memory was refused.
-abbrev pub FrameStops : Moment → BookView → Around → Around → Stop → Type 0
+abbrev pub FrameStops : Moment → BookView → TurnView → TurnView → Stop → Type 0
 FrameStops at before found left stops.WriteFailed = WriteBroke at before found left × Rose found.writes left.writes
 FrameStops at before found left stops.KeeperFailed = AppendBroke at before found left × Rose found.keeps left.keeps
 FrameStops at before found left stops.NoMemory = MemoryRefused at before found left
@@ -107,6 +107,6 @@ FrameStops at before found left (stops.Records fault) = ⊥
 FrameStops at before found left (stops.Letter fault) = ⊥
 
 -- The next frame was answered, or the run stops in it.
-abbrev pub FrameResult : Moment → ℕ → BookView → BookView → Around → Around → Result (Unit {0}) Stop → Type 0
+abbrev pub FrameResult : Moment → ℕ → BookView → BookView → TurnView → TurnView → Result (Unit {0}) Stop → Type 0
 FrameResult at size before after found left (Ok done) = FrameAnswered at size before after found left
 FrameResult at size before after found left (Err stop) = FrameStops at before found left stop

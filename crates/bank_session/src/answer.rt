@@ -6,14 +6,15 @@ ghost use Rattle.ofx_types.specs.declared.number.Moment.{Moment as TheMoment};
 ghost use Rattle.ofx_types.specs.declared.told.Told.{Told as WhatIsTold};
 ghost use Rattle.bank_session.specs.Words.{AreWords, AreDueWords, AreMailWords, IsUsage};
 ghost use Rattle.bank_session.specs.WordsRead.{IsLawful};
-ghost use Rattle.bank_session.specs.Outside.{outside};
 ghost use Rattle.bank_session.specs.Run as runs;
+ghost use Rattle.bank_session.specs.RunEnd.{RunEnds};
 ghost use Rattle.bank_session.specs.Run.{EndsSo, told_of, told_of_letter, told_of_records};
 ghost use Rattle.bank_session.specs.Exact.{IsRun, IsDueCommand, IsMailCommand};
 
 use crate::due::do_due_once;
 use crate::mail::send_letter;
 use crate::opening::{one_bank, open_desk};
+use crate::ports::Ports;
 use crate::run::answer_frames as answer_input;
 use crate::setup_source::read_setup;
 use crate::stop::{LetterFault, RecordsFault, Stop};
@@ -36,9 +37,9 @@ fn run<A: Source, B: Source, W: Sink, K: Keeper, C: Clock>(
 ) -> Result<(), Stop>
     requires moment { IsLawful at }
     requires settled { K.unsettled keeper.old ≡ false }
-    ensures ends { EndsSo at
-        (outside (A.left setup.old) (A.faults setup.old) (B.left input.old) (B.faults input.old) (W.held out.old) (W.faults out.old) (K.records keeper.old) (K.faults keeper.old) (C.told clock.old))
-        (outside (A.left setup.new) (A.faults setup.new) (B.left input.new) (B.faults input.new) (W.held out.new) (W.faults out.new) (K.records keeper.new) (K.faults keeper.new) (C.told clock.new)) result }
+    ensures ends { EndsSo (RunEnds at)
+        (⟦<(A, B, W, K, C) as Ports>⟧.seen (setup.old, input.old, out.old, keeper.old, clock.old))
+        (⟦<(A, B, W, K, C) as Ports>⟧.seen (setup.new, input.new, out.new, keeper.new, clock.new)) result }
     ensures settled { result ≢ Err Stop.KeeperFailed → K.unsettled keeper.new ≡ false }
     ensures still { IsSome at → clock.new ≡ clock.old }
 {
@@ -48,7 +49,7 @@ fn run<A: Source, B: Source, W: Sink, K: Keeper, C: Clock>(
 }
 
 /// What is told of an end.
-fn end_told(end: Result<(), Stop>) -> Told
+pub fn end_told(end: Result<(), Stop>) -> Told
     ensures { result ≡ told_of end }
 {
     match end {
@@ -173,18 +174,18 @@ pub fn answer_told<A: Source, B: Source, W: Sink, K: Keeper, C: Clock>(
     // What is written and kept, for which frames and at which moments, and why the run ended; and that what the setup, the
     // records and the input are decides what is told, unless something of the outside fails or memory is refused.
     ensures run { (at : Option TheMoment) → AreWords words.now at → IsRun at
-        (outside (A.left setup.old) (A.faults setup.old) (B.left input.old) (B.faults input.old) (W.held out.old) (W.faults out.old) (K.records keeper.old) (K.faults keeper.old) (C.told clock.old))
-        (outside (A.left setup.new) (A.faults setup.new) (B.left input.new) (B.faults input.new) (W.held out.new) (W.faults out.new) (K.records keeper.new) (K.faults keeper.new) (C.told clock.new)) result }
+        (⟦<(A, B, W, K, C) as Ports>⟧.seen (setup.old, input.old, out.old, keeper.old, clock.old))
+        (⟦<(A, B, W, K, C) as Ports>⟧.seen (setup.new, input.new, out.new, keeper.new, clock.new)) result }
 
     // The same of `due`, which leaves the input as it is.
     ensures due { AreDueWords words.now → (input.new ≡ input.old) × IsDueCommand
-        (outside (A.left setup.old) (A.faults setup.old) (B.left input.old) (B.faults input.old) (W.held out.old) (W.faults out.old) (K.records keeper.old) (K.faults keeper.old) (C.told clock.old))
-        (outside (A.left setup.new) (A.faults setup.new) (B.left input.new) (B.faults input.new) (W.held out.new) (W.faults out.new) (K.records keeper.new) (K.faults keeper.new) (C.told clock.new)) result }
+        (⟦<(A, B, W, K, C) as Ports>⟧.seen (setup.old, input.old, out.old, keeper.old, clock.old))
+        (⟦<(A, B, W, K, C) as Ports>⟧.seen (setup.new, input.new, out.new, keeper.new, clock.new)) result }
 
     // The same of `mail`.
     ensures mail { (name subject : List ℕ) → AreMailWords words.now name subject → IsMailCommand name subject
-        (outside (A.left setup.old) (A.faults setup.old) (B.left input.old) (B.faults input.old) (W.held out.old) (W.faults out.old) (K.records keeper.old) (K.faults keeper.old) (C.told clock.old))
-        (outside (A.left setup.new) (A.faults setup.new) (B.left input.new) (B.faults input.new) (W.held out.new) (W.faults out.new) (K.records keeper.new) (K.faults keeper.new) (C.told clock.new)) result }
+        (⟦<(A, B, W, K, C) as Ports>⟧.seen (setup.old, input.old, out.old, keeper.old, clock.old))
+        (⟦<(A, B, W, K, C) as Ports>⟧.seen (setup.new, input.new, out.new, keeper.new, clock.new)) result }
 
     // Only an append that failed leaves something to be settled.
     ensures settled { result.status.0 ≢ 8 → K.unsettled keeper.new ≡ false }
@@ -220,14 +221,14 @@ pub fn answer_files<A: Source, B: Source, W: Sink, K: Keeper, C: Clock>(
 
     // The run is that of which the status is told.
     ensures run { (at : Option TheMoment) → AreWords words.now at → (what : WhatIsTold) × (what.status ≡ result) × IsRun at
-        (outside (A.left setup.old) (A.faults setup.old) (B.left input.old) (B.faults input.old) (W.held out.old) (W.faults out.old) (K.records keeper.old) (K.faults keeper.old) (C.told clock.old))
-        (outside (A.left setup.new) (A.faults setup.new) (B.left input.new) (B.faults input.new) (W.held out.new) (W.faults out.new) (K.records keeper.new) (K.faults keeper.new) (C.told clock.new)) what }
+        (⟦<(A, B, W, K, C) as Ports>⟧.seen (setup.old, input.old, out.old, keeper.old, clock.old))
+        (⟦<(A, B, W, K, C) as Ports>⟧.seen (setup.new, input.new, out.new, keeper.new, clock.new)) what }
     ensures due { AreDueWords words.now → (input.new ≡ input.old) × ((what : WhatIsTold) × (what.status ≡ result) × IsDueCommand
-        (outside (A.left setup.old) (A.faults setup.old) (B.left input.old) (B.faults input.old) (W.held out.old) (W.faults out.old) (K.records keeper.old) (K.faults keeper.old) (C.told clock.old))
-        (outside (A.left setup.new) (A.faults setup.new) (B.left input.new) (B.faults input.new) (W.held out.new) (W.faults out.new) (K.records keeper.new) (K.faults keeper.new) (C.told clock.new)) what) }
+        (⟦<(A, B, W, K, C) as Ports>⟧.seen (setup.old, input.old, out.old, keeper.old, clock.old))
+        (⟦<(A, B, W, K, C) as Ports>⟧.seen (setup.new, input.new, out.new, keeper.new, clock.new)) what) }
     ensures mail { (name subject : List ℕ) → AreMailWords words.now name subject → (what : WhatIsTold) × (what.status ≡ result) × IsMailCommand name subject
-        (outside (A.left setup.old) (A.faults setup.old) (B.left input.old) (B.faults input.old) (W.held out.old) (W.faults out.old) (K.records keeper.old) (K.faults keeper.old) (C.told clock.old))
-        (outside (A.left setup.new) (A.faults setup.new) (B.left input.new) (B.faults input.new) (W.held out.new) (W.faults out.new) (K.records keeper.new) (K.faults keeper.new) (C.told clock.new)) what }
+        (⟦<(A, B, W, K, C) as Ports>⟧.seen (setup.old, input.old, out.old, keeper.old, clock.old))
+        (⟦<(A, B, W, K, C) as Ports>⟧.seen (setup.new, input.new, out.new, keeper.new, clock.new)) what }
 
     ensures settled { result.0 ≢ 8 → K.unsettled keeper.new ≡ false }
     ensures clock { (at : TheMoment) → AreWords words.now (Some at) → clock.new ≡ clock.old }

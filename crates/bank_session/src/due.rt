@@ -1,9 +1,9 @@
 //! The command `due`: what is due in a bank that opens from its records, done once.
 
-ghost use Rattle.std.specs.Prelude.{◌≡◌, ◌≢◌, ◌≤◌, ℕ, false, List, Option, Err};
-ghost use Rattle.bank_session.specs.Outside.{outside};
+ghost use Rattle.std.specs.Prelude.{◌≡◌, ◌≢◌, ◌≤◌, ℕ, true, false, List, Option, Err};
+ghost use Rattle.bank_session.specs.PortsView.{ports_view};
 ghost use Rattle.bank_session.specs.DueEnd.{DueEnds};
-ghost use Rattle.bank_session.specs.Run.{DueEndsSo};
+ghost use Rattle.bank_session.specs.Run.{EndsSo};
 
 use crate::lines::due_line;
 use crate::opening::open_desk;
@@ -25,9 +25,9 @@ pub fn do_due_once<A: Source, W: Sink, K: Keeper, C: Clock>(
 ) -> Result<(), Stop>
     requires { K.unsettled keeper.old ≡ false }
     // Whatever stands of the input:
-    ensures ends { (left : Option (List ℕ)) (faults : ℕ) → DueEndsSo
-        (outside (A.left setup.old) (A.faults setup.old) left faults (W.held out.old) (W.faults out.old) (K.records keeper.old) (K.faults keeper.old) (C.told clock.old))
-        (outside (A.left setup.new) (A.faults setup.new) left faults (W.held out.new) (W.faults out.new) (K.records keeper.new) (K.faults keeper.new) (C.told clock.new)) result }
+    ensures ends { (left : Option (List ℕ)) (faults : ℕ) → EndsSo DueEnds
+        (ports_view (A.left setup.old) (A.faults setup.old) left faults (W.held out.old) (W.faults out.old) (K.records keeper.old) (K.faults keeper.old) (C.told clock.old) (K.unsettled keeper.old))
+        (ports_view (A.left setup.new) (A.faults setup.new) left faults (W.held out.new) (W.faults out.new) (K.records keeper.new) (K.faults keeper.new) (C.told clock.new) (K.unsettled keeper.new)) result }
     ensures settled { result ≢ Err Stop.KeeperFailed → K.unsettled keeper.new ≡ false }
     ensures later { K.faults keeper.old ≤ K.faults keeper.new }
 {
@@ -47,9 +47,10 @@ fn write_due<W: Sink, K: Keeper, C: Clock>(
     requires { K.unsettled keeper.old ≡ false }
     // Whatever stands of the input and of the source of the setup:
     ensures ends { (setup_left setup_left' left : Option (List ℕ)) (setup_faults setup_faults' faults : ℕ) → DueEnds desk.old.setup desk.old.state
-        (outside setup_left setup_faults left faults (W.held out.old) (W.faults out.old) (K.records keeper.old) (K.faults keeper.old) (C.told clock.old))
-        (outside setup_left' setup_faults' left faults (W.held out.new) (W.faults out.new) (K.records keeper.new) (K.faults keeper.new) (C.told clock.new)) result }
+        (ports_view setup_left setup_faults left faults (W.held out.old) (W.faults out.old) (K.records keeper.old) (K.faults keeper.old) (C.told clock.old) (K.unsettled keeper.old))
+        (ports_view setup_left' setup_faults' left faults (W.held out.new) (W.faults out.new) (K.records keeper.new) (K.faults keeper.new) (C.told clock.new) (K.unsettled keeper.new)) result }
     ensures settled { result ≢ Err Stop.KeeperFailed → K.unsettled keeper.new ≡ false }
+    ensures unsettled { result ≡ Err Stop.KeeperFailed → K.unsettled keeper.new ≡ true }
     ensures later { K.faults keeper.old ≤ K.faults keeper.new }
 {
     let moment = clock.now();

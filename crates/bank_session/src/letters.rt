@@ -1,6 +1,6 @@
 //! Letters of the bank to a user.
 
-ghost use Rattle.std.specs.Prelude.{◌≡◌, ◌≢◌, ℕ, true, false, List, [], ◌∷◌, Err, IfOk, OnErr, IsErrOf};
+ghost use Rattle.std.specs.Prelude.{◌≡◌, ◌≢◌, ℕ, true, false, List, [], ◌∷◌, Err, IfOk, IsErrOf};
 ghost use Rattle.ofx_ports.specs.Faults.{CountsFaults};
 ghost use Rattle.ofx_ports.specs.Told.{Stays, Grows};
 ghost use Rattle.ofx_ports.specs.Kept.{MayGrow};

@@ -15,15 +15,20 @@ mod lines;
 mod mail;
 mod moments;
 mod opening;
+mod ports;
 mod run;
 mod setup_source;
 mod stop;
 mod turn;
 mod words;
 
-pub use answer::{answer_files, answer_told};
+pub use answer::{answer_files, answer_told, end_told};
 pub use laws::{
     exact_lines, letters_reopen, one_due_run, one_line, one_output, one_refusal, one_signon,
     one_splitting, runs_keep_the_books, runs_reopen, stopped_runs_reopen,
 };
+pub use opening::{one_bank, opening_stop};
+pub use ports::Ports;
+pub use setup_source::read_setup;
+pub use stop::{LetterFault, RecordsFault, Stop};
 pub use words::{AnswerWords, Command, command_of};

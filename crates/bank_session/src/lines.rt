@@ -10,7 +10,7 @@ ghost use Rattle.bank_frames.specs.Frames.{IsLength};
 ghost use Rattle.bank_session.specs.Answers.{AnswersFile, DoesDue, IsPrefixKept};
 
 use bank_desk::{Answered, Desk, DeskFault, Envelope};
-use bank_frames::{bad_file_line, due_work_line, framed};
+use bank_frames::{bad_file_line, due_work_line, due_work_room, framed};
 use ofx_ports::Keeper;
 use ofx_types::{Moment, OutOfMemory};
 use std::alloc::Global;
@@ -59,7 +59,7 @@ pub fn file_line<K: Keeper>(
 }
 
 /// Does what is due at that moment, and gives the line of how many events that were. Where it isn't done, a prefix of them has
-/// happened.
+/// happened. The room of the line is taken before the first of them.
 pub fn due_line<K: Keeper>(
     alloc: Global,
     desk: &mut Desk,
@@ -79,6 +79,7 @@ pub fn due_line<K: Keeper>(
     ensures unsettled { result ≡ Err DeskFault.AppendFailed → K.unsettled keeper.new ≡ true }
     ensures faults { CountsFaults (K.faults keeper.old) (K.faults keeper.new) (IsErrOf result DeskFault.AppendFailed) }
 {
+    let room = due_work_room(alloc)?;
     let count = desk.due(alloc, keeper, at)?;
-    Ok(due_work_line(alloc, count)?)
+    Ok(due_work_line(count, room))
 }

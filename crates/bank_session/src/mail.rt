@@ -1,17 +1,19 @@
 //! The command `mail`: a letter to a user of a bank that opens from its records.
 
-ghost use Rattle.std.specs.Prelude.{◌≡◌, ◌≢◌, ◌≤◌, ℕ, false, List, Option, Some, Err};
+ghost use Rattle.std.specs.Prelude.{◌≡◌, ◌≢◌, ◌≤◌, ℕ, true, false, List, Option, Some, Err};
+ghost use Rattle.bank_model.specs.SetupLookups.{user_of};
 ghost use Rattle.bank_model.specs.Sound.{IsTextWithin};
 ghost use Rattle.bank_session.specs.Words.{AreMailWords, AskForLetter};
-ghost use Rattle.bank_session.specs.Outside.{outside};
-ghost use Rattle.bank_session.specs.Letters.{CanWrite, user_named};
+ghost use Rattle.bank_session.specs.PortsView.{ports_view};
+ghost use Rattle.bank_session.specs.Letters.{CanWrite};
 ghost use Rattle.bank_session.specs.MailEnd.{LetterEnds, MailEnds};
-ghost use Rattle.bank_session.specs.Run.{MailEndsSo};
+ghost use Rattle.bank_session.specs.Run.{EndsSo};
 
 use crate::addressee::addressee;
 use crate::body::read_body;
 use crate::letters::letter;
 use crate::opening::open_desk;
+use crate::ports::Ports;
 use crate::setup_source::read_setup;
 use crate::stop::Stop;
 use bank_desk::Desk;
@@ -33,9 +35,9 @@ pub fn send_letter<A: Source, B: Source, W: Sink, K: Keeper, C: Clock>(
 ) -> Result<(), Stop>
     requires words { AskForLetter words.now }
     requires settled { K.unsettled keeper.old ≡ false }
-    ensures ends { (name subject : List ℕ) → AreMailWords words.now name subject → MailEndsSo name subject
-        (outside (A.left setup.old) (A.faults setup.old) (B.left input.old) (B.faults input.old) (W.held out.old) (W.faults out.old) (K.records keeper.old) (K.faults keeper.old) (C.told clock.old))
-        (outside (A.left setup.new) (A.faults setup.new) (B.left input.new) (B.faults input.new) (W.held out.new) (W.faults out.new) (K.records keeper.new) (K.faults keeper.new) (C.told clock.new)) result }
+    ensures ends { (name subject : List ℕ) → AreMailWords words.now name subject → EndsSo (MailEnds name subject)
+        (⟦<(A, B, W, K, C) as Ports>⟧.seen (setup.old, input.old, out.old, keeper.old, clock.old))
+        (⟦<(A, B, W, K, C) as Ports>⟧.seen (setup.new, input.new, out.new, keeper.new, clock.new)) result }
     ensures settled { result ≢ Err Stop.KeeperFailed → K.unsettled keeper.new ≡ false }
     ensures later { K.faults keeper.old ≤ K.faults keeper.new }
 {
@@ -58,9 +60,9 @@ fn send<A: Source, B: Source, W: Sink, K: Keeper, C: Clock>(
 ) -> Result<(), Stop>
     requires subject { IsTextWithin 64 subject.now }
     requires settled { K.unsettled keeper.old ≡ false }
-    ensures ends { MailEndsSo name.now subject.now
-        (outside (A.left setup.old) (A.faults setup.old) (B.left input.old) (B.faults input.old) (W.held out.old) (W.faults out.old) (K.records keeper.old) (K.faults keeper.old) (C.told clock.old))
-        (outside (A.left setup.new) (A.faults setup.new) (B.left input.new) (B.faults input.new) (W.held out.new) (W.faults out.new) (K.records keeper.new) (K.faults keeper.new) (C.told clock.new)) result }
+    ensures ends { EndsSo (MailEnds name.now subject.now)
+        (⟦<(A, B, W, K, C) as Ports>⟧.seen (setup.old, input.old, out.old, keeper.old, clock.old))
+        (⟦<(A, B, W, K, C) as Ports>⟧.seen (setup.new, input.new, out.new, keeper.new, clock.new)) result }
     ensures settled { result ≢ Err Stop.KeeperFailed → K.unsettled keeper.new ≡ false }
     ensures later { K.faults keeper.old ≤ K.faults keeper.new }
 {
@@ -83,10 +85,11 @@ fn send_at<B: Source, W: Sink, K: Keeper, C: Clock>(
     requires subject { IsTextWithin 64 subject.now }
     requires settled { K.unsettled keeper.old ≡ false }
     // Whatever stands of the source of the setup:
-    ensures ends { (setup_left setup_left' : Option (List ℕ)) (setup_faults setup_faults' : ℕ) → MailEnds desk.old name.now subject.now
-        (outside setup_left setup_faults (B.left input.old) (B.faults input.old) (W.held out.old) (W.faults out.old) (K.records keeper.old) (K.faults keeper.old) (C.told clock.old))
-        (outside setup_left' setup_faults' (B.left input.new) (B.faults input.new) (W.held out.new) (W.faults out.new) (K.records keeper.new) (K.faults keeper.new) (C.told clock.new)) result }
+    ensures ends { (setup_left setup_left' : Option (List ℕ)) (setup_faults setup_faults' : ℕ) → MailEnds name.now subject.now desk.old.setup desk.old.state
+        (ports_view setup_left setup_faults (B.left input.old) (B.faults input.old) (W.held out.old) (W.faults out.old) (K.records keeper.old) (K.faults keeper.old) (C.told clock.old) (K.unsettled keeper.old))
+        (ports_view setup_left' setup_faults' (B.left input.new) (B.faults input.new) (W.held out.new) (W.faults out.new) (K.records keeper.new) (K.faults keeper.new) (C.told clock.new) (K.unsettled keeper.new)) result }
     ensures settled { result ≢ Err Stop.KeeperFailed → K.unsettled keeper.new ≡ false }
+    ensures unsettled { result ≡ Err Stop.KeeperFailed → K.unsettled keeper.new ≡ true }
     ensures later { K.faults keeper.old ≤ K.faults keeper.new }
 {
     let body = read_body(alloc, input)?;
@@ -109,9 +112,10 @@ fn write_letter<W: Sink, K: Keeper, C: Clock>(
     requires settled { K.unsettled keeper.old ≡ false }
     // Whatever stands of the input and of the source of the setup:
     ensures ends { (setup_left setup_left' left left' : Option (List ℕ)) (setup_faults setup_faults' faults faults' : ℕ) → LetterEnds desk.old name.now subject.now body
-        (outside setup_left setup_faults left faults (W.held out.old) (W.faults out.old) (K.records keeper.old) (K.faults keeper.old) (C.told clock.old))
-        (outside setup_left' setup_faults' left' faults' (W.held out.new) (W.faults out.new) (K.records keeper.new) (K.faults keeper.new) (C.told clock.new)) result }
+        (ports_view setup_left setup_faults left faults (W.held out.old) (W.faults out.old) (K.records keeper.old) (K.faults keeper.old) (C.told clock.old) (K.unsettled keeper.old))
+        (ports_view setup_left' setup_faults' left' faults' (W.held out.new) (W.faults out.new) (K.records keeper.new) (K.faults keeper.new) (C.told clock.new) (K.unsettled keeper.new)) result }
     ensures settled { result ≢ Err Stop.KeeperFailed → K.unsettled keeper.new ≡ false }
+    ensures unsettled { result ≡ Err Stop.KeeperFailed → K.unsettled keeper.new ≡ true }
     ensures later { K.faults keeper.old ≤ K.faults keeper.new }
 {
     match addressee(desk, name) {
@@ -133,10 +137,11 @@ fn write_to<W: Sink, K: Keeper, C: Clock>(
 ) -> Result<(), Stop>
     requires to { CanWrite desk.old to subject.now body }
     requires settled { K.unsettled keeper.old ≡ false }
-    ensures ends { (setup_left setup_left' left left' : Option (List ℕ)) (setup_faults setup_faults' faults faults' : ℕ) (name : List ℕ) → user_named desk.old.setup name ≡ Some to.0 → LetterEnds desk.old name subject.now body
-        (outside setup_left setup_faults left faults (W.held out.old) (W.faults out.old) (K.records keeper.old) (K.faults keeper.old) (C.told clock.old))
-        (outside setup_left' setup_faults' left' faults' (W.held out.new) (W.faults out.new) (K.records keeper.new) (K.faults keeper.new) (C.told clock.new)) result }
+    ensures ends { (setup_left setup_left' left left' : Option (List ℕ)) (setup_faults setup_faults' faults faults' : ℕ) (name : List ℕ) → user_of desk.old.setup name ≡ Some to.0 → LetterEnds desk.old name subject.now body
+        (ports_view setup_left setup_faults left faults (W.held out.old) (W.faults out.old) (K.records keeper.old) (K.faults keeper.old) (C.told clock.old) (K.unsettled keeper.old))
+        (ports_view setup_left' setup_faults' left' faults' (W.held out.new) (W.faults out.new) (K.records keeper.new) (K.faults keeper.new) (C.told clock.new) (K.unsettled keeper.new)) result }
     ensures settled { result ≢ Err Stop.KeeperFailed → K.unsettled keeper.new ≡ false }
+    ensures unsettled { result ≡ Err Stop.KeeperFailed → K.unsettled keeper.new ≡ true }
     ensures later { K.faults keeper.old ≤ K.faults keeper.new }
 {
     let moment = clock.now();

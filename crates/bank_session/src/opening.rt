@@ -16,7 +16,7 @@ use ofx_ports::Keeper;
 use std::alloc::Global;
 
 /// With what a run stops whose bank doesn't open from its records.
-fn opening_stop(fault: OpenFault) -> Stop
+pub fn opening_stop(fault: OpenFault) -> Stop
     ensures { result ≡ records.opening_stop fault }
 {
     match fault {

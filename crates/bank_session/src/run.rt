@@ -1,9 +1,9 @@
 //! A run over the frames of an input.
 
-ghost use Rattle.std.specs.Prelude.{◌≡◌, ◌≢◌, ◌≤◌, ℕ, false, List, Option, Err, IsSome};
+ghost use Rattle.std.specs.Prelude.{◌≡◌, ◌≢◌, ◌≤◌, ℕ, true, false, List, Option, Err, IsSome};
 ghost use Rattle.std.specs.Io.KnownBytes.{prepend_known};
 ghost use Rattle.bank_session.specs.WordsRead.{IsLawful};
-ghost use Rattle.bank_session.specs.Outside.{outside};
+ghost use Rattle.bank_session.specs.PortsView.{ports_view};
 ghost use Rattle.bank_session.specs.RunEnd.{RunEnds};
 ghost use Rattle.bank_session.specs.EndOrStop.{EndOrStop};
 
@@ -32,13 +32,14 @@ pub fn answer_frames<B: Source, W: Sink, K: Keeper, C: Clock>(
     requires moment { IsLawful at }
     requires settled { K.unsettled keeper.old ≡ false }
     // Whatever stands of the source of the setup:
-    ensures ends { (left left' : Option (List ℕ)) (faults faults' : ℕ) → RunEnds desk.old.setup desk.old.state at
-        (outside left faults (B.left input.old) (B.faults input.old) (W.held out.old) (W.faults out.old) (K.records keeper.old) (K.faults keeper.old) (C.told clock.old))
-        (outside left' faults' (B.left input.new) (B.faults input.new) (W.held out.new) (W.faults out.new) (K.records keeper.new) (K.faults keeper.new) (C.told clock.new)) result }
+    ensures ends { (left left' : Option (List ℕ)) (faults faults' : ℕ) → RunEnds at desk.old.setup desk.old.state
+        (ports_view left faults (B.left input.old) (B.faults input.old) (W.held out.old) (W.faults out.old) (K.records keeper.old) (K.faults keeper.old) (C.told clock.old) (K.unsettled keeper.old))
+        (ports_view left' faults' (B.left input.new) (B.faults input.new) (W.held out.new) (W.faults out.new) (K.records keeper.new) (K.faults keeper.new) (C.told clock.new) (K.unsettled keeper.new)) result }
     ensures reads { B.faults input.old ≤ B.faults input.new }
     ensures writes { W.faults out.old ≤ W.faults out.new }
     ensures keeps { K.faults keeper.old ≤ K.faults keeper.new }
     ensures settled { result ≢ Err Stop.KeeperFailed → K.unsettled keeper.new ≡ false }
+    ensures unsettled { result ≡ Err Stop.KeeperFailed → K.unsettled keeper.new ≡ true }
     ensures still { IsSome at → clock.new ≡ clock.old }
 {
     let mut ahead = Ahead::new(alloc)?;
@@ -59,6 +60,7 @@ pub fn answer_frames<B: Source, W: Sink, K: Keeper, C: Clock>(
 fn end_of_input<B: Source>(place: u64, ahead: &mut Ahead, input: &mut B) -> Result<(), Stop>
     ensures end { EndOrStop (prepend_known ahead.old (B.left input.old)) place ahead.new (B.left input.new) (B.faults input.old) (B.faults input.new) result }
     ensures reads { B.faults input.old ≤ B.faults input.new }
+    ensures kept { result ≢ Err Stop.KeeperFailed }
 {
     match next_frame(input, ahead) {
         Ok(Next::End) => Ok(()),

@@ -2,7 +2,7 @@
 
 use bank_desk::DeskFault;
 use ofx_ports::Failed;
-use ofx_types::{OutOfMemory, Status};
+use ofx_types::OutOfMemory;
 
 /// Why a run ended before it had answered all of its input.
 #[derive(Clone, Copy, Debug, PartialEq, Eq)]

@@ -1,13 +1,13 @@
 //! One turn of a run: the next frame is read and answered, its records are kept, and its line is written.
 
-ghost use Rattle.std.specs.Prelude.{◌≡◌, ◌≢◌, ◌≤◌, ℕ, false, List, Option, Err, IfOk, IfErr, IsErrOf, IsSome};
+ghost use Rattle.std.specs.Prelude.{◌≡◌, ◌≢◌, ◌≤◌, ℕ, true, false, List, Option, Err, IfOk, IfErr, IsErrOf, IsSome};
 ghost use Rattle.std.specs.Io.KnownBytes.{Keeps, prepend_known};
 ghost use Rattle.ofx_ports.specs.Faults.{CountsFaults};
 ghost use Rattle.ofx_types.specs.Calendar.{IsMoment};
 ghost use Rattle.ofx_types.specs.declared.number.Moment.{Moment};
 ghost use Rattle.bank_frames.specs.Coming.{HoldsFrame, content_in, size_of};
 ghost use Rattle.bank_session.specs.WordsRead.{IsLawful};
-ghost use Rattle.bank_session.specs.Turns.{around, AnswersAndKeeps, HasNoLine, FrameResult};
+ghost use Rattle.bank_session.specs.Turns.{turn_view, AnswersAndKeeps, HasNoLine, FrameResult};
 ghost use Rattle.bank_session.specs.TurnResult.{TurnResult};
 
 use crate::lines::{due_line, file_line};
@@ -35,6 +35,7 @@ fn frame_line<K: Keeper>(
     ensures line { IfOk result (λ line. AnswersAndKeeps at desk.old desk.new (content_in ahead.now frame) (K.records keeper.old) (K.records keeper.new) line.items) }
     ensures undone { IfErr result (HasNoLine at desk.old (content_in ahead.now frame) (K.records keeper.old) (K.records keeper.new)) }
     ensures settled { result ≢ Err DeskFault.AppendFailed → K.unsettled keeper.new ≡ false }
+    ensures unsettled { result ≡ Err DeskFault.AppendFailed → K.unsettled keeper.new ≡ true }
     ensures faults { CountsFaults (K.faults keeper.old) (K.faults keeper.new) (IsErrOf result DeskFault.AppendFailed) }
 {
     match frame {
@@ -62,11 +63,12 @@ fn answer_frame<W: Sink, K: Keeper>(
     // Whatever is to come of the input, of which nothing is lost, and whatever stands of the reads and of the clock:
     ensures turn { (coming left : Option (List ℕ)) (reads reads' : ℕ) (shown shown' : Option (List Moment)) → Keeps coming (prepend_known ahead.old left)
         → FrameResult at (size_of frame) desk.old desk.new
-        (around coming reads (W.held out.old) (W.faults out.old) (K.records keeper.old) (K.faults keeper.old) shown)
-        (around (prepend_known ahead.new left) reads' (W.held out.new) (W.faults out.new) (K.records keeper.new) (K.faults keeper.new) shown') result }
+        (turn_view coming reads (W.held out.old) (W.faults out.old) (K.records keeper.old) (K.faults keeper.old) shown)
+        (turn_view (prepend_known ahead.new left) reads' (W.held out.new) (W.faults out.new) (K.records keeper.new) (K.faults keeper.new) shown') result }
     ensures writes { W.faults out.old ≤ W.faults out.new }
     ensures keeps { K.faults keeper.old ≤ K.faults keeper.new }
     ensures settled { result ≢ Err Stop.KeeperFailed → K.unsettled keeper.new ≡ false }
+    ensures unsettled { result ≡ Err Stop.KeeperFailed → K.unsettled keeper.new ≡ true }
 {
     let line = frame_line(alloc, desk, at, ahead.bytes(), frame, keeper)?;
     match write_whole(out, &line) {
@@ -103,13 +105,14 @@ pub fn take_turn<B: Source, W: Sink, K: Keeper, C: Clock>(
     requires moment { IsLawful at }
     requires settled { K.unsettled keeper.old ≡ false }
     ensures turn { TurnResult at desk.old desk.new
-        (around (prepend_known ahead.old (B.left input.old)) (B.faults input.old) (W.held out.old) (W.faults out.old) (K.records keeper.old) (K.faults keeper.old) (C.told clock.old))
-        (around (prepend_known ahead.new (B.left input.new)) (B.faults input.new) (W.held out.new) (W.faults out.new) (K.records keeper.new) (K.faults keeper.new) (C.told clock.new))
+        (turn_view (prepend_known ahead.old (B.left input.old)) (B.faults input.old) (W.held out.old) (W.faults out.old) (K.records keeper.old) (K.faults keeper.old) (C.told clock.old))
+        (turn_view (prepend_known ahead.new (B.left input.new)) (B.faults input.new) (W.held out.new) (W.faults out.new) (K.records keeper.new) (K.faults keeper.new) (C.told clock.new))
         ahead.new result }
     ensures reads { B.faults input.old ≤ B.faults input.new }
     ensures writes { W.faults out.old ≤ W.faults out.new }
     ensures keeps { K.faults keeper.old ≤ K.faults keeper.new }
     ensures settled { result ≢ Err Stop.KeeperFailed → K.unsettled keeper.new ≡ false }
+    ensures unsettled { result ≡ Err Stop.KeeperFailed → K.unsettled keeper.new ≡ true }
     ensures still { IsSome at → clock.new ≡ clock.old }
 {
     match next_frame(input, ahead) {

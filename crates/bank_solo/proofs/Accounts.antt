@@ -16,7 +16,7 @@ use Rattle.bank_model.specs.SetupForm.{IsWithinLimits}
 use Rattle.bank_model.specs.Ledger.{balance}
 use Rattle.bank_model.specs.Rules.{named, state_after}
 use Rattle.bank_accounts.specs.AccountView.{AccountView}
-use Rattle.bank_accounts.specs.HeldAccounts.{IsHeld, AreHeld, HaveSameNumbers}
+use Rattle.bank_accounts.specs.HeldAccounts.{IsHeld, AreHeld, AreNamed, HaveSameNumbers}
 use Rattle.bank_accounts.specs.AtHome.{at_home, AreAllHome, AreNumbered, IsLentOrHome, AreLent}
 use Rattle.bank_accounts.proofs.HomeLemmas.{lent_none, lent_all_back}
 use Rattle.bank_ledger.specs.Balanced.{AreBalanced}
@@ -100,6 +100,12 @@ named_are_held numbers held entries same only =
     one : (entry : Option AcctId) → Contains entries entry → IfSome entry (IsHeld held)
     one None there = tt
     one (Some account) there = subst (λ (ns : List AcctId). Contains ns account) (sym same) ((only account).1 there)
+
+-- and no others
+pub only_named : (numbers : List AcctId) (held : List AccountView) (entries : List (Option AcctId)) → map (λ (account : AccountView). account.number) held ≡ numbers → ((account : AcctId) → Contains numbers account ↔ Contains entries (Some account)) → AreNamed held entries
+only_named numbers held entries same only =
+    subst (All (λ (number : AcctId). Contains entries (Some number))) (sym same)
+    (All-weaker (Contains numbers) (λ (number : AcctId). Contains entries (Some number)) (λ number there. (only number).0 there) numbers (All-contains_itself numbers))
 
 pub named_known : (setup : Setup) (state : State) (event : Event) (numbers : List AcctId) (count : ℕ) → count ≡ length setup.accounts → ((account : AcctId) → Contains numbers account ↔ Contains (named setup state event) (Some account)) → All (λ (number : AcctId). number.0 < count) numbers
 named_known setup state event numbers count size only =

@@ -1,3 +1,3 @@
 pub mod Named
 mod Unnamed
-mod Accounts
+pub mod Accounts

@@ -4,7 +4,7 @@ ghost use Rattle.std.specs.Prelude.{◌≡◌, [], OnOk, OnErr, IfOk};
 ghost use Rattle.ofx_types.specs.Calendar.{IsMoment};
 ghost use Rattle.bank_model.specs.SetupForm.{IsWithinLimits};
 ghost use Rattle.bank_model.specs.Rules.{IsLegal, opening_state, state_after, answer_to, named};
-ghost use Rattle.bank_accounts.specs.HeldAccounts.{AreHeld};
+ghost use Rattle.bank_accounts.specs.HeldAccounts.{AreHeld, AreNamed};
 ghost use Rattle.bank_accounts.specs.AtHome.{AreLent};
 ghost use Rattle.bank_core.specs.BookView.{HasRoom};
 ghost use Rattle.bank_solo.specs.Solo.{AreAccountsIn, accounts_in};
@@ -99,6 +99,7 @@ impl<P: Printer> SoloBank<P> {
         ensures reply { IfOk result (λ prepared. prepared.reply ≡ answer_to self.old.setup self.old.state at event.now) }
         ensures room { IfOk result (λ prepared. HasRoom self.new.room self.old.state prepared.after) }
         ensures named { OnOk result (AreHeld self.new.held (named self.old.setup self.old.state event.now)) }
+        ensures only { OnOk result (AreNamed self.new.held (named self.old.setup self.old.state event.now)) }
         ensures refused { OnErr result (self.new.held ≡ []) }
     {
         self.lend(alloc, event)?;
@@ -117,6 +118,7 @@ impl<P: Printer> SoloBank<P> {
         ensures setup { self.new.setup ≡ self.old.setup }
         ensures state { self.new.state ≡ self.old.state }
         ensures named { OnOk result (AreHeld self.new.held (named self.old.setup self.old.state event.now)) }
+        ensures only { OnOk result (AreNamed self.new.held (named self.old.setup self.old.state event.now)) }
         ensures refused { OnErr result (self.new.held ≡ []) }
     {
         let numbers = self.book.named(alloc, event)?;

@@ -13,17 +13,15 @@ ghost use Rattle.bank_model.specs.Sync.{told_as, told_entry, is_above, standing_
 ghost use Rattle.bank_ledger.specs.DraftView.{drafted};
 ghost use Rattle.bank_telling.specs.Telling.{last_number_from};
 
-use crate::tokens::{family_of_object, token_of};
+use crate::tokens::token_of;
 use bank_ledger::{Draft, own_uid};
 use bank_model::Entry;
+use bank_model::codes::DONE;
 use ofx_types::{
     Change, DeedReply, Duplicate, Family, ModelRow, ObjectId, OutOfMemory, SyncAsk, SyncKind,
     TransferRow, TrnUid, XferCode,
 };
 use std::alloc::Global;
-
-/// The code of what was done.
-const DONE: u16 = 0;
 
 /// The number of the last entry of an object, 0 where there is none.
 pub fn newest(draft: &Draft<'_>, object: ObjectId) -> u64
@@ -78,7 +76,7 @@ pub fn told_history(
     ensures { IfOk result (λ told. told.items ≡ history_told draft.now.setup.window object (object_family ask.now.object)
         (drafted draft.now).entries ask.now.kind) }
 {
-    let family = family_of_object(&ask.object);
+    let family = ask.object.family();
     match &ask.kind {
         SyncKind::After(text) => {
             if is_lost(draft, object, &ask.kind) {

@@ -7,4 +7,4 @@ mod tokens;
 
 pub use history::{is_lost, last_number, newest, told_history};
 pub use statement::statement_of;
-pub use tokens::{family_of_object, number_text, token_of};
+pub use tokens::{number_text, token_of};

@@ -8,17 +8,12 @@ ghost use Rattle.bank_accounts.specs.HeldAccounts.{IsHeld};
 ghost use Rattle.bank_ledger.specs.DraftView.{drafted};
 
 use bank_ledger::Draft;
+use bank_model::codes::{ACCOUNT_NOT_FOUND, DONE};
 use ofx_types::{
     AcctId, AcctName, AskReply, Duplicate, Moment, OutOfMemory, Period, StatementBody,
     StatementList, TrnUid,
 };
 use std::alloc::Global;
-
-/// The status of a statement.
-const DONE: u16 = 0;
-
-/// The status of a statement of an account that isn't the user's.
-const NOT_OWNED: u16 = 2003;
 
 /// Midnight of 1 January 1900.
 const FIRST_MOMENT: Moment = Moment(-2_208_988_800);
@@ -40,7 +35,7 @@ pub fn statement_of(
             let body = body(draft, alloc, name, period, account)?;
             Ok(AskReply::Statement(trnuid.copy()?, DONE, Some(body)))
         }
-        None => Ok(AskReply::Statement(trnuid.copy()?, NOT_OWNED, None)),
+        None => Ok(AskReply::Statement(trnuid.copy()?, ACCOUNT_NOT_FOUND, None)),
     }
 }
 

@@ -1,6 +1,6 @@
-//! Tests of what the bank's book stands on, by public calls: setups, used TRNUIDs and kept replies, transfers, recurring
-//! transfers and their dates, mails, accounts, and the sources, sinks, keepers and clocks of the outside. Like cases stand
-//! in tables; each call that takes memory is made once with ample memory.
+//! Tests of what the bank's book stands on, by public calls: setups, used TRNUIDs and kept replies, windows, transfers,
+//! recurring transfers and their dates, mails, accounts. Like cases stand in tables; each call that takes memory is made
+//! once with ample memory.
 #![tactic(auto)]
 
 #[cfg(test)]
@@ -8,13 +8,9 @@ mod accounts;
 #[cfg(test)]
 mod dates;
 #[cfg(test)]
-mod keepers;
-#[cfg(test)]
 mod mails;
 #[cfg(test)]
 mod once;
-#[cfg(test)]
-mod ports;
 #[cfg(test)]
 mod recurring;
 #[cfg(test)]
@@ -23,3 +19,5 @@ mod sample;
 mod setups;
 #[cfg(test)]
 mod transfers;
+#[cfg(test)]
+mod windows;

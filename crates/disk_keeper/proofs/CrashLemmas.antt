@@ -9,9 +9,6 @@ pub reverse_more : (changes : List Change) (i : ℕ) (change : Change) → i < l
 reverse_more changes i change within is =
     ap reverse (take_more changes i change within) ∙ reverse-append (take i changes) (get_or changes i change ∷ []) ∙ ap (λ (c : Change). c ∷ reverse (take i changes)) (sym is)
 
-pub reverse_push : (changes : List Change) (change : Change) → reverse (changes ++ change ∷ []) ≡ change ∷ reverse changes
-reverse_push changes change = reverse-append changes (change ∷ [])
-
 -- the first so many
 pub reverse_take : (changes : List Change) (n : ℕ) → n ≤ length changes → reverse (take n changes) ≡ drop (length (reverse changes) - n) (reverse changes)
 reverse_take changes n within =

@@ -1,8 +1,8 @@
 -- What writes and syncs make of an image, and of what a crash may leave.
 use Rattle.std.proofs.Common.{◌≡◌, ◌⊎◌, inl, inr, ℕ, zero, suc, ◌+◌, ◌-◌, ◌<◌, ◌≤◌, List, [], ◌∷◌, ◌++◌, length, take, drop, get_or, Option, Some, None, refl, sym, ◌∙◌, ap, subst, arith, append_assoc, length-append, length-take, length-drop, take-append-drop}
-use Rattle.std.specs.Prelude.{max, slice_range}
+use Rattle.std.specs.Prelude.{max, slice_range, IsSome}
 use Rattle.std.proofs.lemmas.List.{append-nil, take_at, drop_at, take-take, take-append-le, drop-drop, take_all, drop_all, length-take-le}
-use Rattle.disk_keeper.specs.Disk.{History, overlaid, image, Torn, MayLeave, Leaves, LeavesThroughout, LeavesOnly, GoesOn, IsBroken, Breaks, Shows, HasSize, after, shown}
+use Rattle.disk_keeper.specs.Disk.{History, overlaid, image, Torn, MayLeave, Leaves, LeavesThroughout, LeavesOnly, GoesOn, TellsOn, IsBroken, Breaks, Shows, HasSize, after, shown}
 use Rattle.disk_keeper.specs.declared.change.Change.{Change}
 use Rattle.disk_keeper.specs.declared.change.Change.TheVariants.{Write, Sync}
 
@@ -36,10 +36,6 @@ torn_overlaid old at size bytes within part = record {
         ∙ ap (drop (size - length bytes)) (drop_at (take at old ++ bytes) (drop (at + length bytes) old) (at + length bytes) front_length)
         ∙ drop-drop (size - length bytes) (at + length bytes) old
         ∙ ap (λ n. drop n old) (omega (arith, part))
-
--- nothing is torn
-pub torn_none : (at size : ℕ) (old : List ℕ) → Torn at size old old
-torn_none at size old = record { before = refl; behind = refl; no_shorter = omega arith; no_longer = omega arith }
 
 -- what stands in front of a torn write stays
 pub front_torn : (n at size : ℕ) (old new : List ℕ) → n ≤ at → Torn at size old new → take n new ≡ take n old
@@ -85,3 +81,8 @@ pub told_synced : (a b : Option History) (g : History) → (a ≡ None → b ≡
     → (h : History) × (a ≡ Some h) × (g ≡ after h (Sync ∷ []))
 told_synced a b g quiet goes is =
     let h = told_before a b g quiet is in (h.0, h.1, some_is g (after h.0 (Sync ∷ [])) (sym is ∙ told_on a b h.0 (Sync ∷ []) h.1 goes))
+
+-- a disk that tells its history tells it after two calls
+pub tells_on : (a b c : Option History) (more last : List Change) → GoesOn a b more → GoesOn b c last → TellsOn a c
+tells_on None b c more last first second = tt
+tells_on (Some h) b c more last first second = subst IsSome (sym (told_on b c (after h more) last first second)) refl

@@ -120,10 +120,6 @@ walked_first gate file none place marked_is = record {
     is_mark : take 8 file ≡ mark
     is_mark = same_bytes (take 8 file) mark marked_is
 
--- a file too short for the mark
-pub no_mark : (file : List ℕ) → length file < 8 → has_mark file ≡ false
-no_mark file short = elim (false_or (has_mark file)) [ inl lacks ↦ lacks | inr has ↦ absurd (omega (arith, ap length (same_bytes (take 8 file) mark has), length-take 8 file)) ]
-
 -- the length that was read behind a gate
 pub size_read : (file bytes : List ℕ) (place size : ℕ) → place + 9 ≤ length file → length bytes ≡ 8 → bytes ≡ take (length bytes) (drop (place + 1) file)
     → size ≡ size_of bytes → size_bytes size ≡ bytes → (next_size (drop (place + 1) file) ≡ size) × (size_bytes size ≡ take 8 (drop (place + 1) file))

@@ -1,5 +1,5 @@
 -- A disk: what a read shows, and what a crash may leave.
-use Rattle.std.specs.Prelude.{◌≡◌, ◌⊎◌, ℕ, ◌+◌, ◌≤◌, max, List, [], ◌∷◌, ◌++◌, length, take, drop, slice_range, ⊤, Option, None, Some}
+use Rattle.std.specs.Prelude.{◌≡◌, ◌⊎◌, ℕ, ◌+◌, ◌≤◌, max, List, [], ◌∷◌, ◌++◌, length, take, drop, slice_range, ⊤, Option, None, Some, IsSome}
 use Rattle.disk_keeper.specs.declared.change.Change.{Change}
 use Rattle.disk_keeper.specs.declared.change.Change.TheVariants.{Write, Sync}
 
@@ -61,6 +61,11 @@ LeavesOnly P (Some old) new = (more : List Change) × (new ≡ Some (after old m
 abbrev pub GoesOn : Option History → Option History → List Change → Type 0
 GoesOn None new more = ⊤
 GoesOn (Some old) new more = new ≡ Some (after old more)
+
+-- A disk that tells its history goes on telling it.
+abbrev pub TellsOn : Option History → Option History → Type 0
+TellsOn None new = ⊤
+TellsOn (Some old) new = IsSome new
 
 -- a write that put all of these bytes
 abbrev pub write_of : ℕ → List ℕ → Change

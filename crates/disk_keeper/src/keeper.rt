@@ -4,7 +4,7 @@ ghost use Rattle.std.specs.Prelude.{◌≡◌, ℕ, ◌+◌, ◌-◌, ◌<◌, �
 ghost use Rattle.ofx_ports.specs.Faults.{CountsFaults};
 ghost use Rattle.ofx_ports.specs.Told.{Stays};
 ghost use Rattle.ofx_ports.specs.Kept.{Appended, TellsLanding, counted};
-ghost use Rattle.disk_keeper.specs.Disk.{LeavesOnly};
+ghost use Rattle.disk_keeper.specs.Disk.{LeavesOnly, TellsOn};
 ghost use Rattle.disk_keeper.specs.Standing.{records_on, landed_on, acknowledged, Lists, ListsWith, NowLeaves, SettlesWith};
 
 use crate::appending::{Reached, append_record};
@@ -66,6 +66,7 @@ impl<D: Disk> DiskKeeper<D> {
         ensures made { IfOk result (λ k. (k.size ≡ 0) × (k.unsettled ≡ false)) }
         ensures opens { IfOk result (λ k. IfSome (D.history k.disk) (λ h. records_on (Some h) ≡ Some [])) }
         ensures leaves { IfOk result (λ k. NowLeaves (Lists []) (D.history k.disk)) }
+        ensures tells { IfOk result (λ k. TellsOn (D.history disk) (D.history k.disk)) }
         ensures faults { CountsFaults (D.faults disk) (D.faults (disk_of result)) (DiskFailed result) }
     {
         let Ok(()) = disk.write_at(0, &EMPTY) else {
@@ -136,6 +137,9 @@ impl<D: Disk + Send> Keeper for DiskKeeper<D> {
             (landed_on self.new.size (records_on (D.history self.new.disk))) self.new.unsettled rec.now result }
         ensures size { self.new.size ≡ counted self.old.size (is_ok result) }
         ensures faults { CountsFaults (D.faults self.old.disk) (D.faults self.new.disk) (IsErrOf result PutFault.Failed) }
+
+        // It takes no memory, so that each refusal is a fault of the disk that is to be settled.
+        ensures no_memory { OnErr result (self.new.unsettled ≡ true) }
 
         // A crash at any moment of the call leaves the acknowledged records, or these and this one.
         ensures moments { LeavesOnly (ListsWith (acknowledged D.history self.old) rec.now) (D.history self.old.disk) (D.history self.new.disk) }

@@ -17,7 +17,7 @@ use Rattle.record_fields.specs.FieldCoding.{u16_bytes, uid_bytes, acct_bytes, op
 use Rattle.event_codec.specs.Coding.{period_bytes, deed_bytes, sync_bytes, ask_bytes, asks_bytes}
 use Rattle.record_fields.specs.FieldReading.{optional_at}
 use Rattle.event_codec.specs.AskReading.{period_at, statement_at, wanted_behind, one_at, sync_ask_at, ask_of, ask_at, asks_from, asks_at}
-use Rattle.record_fields.specs.Standing.{IsBytes, StandsAt, IsField}
+use Rattle.record_fields.specs.Fields.{IsBytes, StandsAt, IsField}
 use Rattle.event_codec.specs.AskList.{AreAsks}
 use Rattle.record_fields.proofs.Steps.{bind_ok, ok_is, pass_ok, guard_ok, fork, joined, apart, step}
 use Rattle.record_fields.proofs.NumberLaws.{u8_field, optional_field}

@@ -10,7 +10,7 @@ use Rattle.bank_model.specs.Sound.{IsSoundDeed}
 use Rattle.record_fields.specs.FieldCoding.{u64_bytes, flag_bytes, acct_bytes, recur_bytes, info_bytes, mail_bytes}
 use Rattle.event_codec.specs.Coding.{deed_bytes}
 use Rattle.event_codec.specs.AskReading.{transfer_at, modify_transfer_at, cancel_transfer_at, model_at, modify_model_at, cancel_model_at, bank_mail_at, mail_deed_at, deed_of, is_kind_of, is_wanted, deed_at}
-use Rattle.record_fields.specs.Standing.{IsBytes, StandsAt, IsField}
+use Rattle.record_fields.specs.Fields.{IsBytes, StandsAt, IsField}
 use Rattle.record_fields.proofs.Steps.{ok_is, pass_ok, fork, joined, apart, step}
 use Rattle.record_fields.proofs.NumberLaws.{u8_field, flag_field}
 use Rattle.record_fields.proofs.BoundedLaws.{id_field}

@@ -15,7 +15,7 @@ use Rattle.event_codec.specs.Records.{Codes, Reopens}
 use Rattle.bank_model.specs.Events.{IsSameEvent, without_signon}
 use Rattle.event_codec.specs.Reading.{behind_version, placed, record_read, fault_of, IsRecordFault}
 use Rattle.record_fields.specs.Answers.{GivesWhole}
-use Rattle.record_fields.specs.Standing.{IsBytes}
+use Rattle.record_fields.specs.Fields.{IsBytes}
 use Rattle.event_codec.proofs.RecordLaws.{record_codes, record_again}
 
 abbrev some_fault : RecordFault → Option RecordFault

@@ -9,7 +9,7 @@ use Rattle.record_fields.specs.FieldCoding.{moment_bytes, flag_bytes, optional_b
 use Rattle.event_codec.specs.Coding.{period_bytes}
 use Rattle.record_fields.specs.FieldReading.{optional_at, moment_at}
 use Rattle.event_codec.specs.AskReading.{period_at}
-use Rattle.record_fields.specs.Standing.{StandsAt, IsField}
+use Rattle.record_fields.specs.Fields.{StandsAt, IsField}
 use Rattle.record_fields.proofs.Steps.{ok_is, joined, apart, step}
 use Rattle.record_fields.proofs.NumberLaws.{optional_field, flag_field}
 use Rattle.record_fields.proofs.BoundedLaws.{moment_field}

@@ -17,7 +17,7 @@ use Rattle.event_codec.specs.Records.{IsWithinBounds, IsShort, IsTyped, Codes}
 use Rattle.bank_model.specs.Events.{without_signon}
 use Rattle.event_codec.specs.Reading.{version_at, file_event_at, post_at, spawn_at, letter_at, event_of, kind_at, behind_version, placed, record_read}
 use Rattle.event_codec.specs.AskList.{AreAsks}
-use Rattle.record_fields.specs.Standing.{IsBytes, StandsAt, IsField}
+use Rattle.record_fields.specs.Fields.{IsBytes, StandsAt, IsField}
 use Rattle.record_fields.proofs.Steps.{bind_ok, ok_is, pass_ok, fork, joined, apart, step}
 use Rattle.record_fields.proofs.NumberLaws.{u8_field}
 use Rattle.record_fields.proofs.BoundedLaws.{both, u16_field, u32_field, id_field, moment_field}

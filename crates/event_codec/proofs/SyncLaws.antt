@@ -15,7 +15,7 @@ use Rattle.bank_model.specs.Sound.{IsSoundObject, IsSoundKind, IsSoundPair, IsSo
 use Rattle.record_fields.specs.FieldCoding.{u16_bytes, flag_bytes, text_bytes, uid_bytes, acct_bytes, list_bytes}
 use Rattle.event_codec.specs.Coding.{deed_bytes, pair_bytes, object_bytes, sync_kind_bytes, sync_bytes}
 use Rattle.event_codec.specs.AskReading.{intra_at, rec_intra_at, bank_mail_object_at, object_of, object_at, after_at, sync_kind_at, pair_at, pairs_from, pairs_at, sync_at}
-use Rattle.record_fields.specs.Standing.{IsBytes, StandsAt, IsField}
+use Rattle.record_fields.specs.Fields.{IsBytes, StandsAt, IsField}
 use Rattle.record_fields.proofs.Steps.{bind_ok, done, ok_is, pass_ok, guard_ok, fork, joined, apart, step}
 use Rattle.record_fields.proofs.NumberLaws.{u8_field, flag_field, next_is}
 use Rattle.record_fields.proofs.BoundedLaws.{u16_field}

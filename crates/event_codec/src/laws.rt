@@ -18,7 +18,7 @@ ghost use Rattle.bank_model.specs.Sound.{IsSoundAccount, IsSoundRecur, IsSoundMa
 ghost use Rattle.record_fields.specs.PartReading.{acct_at, recur_at, mail_at};
 ghost use Rattle.event_codec.specs.AskReading.{object_at, asks_at};
 ghost use Rattle.event_codec.specs.AskList.{AreAsks};
-ghost use Rattle.record_fields.specs.Standing.{IsBytes, IsField};
+ghost use Rattle.record_fields.specs.Fields.{IsBytes, IsField};
 
 /// Objects and lists of asks are read as they are written.
 pub fn asks_read_back()

@@ -11,7 +11,7 @@ use crate::fault::{Failed, FetchFault, PutFault};
 ///
 /// After an append that failed the record may stand or not. This is then to be settled, and until it is, only
 /// `settle` and `faults` may be called.
-pub trait Keeper: Drop + Send {
+pub trait Keeper: Drop {
     // the records that stand, oldest first, where they are told
     ghost records: { Self → Option (List (List ℕ)) };
 

@@ -19,7 +19,7 @@ mail writes a letter of the bank to a user; its body is the standard input.
   SETUP      the file with the bank, its users and its accounts
   RECORDS    the file in which the bank is kept, or - to keep it in memory, for
              this run alone; a file that isn't there is made. disk:PATH is a
-             file of records alone, of which a crash leaves all that was
+             file of records alone, made so that a crash leaves all that was
              answered; another path is an SQLite database
   USER       the name of a user
   SUBJECT    1 to 64 bytes

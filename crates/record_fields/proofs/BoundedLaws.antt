@@ -11,7 +11,7 @@ use Rattle.ofx_types.specs.declared.number.Cents.{Cents}
 use Rattle.bank_model.specs.Sound.{IsId}
 use Rattle.record_fields.specs.FieldCoding.{u16_bytes, u32_bytes, u64_bytes, i32_bytes, i64_bytes, moment_bytes, day_bytes}
 use Rattle.record_fields.specs.FieldReading.{u16_at, u32_at, u64_at, i32_at, i64_at, id_at, amount_at, moment_at, day_at, count_at, is_moment, is_day}
-use Rattle.record_fields.specs.Standing.{StandsAt, IsField}
+use Rattle.record_fields.specs.Fields.{StandsAt, IsField}
 use Rattle.record_fields.proofs.Steps.{pass_ok, ok_is, step}
 use Rattle.record_fields.proofs.NumberLaws.{number_field, signed_field, wide16, wide32, wide64}
 

@@ -9,7 +9,7 @@ use Rattle.std.proofs.lemmas.List.{take_at, take-append-drop, drop-drop, length-
 use Rattle.std.proofs.lemmas.Nat.{be_bytes_2, be_bytes_4, be_bytes_8, from_be_bytes-to_be_bytes_2, from_be_bytes-to_be_bytes_4, from_be_bytes-to_be_bytes_8}
 use Rattle.record_fields.specs.FieldReading.{◌>>=◌, u8_at, bytes_at, number_at, signed_at, flag_at, choice_at, chosen, optional_at}
 use Rattle.record_fields.specs.FieldCoding.{u8_bytes, flag_bytes, optional_bytes}
-use Rattle.record_fields.specs.Standing.{IsBytes, StandsAt, IsField}
+use Rattle.record_fields.specs.Fields.{IsBytes, StandsAt, IsField}
 use Rattle.record_fields.proofs.Steps.{bind_ok, guard_ok, pass_ok, went, chosen_ok, ok_is, stands_then, apart, step, IsBytes-drop}
 
 IsBytes-take : (n : ℕ) (bytes : List ℕ) → IsBytes bytes → IsBytes (take n bytes)

@@ -15,7 +15,7 @@ use Rattle.bank_model.specs.Sound.{IsTextWithin, IsSoundAccount, IsSoundRecur, I
 use Rattle.record_fields.specs.FieldCoding.{u16_bytes, i64_bytes, day_bytes, text_bytes, optional_bytes, kind_number, acct_bytes, freq_number, recur_bytes, info_bytes, mail_bytes}
 use Rattle.record_fields.specs.FieldReading.{filled_text_at, choice_at, optional_at, day_at, count_at}
 use Rattle.record_fields.specs.PartReading.{account_kinds, acct_at, frequencies, recur_at, info_at, mail_at}
-use Rattle.record_fields.specs.Standing.{StandsAt, IsField}
+use Rattle.record_fields.specs.Fields.{StandsAt, IsField}
 use Rattle.record_fields.proofs.Steps.{ok_is, joined, apart, step}
 use Rattle.record_fields.proofs.NumberLaws.{choice_field, optional_field}
 use Rattle.record_fields.proofs.BoundedLaws.{count_field, amount_field, moment_field, day_field}

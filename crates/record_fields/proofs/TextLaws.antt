@@ -13,7 +13,7 @@ use Rattle.bank_model.specs.Sound.{IsTextWithin, IsClientUid}
 use Rattle.bank_model.proofs.SetupWords.{bytes_eq_is, bytes_eq_self}
 use Rattle.record_fields.specs.FieldCoding.{u16_bytes, text_bytes, uid_bytes, file_uid_bytes}
 use Rattle.record_fields.specs.FieldReading.{◌>>=◌, bytes_at, is_text, text_at, filled_text_at, is_trnuid, trnuid_at, given_uid_at, is_file_uid, file_uid_at}
-use Rattle.record_fields.specs.Standing.{StandsAt, IsField}
+use Rattle.record_fields.specs.Fields.{StandsAt, IsField}
 use Rattle.record_fields.proofs.Steps.{bind_ok, guard_ok, pass_ok, went, ok_is, stands_then, apart, step}
 use Rattle.record_fields.proofs.NumberLaws.{u8_field, bytes_stand, bytes_again}
 use Rattle.record_fields.proofs.BoundedLaws.{u16_field, both}

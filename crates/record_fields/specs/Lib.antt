@@ -2,4 +2,4 @@ pub mod FieldCoding
 pub mod FieldReading
 pub mod PartReading
 pub mod Answers
-pub mod Standing
+pub mod Fields

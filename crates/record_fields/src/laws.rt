@@ -7,7 +7,7 @@ ghost use Rattle.bank_model.specs.Sound.{IsSoundAccount, IsSoundRecur, IsSoundMa
 ghost use Rattle.record_fields.specs.FieldCoding.{u8_bytes, u16_bytes, u32_bytes, u64_bytes, i32_bytes, i64_bytes, flag_bytes, text_bytes, uid_bytes, file_uid_bytes, acct_bytes, recur_bytes, mail_bytes};
 ghost use Rattle.record_fields.specs.FieldReading.{u8_at, u16_at, u32_at, u64_at, i32_at, i64_at, flag_at, text_at, trnuid_at, file_uid_at};
 ghost use Rattle.record_fields.specs.PartReading.{acct_at, recur_at, mail_at};
-ghost use Rattle.record_fields.specs.Standing.{IsField};
+ghost use Rattle.record_fields.specs.Fields.{IsField};
 
 /// Numbers are read as they are written.
 pub fn numbers_read_back()

@@ -3,11 +3,11 @@
 ghost use Rattle.std.specs.Prelude.{IfOk};
 ghost use Rattle.bank_model.specs.SetupForm.{IsWithinLimits};
 
-use crate::sample::{SETUP, request_with};
-use crate::transfer::TRANSFER;
 use bank_core::Book;
 use bank_model::{Event, Printer, Setup};
 use bank_replay::{OpenFault, reopen};
+use bank_samples::sample::{SETUP, request_with};
+use bank_samples::transfer::TRANSFER;
 use ofx_file::read_request;
 use ofx_ports::{Keeper, MemKeeper};
 use ofx_types::{AcctId, OutOfMemory, ReplyFile, UserId};

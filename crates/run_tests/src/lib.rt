@@ -6,7 +6,3 @@
 mod books;
 #[cfg(test)]
 mod runs;
-#[cfg(test)]
-mod sample;
-#[cfg(test)]
-mod transfer;

@@ -7,10 +7,11 @@ mod moments;
 mod polls;
 mod records;
 
-use crate::sample::{SETUP, replies, requests};
+use bank_samples::sample::{SETUP, replies, requests};
+use bank_samples::words::texts;
 use bank_session::{answer_files, answer_told};
 use ofx_ports::{Clock, Keeper, MemClock, MemKeeper, MemSink, MemSource};
-use ofx_types::{Moment, Note, Status, Text, Told};
+use ofx_types::{Moment, Note, Status, Told};
 use std::alloc::Global;
 use std::test::Fail;
 
@@ -25,15 +26,6 @@ const NAMES: [&[u8; 2]; 3] = [b"s1", b"s2", b"s3"];
 
 /// More room than any run of these tests needs.
 const ROOM: usize = 8_192;
-
-/// The words as texts.
-fn texts(alloc: Global, words: &[&str]) -> Result<Vec<Text>, Fail> {
-    let mut texts = Vec::new(alloc);
-    for word in words {
-        texts.push(Text::new(alloc, word.as_bytes(), 32)?)?;
-    }
-    Ok(texts)
-}
 
 /// What a run with these words, this keeper and this clock told, and what it wrote. First it is settled which records
 /// stand.

@@ -1,12 +1,10 @@
 //! Accounts by their names, the objects in whose histories entries stand, and the uid of what the bank does by itself.
 
 ghost use Rattle.std.specs.Prelude.{◌≡◌, ◌<◌, Some, true, is_some, codes, length, IfOk};
-ghost use Rattle.bank_model.specs.SetupForm.{IsWithinLimits};
 ghost use Rattle.bank_model.specs.SetupLookups.{account_of};
 ghost use Rattle.bank_model.specs.Deeds as deeds;
 
 use crate::draft::Draft;
-use bank_model::Setup;
 use ofx_types::{AcctId, AcctName, ObjectId, OutOfMemory, TrnUid, UserId};
 
 impl Draft<'_> {
@@ -15,7 +13,7 @@ impl Draft<'_> {
         requires { is_some (account_of self.now.setup name.now) ≡ true }
         ensures { account_of self.now.setup name.now ≡ Some result }
     {
-        account_in(self.setup, name)
+        self.setup.account_named(name)
     }
 
     /// The object of the transfers out of the account of that name.
@@ -23,7 +21,7 @@ impl Draft<'_> {
         requires { is_some (account_of self.now.setup source.now) ≡ true }
         ensures { result ≡ deeds.object_of self.now.setup source.now }
     {
-        object_in(self.setup, source)
+        self.setup.object_of(source)
     }
 
     /// The object of the recurring transfers out of the account of that name.
@@ -31,7 +29,7 @@ impl Draft<'_> {
         requires { is_some (account_of self.now.setup source.now) ≡ true }
         ensures { result ≡ deeds.model_object_of self.now.setup source.now }
     {
-        model_object_in(self.setup, source)
+        self.setup.model_object_of(source)
     }
 
     /// The object of the mail about the account of that name.
@@ -39,7 +37,7 @@ impl Draft<'_> {
         requires { is_some (account_of self.now.setup about.now) ≡ true }
         ensures { result ≡ deeds.letter_object_of self.now.setup about.now }
     {
-        letter_object_in(self.setup, about)
+        self.setup.letter_object_of(about)
     }
 
     /// The object of a user's other mail.
@@ -49,41 +47,6 @@ impl Draft<'_> {
     {
         self.setup.mail_object(user)
     }
-}
-
-fn account_in(setup: &Setup, name: &AcctName) -> AcctId
-    requires within { IsWithinLimits setup.now }
-    requires there { is_some (account_of setup.now name.now) ≡ true }
-    ensures { account_of setup.now name.now ≡ Some result }
-{
-    match setup.account(name) {
-        Some(account) => account,
-        None => unreachable!(),
-    }
-}
-
-fn object_in(setup: &Setup, source: &AcctName) -> ObjectId
-    requires within { IsWithinLimits setup.now }
-    requires there { is_some (account_of setup.now source.now) ≡ true }
-    ensures { result ≡ deeds.object_of setup.now source.now }
-{
-    ObjectId(3 * account_in(setup, source).0)
-}
-
-fn model_object_in(setup: &Setup, source: &AcctName) -> ObjectId
-    requires within { IsWithinLimits setup.now }
-    requires there { is_some (account_of setup.now source.now) ≡ true }
-    ensures { result ≡ deeds.model_object_of setup.now source.now }
-{
-    ObjectId(3 * account_in(setup, source).0 + 1)
-}
-
-fn letter_object_in(setup: &Setup, about: &AcctName) -> ObjectId
-    requires within { IsWithinLimits setup.now }
-    requires there { is_some (account_of setup.now about.now) ≡ true }
-    ensures { result ≡ deeds.letter_object_of setup.now about.now }
-{
-    ObjectId(3 * account_in(setup, about).0 + 2)
 }
 
 /// The uid of what the bank does by itself.

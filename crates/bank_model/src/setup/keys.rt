@@ -29,7 +29,7 @@ impl Keyed for User {
     }
 
     fn compare(&self, name: &Text) -> Ordering {
-        self.name.as_bytes().cmp(name.as_bytes())
+        compare_bytes(self.name.as_bytes(), name.as_bytes())
     }
 
     ghost total = { Prim.search (comparing, rules) };
@@ -52,7 +52,7 @@ impl Keyed for AccountLine {
     }
 
     fn compare(&self, name: &AcctName) -> Ordering {
-        match self.name.number.as_bytes().cmp(name.number.as_bytes()) {
+        match compare_bytes(self.name.number.as_bytes(), name.number.as_bytes()) {
             Ordering::Equal => compare_at_number(&self.name, name),
             other => other,
         }
@@ -103,7 +103,17 @@ fn compare_at_number(one: &AcctName, name: &AcctName) -> Ordering
     ensures { result ≡ ordering_then (nat_cmp (kind_number one.now.kind) (kind_number name.now.kind)) (slice_cmp nat_cmp one.now.bank name.now.bank) }
 {
     match kind_number(one.kind).cmp(&kind_number(name.kind)) {
-        Ordering::Equal => one.bank.as_bytes().cmp(name.bank.as_bytes()),
+        Ordering::Equal => compare_bytes(one.bank.as_bytes(), name.bank.as_bytes()),
         other => other,
+    }
+}
+
+/// How bytes compare, which are few: by the first that differs, and then by length.
+fn compare_bytes(one: &[u8], other: &[u8]) -> Ordering
+    ensures { result ≡ slice_cmp nat_cmp one.now other.now }
+{
+    match one.partial_cmp(&other) {
+        Some(order) => order,
+        None => unreachable!(),
     }
 }

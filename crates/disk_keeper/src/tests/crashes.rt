@@ -68,8 +68,47 @@ fn a_crash_leaves_what_was_acknowledged(rt: HostRuntime) -> Result<(), Fail> {
             acknowledged += 1;
         }
         for choice in 0..CHOICES {
-            judge(&rt, alloc, run, moment, choice, acknowledged)?;
+            let seed = moment.wrapping_mul(CHOICES).wrapping_add(choice);
+            judge(&rt, alloc, run, moment, seed, acknowledged)?;
         }
     }
     judge(&rt, alloc, run, last, 0, APPENDS as u64)
+}
+
+/// How many records are found in what a crash left.
+fn found(alloc: Global, image: &[u8]) -> Result<u64, Fail> {
+    match DiskKeeper::open(disk(alloc, image, &[], &[])?) {
+        Ok(keeper) => Ok(keeper.len()),
+        Err(_) => Err("not opened")?,
+    }
+}
+
+#[test]
+fn a_stop_in_the_body_leaves_no_record_and_one_in_the_gate_at_most_it(
+    rt: HostRuntime,
+) -> Result<(), Fail> {
+    let alloc = rt.alloc();
+    let mut keeper = made(alloc, &[], &[])?;
+    let first = keeper.disk().changes();
+    keep(&rt, &mut keeper, b"\xaa");
+    let run = keeper.disk();
+    let last = run.changes();
+    // The length, the record, the next gate and a sync; then the gate and a sync.
+    assert!(rt; last > first && last - first == 6);
+    let mut stood = false;
+    let mut lost = false;
+    for choice in 0..200 {
+        for moment in first..last - 1 {
+            let image = run.crash_image(moment, choice)?;
+            assert_eq!(rt; image.get(8), Some(&0));
+            assert_eq!(rt; found(alloc, &image)?, 0);
+        }
+        let image = run.crash_image(last - 1, choice)?;
+        let kept = found(alloc, &image)?;
+        assert_eq!(rt; kept, u64::from(image.get(8) == Some(&1)));
+        stood = stood || kept == 1;
+        lost = lost || kept == 0;
+    }
+    assert!(rt; stood && lost);
+    Ok(())
 }

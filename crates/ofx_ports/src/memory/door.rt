@@ -1,6 +1,6 @@
 //! A doorway in memory.
 
-ghost use Rattle.std.specs.Prelude.{◌≡◌, ℕ, List, [], ◌∷◌, ◌++◌, Option, None, Some, Ok, IfOk, IsErr, is_err, vec_len};
+ghost use Rattle.std.specs.Prelude.{◌≡◌, ℕ, List, [], ◌∷◌, ◌++◌, Option, None, Some, Ok, IfOk, IsErr, is_err, IsSome, vec_len};
 ghost use Rattle.ofx_ports.specs.Faults.{CountsFaults};
 ghost use Rattle.ofx_ports.specs.Told.{Stays, Grows};
 ghost use Rattle.ofx_ports.specs.Calls.{fails_next, after_call};
@@ -99,6 +99,7 @@ impl Doorway<MemLink> for MemDoor {
         ensures back { Stays (Some self.old.back) (Some self.new.back) }
         ensures faults { CountsFaults self.old.calls.faults self.new.calls.faults (IsErr result) }
         ensures closings { CountsFaults self.old.closings self.new.closings (result ≡ Ok None) }
+        ensures one_out { IfOk result (λ found. IsSome found → HasOneOut (Some self.new.given) (Some self.new.back)) }
 
         // A call fails where its number is one of those that fail. Otherwise it gives the next link, while there is one.
         ensures fails { is_err result ≡ fails_next self.old.calls }

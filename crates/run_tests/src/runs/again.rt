@@ -1,14 +1,12 @@
 //! A file with a name that comes again in a later run.
 
 use super::written_over;
-use crate::sample::{reply_with, request_with};
-use crate::transfer::{PAID, POSTED, SOURCE_BALANCE, TRANSFER};
+use bank_samples::changes::NAMED;
+use bank_samples::sample::{reply_with, request_with};
+use bank_samples::transfer::{PAID, POSTED, SOURCE_BALANCE, TRANSFER};
 use ofx_ports::{MemClock, MemKeeper};
 use ofx_types::Moment;
 use std::test::Fail;
-
-/// The name of a file.
-pub const NAMED: (&str, &str) = ("NEWFILEUID:NONE", "NEWFILEUID:week");
 
 /// What the first reply to the named file with the transfer tells.
 const FIRST: [(&str, &str); 5] = [NAMED, POSTED, PAID, SOURCE_BALANCE, SOURCE_BALANCE];

@@ -3,25 +3,15 @@
 mod closing;
 
 use super::written_by_clock;
-use crate::sample::request_with;
-use crate::transfer::TRANSFER;
+use bank_samples::changes::{DUE_LATER, NEXT_DAY, NOON};
+use bank_samples::sample::request_with;
+use bank_samples::transfer::TRANSFER;
 use ofx_ports::MemClock;
 use ofx_types::Moment;
 use std::test::Fail;
 
-/// 31 January 2024 at 12:00:00.
-pub const NOON: Moment = Moment(1_706_702_400);
-
-/// 1 February 2024 at 00:00:05.
-pub const NEXT_DAY: Moment = Moment(1_706_745_605);
-
 /// A transfer of 10.00 out of 1001, which has 100.00, in front of the statement request. It is due on 1 February.
 const WAITING: [(&str, &str); 2] = [TRANSFER, DUE_LATER];
-
-pub const DUE_LATER: (&str, &str) = (
-    "<TRNAMT>10.00\r\n",
-    "<TRNAMT>10.00\r\n<DTDUE>20240201000000\r\n",
-);
 
 /// A transfer of 10.00 every month, the first on 1 February.
 const MONTHLY: [(&str, &str); 4] = [

@@ -1,7 +1,7 @@
 //! Letters: the command `mail`.
 
 use super::{ROOM, end, told_with};
-use crate::sample::SETUP;
+use bank_samples::sample::SETUP;
 use ofx_ports::{Clock, MemClock, MemSink, MemSource};
 use ofx_types::{Moment, Note};
 use std::test::Fail;

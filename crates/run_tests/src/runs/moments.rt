@@ -1,8 +1,8 @@
 //! The moments of frames, of a clock that goes back.
 
 use super::{joined, written_by_clock};
-use crate::sample::{reply_at, reply_with, request_with, requests};
-use crate::transfer::{PAID, POSTED, SOURCE_BALANCE, TRANSFER};
+use bank_samples::sample::{reply_at, reply_with, request_with, requests};
+use bank_samples::transfer::{PAID, POSTED, SOURCE_BALANCE, TRANSFER};
 use ofx_ports::{Clock, MemClock};
 use ofx_types::Moment;
 use std::test::Fail;

@@ -1,33 +1,15 @@
 //! Synchronisations of an account's transfers: polls, and the history at two moments.
 
 use super::{joined, written_by_clock};
-use crate::sample::{reply_with, request_with};
-use crate::transfer::{PAID, POSTED, SOURCE_BALANCE, TRANSFER};
+use bank_samples::changes::{NOON, POLL, STATEMENT, STATEMENT_END};
+use bank_samples::sample::{reply_with, request_with};
+use bank_samples::transfer::{PAID, POSTED, SOURCE_BALANCE, TRANSFER};
 use ofx_ports::MemClock;
 use ofx_types::Moment;
 use std::test::Fail;
 
-/// 31 January 2024 at 12:00:00.
-const NOON: Moment = Moment(1_706_702_400);
-
 /// 1 February 2024 at 12:00:00.
 const NEXT_NOON: Moment = Moment(1_706_788_800);
-
-/// What stands in front of the account in the sample's request.
-const STATEMENT: &str = "<STMTTRNRQ>\r\n<TRNUID>s1\r\n<STMTRQ>\r\n";
-
-/// What stands behind it.
-const STATEMENT_END: &str =
-    "<INCTRAN>\r\n<INCLUDE>Y\r\n</INCTRAN>\r\n</STMTRQ>\r\n</STMTTRNRQ>\r\n";
-
-/// A poll of the account's transfers in place of the statement.
-const POLL: [(&str, &str); 2] = [
-    (
-        STATEMENT,
-        "<INTRASYNCRQ>\r\n<TOKENONLY>Y\r\n<REJECTIFMISSING>N\r\n",
-    ),
-    (STATEMENT_END, "</INTRASYNCRQ>\r\n"),
-];
 
 /// A synchronisation of them from the beginning, and one behind the first entry.
 const FROM_0: [(&str, &str); 2] = [

@@ -1,10 +1,9 @@
 //! Records: appends and fetches that fail, and records that are none of this bank.
 
-use super::again::NAMED;
-use super::due::{DUE_LATER, NEXT_DAY, NOON};
 use super::{AT_NOON, BY_CLOCK, NAMES, ROOM, end, joined, told_over};
-use crate::sample::{SETUP, replies, request_with, requests};
-use crate::transfer::TRANSFER;
+use bank_samples::changes::{DUE_LATER, NAMED, NEXT_DAY, NOON};
+use bank_samples::sample::{SETUP, replies, request_with, requests};
+use bank_samples::transfer::TRANSFER;
 use ofx_ports::{Keeper, MemClock, MemKeeper, MemSink, MemSource};
 use ofx_types::{Moment, Note, Told};
 use std::alloc::Global;

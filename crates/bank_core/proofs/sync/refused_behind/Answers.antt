@@ -26,7 +26,7 @@ loop-deed-preserved c =
     (subst (λ (l : List (List ℕ × Deed)). c.loop-deed.deed-index < length l) c.items-deed-items.ensures c.loop-deed-test.true)
     (subst (λ (l : List (List ℕ × Deed)). c.deed-item.result ≡ get_or l c.loop-deed.deed-index c.deed-item.result) c.items-deed-items.ensures c.deed-item.is)
     c.loop-deed.invariant
-    (refused_more c.loop-deed.replies.items c.deed-item.result c.in_ok-trnuid.trnuid c.family_of_object-family.result (object_family c.args.ask.now.object) c.args.code c.push.new.self.items c.in_ok-trnuid.ensures c.family_of_object-family.ensures c.in_ok-push.ensures.items)
+    (refused_more c.loop-deed.replies.items c.deed-item.result c.in_ok-trnuid.trnuid c.family-family.result (object_family c.args.ask.now.object) c.args.code c.push.new.self.items c.in_ok-trnuid.ensures c.family-family.ensures c.in_ok-push.ensures.items)
 
 pub returns : goal.returns
 returns c =

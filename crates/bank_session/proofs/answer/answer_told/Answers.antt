@@ -99,7 +99,7 @@ returns-in-Some-Mail-clause-clock g c at words =
     absurd (answer_or_mail c.args.words.now _ words read)
 
 pub send_letter-requires-clause-words : goal.send_letter-requires-clause-words
-send_letter-requires-clause-words g c = λ κs lives. rw c.in-Some-Mail.field-0-is at c.in-Some-Mail.ensures
+send_letter-requires-clause-words g c = rw c.in-Some-Mail.field-0-is at c.in-Some-Mail.ensures
 
 pub returns-in-Some-Answer-clause-settled : goal.returns-in-Some-Answer-clause-settled
 returns-in-Some-Answer-clause-settled g c = settled_told c.run.result c.end_told.result _ c.end_told.ensures c.run.ensures.settled

@@ -1,8 +1,8 @@
 //! A transfer that has no cover on its day, byte for byte.
 
 use crate::runs::{joined, written_by_clock};
-use crate::sample::{reply_with, request_with};
-use crate::transfer::{PAID, POSTED, TRANSFER};
+use bank_samples::sample::{reply_with, request_with};
+use bank_samples::transfer::{PAID, POSTED, TRANSFER};
 use ofx_ports::MemClock;
 use ofx_types::Moment;
 use std::test::Fail;

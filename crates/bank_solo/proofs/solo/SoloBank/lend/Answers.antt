@@ -1,9 +1,9 @@
 use Rattle.std.proofs.Common.{◌≡◌, ◌∙◌, OnOk, ap, map, length, subst}
 use Rattle.bank_model.specs.Rules.{named}
 use Rattle.bank_accounts.specs.AccountView.{AccountView}
-use Rattle.bank_accounts.specs.HeldAccounts.{AreHeld}
+use Rattle.bank_accounts.specs.HeldAccounts.{AreHeld, AreNamed}
 use Rattle.bank_solo.specs.Solo.{SoloView}
-use Rattle.bank_solo.proofs.Accounts.{length_in, home_all, named_are_held, named_known, when_done}
+use Rattle.bank_solo.proofs.Accounts.{length_in, home_all, named_are_held, named_known, only_named, when_done}
 use Rattle.bank_solo.proofs.solo.SoloBank.lend.Goals as goal
 
 pub lend-requires-clause-known : goal.lend-requires-clause-known
@@ -22,4 +22,11 @@ returns-clause-named g c =
     subst (λ (bank : SoloView). OnOk c.lend.result (AreHeld c.lend.new.held (named bank.setup bank.state c.args.event.now))) c.self.view_is
     (when_done c.lend.result (map (λ (account : AccountView). account.number) c.lend.new.held ≡ c.deref.result.now) (AreHeld c.lend.new.held (named c.self.inside.book.setup c.self.inside.book.state c.args.event.now))
     (λ same. named_are_held c.in_ok-numbers.numbers.items c.lend.new.held (named c.self.inside.book.setup c.self.inside.book.state c.args.event.now) (same ∙ c.deref.ensures.value) c.in_ok-numbers.ensures.named)
+    c.lend.ensures.numbers)
+
+pub returns-clause-only : goal.returns-clause-only
+returns-clause-only g c =
+    subst (λ (bank : SoloView). OnOk c.lend.result (AreNamed c.lend.new.held (named bank.setup bank.state c.args.event.now))) c.self.view_is
+    (when_done c.lend.result (map (λ (account : AccountView). account.number) c.lend.new.held ≡ c.deref.result.now) (AreNamed c.lend.new.held (named c.self.inside.book.setup c.self.inside.book.state c.args.event.now))
+    (λ same. only_named c.in_ok-numbers.numbers.items c.lend.new.held (named c.self.inside.book.setup c.self.inside.book.state c.args.event.now) (same ∙ c.deref.ensures.value) c.in_ok-numbers.ensures.named)
     c.lend.ensures.numbers)

@@ -1,5 +1,16 @@
+use Rattle.std.proofs.Common.{List, ◌∙◌, sym, ap, subst}
+use Rattle.bank_model.specs.Rules.{named}
+use Rattle.bank_accounts.specs.AccountView.{AccountView}
+use Rattle.bank_accounts.specs.HeldAccounts.{AreNamed}
+use Rattle.bank_solo.specs.Solo.{SoloView}
 use Rattle.bank_solo.proofs.Accounts.{held_balanced}
 use Rattle.bank_solo.proofs.solo.SoloBank.prepare.Goals as goal
 
 pub answer-requires-clause-balanced : goal.answer-requires-clause-balanced
 answer-requires-clause-balanced g c = held_balanced c.self.inside.book.setup c.self.inside.book.state c.self.inside.home c.self.inside.held c.self.invariant.1
+
+pub returns-in-Ok-clause-only : goal.returns-in-Ok-clause-only
+returns-in-Ok-clause-only g c =
+    subst (λ (held : List AccountView). AreNamed held (named c.args.self.now.setup c.args.self.now.state c.args.event.now))
+    (sym (c.in-Ok.ensures.accounts ∙ ap (λ (bank : SoloView). bank.held) c.self.view_is))
+    c.in_ok-lend.ensures.only

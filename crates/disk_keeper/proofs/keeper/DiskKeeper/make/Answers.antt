@@ -1,5 +1,6 @@
 -- A new file has its mark and a gate that is shut.
 use Rattle.std.proofs.Common.{◌∙◌, arith}
+use Rattle.disk_keeper.proofs.DiskLemmas.{tells_on}
 use Rattle.disk_keeper.proofs.Keepings.{kept_made, lists_none, leaves_none}
 use Rattle.disk_keeper.proofs.keeper.DiskKeeper.make.Goals as goal
 
@@ -27,3 +28,7 @@ returns-clause-leaves g c =
     kept_made (g.D.Disk.history c.args.disk) (g.D.Disk.history c.write_at.new.self) (g.D.Disk.history c.sync.new.self) c.write_at.ensures.quiet c.sync.ensures.quiet c.in-Ok.ensures.written
     c.in-Ok-sync.ensures.synced
     )
+
+pub returns-clause-tells : goal.returns-clause-tells
+returns-clause-tells g c =
+    tells_on (g.D.Disk.history c.args.disk) (g.D.Disk.history c.write_at.new.self) (g.D.Disk.history c.sync.new.self) _ _ c.in-Ok.ensures.written c.in-Ok-sync.ensures.synced

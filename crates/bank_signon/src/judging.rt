@@ -4,8 +4,7 @@ ghost use Rattle.std.specs.Prelude.{◌≡◌, ◌≤◌, length, IfOk};
 ghost use Rattle.ofx_types.specs.FileForm.{SpellsFile};
 ghost use Rattle.bank_model.specs.SetupForm.{IsWithinLimits};
 ghost use Rattle.bank_model.specs.Sound.{IsSound};
-ghost use Rattle.bank_desk.specs.Answering.{fault_place};
-ghost use Rattle.bank_desk.specs.Asked.{IsJudged};
+ghost use Rattle.bank_signon.specs.Signon.{fault_place, IsJudged};
 
 use bank_model::{Setup, is_poll};
 use ofx_file::read_request;
@@ -16,9 +15,9 @@ use std::alloc::Global;
 #[derive(Drop)]
 pub enum Judgement {
     /// A file of this user, which is an event.
-    Answered(UserId, RequestFile),
+    Event(UserId, RequestFile),
     /// A poll of this user.
-    Polled(UserId, RequestFile),
+    Poll(UserId, RequestFile),
     /// A file whose signon failed.
     Denied(RequestFile),
     /// A file that isn't answered, and the place to tell.
@@ -61,9 +60,9 @@ fn judge_file(setup: &Setup, bytes: &[u8], file: RequestFile) -> Judgement
     match setup.signon(&file.user, &file.pass) {
         Some(user) => {
             if is_poll(&file) {
-                Judgement::Polled(user, file)
+                Judgement::Poll(user, file)
             } else {
-                Judgement::Answered(user, file)
+                Judgement::Event(user, file)
             }
         }
         None => Judgement::Denied(file),

@@ -1,0 +1,7 @@
+//! The sample's bank, its requests and replies, byte for byte, and changes of them. Tests of runs stand on them.
+#![tactic(auto)]
+
+pub mod changes;
+pub mod sample;
+pub mod transfer;
+pub mod words;
