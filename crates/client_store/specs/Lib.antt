@@ -1,0 +1,3 @@
+pub mod RowForm
+pub mod RowsView
+pub mod Taking
