@@ -1,0 +1,8 @@
+mod Logs
+mod Lifting
+mod Joining
+mod Answered
+mod Steps
+mod PollTold
+mod OneExchange
+mod NewestStand

@@ -1,0 +1,9 @@
+pub mod Polled
+pub mod Offices
+pub mod Exchanges
+pub mod ReplyText
+pub mod Watched
+pub mod Answering
+pub mod Connection
+pub mod Steps
+pub mod NewestTokens

@@ -1,0 +1,5 @@
+mod LogLemmas
+mod Truth
+mod LentAccounts
+mod CallLemmas
+mod Committing

@@ -1,0 +1,5 @@
+use Rattle.std.proofs.Common.{sym}
+use Rattle.bank_shared.proofs.opened.Opened.solo.Goals as goal
+
+pub returns-clause-stands : goal.returns-clause-stands
+returns-clause-stands g c = rw (sym c.requires.setup, sym c.requires.opening, sym c.self.view_is) c.self.invariant.3

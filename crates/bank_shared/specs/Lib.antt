@@ -1,0 +1,5 @@
+pub mod Views
+pub mod Kept
+pub mod Steps
+pub mod Calls
+pub mod OpenedView

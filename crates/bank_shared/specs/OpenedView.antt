@@ -1,0 +1,15 @@
+-- What contracts see of a bank that is opened and not begun.
+use Rattle.std.specs.Prelude.{◌≡◌, ℕ, List, Option}
+use Rattle.bank_model.specs.declared.event.State.{State}
+use Rattle.bank_model.specs.declared.setup.Setup.{Setup}
+
+pub record OpenedView : Type 0 where
+  pub setup : Setup
+  -- the state that its records left
+  pub state : State
+  -- the keeper's records when it opened, where it told them
+  pub opened : Option (List (List ℕ))
+  -- its records now
+  pub records : Option (List (List ℕ))
+  -- the keeper's count of faults
+  pub faults : ℕ

@@ -1,0 +1,210 @@
+//! The journal of a bank: its book, the keeper of its records, and its log.
+
+ghost use Rattle.std.specs.Prelude.{◌≡◌, false, [], None, All, OnOk, OnErr, IfOk, IfErr};
+ghost use Rattle.std.specs.Option.{IfSome, IsSomeAnd, option_map, option_copied};
+ghost use Rattle.ofx_types.specs.Calendar.{IsMoment};
+ghost use Rattle.ofx_ports.specs.Told.{Stays};
+ghost use Rattle.bank_model.specs.LegalLog.{IsWholeLog, ends};
+ghost use Rattle.bank_model.specs.Log.{endings, entries_in};
+ghost use Rattle.bank_model.specs.Rules.{IsLegal, named};
+ghost use Rattle.bank_model.specs.SetupForm.{IsWithinLimits};
+ghost use Rattle.bank_accounts.specs.HeldAccounts.{AreHeld, HaveSameNumbers};
+ghost use Rattle.bank_ledger.specs.Balanced.{AreBalanced};
+ghost use Rattle.bank_replay.specs.Opening.{Stands};
+ghost use Rattle.bank_shared.specs.Kept.{AreKept, IsUpTo};
+ghost use Rattle.bank_shared.specs.Calls.{Answers, FailsToCommit, Settles, FailsToSettle};
+
+use crate::log::Log;
+use crate::name::BankName;
+use crate::ready::{make_ready, room_of};
+use crate::step::Step;
+use crate::taking::{answer, finish, put_off};
+use bank_accounts::Held;
+use bank_core::Book;
+use bank_model::{Event, LogItem, Printer, SubmitFault};
+use ofx_ports::{Keeper, PutFault};
+use ofx_types::Moment;
+use std::alloc::Global;
+use std::marker::{Model, PhantomData};
+use std::snapshot::Snapshot;
+
+/// The journal of the bank that `N` names.
+///
+/// Its log is legal from the state in which the bank opened, without a cut group, and its book stands for the state that the log
+/// ends in. Where the keeper told its records when the bank opened, it has these, then those of the events that the log answered and
+/// adopted; while an append that failed isn't settled, its record may stand besides.
+#[derive(Drop)]
+pub struct Journal<N: BankName, K: Keeper, P: Printer> {
+    alloc: Global,
+    // as it was when the bank opened, for contracts alone
+    opened: Snapshot<K>,
+    keeper: K,
+    book: Book<P>,
+    log: Log,
+    pending: Option<Step>,
+    name: PhantomData<N>,
+}
+
+impl<N: BankName, K: Keeper, P: Printer> Model for Journal<N, K, P> {
+    ghost use Rattle.std.specs.Option.{option_map};
+    ghost use Rattle.bank_shared.specs.Kept.{IsTrue, pending_of};
+    ghost use Rattle.bank_shared.specs.Views.{JournalView};
+
+    ghost Value = { JournalView };
+
+    ghost view = { λ j. record {
+      setup = j.book.setup;
+      state = j.book.state;
+      log = j.log.items;
+      pending = option_map pending_of j.pending;
+      opened = K.records j.opened.value;
+      records = K.records j.keeper;
+      landed = K.landed j.keeper;
+      faults = K.faults j.keeper;
+    } };
+
+    ghost invariant = { λ j. IsTrue N.setup N.opening (K.records j.opened.value) j.book j.log.items j.pending (record {
+      records = K.records j.keeper;
+      landed = K.landed j.keeper;
+      unsettled = K.unsettled j.keeper;
+      faults = K.faults j.keeper;
+    }) };
+}
+
+impl<N: BankName, K: Keeper, P: Printer> Journal<N, K, P> {
+    /// The journal of a bank that has opened from a keeper as it was then. Its log is empty. Takes no memory.
+    pub(crate) fn new(
+        alloc: Global,
+        opened: Snapshot<K>,
+        keeper: K,
+        book: Book<P>,
+    ) -> Journal<N, K, P>
+        requires setup { book.setup ≡ N.setup }
+        requires state { book.state ≡ N.opening }
+        requires stands { Stands book.setup (K.records opened.value) book.state }
+        requires kept { Stays (K.records opened.value) (K.records keeper) }
+        requires settled { K.unsettled keeper ≡ false }
+        ensures setup { result.setup ≡ N.setup }
+        ensures state { result.state ≡ N.opening }
+        ensures log { result.log ≡ [] }
+        ensures pending { result.pending ≡ None }
+        ensures opened { result.opened ≡ K.records opened.value }
+        ensures records { result.records ≡ K.records keeper }
+    {
+        Journal {
+            alloc,
+            opened,
+            keeper,
+            book,
+            log: Log::new(alloc),
+            pending: None,
+            name: PhantomData,
+        }
+    }
+
+    /// The book, lent. Takes no memory.
+    pub fn book(&self) -> &Book<P>
+        ensures setup { result.now.setup ≡ self.now.setup }
+        ensures state { result.now.state ≡ self.now.state }
+        ensures own { self.now.setup ≡ N.setup }
+        ensures within { IsWithinLimits self.now.setup }
+    {
+        // For the proof alone: its contract says that the setup is within its limits.
+        let _setup = self.book.setup();
+        &self.book
+    }
+
+    /// The log, lent, with what is true of it whenever the lock is free. Takes no memory.
+    pub fn log(&self) -> &[LogItem]
+        ensures items { result.now ≡ self.now.log }
+        ensures legal { IsWholeLog N.setup N.opening self.now.log }
+        ensures ends { self.now.state ≡ ends N.setup N.opening self.now.log }
+        ensures entries { self.now.state.entries ≡ entries_in N.opening self.now.log }
+        ensures kept { IfSome self.now.opened (λ first. IsSomeAnd self.now.records
+            (AreKept N.setup N.opening first self.now.log self.now.landed self.now.pending)) }
+        ensures counts { All (IsUpTo self.now.faults) (endings self.now.log) }
+    {
+        self.log.items()
+    }
+
+    /// The event whose append failed, until it is settled whether its record stands. Takes no memory.
+    pub fn pending(&self) -> Option<&Event>
+        ensures { option_copied result ≡ option_map (λ pending. pending.0) self.now.pending }
+    {
+        match &self.pending {
+            Some(step) => Some(&step.event),
+            None => None,
+        }
+    }
+
+    /// Settles whether the record of the pending event stands. Where it does, the event is adopted: it has happened at its moment.
+    /// Afterwards nothing is pending. The accounts that the event names are held.
+    ///
+    /// - `Keeper(n)`: the keeper's count of faults rose to n in this call. The event is still pending.
+    /// - `OutOfMemory`: nothing has happened.
+    pub fn settle(&mut self, held: &mut Held) -> Result<(), SubmitFault>
+        requires named { IfSome self.old.pending (λ pending. AreHeld held.old (named self.old.setup self.old.state pending.0)) }
+        requires balanced { AreBalanced self.old.setup self.old.state held.old }
+        ensures settled { OnOk result (Settles self.old self.new) }
+        ensures fails { IfErr result (FailsToSettle self.old self.new) }
+        ensures numbers { HaveSameNumbers held.new held.old }
+        ensures balanced { AreBalanced self.new.setup self.new.state held.new }
+    {
+        let Some(step) = &self.pending else {
+            return Ok(());
+        };
+        self.log.reserve(room_of(&step.entries)?)?;
+        match self.keeper.settle() {
+            Ok(stands) => {
+                if let Some(step) = self.pending.take() {
+                    finish(&mut self.book, &mut self.log, held, step, stands);
+                }
+                Ok(())
+            }
+            Err(_) => {
+                let count = self.keeper.faults();
+                self.log.add_ending(LogItem::Fault(count, None));
+                Err(SubmitFault::Keeper(count))
+            }
+        }
+    }
+
+    /// Makes an event happen at that moment, keeps its record, and gives its reply. The accounts that it names are held, and
+    /// nothing is pending.
+    ///
+    /// All memory is taken before the record is appended, and the book takes the step behind it.
+    ///
+    /// - `Keeper(n)`: the append failed, and the keeper's count of faults rose to n in this call. The event is pending.
+    /// - `OutOfMemory`: nothing has happened.
+    pub fn commit(
+        &mut self,
+        held: &mut Held,
+        event: &Event,
+        at: Moment,
+    ) -> Result<Vec<u8>, SubmitFault>
+        requires moment { IsMoment at.0 }
+        requires legal { IsLegal self.old.setup self.old.state at event.now }
+        requires settled { self.old.pending ≡ None }
+        requires named { AreHeld held.old (named self.old.setup self.old.state event.now) }
+        requires balanced { AreBalanced self.old.setup self.old.state held.old }
+        ensures answers { IfOk result (λ reply. Answers self.old self.new event.now at reply.items) }
+        ensures fails { IfErr result (FailsToCommit self.old self.new event.now at) }
+        ensures numbers { HaveSameNumbers held.new held.old }
+        ensures balanced { AreBalanced self.new.setup self.new.state held.new }
+        ensures accounts { OnErr result (held.new ≡ held.old) }
+    {
+        let ready = make_ready(self.alloc, &mut self.book, &mut self.log, held, event, at)?;
+        match self.keeper.append(ready.rec.items()) {
+            Ok(()) => Ok(answer(&mut self.book, &mut self.log, held, ready)),
+            Err(PutFault::Failed) => {
+                let count = self.keeper.faults();
+                self.pending = Some(put_off(&mut self.log, ready, count));
+                Err(SubmitFault::Keeper(count))
+            }
+            Err(PutFault::OutOfMemory) => {
+                drop(ready);
+                Err(SubmitFault::OutOfMemory)
+            }
+        }
+    }
+}

@@ -1,0 +1,28 @@
+//! A bank that many callers share: its journal, and all of its accounts behind one lock.
+//!
+//! The `Journal` has the book, the keeper of the records and the log of all that its callers were answered. It commits an event
+//! with its record, and settles an append that failed before the next event is looked at. The `Teller` lends it the accounts that
+//! an event names. `Bank` puts the teller behind a lock: each of its calls is one of the teller's.
+#![tactic(auto)]
+
+mod advance;
+mod bank;
+mod journal;
+mod lending;
+mod log;
+mod name;
+mod opened;
+mod pass;
+mod ready;
+mod step;
+mod taking;
+mod teller;
+
+pub use advance::Advance;
+pub use bank::Bank;
+pub use bank_model::SubmitFault;
+pub use journal::Journal;
+pub use name::BankName;
+pub use opened::Opened;
+pub use pass::Pass;
+pub use teller::Teller;

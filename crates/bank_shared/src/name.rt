@@ -1,0 +1,27 @@
+//! What names one bank.
+
+ghost use Rattle.bank_model.specs.declared.event.State.{State};
+ghost use Rattle.bank_model.specs.declared.setup.Setup.{Setup};
+
+use std::marker::Brand;
+
+/// One bank, for contracts alone. What a lock keeps is known by its type, so the types of all that belongs to one bank have its
+/// name.
+///
+/// A caller opens the bank first and then calls a function that is generic in the name, at `Brand`.
+pub trait BankName {
+    // the setup of the bank
+    ghost setup: { Setup };
+
+    // the state in which it opened
+    ghost opening: { State };
+}
+
+impl BankName for Brand {
+    ghost use Rattle.std.specs.Prelude.{[]};
+    ghost use Rattle.bank_model.specs.Rules.{opening_state};
+
+    ghost setup = { record { bank = []; users = []; accounts = []; lead = 0; window = 0; entries = 0 } };
+
+    ghost opening = { opening_state };
+}

@@ -1,0 +1,180 @@
+//! A bank that has opened from its records, and isn't begun yet.
+
+ghost use Rattle.std.specs.Prelude.{◌≡◌, ℕ, ◌≤◌, ◌⊎◌, [], false, pos, ◌≤ℤ◌, All, None, IsSome, IsSomeAnd, IfOk, IfErr, IsErrAnd, MatchResult};
+ghost use Rattle.ofx_ports.specs.Faults.{CountsFaults};
+ghost use Rattle.ofx_ports.specs.Told.{Stays};
+ghost use Rattle.bank_model.specs.declared.event.State.{State};
+ghost use Rattle.bank_model.specs.Rules.{opening_state};
+ghost use Rattle.bank_model.specs.SetupForm.{IsWithinLimits};
+ghost use Rattle.event_codec.specs.Records.{Reopens};
+ghost use Rattle.bank_solo.specs.Solo.{AreAccountsIn, accounts_in};
+ghost use Rattle.bank_replay.specs.Opening.{Stands, HasNoForm, IsNotLegal, HasCause};
+ghost use Rattle.bank_replay.specs.Replay.{IsOfTheOutside};
+
+use crate::journal::Journal;
+use crate::name::BankName;
+use crate::teller::Teller;
+use bank_accounts::{Account, Home};
+use bank_core::Book;
+use bank_model::{Printer, Setup};
+use bank_replay::{OpenFault, reopen};
+use ofx_ports::Keeper;
+use ofx_types::{Duplicate, OutOfMemory};
+use std::alloc::Global;
+use std::marker::Model;
+use std::snapshot::Snapshot;
+
+/// A bank that has opened from its records.
+///
+/// It has its accounts twice, at home for a bank of many callers and in a list for one caller, so that neither takes memory when
+/// it begins: one of both is used.
+#[derive(Drop)]
+pub struct Opened<K: Keeper, P: Printer> {
+    alloc: Global,
+    setup: Setup,
+    // the keeper as it was at the opening, for contracts alone
+    opened: Snapshot<K>,
+    keeper: K,
+    book: Book<P>,
+    accounts: Vec<Account>,
+    home: Home,
+}
+
+impl<K: Keeper, P: Printer> Model for Opened<K, P> {
+    ghost use Rattle.std.specs.Prelude.{◌≡◌, false};
+    ghost use Rattle.bank_model.specs.SetupForm.{IsWithinLimits};
+    ghost use Rattle.bank_solo.specs.Solo.{AreAccountsIn, accounts_in};
+    ghost use Rattle.ofx_ports.specs.Told.{Stays};
+    ghost use Rattle.bank_replay.specs.Opening.{Stands};
+    ghost use Rattle.bank_shared.specs.OpenedView.{OpenedView};
+
+    ghost Value = { OpenedView };
+
+    ghost view = { λ o. record {
+      setup = o.setup;
+      state = o.book.state;
+      opened = K.records o.opened.value;
+      records = K.records o.keeper;
+      faults = K.faults o.keeper;
+    } };
+
+    ghost invariant = { λ o. (o.book.setup ≡ o.setup) × IsWithinLimits o.setup × (K.unsettled o.keeper ≡ false)
+        × Stands o.setup (K.records o.opened.value) o.book.state × Stays (K.records o.opened.value) (K.records o.keeper) × AreAccountsIn o.setup o.book.state o.accounts.items
+        × (o.home ≡ accounts_in o.setup o.book.state) };
+}
+
+impl<K: Keeper, P: Printer> Opened<K, P> {
+    /// Opens the bank of that setup from the records that are kept. Each refusal hands the keeper back.
+    ///
+    /// - `Read` only where the keeper's count of faults rose in this call.
+    /// - `Record(n, at)`: record n, from 1, is the first that codes no event, with the place of its first fault.
+    /// - `Illegal(n)`: record n is the first whose event isn't legal after those before it.
+    /// - `OutOfMemory`.
+    pub fn open(
+        alloc: Global,
+        keeper: K,
+        setup: Setup,
+        printer: P,
+    ) -> Result<Opened<K, P>, (OpenFault, K)>
+        requires settled { K.unsettled keeper ≡ false }
+        requires within { IsWithinLimits setup }
+        ensures setup { IfOk result (λ opened. opened.setup ≡ setup) }
+        ensures stands { IfOk result (λ opened. Stands setup (K.records keeper) opened.state) }
+        ensures cause { IfErr result (λ refused. HasCause setup (K.records keeper) refused.0) }
+
+        // Where the records are told they decide the answer, unless a read fails or memory is refused.
+        ensures opens { (state : State) → IsSomeAnd (K.records keeper) (λ all. Reopens setup opening_state all state)
+            → MatchResult result (λ opened. opened.state ≡ state) (λ refused. IsOfTheOutside refused.0) }
+        ensures formless { (number place : ℕ) → IsSome (K.records keeper) → HasNoForm setup (K.records keeper) number place
+            → IsErrAnd result (λ refused. (refused.0 ≡ OpenFault.Record number place) ⊎ IsOfTheOutside refused.0) }
+        ensures illegal { (number : ℕ) → IsSome (K.records keeper) → IsNotLegal setup (K.records keeper) number
+            → IsErrAnd result (λ refused. (refused.0 ≡ OpenFault.Illegal number) ⊎ IsOfTheOutside refused.0) }
+
+        ensures opened { IfOk result (λ opened. opened.opened ≡ K.records keeper) }
+        ensures list { IfOk result (λ opened. Stays (K.records keeper) opened.records) }
+        ensures handed_back { IfErr result (λ refused. Stays (K.records keeper) (K.records refused.1)) }
+        ensures settled { IfErr result (λ refused. K.unsettled refused.1 ≡ false) }
+        ensures faults { IfOk result (λ opened. K.faults keeper ≤ opened.faults) }
+        ensures failed { IfErr result (λ refused. CountsFaults (K.faults keeper) (K.faults refused.1) (refused.0 ≡ OpenFault.Read)) }
+    {
+        let opened = Snapshot::of(&keeper);
+        let mut keeper = keeper;
+        let Ok(own) = setup.copy() else {
+            return Err((OpenFault::OutOfMemory, keeper));
+        };
+        match reopen(alloc, &mut keeper, setup, printer) {
+            Err(fault) => Err((fault, keeper)),
+            Ok((book, accounts)) => match at_home(alloc, &book, &accounts) {
+                Err(OutOfMemory) => Err((OpenFault::OutOfMemory, keeper)),
+                Ok(home) => Ok(Opened {
+                    alloc,
+                    setup: own,
+                    opened,
+                    keeper,
+                    book,
+                    accounts,
+                    home,
+                }),
+            },
+        }
+    }
+
+    /// The bank for one caller: its setup, its journal and its accounts in the order of their numbers. Takes no memory.
+    pub fn solo<N: BankName>(self) -> (Setup, Journal<N, K, P>, Vec<Account>)
+        requires setup { self.setup ≡ N.setup }
+        requires opening { self.state ≡ N.opening }
+        ensures setup { result.0 ≡ N.setup }
+        ensures of { result.1.setup ≡ N.setup }
+        ensures state { result.1.state ≡ N.opening }
+        ensures log { result.1.log ≡ [] }
+        ensures pending { result.1.pending ≡ None }
+        ensures opened { result.1.opened ≡ self.opened }
+        ensures records { result.1.records ≡ self.records }
+        ensures stands { Stands N.setup self.opened N.opening }
+        ensures accounts { AreAccountsIn N.setup N.opening result.2.items }
+        ensures within { IsWithinLimits N.setup }
+    {
+        let journal = Journal::new(self.alloc, self.opened, self.keeper, self.book);
+        (self.setup, journal, self.accounts)
+    }
+
+    /// The setup, and the teller. Takes no memory.
+    pub(crate) fn into_teller<N: BankName>(self) -> (Setup, Teller<N, K, P>)
+        requires setup { self.setup ≡ N.setup }
+        requires opening { self.state ≡ N.opening }
+        ensures setup { result.0 ≡ N.setup }
+        ensures of { result.1.setup ≡ N.setup }
+        ensures pending { result.1.pending ≡ None }
+        ensures within { IsWithinLimits N.setup }
+    {
+        let journal = Journal::new(self.alloc, self.opened, self.keeper, self.book);
+        (self.setup, Teller::new(self.alloc, journal, self.home))
+    }
+}
+
+/// Copies of all accounts of the bank of a book, at home.
+fn at_home<P: Printer>(
+    alloc: Global,
+    book: &Book<P>,
+    accounts: &[Account],
+) -> Result<Home, OutOfMemory>
+    requires { AreAccountsIn book.now.setup book.now.state accounts.now }
+    ensures { IfOk result (λ home. home ≡ accounts_in book.now.setup book.now.state) }
+{
+    // For the proof alone: its contract says that no balance is below zero.
+    let _setup = book.setup();
+    let copies = copied(alloc, accounts)?;
+    Home::from_vec(alloc, copies)
+}
+
+/// Copies of accounts whose balances aren't below zero.
+fn copied(alloc: Global, accounts: &[Account]) -> Result<Vec<Account>, OutOfMemory>
+    requires { All (λ account. pos 0 ≤ℤ account.balance.0) accounts.now }
+    ensures { IfOk result (λ copies. copies.items ≡ accounts.now) }
+{
+    let mut copies = Vec::with_capacity(alloc, accounts.len())?;
+    for account in accounts {
+        copies.push(Account::new(account.number(), account.balance()))?;
+    }
+    Ok(copies)
+}
