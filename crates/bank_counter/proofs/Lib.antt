@@ -1,0 +1,4 @@
+mod OwnEndings
+mod TellerCalls
+mod Knowing
+mod Untold

@@ -1,0 +1,80 @@
+//! A run of due work.
+
+ghost use Rattle.std.specs.Prelude.{◌≡◌, ◌<◌, IfOk};
+ghost use Rattle.ofx_types.specs.Calendar.{IsMoment};
+ghost use Rattle.bank_due.specs.DueRuns.{Knows, RunsDue, id_in};
+
+use crate::advancer::Advancer;
+use crate::caller::Caller;
+use crate::fault::DueFault;
+use bank_model::{Event, Printer};
+use bank_shared::{Advance, Bank, BankName, Pass};
+use ofx_ports::{Gate, Keeper};
+use ofx_types::Moment;
+use std::sync::Wait;
+
+/// The most events of a run.
+const MOST_EVENTS: u32 = 100_000;
+
+/// Makes what is due at a moment happen, one event after another, until nothing is due, and answers how many they were: fewer
+/// than 100,000.
+///
+/// - `Left(id)`: 100,000 events have happened in this call, and the last look found the transfer or recurring transfer `id` due.
+/// - `Keeper(n)`: the keeper's count of faults rose to n in the last look of this call.
+/// - `OutOfMemory`.
+///
+/// Which events those are is said where the journal is told, as over a teller (`run_due`). Over a bank other callers come between,
+/// and nothing but the number is said.
+pub fn due_run<R: Wait, N: BankName, K: Keeper, P: Printer, G: Gate>(
+    bank: &Bank<N, K, P>,
+    rt: &R,
+    pass: &mut Pass,
+    at: Moment,
+    gate: &G,
+) -> Result<u32, DueFault>
+    requires moment { IsMoment at.0 }
+    ensures few { IfOk result (λ count. count < 100000) }
+{
+    let mut caller = Caller {
+        rt,
+        bank,
+        pass,
+        gate,
+    };
+    run_due(rt, &mut caller, at)
+}
+
+/// Makes what is due at a moment happen, one event after another, until nothing is due, and answers how many they were.
+///
+/// An event that was due and may no longer happen, since another one came between, isn't counted.
+pub fn run_due<R: Wait, A: Advancer>(rt: &R, advancer: &mut A, at: Moment) -> Result<u32, DueFault>
+    requires moment { IsMoment at.0 }
+    ensures runs { Knows (A.knows advancer.old) (A.knows advancer.new) (λ old new. RunsDue old new at result) }
+    ensures few { IfOk result (λ count. count < 100000) }
+{
+    let mut count = 0;
+    for _ in rt.forever() {
+        match advancer.advance(at)? {
+            Advance::Done(event) => {
+                count += 1;
+                if count == MOST_EVENTS {
+                    return Err(DueFault::Left(id_of(&event)));
+                }
+            }
+            Advance::Gone(_) => {}
+            Advance::Nothing => return Ok(count),
+        }
+    }
+    unreachable!()
+}
+
+/// The transfer or recurring transfer of an event that was due: such an event posts the one, or makes one of the other.
+fn id_of(event: &Event) -> u64
+    ensures { result ≡ id_in event.now }
+{
+    match event {
+        Event::Post(id) => *id,
+        Event::Spawn(model, _) => *model,
+        _ => 0,
+    }
+}
