@@ -2,6 +2,7 @@
 import os
 import sqlite3
 import sys
+import time
 from contextlib import closing
 from datetime import datetime
 
@@ -26,6 +27,15 @@ def open_new(path, synchronous):
     database.execute("PRAGMA synchronous = %s" % synchronous)
     database.execute(TABLE)
     return database
+
+
+def seconds_to_insert(path, records):
+    """The wall's seconds of the stock SQLite for as many commits."""
+    start = time.perf_counter()
+    with closing(open_new(path, "FULL")) as database:
+        for number, record in enumerate(records, 1):
+            database.execute(INSERT, (number, record))
+    return time.perf_counter() - start
 
 
 def make_file(path, kind, count):

@@ -85,6 +85,8 @@ def clock_of(words):
     moment."""
     if not all(map(is_word, words)) or len(words) not in (3, 5):
         return None
+    if any(path[:1] == b"-" and path != b"-" for path in words[1:3]):  # an option, not a path
+        return None
     if len(words) == 3:
         return now if words[0] in (b"answer", b"due") else None
     if words[0] == b"mail":

@@ -12,6 +12,7 @@
     note     the first line of the error stream that is wanted; without it the stream is empty
     given    what the file of records is before the run (given.py says what it may be); without it it is what the
              run before has left, and there is none at first
+    unbound  true where that file has lost the setup to which it was bound, as one from before files were bound
     held     true where another program has that file open meanwhile
     barred   true where the program may neither read nor write that file
     records  the records in that file in the end, in hex as they are given, with `*` for each digit of a moment that is
@@ -84,6 +85,9 @@ class Run:
     def given(self):
         """What takes the place of the file of records before this run. None where nothing does."""
         return Given(self.parts["given"]) if "given" in self.parts else None
+
+    def is_unbound(self):
+        return self.parts.get("unbound", False)
 
     def is_held(self):
         return self.parts.get("held", False)

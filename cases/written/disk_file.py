@@ -9,6 +9,7 @@ from contextlib import contextmanager
 FRONT = b"disk:"  # of the word that names such a file
 MARK, OPEN, SHUT = b"OFXKEEP1", b"\x01", b"\x00"
 SIZE = 8  # bytes of a length
+SETUP = ".setup"  # behind the path of a file, that of the setup to which it is bound
 
 Record = namedtuple("Record", "place bytes")  # where its gate stands
 
@@ -69,6 +70,12 @@ def rows_at(path):
         return list(enumerate((one.bytes for one in records_of(data)), 1)) if data else []
     except NoFile:
         return data
+
+
+def unbind(path):
+    """Takes away the setup to which a file of records is bound."""
+    if os.path.exists(path + SETUP):
+        os.remove(path + SETUP)
 
 
 @contextmanager

@@ -1,4 +1,5 @@
-"""Files of records, as `ofxbank` makes them: SQLite files with one table, in which each record has a row."""
+"""Files of records, as `ofxbank` makes them: SQLite files with a table in which each record has a row, and one that has the
+setup to which they are bound."""
 import os
 import shutil
 import sqlite3
@@ -6,6 +7,7 @@ import tempfile
 from contextlib import closing, contextmanager
 
 TABLE = "CREATE TABLE records (number INTEGER PRIMARY KEY, bytes BLOB NOT NULL) STRICT"
+SETUP = "CREATE TABLE setup (lines TEXT NOT NULL) STRICT"
 # A table for rows that TABLE refuses; it gets the text of TABLE behind them.
 LOOSE_TABLE = "CREATE TABLE records (number INTEGER PRIMARY KEY, bytes)"
 INSERT = "INSERT INTO records VALUES (?, ?)"
@@ -35,11 +37,18 @@ def write_rows(path, rows):
         database.commit()
 
 
+def unbind(path):
+    """Takes away the setup to which a file of records is bound."""
+    with closing(sqlite3.connect(path)) as database:
+        database.execute("DROP TABLE IF EXISTS setup")
+        database.commit()
+
+
 def remove(path):
     """Leaves nothing at this path."""
     if os.path.isdir(path):
         os.rmdir(path)
-    for one in files_of(path):
+    for one in files_of(path) + [path + ".setup"]:
         if os.path.lexists(one):
             os.remove(one)
 
@@ -74,7 +83,7 @@ def copied(path):
 def rows_in(path):
     with closing(sqlite3.connect(path)) as database:
         tables = [text for text, in database.execute("SELECT sql FROM sqlite_master")]
-        if tables and tables != [TABLE]:
+        if tables and tables not in ([TABLE], [TABLE, SETUP]):
             raise sqlite3.DatabaseError("another program's")
         return list(database.execute("SELECT number, bytes FROM records ORDER BY number")) if tables else []
 

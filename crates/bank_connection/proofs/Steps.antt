@@ -22,7 +22,7 @@ use Rattle.bank_connection.specs.Watched.{SeesAt, SeesIn, loads_of, loads_in, To
 use Rattle.bank_connection.specs.Answering.{HasSeen, Watches}
 use Rattle.bank_connection.specs.Connection.{Around, EndsSo, EndsAtLast, BreaksInLast, Writes, Converses}
 use Rattle.http_link.specs.Incoming.{HasNoNext}
-use Rattle.http_link.specs.Writing.{AppendsFront}
+use Rattle.ofx_ports.specs.Writes.{AppendsPart}
 use Rattle.bank_connection.specs.Steps.{HasExchange, Exchanges, SoFar}
 use Rattle.http_link.specs.declared.served.Served.{Served}
 use Rattle.http_link.specs.declared.served.Served.TheVariants.{End, Closed}
@@ -220,7 +220,7 @@ closes setup count ahead ahead' before now then low right s exchanges =
     }
 
 -- a front of the last reply is a front of all replies
-front_written : (a b c : Option (List ℕ)) (text reply : List ℕ) → Appends a b text → AppendsFront b c reply
+front_written : (a b c : Option (List ℕ)) (text reply : List ℕ) → Appends a b text → AppendsPart b c reply
     → (count : ℕ) × (count ≤ length (text ++ reply)) × Appends a c (take count (text ++ reply))
 front_written a b c text reply whole part = (
   length text + part.count,

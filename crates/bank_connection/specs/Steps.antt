@@ -12,14 +12,14 @@ use Rattle.bank_connection.specs.ReplyText.{outcome_reply, out}
 use Rattle.bank_connection.specs.Watched.{HasWatched}
 use Rattle.bank_connection.specs.Answering.{HasSeen, Watches}
 use Rattle.bank_connection.specs.Connection.{Around}
-use Rattle.http_link.specs.Writing.{AppendsFront}
+use Rattle.ofx_ports.specs.Writes.{AppendsPart}
 use Rattle.http_link.specs.declared.served.ServeError.{ServeError}
 use Rattle.http_link.specs.declared.served.ServeError.TheVariants.{WriteFault}
 
 -- A reply is written whole, or where a write failed a front of it.
 abbrev pub SendsReply : Around → Around → List ℕ → Bool → Result Bool ServeError → Type 0
 SendsReply before after text closes (Ok closed) = Appends before.held after.held text × (closed ≡ closes)
-SendsReply before after text closes (Err WriteFault) = AppendsFront before.held after.held text × Rose before.writes after.writes
+SendsReply before after text closes (Err WriteFault) = AppendsPart before.held after.held text × Rose before.writes after.writes
 SendsReply before after text closes (Err fault) = ⊥
 
 -- The exchange of this number, behind this log: its request was in front of the bytes that had come.

@@ -1,4 +1,3 @@
-mod Bounds
 pub mod DeskLemmas
 mod FileAnswers
 pub mod DueEvents

@@ -4,5 +4,4 @@ pub mod HeadOf
 pub mod Reads
 pub mod Window
 pub mod Coming
-pub mod Writes
 pub mod Lines

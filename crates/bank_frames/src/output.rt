@@ -3,7 +3,7 @@
 ghost use Rattle.std.specs.Prelude.{◌≡◌, ℕ, ◌≤◌, length, take, OnOk, OnErr, IsErr};
 ghost use Rattle.std.specs.Io.KnownBytes.{Appends};
 ghost use Rattle.ofx_ports.specs.Faults.{CountsFaults};
-ghost use Rattle.bank_frames.specs.Writes.{AppendsPart};
+ghost use Rattle.ofx_ports.specs.Writes.{AppendsPart};
 
 use ofx_ports::{Failed, Sink};
 

@@ -8,7 +8,7 @@ use Rattle.ofx_types.specs.declared.number.ObjectId.{ObjectId}
 use Rattle.ofx_types.specs.declared.transfer.Family.{Family}
 use Rattle.bank_model.specs.declared.entry.Entry.{Entry}
 use Rattle.bank_model.specs.declared.setup.Setup.{Setup}
-use Rattle.bank_model.specs.Objects.{belongs_to, history_of, newest}
+use Rattle.bank_model.specs.Objects.{belongs_to, history_of, newest, last_number_from}
 use Rattle.bank_model.specs.Sync.{is_above}
 use Rattle.bank_model.specs.Stores.{Row, changed, is_up_to}
 use Rattle.bank_laws.specs.Folding.{rows_up_to}
@@ -106,27 +106,24 @@ split_rising t n (entry ∷ more) rising = by_number (split_rising t entry.numbe
 
 -- ---- the last number
 
-abbrev pub last_from : ℕ → List Entry → ℕ
-last_from before entries = fold (λ (number : ℕ) (entry : Entry). entry.number) before entries
-
-last_most : (n : ℕ) (entries : List Entry) → AreRising n entries → n ≤ last_from n entries
+last_most : (n : ℕ) (entries : List Entry) → AreRising n entries → n ≤ last_number_from n entries
 last_most n [] rising = omega arith
 last_most n (entry ∷ more) rising = let rest = last_most entry.number more rising.1 in let here = rising.0 in omega arith
 
-pub all_up_to_last : (n : ℕ) (entries : List Entry) → AreRising n entries → filter (is_up_to (last_from n entries)) entries ≡ entries
+pub all_up_to_last : (n : ℕ) (entries : List Entry) → AreRising n entries → filter (is_up_to (last_number_from n entries)) entries ≡ entries
 all_up_to_last n [] rising = refl
 all_up_to_last n (entry ∷ more) rising =
-    ap (λ b. cond b (entry ∷ filter (is_up_to (last_from entry.number more)) more) (filter (is_up_to (last_from entry.number more)) more)) (le-leb entry.number (last_from entry.number more) (last_most entry.number more rising.1))
+    ap (λ b. cond b (entry ∷ filter (is_up_to (last_number_from entry.number more)) more) (filter (is_up_to (last_number_from entry.number more)) more)) (le-leb entry.number (last_number_from entry.number more) (last_most entry.number more rising.1))
     ∙ ap (λ l. entry ∷ l) (all_up_to_last entry.number more rising.1)
 
-last_below : (setup : Setup) (p : Entry → Bool) (k : ℕ) (before more : List Entry) → AllFollow setup before more → k ≤ length before → last_from k (filter p more) ≤ length before + length more
+last_below : (setup : Setup) (p : Entry → Bool) (k : ℕ) (before more : List Entry) → AllFollow setup before more → k ≤ length before → last_number_from k (filter p more) ≤ length before + length more
 last_below setup p k before [] all less = omega arith
 last_below setup p k before (entry ∷ more) all less =
     let number = all.0.number in
     let size : length (before ++ entry ∷ []) ≡ length before + 1 = length-append before (entry ∷ []) in
     let taken = last_below setup p entry.number (before ++ entry ∷ []) more all.1 (omega arith) in
     let left = last_below setup p k (before ++ entry ∷ []) more all.1 (omega arith) in
-    elim (p entry) as (λ b. last_from k (cond b (entry ∷ filter p more) (filter p more)) ≤ length before + length (entry ∷ more)) [
+    elim (p entry) as (λ b. last_number_from k (cond b (entry ∷ filter p more) (filter p more)) ≤ length before + length (entry ∷ more)) [
       | true ↦ omega arith
       | false ↦ omega arith
     ]
@@ -145,7 +142,7 @@ unfolding newest
 newest_grows setup object xs ys all few =
     let rest = history_rises setup object xs ys (follow_behind setup [] xs ys all) in
     let above = last_most (newest object xs) (history_of object ys) (rising_less (newest object xs) (length xs) (history_of object ys) few rest) in
-    let is : newest object (xs ++ ys) ≡ last_from (newest object xs) (history_of object ys) = ap (last_from 0) (history_of-append object xs ys) ∙ fold-append (λ (number : ℕ) (entry : Entry). entry.number) 0 (history_of object xs) (history_of object ys) in
+    let is : newest object (xs ++ ys) ≡ last_number_from (newest object xs) (history_of object ys) = ap (last_number_from 0) (history_of-append object xs ys) ∙ fold-append (λ (number : ℕ) (entry : Entry). entry.number) 0 (history_of object xs) (history_of object ys) in
     subst (λ (n : ℕ). newest object xs ≤ n) (sym is) above
 
 pub rows_at_first : (setup : Setup) (family : Family) (object : ObjectId) (entries : List Entry) → AllFollow setup [] entries → rows_up_to family object 0 entries ≡ []

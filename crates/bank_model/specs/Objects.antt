@@ -35,9 +35,13 @@ belongs_to object entry = entry.object.0 == object.0
 unfoldable pub history_of : ObjectId → List Entry → List Entry
 history_of object entries = filter (belongs_to object) entries
 
+-- the number of the last entry, and a number before where there is none
+abbrev pub last_number_from : ℕ → List Entry → ℕ
+last_number_from before entries = fold (λ (number : ℕ) (entry : Entry). entry.number) before entries
+
 -- the number of the last entry, 0 where there is none
 abbrev pub last_number : List Entry → ℕ
-last_number entries = fold (λ (number : ℕ) (entry : Entry). entry.number) 0 entries
+last_number entries = last_number_from 0 entries
 
 -- An object's newest token is the number of the last entry of its history.
 unfoldable pub newest : ObjectId → List Entry → ℕ

@@ -8,16 +8,10 @@ use Rattle.std.specs.Ordering.{nat_cmp, ordering_then, is_eq}
 use Rattle.std.proofs.lemmas.Bool.Decides.{nat_tests}
 use Rattle.std.proofs.lemmas.Map.Text.{is_eq-slice_cmp}
 use Rattle.ofx_types.specs.AccountForm.{kind_word, same_account}
+pub use Rattle.ofx_types.specs.AccountForm.{kind_number}
 use Rattle.ofx_types.specs.declared.account.AcctKind.{AcctKind}
 use Rattle.ofx_types.specs.declared.account.AcctKind.TheVariants.{Checking, Savings, MoneyMarket, CreditLine}
 use Rattle.ofx_types.specs.declared.account.AcctName.{AcctName}
-
--- the place of a kind among the kinds
-abbrev pub kind_number : AcctKind → ℕ
-kind_number Checking = 0
-kind_number Savings = 1
-kind_number MoneyMarket = 2
-kind_number CreditLine = 3
 
 pub name_ties : (a b : List ℕ) → bytes_eq a b ≡ is_eq (slice_cmp nat_cmp a b)
 name_ties a b = sym (is_eq-slice_cmp a b)

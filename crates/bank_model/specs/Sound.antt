@@ -1,9 +1,10 @@
 -- Request files and events that may be handed to a bank.
-use Rattle.std.specs.Prelude.{◌≡◌, ◌≢◌, ℕ, ◌<◌, ◌≤◌, ◌⊎◌, unsigned_abs, not, List, ◌++◌, filter, length, codes}
+use Rattle.std.specs.Prelude.{◌≡◌, ◌≢◌, ℕ, ◌≤◌, ◌⊎◌, unsigned_abs, not, List, ◌++◌, filter, length, codes}
 use Rattle.std.specs.Option.{IfSome}
 use Rattle.std.specs.List.{AllByRecursion}
 use Rattle.ofx_types.specs.Calendar.{IsMoment, IsDay}
-use Rattle.ofx_types.specs.TextRules.{IsText, IsTrnUid, IsFileUid}
+use Rattle.ofx_types.specs.TextRules.{IsTrnUid, IsFileUid}
+pub use Rattle.ofx_types.specs.Bounds.{IsTextWithin, IsId, IsSoundRecur, IsSoundKind}
 use Rattle.ofx_types.specs.DeedForm.{family_of}
 use Rattle.ofx_types.specs.SyncForm.{object_family}
 use Rattle.ofx_types.specs.PrintedFile.{is_mail_ask}
@@ -12,25 +13,16 @@ use Rattle.ofx_types.specs.declared.number.Day.{Day}
 use Rattle.ofx_types.specs.declared.transfer.XferInfo.{XferInfo}
 use Rattle.ofx_types.specs.declared.transfer.Deed.{Deed}
 use Rattle.ofx_types.specs.declared.transfer.Deed.TheVariants.{Transfer, ModifyTransfer, CancelTransfer, Model, ModifyModel, CancelModel, BankMail, Mail}
-use Rattle.ofx_types.specs.declared.recurring.Recur.{Recur}
 use Rattle.ofx_types.specs.declared.mail.MailText.{MailText}
 use Rattle.ofx_types.specs.declared.transfer.Family.{Family}
 use Rattle.ofx_types.specs.declared.sync.ObjectName.{ObjectName}
 use Rattle.ofx_types.specs.declared.sync.ObjectName.TheVariants as objects
-use Rattle.ofx_types.specs.declared.sync.SyncKind.{SyncKind}
-use Rattle.ofx_types.specs.declared.sync.SyncKind.TheVariants.{After, TokenOnly, Refresh}
 use Rattle.ofx_types.specs.declared.sync.SyncAsk.{SyncAsk}
 use Rattle.ofx_types.specs.declared.account.AcctName.{AcctName}
 use Rattle.ofx_types.specs.declared.request.Period.{Period}
 use Rattle.ofx_types.specs.declared.request.Ask.{Ask}
 use Rattle.ofx_types.specs.declared.request.Ask.TheVariants.{Statement, One, Sync}
 use Rattle.ofx_types.specs.declared.request.RequestFile.{RequestFile}
-
--- a text of 1 byte up to the limit
-pub record IsTextWithin (most : ℕ) (text : List ℕ) : Type 0 where
-  pub is_text : IsText text
-  pub is_there : 0 < length text
-  pub is_within : length text ≤ most
 
 -- A client's TRNUID isn't `0`, which marks what the bank does by itself.
 abbrev pub IsClientUid : List ℕ → Type 0
@@ -49,14 +41,6 @@ pub record IsSoundInfo (info : XferInfo) : Type 0 where
   pub to : IsSoundAccount info.to
   pub amount : unsigned_abs info.amount.0 ≤ 9999999999999
   pub due : IfSome info.due (λ (day : Day). IsDay day.0)
-
--- An id has at most ten digits.
-abbrev pub IsId : ℕ → Type 0
-IsId id = id ≤ 9999999999
-
--- A series has 1 to 999 transfers, or no end.
-abbrev pub IsSoundRecur : Recur → Type 0
-IsSoundRecur recur = IfSome recur.count (λ (count : ℕ). (0 < count) × (count ≤ 999))
 
 -- A mail was written in the years 1900 to 9999.
 pub record IsSoundMail (mail : MailText) : Type 0 where
@@ -82,11 +66,6 @@ IsSoundObject (objects.Intra account) = IsSoundAccount account
 IsSoundObject (objects.RecIntra account) = IsSoundAccount account
 IsSoundObject (objects.BankMail account) = IsSoundAccount account
 IsSoundObject objects.Mail = Unit {0}
-
-abbrev pub IsSoundKind : SyncKind → Type 0
-IsSoundKind (After token) = IsTextWithin 64 token
-IsSoundKind TokenOnly = Unit {0}
-IsSoundKind Refresh = Unit {0}
 
 abbrev pub IsSoundPair : Family → List ℕ × Deed → Type 0
 IsSoundPair family deed = IsClientUid deed.0 × IsSoundDeed deed.1 × (family_of deed.1 ≡ family)

@@ -14,15 +14,15 @@ use Rattle.bank_model.specs.Ledger.{row_in, with_code, row_of}
 use Rattle.bank_model.specs.Models.{model_in, model_of, waiting_of}
 use Rattle.bank_rules.proofs.SoundFound.{each_found, each_model_found}
 use Rattle.bank_rules.proofs.PendingLemmas.{IsHere, waiting_wait}
-use Rattle.msg_deed.specs.SoundDeeds.{IsSoundId, IsSoundInfo, IsSoundModelRow}
+use Rattle.msg_deed.specs.SoundDeeds.{IsId, IsSoundInfo, IsSoundModelRow}
 use Rattle.msg_parts.specs.SoundParts.{IsSoundMoment}
 use Rattle.bank_replies.specs.Telling.{IsToldChange, IsToldEntry}
 use Rattle.bank_rules.proofs.Lists.{all_step}
 
 -- A row that may be told, unless it is cancelled.
 pub record IsKnownRow (row : TransferRow) : Type 0 where
-  pub id : IsSoundId row.id
-  pub model : IsSoundId row.model
+  pub id : IsId row.id
+  pub model : IsId row.model
   pub info : IsSoundInfo (info_of row)
   pub stamp : IsSoundMoment row.stamp
 

@@ -15,7 +15,7 @@ use Rattle.bank_model.specs.Deeds.{new_row, changed_row, new_model, changed_mode
 use Rattle.bank_model.specs.Due.{settled_row, spawned_row}
 use Rattle.bank_model.specs.Recurrence.{kth_date}
 use Rattle.bank_recur.proofs.SeriesDays.{few_places}
-use Rattle.msg_deed.specs.SoundDeeds.{IsSoundId, IsSoundInfo, IsSoundRecur, IsSoundModelRow}
+use Rattle.msg_deed.specs.SoundDeeds.{IsId, IsSoundInfo, IsSoundRecur, IsSoundModelRow}
 use Rattle.bank_replies.specs.Telling.{IsToldRow}
 use Rattle.bank_rules.proofs.RowLemmas.{IsMoment-midnight, IsDay-due, stamp_is}
 use Rattle.bank_replies.proofs.Found.{IsKnownRow}
@@ -38,7 +38,7 @@ settled_told false = λ same. cc
 
 -- ---- transfers
 
-pub new_row_told : (id : ℕ) (at : Moment) (day : Day) (info : XferInfo) → IsSoundId id → IsMoment at.0 → IsDay day.0 → IsSoundInfo info → IsToldRow (new_row id at day info)
+pub new_row_told : (id : ℕ) (at : Moment) (day : Day) (info : XferInfo) → IsId id → IsMoment at.0 → IsDay day.0 → IsSoundInfo info → IsToldRow (new_row id at day info)
 unfolding new_row
 new_row_told id at day info known moment business sound =
     let due : IsDay (due_day info day).0 = IsDay-due info.due day sound.due business in (
@@ -81,7 +81,7 @@ unfolding settled_row
 settled_told_row covered at row moment known =
     (record { id = known.id; info = known.info; told = settled_told covered; stamp = moment }, known.model)
 
-pub spawned_told : (id : ℕ) (date : Day) (row : ModelRow) → IsSoundId id → IsDay date.0 → IsSoundModelRow row → IsToldRow (spawned_row id date row)
+pub spawned_told : (id : ℕ) (date : Day) (row : ModelRow) → IsId id → IsDay date.0 → IsSoundModelRow row → IsToldRow (spawned_row id date row)
 unfolding spawned_row
 spawned_told id date row known day sound = (
   record {
@@ -99,7 +99,7 @@ date_is row place date sound is = (few_places row.first date row.recur.freq plac
 
 -- ---- recurring transfers
 
-pub new_model_told : (id : ℕ) (day : Day) (recur : Recur) (info : XferInfo) → IsSoundId id → IsDay day.0 → IsSoundRecur recur → IsSoundInfo info → IsSoundModelRow (new_model id day recur info)
+pub new_model_told : (id : ℕ) (day : Day) (recur : Recur) (info : XferInfo) → IsId id → IsDay day.0 → IsSoundRecur recur → IsSoundInfo info → IsSoundModelRow (new_model id day recur info)
 unfolding new_model
 new_model_told id day recur info known business often sound = record {
   id = known;

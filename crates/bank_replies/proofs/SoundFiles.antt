@@ -6,20 +6,18 @@ use Rattle.ofx_types.specs.declared.number.Moment.{Moment}
 use Rattle.ofx_types.specs.declared.transfer.Deed.{Deed}
 use Rattle.ofx_types.specs.declared.transfer.Deed.TheVariants.{Transfer, ModifyTransfer, CancelTransfer, Model, ModifyModel, CancelModel, BankMail, Mail}
 use Rattle.ofx_types.specs.declared.transfer.Family.{Family}
-use Rattle.ofx_types.specs.declared.sync.SyncKind.{SyncKind}
-use Rattle.ofx_types.specs.declared.sync.SyncKind.TheVariants.{After, TokenOnly, Refresh}
 use Rattle.ofx_types.specs.declared.request.Period.{Period}
 use Rattle.ofx_types.specs.declared.request.Ask.{Ask}
 use Rattle.ofx_types.specs.declared.request.Ask.TheVariants.{Statement, One, Sync}
 use Rattle.ofx_types.specs.declared.request.RequestFile.{RequestFile}
 use Rattle.bank_model.specs.Sound as file
 use Rattle.msg_statement.specs.SoundStatements.{IsSoundPeriod}
-use Rattle.msg_sync.specs.SoundSyncs.{IsSoundTransaction, IsSoundKind, IsSoundIn}
+use Rattle.msg_sync.specs.SoundSyncs.{IsSoundTransaction, IsSoundIn}
 use Rattle.msg_mail.specs.SignonsAsDocuments.{IsSoundSignon}
 use Rattle.ofx_file.specs.Written.{IsSoundAsk, IsSoundFile}
 use Rattle.bank_rules.proofs.Lists.{all_step}
 use Rattle.bank_replies.proofs.SoundReplies.{version_is}
-use Rattle.bank_replies.proofs.Values.{text_within, uid_within, account_sound, info_sound, mail_sound, object_sound}
+use Rattle.bank_replies.proofs.Values.{uid_within, account_sound, info_sound, mail_sound, object_sound}
 
 transaction_sound : (trnuid : List ℕ) (deed : Deed) → file.IsClientUid trnuid → file.IsSoundDeed deed → IsSoundTransaction (trnuid, deed)
 transaction_sound trnuid (Transfer info) own sound =
@@ -42,11 +40,6 @@ transaction_sound trnuid (Mail mail) own sound =
 pair_sound : (family : Family) (deed : List ℕ × Deed) → file.IsSoundPair family deed → IsSoundIn family deed
 pair_sound family deed sound = (transaction_sound deed.0 deed.1 sound.0 sound.1, sound.2)
 
-kind_sound : (kind : SyncKind) → file.IsSoundKind kind → IsSoundKind kind
-kind_sound (After token) sound = text_within 64 token sound
-kind_sound TokenOnly sound = tt
-kind_sound Refresh sound = tt
-
 period_sound : (period : Option Period) → IfSome period file.IsSoundPeriod → IfSome period IsSoundPeriod
 period_sound None sound = tt
 period_sound (Some period) sound = record { start = sound.0; end = sound.1 }
@@ -61,7 +54,7 @@ ask_sound (Statement trnuid account period) sound = record {
 ask_sound (One trnuid deed) sound = transaction_sound trnuid deed sound.0 sound.1
 ask_sound (Sync ask) sound = record {
   object = object_sound ask.object sound.object;
-  kind = kind_sound ask.kind sound.kind;
+  kind = sound.kind;
   deeds = all_step (file.IsSoundPair (object_family ask.object)) (IsSoundIn (object_family ask.object)) ask.deeds (pair_sound (object_family ask.object)) sound.deeds;
 }
 

@@ -37,7 +37,7 @@ use Rattle.bank_laws.proofs.Events.{order_opening, grows_raised, grows_stage}
 use Rattle.bank_rules.proofs.Lists.{all_append}
 use Rattle.bank_laws.proofs.Places.{at_intra}
 use Rattle.bank_replies.specs.Telling.{IsToldEntry, IsTellable}
-use Rattle.bank_replies.proofs.Values.{uid_within, text_within, zero_within, bank_within}
+use Rattle.bank_replies.proofs.Values.{uid_within, zero_within, bank_within}
 use Rattle.bank_replies.proofs.Words.{user_within}
 use Rattle.bank_rules.proofs.RowLemmas.{IsDay-of_moment, IsDay-max}
 use Rattle.bank_replies.proofs.Found.{known_row, known_model}
@@ -97,8 +97,8 @@ letter_told setup S user at subject body within moment known subject_is body_is 
       created = moment;
       sender = bank_within;
       target = user_within setup user within known;
-      subject = text_within 64 subject subject_is;
-      body = text_within 10000 body body_is;
+      subject = subject_is;
+      body = body_is;
     };
   };
   object = omega arith;

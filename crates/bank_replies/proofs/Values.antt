@@ -12,16 +12,13 @@ use Rattle.msg_deed.specs.SoundDeeds.{IsSoundInfo}
 use Rattle.msg_mail.specs.SoundMails.{IsSoundMail}
 use Rattle.msg_sync.specs.SoundSyncs.{IsSoundObject}
 
-pub text_within : (most : ℕ) (text : List ℕ) → file.IsTextWithin most text → IsTextWithin most text
-text_within most text is = record { is_text = is.is_text; is_there = is.is_there; is_within = is.is_within }
-
 pub uid_within : (uid : List ℕ) → IsTrnUid uid → IsTextWithin 36 uid
 uid_within uid is = record { is_text = is.is_text; is_there = is.is_there; is_within = is.is_within }
 
 pub account_sound : (account : AcctName) → file.IsSoundAccount account → IsSoundAccount account
 account_sound account sound = record {
-  bank = text_within 32 account.bank sound.0;
-  number = text_within 32 account.number sound.1;
+  bank = sound.0;
+  number = sound.1;
 }
 
 pub info_sound : (info : XferInfo) → file.IsSoundInfo info → IsSoundInfo info
@@ -35,10 +32,10 @@ info_sound info sound = record {
 pub mail_sound : (mail : MailText) → file.IsSoundMail mail → IsSoundMail mail
 mail_sound mail sound = record {
   created = sound.created;
-  sender = text_within 32 mail.sender sound.sender;
-  target = text_within 32 mail.target sound.target;
-  subject = text_within 64 mail.subject sound.subject;
-  body = text_within 10000 mail.body sound.body;
+  sender = sound.sender;
+  target = sound.target;
+  subject = sound.subject;
+  body = sound.body;
 }
 
 pub object_sound : (object : ObjectName) → file.IsSoundObject object → IsSoundObject object

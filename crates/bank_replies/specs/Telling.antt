@@ -8,22 +8,22 @@ use Rattle.bank_model.specs.declared.entry.Entry.{Entry}
 use Rattle.bank_model.specs.declared.setup.Setup.{Setup}
 use Rattle.bank_model.specs.declared.event.State.{State}
 use Rattle.msg_parts.specs.SoundParts.{IsTextWithin, family_of_change}
-use Rattle.msg_deed.specs.SoundDeeds.{IsSoundId, IsSoundRow, IsSoundModelRow}
+use Rattle.msg_deed.specs.SoundDeeds.{IsId, IsSoundRow, IsSoundModelRow}
 use Rattle.msg_mail.specs.SoundMails.{IsSoundMailRow}
 use Rattle.bank_laws.specs.Places.{IsPlaceOf}
 use Rattle.bank_laws.specs.Histories.{IsInOrder}
 
 -- The row of a transfer may be told, and so may the recurring transfer that made it.
 abbrev pub IsToldRow : TransferRow → Type 0
-IsToldRow row = IsSoundRow row × IsSoundId row.model
+IsToldRow row = IsSoundRow row × IsId row.model
 
 abbrev pub IsToldChange : Change → Type 0
 IsToldChange (NewTransfer row) = IsToldRow row
 IsToldChange (SetTransfer row) = IsToldRow row
-IsToldChange (DropTransfer id) = IsSoundId id
+IsToldChange (DropTransfer id) = IsId id
 IsToldChange (NewModel row) = IsSoundModelRow row
 IsToldChange (SetModel row pending) = IsSoundModelRow row
-IsToldChange (DropModel id pending) = IsSoundId id
+IsToldChange (DropModel id pending) = IsId id
 IsToldChange (NewMail row) = IsSoundMailRow row
 
 -- An entry has a uid that may be told, says what may be told, and stands in an object of its family.

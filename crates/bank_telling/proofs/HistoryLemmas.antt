@@ -11,9 +11,8 @@ use Rattle.ofx_types.specs.declared.number.ObjectId.{ObjectId}
 use Rattle.ofx_types.specs.declared.transfer.DeedReply.{DeedReply}
 use Rattle.ofx_types.specs.declared.transfer.Family.{Family}
 use Rattle.bank_model.specs.declared.entry.Entry.{Entry}
-use Rattle.bank_model.specs.Objects.{belongs_to, history_of, newest, floor}
+use Rattle.bank_model.specs.Objects.{belongs_to, history_of, newest, floor, last_number_from}
 use Rattle.bank_model.specs.Sync.{told_as, told_entry, is_above, standing_in}
-use Rattle.bank_telling.specs.Telling.{last_number_from}
 
 pub history_of-append : (object : ObjectId) (xs ys : List Entry) → history_of object (xs ++ ys) ≡ history_of object xs ++ history_of object ys
 unfolding history_of

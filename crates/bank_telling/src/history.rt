@@ -6,12 +6,11 @@ ghost use Rattle.std.specs.List.{flat_map};
 ghost use Rattle.std.specs.Option.{option_copied};
 ghost use Rattle.ofx_types.specs.SyncForm.{object_family};
 ghost use Rattle.bank_model.specs.Objects as objects;
-ghost use Rattle.bank_model.specs.Objects.{history_of};
+ghost use Rattle.bank_model.specs.Objects.{history_of, last_number_from};
 ghost use Rattle.bank_model.specs.Judging as judging;
 ghost use Rattle.bank_model.specs.Sync as rules;
 ghost use Rattle.bank_model.specs.Sync.{told_as, told_entry, is_above, standing_transfer, standing_model, standing_in, history_told};
 ghost use Rattle.bank_ledger.specs.DraftView.{drafted};
-ghost use Rattle.bank_telling.specs.Telling.{last_number_from};
 
 use crate::tokens::token_of;
 use bank_ledger::{Draft, own_uid};

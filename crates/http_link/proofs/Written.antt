@@ -4,7 +4,7 @@ use Rattle.std.specs.Io.KnownBytes.{Appends}
 use Rattle.std.proofs.KnownBytes.{Appends-trans}
 use Rattle.std.proofs.lemmas.List.{take_rest, take-append-le}
 use Rattle.std.proofs.Math.Seq.{take-add, take-append-add}
-use Rattle.http_link.specs.Writing.{AppendsFront}
+use Rattle.ofx_ports.specs.Writes.{AppendsPart}
 
 -- the bytes behind a place, as a slice gives them
 pub rest_length : (done : ℕ) (bytes : List ℕ) → length (take (length bytes - done) (drop done bytes)) ≡ length bytes - done
@@ -19,7 +19,7 @@ written_more before mid after done count bytes front more =
     rw (sym joined) (Appends-trans before mid after _ _ front more)
 
 -- a front of the first of two texts is a front of both
-pub front_of_first : (before after : Option (List ℕ)) (first second : List ℕ) → AppendsFront before after first → AppendsFront before after (first ++ second)
+pub front_of_first : (before after : Option (List ℕ)) (first second : List ℕ) → AppendsPart before after first → AppendsPart before after (first ++ second)
 front_of_first before after first second part = record {
   count = part.count;
   within = omega (arith, part.within, length-append first second);
@@ -27,7 +27,7 @@ front_of_first before after first second part = record {
 }
 
 -- the first of two texts and a front of the second are a front of both
-pub front_of_second : (before mid after : Option (List ℕ)) (first second : List ℕ) → Appends before mid first → AppendsFront mid after second → AppendsFront before after (first ++ second)
+pub front_of_second : (before mid after : Option (List ℕ)) (first second : List ℕ) → Appends before mid first → AppendsPart mid after second → AppendsPart before after (first ++ second)
 front_of_second before mid after first second whole part = record {
   count = length first + part.count;
   within = omega (arith, part.within, length-append first second);
@@ -36,6 +36,6 @@ front_of_second before mid after first second whole part = record {
 
 -- where the second of two texts wasn't written whole, a front of both is
 pub part_behind : {E : Type 0} (result : Result (Unit {0}) E) (before mid after : Option (List ℕ)) (first second : List ℕ) → Appends before mid first
-    → OnErr result (AppendsFront mid after second) → OnErr result (AppendsFront before after (first ++ second))
+    → OnErr result (AppendsPart mid after second) → OnErr result (AppendsPart before after (first ++ second))
 part_behind (Ok done) before mid after first second whole part = part
 part_behind (Err fault) before mid after first second whole part = front_of_second before mid after first second whole part

@@ -1,4 +1,4 @@
 pub mod Requests
 pub mod Incoming
 pub mod Replies
-pub mod Writing
+pub mod Answers

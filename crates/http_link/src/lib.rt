@@ -1,14 +1,18 @@
-//! HTTP over a link: requests read whole, unless their heads refuse them, and replies written. What the body of a request says is
-//! nothing to this crate.
+//! HTTP over a link. The server's half: requests read whole, unless their heads refuse them, and replies written. The client's:
+//! requests written, and replies read whole. What a body says is nothing to this crate.
 #![tactic(auto)]
 
+mod answer;
 mod incoming;
+mod posting;
 mod refusal;
 mod reply;
 mod request;
 mod served;
 
+pub use answer::{Answer, CallFault, next_reply};
 pub use incoming::Incoming;
+pub use posting::post;
 pub use refusal::Refusal;
 pub use reply::send;
 pub use request::{Next, next_request};

@@ -5,7 +5,7 @@ ghost use Rattle.std.specs.Io.KnownBytes.{Keeps, Appends};
 ghost use Rattle.ofx_ports.specs.Faults.{CountsFaults};
 ghost use Rattle.http_front.specs.HeadText.{IsReplyCode, reply_head};
 ghost use Rattle.http_link.specs.Replies.{refusal_code, refusal_body, reply_of};
-ghost use Rattle.http_link.specs.Writing.{AppendsFront};
+ghost use Rattle.ofx_ports.specs.Writes.{AppendsPart};
 
 use crate::refusal::Refusal;
 use http_front::write_head;
@@ -41,9 +41,9 @@ impl Refusal {
 }
 
 /// Writes all of the bytes, in as many calls as the link takes. Where a write fails a front of them is written.
-fn write_all<L: Link>(link: &mut L, bytes: &[u8]) -> Result<(), Failed>
+pub(crate) fn write_all<L: Link>(link: &mut L, bytes: &[u8]) -> Result<(), Failed>
     ensures whole { OnOk result (Appends (L.held link.old) (L.held link.new) bytes.now) }
-    ensures part { OnErr result (AppendsFront (L.held link.old) (L.held link.new) bytes.now) }
+    ensures part { OnErr result (AppendsPart (L.held link.old) (L.held link.new) bytes.now) }
     ensures faults { CountsFaults (L.write_faults link.old) (L.write_faults link.new) (IsErr result) }
     ensures unread { Keeps (L.left link.old) (L.left link.new) }
     ensures reads { L.read_faults link.new ≡ L.read_faults link.old }
@@ -56,9 +56,9 @@ fn write_all<L: Link>(link: &mut L, bytes: &[u8]) -> Result<(), Failed>
 }
 
 /// Writes a head and then a body.
-fn write_both<L: Link>(link: &mut L, head: &[u8], body: &[u8]) -> Result<(), Failed>
+pub(crate) fn write_both<L: Link>(link: &mut L, head: &[u8], body: &[u8]) -> Result<(), Failed>
     ensures whole { OnOk result (Appends (L.held link.old) (L.held link.new) (head.now ++ body.now)) }
-    ensures part { OnErr result (AppendsFront (L.held link.old) (L.held link.new) (head.now ++ body.now)) }
+    ensures part { OnErr result (AppendsPart (L.held link.old) (L.held link.new) (head.now ++ body.now)) }
     ensures faults { CountsFaults (L.write_faults link.old) (L.write_faults link.new) (IsErr result) }
     ensures unread { Keeps (L.left link.old) (L.left link.new) }
     ensures reads { L.read_faults link.new ≡ L.read_faults link.old }
@@ -91,7 +91,7 @@ pub fn send<L: Link>(
     requires code { IsReplyCode code }
     requires room { 512 ≤ vec_capacity room.old }
     ensures whole { OnOk result (Appends (L.held link.old) (L.held link.new) (reply_of code body.now closes)) }
-    ensures part { OnErr result (AppendsFront (L.held link.old) (L.held link.new) (reply_of code body.now closes)) }
+    ensures part { OnErr result (AppendsPart (L.held link.old) (L.held link.new) (reply_of code body.now closes)) }
     ensures faults { CountsFaults (L.write_faults link.old) (L.write_faults link.new) (IsErr result) }
     ensures unread { Keeps (L.left link.old) (L.left link.new) }
     ensures reads { L.read_faults link.new ≡ L.read_faults link.old }

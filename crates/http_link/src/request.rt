@@ -95,7 +95,11 @@ fn link_end(count: usize) -> Result<Front, ServeError>
 }
 
 /// Reads on until so many bytes have come.
-fn read_body<L: Link>(incoming: &mut Incoming, link: &mut L, size: usize) -> Result<(), ServeError>
+pub(crate) fn read_body<L: Link>(
+    incoming: &mut Incoming,
+    link: &mut L,
+    size: usize,
+) -> Result<(), ServeError>
     ensures kept { Keeps (prepend_known incoming.old (L.left link.old)) (prepend_known incoming.new (L.left link.new)) }
     ensures grown { GrowsOn incoming.old incoming.new }
     ensures whole { OnOk result (size ≤ length incoming.new) }

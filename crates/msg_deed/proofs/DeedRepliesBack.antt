@@ -29,7 +29,7 @@ use Rattle.msg_parts.proofs.Lawful.{named}
 use Rattle.msg_parts.proofs.PrintedDeeds.{new_with}
 use Rattle.msg_parts.proofs.Transactions.{reply_item, trnuid_stands, status_stands}
 use Rattle.msg_deed.specs.DeedsReadBack.{DeedRepliesReadBack}
-use Rattle.msg_deed.specs.SoundDeeds.{IsSoundId, IsSoundRow, IsSoundModelRow, IsSoundChange, IsSoundChangeByCode}
+use Rattle.msg_deed.specs.SoundDeeds.{IsId, IsSoundRow, IsSoundModelRow, IsSoundChange, IsSoundChangeByCode}
 use Rattle.msg_deed.proofs.DeedReplies.{reply_again}
 use Rattle.msg_deed.proofs.Lawful.{code_leaf, processing_lawful, new_lawful, set_lawful, first_lawful, change_lawful, deed_reply_lawful}
 use Rattle.msg_deed.proofs.DeedsBack.{is_id_of_leaf, is_flag_of_leaf, info_stands, recur_stands}
@@ -66,7 +66,7 @@ row_stands first one second two third three reply row r id info processing = rec
   processing = processing_stands third three reply row.code row.stamp r.told r.stamp processing;
 }
 
-new_stands : (place index : ℕ) (is_none : Bool) (row : TransferRow) → nat_eq row.model 0 ≡ is_none → IsSoundRow row → IsSoundId row.model →
+new_stands : (place index : ℕ) (is_none : Bool) (row : TransferRow) → nat_eq row.model 0 ≡ is_none → IsSoundRow row → IsId row.model →
     IsChange (branch_item place index (codes "INTRARS") (new_with is_none row)) (NewTransfer row)
 new_stands place index true row none r m =
     let inner = new_with true row in

@@ -36,13 +36,13 @@ use Rattle.msg_parts.proofs.ReadBack.{account_back}
 use Rattle.msg_parts.proofs.Transactions.{only_in_front, deed_item, own_trnuid_stands}
 use Rattle.msg_parts.proofs.Lawful as lawful
 use Rattle.msg_deed.specs.DeedsReadBack.{DeedsReadBack}
-use Rattle.msg_deed.specs.SoundDeeds.{IsSoundId, IsSoundInfo, IsSoundRecur, IsSoundDeed}
+use Rattle.msg_deed.specs.SoundDeeds.{IsId, IsSoundInfo, IsSoundRecur, IsSoundDeed}
 use Rattle.msg_deed.specs.DeedSteps.{info_with}
 use Rattle.msg_deed.proofs.Deeds.{deed_again}
 use Rattle.msg_deed.proofs.Lawful.{IsMoment-midnight, id_leaf, freq_leaf, info_lawful, recur_lawful, each_lawful, request_lawful, deed_lawful}
 
 -- What is printed of an id is read as that id.
-pub is_id_of_leaf : (name : List ℕ) (id place index : ℕ) (parent : Item) → IsElementName name → IsSoundId id →
+pub is_id_of_leaf : (name : List ℕ) (id place index : ℕ) (parent : Item) → IsElementName name → IsId id →
     IsOnly name parent (leaf_item place index name (decimal id)) → IsIdIn name parent id
 is_id_of_leaf name id place index parent named h only =
     let short : length (decimal id) ≤ 64 = omega (arith, length-decimal-le 20 id (omega arith) (omega arith) (omega (arith, h))) in

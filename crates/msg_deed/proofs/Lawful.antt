@@ -35,7 +35,7 @@ use Rattle.msg_parts.proofs.Lawful.{named, is_branch, text_leaf, currency_leaf, 
 use Rattle.msg_parts.proofs.PrintedDeeds.{model_with, new_with}
 use Rattle.msg_parts.proofs.Branches.{request_branch, transaction_branch, change_branch, answer_branch}
 use Rattle.msg_deed.specs.DeedsReadBack.{DeedsAreLawful, DeedRepliesAreLawful}
-use Rattle.msg_deed.specs.SoundDeeds.{IsSoundId, IsSoundDay, IsSoundInfo, IsSoundRecur, IsSoundDeed, IsSoundDeedRequest, IsSoundRow, IsSoundModelRow, IsSoundChange, IsSoundChangeByCode, IsSoundDeedReply}
+use Rattle.msg_deed.specs.SoundDeeds.{IsId, IsSoundDay, IsSoundInfo, IsSoundRecur, IsSoundDeed, IsSoundDeedRequest, IsSoundRow, IsSoundModelRow, IsSoundChange, IsSoundChangeByCode, IsSoundDeedReply}
 
 -- ---- they are lawful
 
@@ -48,7 +48,7 @@ code_leaf Posted = record { has_name = named (codes "XFERPRCCODE") refl refl; is
 code_leaf NoFunds = record { has_name = named (codes "XFERPRCCODE") refl refl; is_text = record { is_trimmed = refl; is_clean = refl; is_short = omega arith }; is_there = omega arith }
 code_leaf Cancelled = record { has_name = named (codes "XFERPRCCODE") refl refl; is_text = record { is_trimmed = refl; is_clean = refl; is_short = omega arith }; is_there = omega arith }
 
-pub id_leaf : (name : List ℕ) (id : ℕ) → IsElementName name → IsSoundId id → IsLeaf name (decimal id)
+pub id_leaf : (name : List ℕ) (id : ℕ) → IsElementName name → IsId id → IsLeaf name (decimal id)
 id_leaf name id n h = number_leaf name id n (omega (arith, h))
 
 due_lawful : (room : ℕ) (due : Option Day) → IfSome due IsSoundDay → AreLawful room (due_document due)
@@ -148,12 +148,12 @@ processing_in_lawful : (room : ℕ) (row : TransferRow) → 0 < room → IsSound
 processing_in_lawful room row some r =
     (is_branch (codes "XFERPRCSTS") refl refl refl, some, processing_lawful (room - 1) row.code row.stamp r.stamp, tt)
 
-model_lawful : (room : ℕ) (is_none : Bool) (model : ℕ) (behind : Documents) → IsSoundId model → AreLawful room behind →
+model_lawful : (room : ℕ) (is_none : Bool) (model : ℕ) (behind : Documents) → IsId model → AreLawful room behind →
     AreLawful room (model_with is_none model behind)
 model_lawful room true model behind h more = more
 model_lawful room false model behind h more = (id_leaf (codes "RECSRVRTID") model (named (codes "RECSRVRTID") refl refl) h, more)
 
-pub new_lawful : (room : ℕ) (is_none : Bool) (row : TransferRow) → 1 < room → IsSoundRow row → IsSoundId row.model → AreLawful room (new_with is_none row)
+pub new_lawful : (room : ℕ) (is_none : Bool) (row : TransferRow) → 1 < room → IsSoundRow row → IsId row.model → AreLawful room (new_with is_none row)
 new_lawful room is_none row some r m = (
   currency_leaf,
   (id_leaf (codes "SRVRTID") row.id (named (codes "SRVRTID") refl refl) r.id, info_in_lawful room (info_of row) _ some r.info (model_lawful room is_none row.model _ m (processing_in_lawful room row (omega arith) r))),

@@ -2,10 +2,10 @@
 use Rattle.std.specs.Prelude.{◌≢◌, ◌≡◌, ℕ, ◌<◌, ◌≤◌, ◌⊎◌, List, codes, Option, None, Some}
 use Rattle.std.specs.Option.{IfSome}
 use Rattle.ofx_types.specs.Calendar.{IsDay}
+pub use Rattle.ofx_types.specs.Bounds.{IsId, IsSoundRecur}
 use Rattle.ofx_types.specs.TransferForm.{info_of}
 use Rattle.ofx_types.specs.RecurringForm.{first_info}
 use Rattle.ofx_types.specs.declared.number.Day.{Day}
-use Rattle.ofx_types.specs.declared.recurring.Recur.{Recur}
 use Rattle.ofx_types.specs.declared.recurring.ModelRow.{ModelRow}
 use Rattle.ofx_types.specs.declared.transfer.XferInfo.{XferInfo}
 use Rattle.ofx_types.specs.declared.transfer.Deed.{Deed}
@@ -22,10 +22,6 @@ use Rattle.msg_parts.specs.SoundParts.{IsTextWithin, IsSoundMoment, IsSoundAmoun
 
 -- ---- deeds
 
--- An id has at most ten digits.
-abbrev pub IsSoundId : ℕ → Type 0
-IsSoundId id = id ≤ 9999999999
-
 -- a day of the years 1900 to 9999
 abbrev pub IsSoundDay : Day → Type 0
 IsSoundDay day = IsDay day.0
@@ -36,18 +32,14 @@ pub record IsSoundInfo (info : XferInfo) : Type 0 where
   pub amount : IsSoundAmount info.amount
   pub due : IfSome info.due IsSoundDay
 
--- A recurring transfer is made 1 to 999 times, or has no end.
-abbrev pub IsSoundRecur : Recur → Type 0
-IsSoundRecur recur = IfSome recur.count (λ (count : ℕ). (0 < count) × (count ≤ 999))
-
 -- A transfer or a recurring transfer. What mail is sound is said where it is read and written.
 abbrev pub IsSoundDeed : Deed → Type 0
 IsSoundDeed (Transfer info) = IsSoundInfo info
-IsSoundDeed (ModifyTransfer id info) = IsSoundId id × IsSoundInfo info
-IsSoundDeed (CancelTransfer id) = IsSoundId id
+IsSoundDeed (ModifyTransfer id info) = IsId id × IsSoundInfo info
+IsSoundDeed (CancelTransfer id) = IsId id
 IsSoundDeed (Model recur info) = IsSoundRecur recur × IsSoundInfo info
-IsSoundDeed (ModifyModel id recur info pending) = IsSoundId id × IsSoundRecur recur × IsSoundInfo info
-IsSoundDeed (CancelModel id pending) = IsSoundId id
+IsSoundDeed (ModifyModel id recur info pending) = IsId id × IsSoundRecur recur × IsSoundInfo info
+IsSoundDeed (CancelModel id pending) = IsId id
 IsSoundDeed (deeds.BankMail account mail) = ⊥
 IsSoundDeed (deeds.Mail mail) = ⊥
 
@@ -59,24 +51,24 @@ pub record IsSoundDeedRequest (trnuid : List ℕ) (deed : Deed) : Type 0 where
 
 -- A cancelled transfer has a reply of its own, and no row.
 pub record IsSoundRow (row : TransferRow) : Type 0 where
-  pub id : IsSoundId row.id
+  pub id : IsId row.id
   pub info : IsSoundInfo (info_of row)
   pub told : row.code ≢ Cancelled
   pub stamp : IsSoundMoment row.stamp
 
 pub record IsSoundModelRow (row : ModelRow) : Type 0 where
-  pub id : IsSoundId row.id
+  pub id : IsId row.id
   pub recur : IsSoundRecur row.recur
   pub info : IsSoundInfo (first_info row)
 
 -- The reply to a new transfer says which recurring transfer made it.
 abbrev pub IsSoundChange : Change → Type 0
-IsSoundChange (NewTransfer row) = IsSoundRow row × IsSoundId row.model
+IsSoundChange (NewTransfer row) = IsSoundRow row × IsId row.model
 IsSoundChange (SetTransfer row) = IsSoundRow row
-IsSoundChange (DropTransfer id) = IsSoundId id
+IsSoundChange (DropTransfer id) = IsId id
 IsSoundChange (NewModel row) = IsSoundModelRow row
 IsSoundChange (SetModel row pending) = IsSoundModelRow row
-IsSoundChange (DropModel id pending) = IsSoundId id
+IsSoundChange (DropModel id pending) = IsId id
 IsSoundChange (NewMail row) = ⊥
 
 -- A reply has a change exactly where its code is 0, and one of its own family.

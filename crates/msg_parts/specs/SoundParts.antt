@@ -1,7 +1,7 @@
 -- What all messages have in common and reads back as it was written: values within the limits of their elements.
-use Rattle.std.specs.Prelude.{ℕ, ◌<◌, ◌≤◌, List, length, Option, None, Some, unsigned_abs}
+use Rattle.std.specs.Prelude.{◌≤◌, Option, None, Some, unsigned_abs}
 use Rattle.ofx_types.specs.Calendar.{IsMoment}
-use Rattle.ofx_types.specs.TextRules.{IsText}
+pub use Rattle.ofx_types.specs.Bounds.{IsTextWithin}
 use Rattle.ofx_types.specs.declared.account.AcctName.{AcctName}
 use Rattle.ofx_types.specs.declared.number.Cents.{Cents}
 use Rattle.ofx_types.specs.declared.number.Moment.{Moment}
@@ -9,12 +9,6 @@ use Rattle.ofx_types.specs.declared.transfer.Change.{Change}
 use Rattle.ofx_types.specs.declared.transfer.Change.TheVariants.{NewTransfer, SetTransfer, DropTransfer, NewModel, SetModel, DropModel, NewMail}
 use Rattle.ofx_types.specs.declared.transfer.Family.{Family}
 use Rattle.ofx_types.specs.declared.transfer.Family.TheVariants.{Intra, RecIntra, BankMail, Mail}
-
--- a text of 1 byte up to the limit
-pub record IsTextWithin (most : ℕ) (text : List ℕ) : Type 0 where
-  pub is_text : IsText text
-  pub is_there : 0 < length text
-  pub is_within : length text ≤ most
 
 -- a moment of the years 1900 to 9999
 abbrev pub IsSoundMoment : Moment → Type 0

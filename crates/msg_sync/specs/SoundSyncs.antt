@@ -2,6 +2,7 @@
 -- elements, and each transaction is of the family of what is synchronised.
 use Rattle.std.specs.Prelude.{◌≡◌, ◌⊎◌, ℕ, List}
 use Rattle.std.specs.List.{AllByRecursion}
+pub use Rattle.ofx_types.specs.Bounds.{IsSoundKind}
 use Rattle.ofx_types.specs.DeedForm.{family_of}
 use Rattle.ofx_types.specs.SyncForm.{object_family}
 use Rattle.ofx_types.specs.declared.transfer.Deed.{Deed}
@@ -9,8 +10,6 @@ use Rattle.ofx_types.specs.declared.transfer.DeedReply.{DeedReply}
 use Rattle.ofx_types.specs.declared.transfer.Family.{Family}
 use Rattle.ofx_types.specs.declared.sync.ObjectName.{ObjectName}
 use Rattle.ofx_types.specs.declared.sync.ObjectName.TheVariants.{Intra, RecIntra, BankMail, Mail}
-use Rattle.ofx_types.specs.declared.sync.SyncKind.{SyncKind}
-use Rattle.ofx_types.specs.declared.sync.SyncKind.TheVariants.{After, TokenOnly, Refresh}
 use Rattle.ofx_types.specs.declared.sync.SyncAsk.{SyncAsk}
 use Rattle.ofx_types.specs.declared.sync.SyncReply.{SyncReply}
 use Rattle.msg_parts.specs.SoundParts.{IsTextWithin, IsSoundAccount}
@@ -29,11 +28,6 @@ IsSoundObject (Intra account) = IsSoundAccount account
 IsSoundObject (RecIntra account) = IsSoundAccount account
 IsSoundObject (BankMail account) = IsSoundAccount account
 IsSoundObject Mail = Unit {0}
-
-abbrev pub IsSoundKind : SyncKind → Type 0
-IsSoundKind (After token) = IsTextWithin 64 token
-IsSoundKind TokenOnly = Unit {0}
-IsSoundKind Refresh = Unit {0}
 
 -- a transaction of a family
 abbrev pub IsSoundIn : Family → List ℕ × Deed → Type 0

@@ -39,6 +39,17 @@ settled_size records None = length records
 settled_size records (Some false) = length records
 settled_size records (Some true) = length records - 1
 
+pub record StoreState : Type 0 where
+  -- the text that stands, empty where nothing was saved
+  pub text : List ℕ
+  -- the numbers of the failing saves whose text lands
+  pub landing : List ℕ
+  pub calls : Calls
+
+-- whether the text of the next call lands where that call is a save that fails
+abbrev pub text_lands_next : StoreState → Bool
+text_lands_next store = list_any (λ number. number == one_more store.calls.made) store.landing
+
 pub record ClockState : Type 0 where
   -- the answers to come, of which the last stays for ever
   pub coming : List Moment

@@ -1,5 +1,7 @@
-//! The adapters: they stand over the standard library's readers, writers, sockets and clocks, and tell nothing of what those hold.
+//! The adapters: they stand over the standard library's readers, writers, files, sockets and clocks,
+//! and tell nothing of what those hold.
 
+pub mod file_store;
 pub mod reader;
 pub mod system_clock;
 pub mod tcp_door;

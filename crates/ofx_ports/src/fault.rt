@@ -18,19 +18,19 @@ impl fmt::Display for Failed {
 
 impl Error for Failed {}
 
-/// Why a record could not be appended.
+/// Why a record could not be appended, or a text saved.
 #[derive(Clone, Copy, Debug, PartialEq, Eq)]
 pub enum PutFault {
-    /// The call failed. Whether the record stands is to be settled.
+    /// The call failed. Whether the record stands is to be settled. Of a text the old one stands or the new one.
     Failed,
-    /// Memory was refused. The records are as before.
+    /// Memory was refused. The records are as before, and so is the text.
     OutOfMemory,
 }
 
 impl fmt::Display for PutFault {
     fn fmt<W: fmt::Write>(&self, f: &mut fmt::Formatter<W>) -> fmt::Result {
         match self {
-            PutFault::Failed => write!(f, "the record could not be written"),
+            PutFault::Failed => write!(f, "what was to be kept could not be written"),
             PutFault::OutOfMemory => write!(f, "out of memory"),
         }
     }
@@ -38,7 +38,7 @@ impl fmt::Display for PutFault {
 
 impl Error for PutFault {}
 
-/// Why a record could not be fetched.
+/// Why a record could not be fetched, or a text loaded.
 #[derive(Clone, Copy, Debug, PartialEq, Eq)]
 pub enum FetchFault {
     /// The call failed.
@@ -50,7 +50,7 @@ pub enum FetchFault {
 impl fmt::Display for FetchFault {
     fn fmt<W: fmt::Write>(&self, f: &mut fmt::Formatter<W>) -> fmt::Result {
         match self {
-            FetchFault::Failed => write!(f, "the record could not be read"),
+            FetchFault::Failed => write!(f, "what is kept could not be read"),
             FetchFault::OutOfMemory => write!(f, "out of memory"),
         }
     }

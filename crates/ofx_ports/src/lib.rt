@@ -1,7 +1,7 @@
-//! What a bank and a client ask of the outside: bytes to read and to write, records to keep, the time, links to peers, and
-//! doorways where links come in. Each is a trait whose clauses say what a call does to what the outside tells of
+//! What a bank and a client ask of the outside: bytes to read and to write, records to keep, a text to keep, the time, links to
+//! peers, and doorways where links come in. Each is a trait whose clauses say what a call does to what the outside tells of
 //! itself, and count its faults. The memory forms tell all that they hold and fail where they are told to. The
-//! adapters stand over the standard library's readers, writers, sockets and clocks, and tell nothing.
+//! adapters stand over the standard library's readers, writers, files, sockets and clocks, and tell nothing.
 #![tactic(auto)]
 
 mod adapters;
@@ -14,11 +14,13 @@ mod link;
 mod memory;
 mod sink;
 mod source;
+mod store_keeper;
 
+pub use adapters::file_store::FileStore;
 pub use adapters::reader::ReaderSource;
 pub use adapters::system_clock::SystemClock;
 pub use adapters::tcp_door::{TcpDoor, listen};
-pub use adapters::tcp_link::{LINK_SECONDS, TcpLink};
+pub use adapters::tcp_link::{LINK_SECONDS, TcpLink, connect};
 pub use adapters::writer::WriterSink;
 pub use clock::Clock;
 pub use doorway::Doorway;
@@ -33,5 +35,7 @@ pub use memory::link::MemLink;
 pub use memory::schedule::Schedule;
 pub use memory::sink::MemSink;
 pub use memory::source::MemSource;
+pub use memory::store::MemStore;
 pub use sink::Sink;
 pub use source::Source;
+pub use store_keeper::StoreKeeper;

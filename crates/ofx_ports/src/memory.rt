@@ -7,3 +7,4 @@ pub mod link;
 pub mod schedule;
 pub mod sink;
 pub mod source;
+pub mod store;

@@ -6,3 +6,4 @@ pub mod Root
 pub mod Placed
 pub mod Documents
 pub mod Ids
+pub mod ValueLaws

@@ -1,7 +1,9 @@
-//! What a sheet writes reads back as it was written. Nothing here runs: each contract is a law.
+//! What a sheet writes reads back as it was written, and what a cursor reads is what the grammar says stands there. Nothing
+//! here runs: each contract is a law.
 
 ghost use Rattle.ofx_tree.specs.PrintedForm.{ElementsReadBack, AggregatesReadBack, BodiesReadBack};
 ghost use Rattle.ofx_tree.specs.Documents.{DocumentsReadBack, BodiesHoldTheirDocuments, BranchesHoldTheirDocuments, DocumentsAreFound, LeavesHaveTheirValues};
+ghost use Rattle.ofx_tree.specs.ValueLaws.{TextsAreFound, FlagsAreFound, MaybeFlagsAreFound, AmountsAreFound, MomentsAreFound, MaybeMomentsAreFound, NumbersAreFound, IdsAreFound, MaybeIdsAreFound};
 
 /// The line of an element spells that element, and stands for the value that was written.
 pub fn elements_read_back()
@@ -26,4 +28,18 @@ pub fn documents_read_back()
     ensures children { BranchesHoldTheirDocuments }
     ensures found { DocumentsAreFound }
     ensures values { LeavesHaveTheirValues }
+{}
+
+/// `Cursor::text` and its kin give a value exactly where the child stands once and its value spells it in the grammar: texts,
+/// flags, amounts, dates, numbers and ids.
+pub fn values_are_found()
+    ensures texts { TextsAreFound }
+    ensures flags { FlagsAreFound }
+    ensures maybe_flags { MaybeFlagsAreFound }
+    ensures amounts { AmountsAreFound }
+    ensures moments { MomentsAreFound }
+    ensures maybe_moments { MaybeMomentsAreFound }
+    ensures numbers { NumbersAreFound }
+    ensures ids { IdsAreFound }
+    ensures maybe_ids { MaybeIdsAreFound }
 {}

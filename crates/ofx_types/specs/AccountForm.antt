@@ -12,6 +12,13 @@ kind_word Savings = codes "SAVINGS"
 kind_word MoneyMarket = codes "MONEYMRKT"
 kind_word CreditLine = codes "CREDITLINE"
 
+-- the place of a kind among the kinds
+abbrev pub kind_number : AcctKind → ℕ
+kind_number Checking = 0
+kind_number Savings = 1
+kind_number MoneyMarket = 2
+kind_number CreditLine = 3
+
 -- An account is named by its bank, its number and its kind together.
 abbrev pub same_account : AcctName → AcctName → Bool
 same_account a b = bytes_eq a.bank b.bank && bytes_eq a.number b.number && bytes_eq (kind_word a.kind) (kind_word b.kind)

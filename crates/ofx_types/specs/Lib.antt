@@ -20,6 +20,7 @@ pub mod TagForm
 pub mod TagFault
 pub mod Nodes
 pub mod InOrder
+pub mod Bounds
 pub mod FormWords
 pub mod RequestForm
 pub mod RequestReading

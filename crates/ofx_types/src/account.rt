@@ -1,5 +1,8 @@
 //! Accounts as files name them: BANKACCTFROM and BANKACCTTO (OFX 1.6, "Banking Account").
 
+ghost use Rattle.std.specs.Prelude.{◌≡◌};
+ghost use Rattle.ofx_types.specs.AccountForm.{kind_number};
+
 use crate::duplicate::Duplicate;
 use crate::memory::OutOfMemory;
 use crate::text::Text;
@@ -15,6 +18,20 @@ pub enum AcctKind {
     MoneyMarket,
     /// `CREDITLINE`
     CreditLine,
+}
+
+impl AcctKind {
+    /// Its place among the kinds, from 0: the order in which setups are searched, and its code in a record.
+    pub fn number(self) -> u8
+        ensures { result ≡ kind_number self }
+    {
+        match self {
+            AcctKind::Checking => 0,
+            AcctKind::Savings => 1,
+            AcctKind::MoneyMarket => 2,
+            AcctKind::CreditLine => 3,
+        }
+    }
 }
 
 /// What names an account: bank id, number and kind together.

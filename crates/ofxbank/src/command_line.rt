@@ -1,5 +1,10 @@
 //! The words of the command line.
 
+use bank_server::plan_of;
+use bank_session::command_of;
+use command_help::{
+    Mistake, Topic, asks_for_help, has_paths, is_help, is_version, mistake_in, text_at,
+};
 use ofx_types::{Text, TextFault};
 use std::alloc::Global;
 use std::rt::Env;
@@ -11,19 +16,23 @@ const MOST_WORD: u32 = 10_000;
 /// What the words ask.
 #[derive(Drop)]
 pub enum Request {
-    /// `--help`
-    Help,
+    /// Help about a command, or the program.
+    Help(Topic),
     /// `--version`
     Version,
-    /// A command, by the words behind the program's name.
+    /// `check`, by its words.
+    Check(Vec<Text>),
+    /// Another command, by the words behind the program's name.
     Run(Vec<Text>),
+    /// The words have no form.
+    Usage(Vec<Text>),
     /// A word is no text.
-    Usage,
+    Unread(Mistake<'static>),
     /// Memory was refused.
     NoMemory,
 }
 
-/// What the program is asked, by the words behind its name. A word that isn't UTF-8 is no text.
+/// What the program is asked, by the words behind its name.
 pub fn read_words<R: Env + AllocGlobal>(rt: &R) -> Request {
     let arguments = match env::args(rt) {
         Ok(arguments) => arguments,
@@ -31,10 +40,7 @@ pub fn read_words<R: Env + AllocGlobal>(rt: &R) -> Request {
     };
     let mut words = Vec::new(rt.alloc());
     for argument in arguments.skip(1) {
-        if words.is_empty() && argument.as_str() == "--help" {
-            return Request::Help;
-        }
-        if words.is_empty() && argument.as_str() == "--version" {
+        if words.is_empty() && is_version(argument.as_str()) {
             return Request::Version;
         }
         match Text::new(rt.alloc(), argument.as_bytes(), MOST_WORD) {
@@ -44,16 +50,52 @@ pub fn read_words<R: Env + AllocGlobal>(rt: &R) -> Request {
                 }
             }
             Err(TextFault::OutOfMemory) => return Request::NoMemory,
-            Err(_) => return Request::Usage,
+            Err(_) => return Request::Unread(Mistake::NoText(words.len().saturating_add(1))),
         }
     }
-    Request::Run(words)
+    asked(words)
+}
+
+/// What words ask that are texts.
+fn asked(words: Vec<Text>) -> Request {
+    if is_help(text_at(&words, 0)) {
+        return help_of(words);
+    }
+    if has_paths(&words) {
+        if is_check(&words) {
+            return Request::Check(words);
+        }
+        if command_of(&words).is_some() || plan_of(&words).is_some() {
+            return Request::Run(words);
+        }
+    }
+    match Topic::named(text_at(&words, 0)) {
+        Some(topic) if asks_for_help(&words) => Request::Help(topic),
+        _ => Request::Usage(words),
+    }
+}
+
+/// What is asked by a first word that asks for help: about the program, or the command that the next word names.
+fn help_of(words: Vec<Text>) -> Request {
+    if words.len() == 1 {
+        return Request::Help(Topic::Program);
+    }
+    match Topic::named(text_at(&words, 1)) {
+        Some(topic) => Request::Help(topic),
+        None if text_at(&words, 0) == "help" => Request::Usage(words),
+        None => Request::Help(Topic::Program),
+    }
+}
+
+/// Whether the words are those of `check`.
+fn is_check(words: &[Text]) -> bool {
+    text_at(words, 0) == "check" && (words.len() == 2 || words.len() == 3)
 }
 
 /// What arguments that couldn't be had come to.
 fn refused(error: &io::Error) -> Request {
     match error.kind() {
         io::ErrorKind::OutOfMemory => Request::NoMemory,
-        _ => Request::Usage,
+        _ => Request::Unread(Mistake::NoUnicode),
     }
 }

@@ -1,42 +1,7 @@
-//! What people are told: the usage, and why a run ended.
+//! What people are told by fixed lines: why a run ended, and that a server listens.
 
 use ofx_types::{Note, Status, Told};
 use std::io;
-
-/// What `--help` prints.
-pub const HELP: &str = "\
-usage: ofxbank answer SETUP RECORDS [--at DATE]
-       ofxbank due SETUP RECORDS
-       ofxbank mail SETUP RECORDS USER SUBJECT
-
-answer answers a stream of Open Financial Exchange 1.6 request files from the
-standard input, each in its frame, on the standard output. For the frame DUE it
-does what is due at the frame's moment: recurring transfers make their next
-transfers, and transfers that wait are posted on their day, or closed where
-there is no cover. due does the same once, at the moment that the clock shows.
-mail writes a letter of the bank to a user; its body is the standard input.
-
-  SETUP      the file with the bank, its users and its accounts
-  RECORDS    the file in which the bank is kept, or - to keep it in memory, for
-             this run alone; a file that isn't there is made. disk:PATH is a
-             file of records alone, made so that a crash leaves all that was
-             answered; another path is an SQLite database
-  USER       the name of a user
-  SUBJECT    1 to 64 bytes
-  --at DATE  the moment of every frame, as a date of a file: YYYYMMDD or
-             YYYYMMDDHHMMSS, perhaps with a zone, as 20240131120000[-5:EST];
-             without it each frame has the moment that the clock shows
-
-  --help     prints this
-  --version  prints the version
-
-Status: 0 all done, 2 usage, 3 setup, 4 frame or body, 5 read failed,
-6 write failed, 7 no memory, 8 records failed, 9 a record is none of this bank,
-10 no user or no number left.
-";
-
-/// What `--version` prints.
-pub const VERSION: &str = "ofxbank 0.1.0\n";
 
 /// A status alone.
 pub fn plain(status: u8) -> Told {
@@ -46,12 +11,10 @@ pub fn plain(status: u8) -> Told {
     }
 }
 
-/// Tells on the error stream why a run ended.
-pub fn tell(rt: &impl Eprint, end: Told) {
+/// Tells on the error stream why a run ended, by its fixed first line, and answers the status.
+pub fn tell(rt: &impl Eprint, end: Told) -> u8 {
     let _ = tell_cause(rt, end);
-    if end.status.0 == 2 {
-        let _ = rt.eprint(HELP);
-    }
+    end.status.0
 }
 
 /// Prints the line for an end. None where all went well.
@@ -70,4 +33,38 @@ fn tell_cause(rt: &impl Eprint, end: Told) -> io::Result<()> {
         (10, Note::Full) => rt.eprintln("full"),
         _ => Ok(()),
     }
+}
+
+/// Tells on the error stream that the server listens: where, for which setup, and from how many records the bank opened. The first
+/// line is empty, since the first line of a run that fails says why.
+pub fn tell_listening(
+    rt: &impl Eprint,
+    port: u16,
+    setup: Option<&str>,
+    records: Option<&str>,
+    count: u64,
+) {
+    let _ = tell_address(rt, port, setup.unwrap_or("?"));
+    let _ = tell_records(rt, records.unwrap_or("?"), count);
+}
+
+fn tell_address(rt: &impl Eprint, port: u16, setup: &str) -> io::Result<()> {
+    eprintln!(rt; "\nlistens at http://127.0.0.1:{port}/ofx\nsetup {setup}")
+}
+
+fn tell_records(rt: &impl Eprint, records: &str, count: u64) -> io::Result<()> {
+    match (records, count) {
+        ("-", _) => rt.eprintln("records in memory, for this run alone"),
+        (path, 0) => eprintln!(rt; "records {path}, new"),
+        (path, count) => eprintln!(rt; "records {path}, opened from {count}"),
+    }
+}
+
+/// Tells on the error stream how many links were served.
+pub fn tell_served(rt: &impl Eprint, links: u64) {
+    let _ = tell_links(rt, links);
+}
+
+fn tell_links(rt: &impl Eprint, links: u64) -> io::Result<()> {
+    eprintln!(rt; "served {links} links")
 }

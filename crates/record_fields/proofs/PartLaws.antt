@@ -14,7 +14,7 @@ use Rattle.ofx_types.specs.declared.transfer.XferInfo.{XferInfo}
 use Rattle.bank_model.specs.Sound.{IsTextWithin, IsSoundAccount, IsSoundRecur, IsSoundInfo, IsSoundMail}
 use Rattle.record_fields.specs.FieldCoding.{u16_bytes, i64_bytes, day_bytes, text_bytes, optional_bytes, kind_number, acct_bytes, freq_number, recur_bytes, info_bytes, mail_bytes}
 use Rattle.record_fields.specs.FieldReading.{filled_text_at, choice_at, optional_at, day_at, count_at}
-use Rattle.record_fields.specs.PartReading.{account_kinds, acct_at, frequencies, recur_at, info_at, mail_at}
+use Rattle.record_fields.specs.PartReading.{account_kinds, acct_at, freqs, recur_at, info_at, mail_at}
 use Rattle.record_fields.specs.Fields.{StandsAt, IsField}
 use Rattle.record_fields.proofs.Steps.{ok_is, joined, apart, step}
 use Rattle.record_fields.proofs.NumberLaws.{choice_field, optional_field}
@@ -88,7 +88,7 @@ acct_field = record {
 
 -- ---- transfers
 
-freq_back : (n : ℕ) (freq : Freq) → slice_get frequencies n ≡ Some freq → freq_number freq ≡ n
+freq_back : (n : ℕ) (freq : Freq) → slice_get freqs n ≡ Some freq → freq_number freq ≡ n
 freq_back zero freq h = ap freq_number (sym (some_is Weekly freq h))
 freq_back (suc zero) freq h = ap freq_number (sym (some_is Biweekly freq h))
 freq_back (suc (suc zero)) freq h = ap freq_number (sym (some_is TwiceMonthly freq h))
@@ -100,7 +100,7 @@ freq_back (suc (suc (suc (suc (suc (suc (suc zero))))))) freq h = ap freq_number
 freq_back (suc (suc (suc (suc (suc (suc (suc (suc zero)))))))) freq h = ap freq_number (sym (some_is Annually freq h))
 freq_back (suc (suc (suc (suc (suc (suc (suc (suc (suc n))))))))) freq h = absurd cc
 
-freq_there : (freq : Freq) → slice_get frequencies (freq_number freq) ≡ Some freq
+freq_there : (freq : Freq) → slice_get freqs (freq_number freq) ≡ Some freq
 freq_there Weekly = refl
 freq_there Biweekly = refl
 freq_there TwiceMonthly = refl
@@ -122,8 +122,8 @@ freq_small Quarterly = omega arith
 freq_small Semiannually = omega arith
 freq_small Annually = omega arith
 
-freq_field : IsField (choice_at frequencies) (λ freq. freq_number freq ∷ []) (λ freq. Unit {0})
-freq_field = choice_field frequencies freq_number (record { there = freq_there; back = freq_back; small = freq_small })
+freq_field : IsField (choice_at freqs) (λ freq. freq_number freq ∷ []) (λ freq. Unit {0})
+freq_field = choice_field freqs freq_number (record { there = freq_there; back = freq_back; small = freq_small })
 
 optional_count : IsField (optional_at count_at) (optional_bytes u16_bytes) IsCount
 optional_count = optional_field count_field

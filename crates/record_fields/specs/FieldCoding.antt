@@ -4,8 +4,7 @@ use Rattle.std.specs.List.{flat_map}
 use Rattle.std.specs.Int.{w16, w32, w64, to_be_bytes, cast_unsigned}
 use Rattle.ofx_types.specs.declared.number.Moment.{Moment}
 use Rattle.ofx_types.specs.declared.number.Day.{Day}
-use Rattle.ofx_types.specs.declared.account.AcctKind.{AcctKind}
-use Rattle.ofx_types.specs.declared.account.AcctKind.TheVariants.{Checking, Savings, MoneyMarket, CreditLine}
+pub use Rattle.ofx_types.specs.AccountForm.{kind_number}
 use Rattle.ofx_types.specs.declared.account.AcctName.{AcctName}
 use Rattle.ofx_types.specs.declared.recurring.Freq.{Freq}
 use Rattle.ofx_types.specs.declared.recurring.Freq.TheVariants.{Weekly, Biweekly, TwiceMonthly, Monthly, FourWeeks, Bimonthly, Quarterly, Semiannually, Annually}
@@ -75,12 +74,6 @@ abbrev pub list_bytes : {A : Type 0} → (A → List ℕ) → List A → List �
 list_bytes bytes items = u16_bytes (length items) ++ flat_map bytes items
 
 -- ---- parts of what is asked
-
-abbrev pub kind_number : AcctKind → ℕ
-kind_number Checking = 0
-kind_number Savings = 1
-kind_number MoneyMarket = 2
-kind_number CreditLine = 3
 
 -- the bank, the number and the kind of an account
 unfoldable pub acct_bytes : AcctName → List ℕ

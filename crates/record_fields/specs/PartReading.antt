@@ -5,8 +5,7 @@ use Rattle.ofx_types.specs.PrintedFile.{is_mail_ask}
 use Rattle.ofx_types.specs.declared.account.AcctKind.{AcctKind}
 use Rattle.ofx_types.specs.declared.account.AcctKind.TheVariants.{Checking, Savings, MoneyMarket, CreditLine}
 use Rattle.ofx_types.specs.declared.account.AcctName.{AcctName}
-use Rattle.ofx_types.specs.declared.recurring.Freq.{Freq}
-use Rattle.ofx_types.specs.declared.recurring.Freq.TheVariants.{Weekly, Biweekly, TwiceMonthly, Monthly, FourWeeks, Bimonthly, Quarterly, Semiannually, Annually}
+pub use Rattle.ofx_types.specs.RecurringReading.{freqs}
 use Rattle.ofx_types.specs.declared.recurring.Recur.{Recur}
 use Rattle.ofx_types.specs.declared.mail.MailText.{MailText}
 use Rattle.ofx_types.specs.declared.transfer.XferInfo.{XferInfo}
@@ -36,13 +35,10 @@ acct_at rec at = do
   kind ← choice_at account_kinds rec number.1
   Ok (record { bank = bank.0; number = number.0; kind = kind.0 }, kind.1)
 
-abbrev pub frequencies : List Freq
-frequencies = Weekly ∷ Biweekly ∷ TwiceMonthly ∷ Monthly ∷ FourWeeks ∷ Bimonthly ∷ Quarterly ∷ Semiannually ∷ Annually ∷ []
-
 unfoldable pub recur_at : List ℕ → ℕ → Result (Recur × ℕ) ℕ
 recur_at rec at = do
   count ← optional_at count_at rec at
-  freq ← choice_at frequencies rec count.1
+  freq ← choice_at freqs rec count.1
   Ok (record { count = count.0; freq = freq.0 }, freq.1)
 
 unfoldable pub info_at : List ℕ → ℕ → Result (XferInfo × ℕ) ℕ

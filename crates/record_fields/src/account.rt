@@ -26,17 +26,6 @@ fn kind_of(number: u8) -> Option<AcctKind>
     }
 }
 
-fn number_of(kind: AcctKind) -> u8
-    ensures { result ≡ kind_number kind }
-{
-    match kind {
-        AcctKind::Checking => 0,
-        AcctKind::Savings => 1,
-        AcctKind::MoneyMarket => 2,
-        AcctKind::CreditLine => 3,
-    }
-}
-
 #[tactic(auto, unfolding(crate::specs::FieldReading::choice_at))]
 fn get_kind(rec: &[u8], at: usize) -> Result<(AcctKind, usize), RecordFault>
     requires { at ≤ length rec.now }
@@ -74,5 +63,5 @@ pub fn put_acct(value: &AcctName, out: &mut Vec<u8>) -> Result<(), OutOfMemory>
 {
     put_text(&value.bank, out)?;
     put_text(&value.number, out)?;
-    put_u8(&number_of(value.kind), out)
+    put_u8(&value.kind.number(), out)
 }

@@ -8,7 +8,7 @@ ghost use Rattle.record_fields.specs.declared.fault.RecordFault.{RecordFault};
 ghost use Rattle.record_fields.specs.Answers.{Gives};
 ghost use Rattle.record_fields.specs.FieldCoding.{recur_bytes, freq_number, optional_bytes, u16_bytes};
 ghost use Rattle.record_fields.specs.FieldReading.{choice_at, optional_at, count_at};
-ghost use Rattle.record_fields.specs.PartReading.{frequencies, recur_at};
+ghost use Rattle.record_fields.specs.PartReading.{freqs, recur_at};
 
 use crate::bounded::get_count;
 use crate::fault::RecordFault;
@@ -16,7 +16,7 @@ use crate::number::{get_flag, get_u8, put_u8, put_u16};
 use ofx_types::{Freq, OutOfMemory, Recur};
 
 fn freq_of(number: u8) -> Option<Freq>
-    ensures { result ≡ slice_get frequencies number }
+    ensures { result ≡ slice_get freqs number }
 {
     match number {
         0 => Some(Freq::Weekly),
@@ -51,7 +51,7 @@ fn number_of(freq: Freq) -> u8
 #[tactic(auto, unfolding(crate::specs::FieldReading::choice_at))]
 fn get_freq(rec: &[u8], at: usize) -> Result<(Freq, usize), RecordFault>
     requires { at ≤ length rec.now }
-    ensures gives { Gives result (choice_at frequencies rec.now at) }
+    ensures gives { Gives result (choice_at freqs rec.now at) }
     ensures within { IfOk result (λ found. found.1 ≤ length rec.now) }
     // It takes no memory.
     ensures sure { result ≢ Err RecordFault.OutOfMemory }

@@ -11,25 +11,25 @@ use Rattle.circular_buffer.specs.Buffer.{last_item}
 use Rattle.bank_model.specs.declared.entry.Entry.{Entry}
 use Rattle.bank_model.specs.Objects.{last_number}
 use Rattle.bank_model.specs.Sync.{is_above}
-use Rattle.token_window.specs.WindowView.{WindowView, RiseFrom, last_from, newest_held, entry_before, number_of, StandsFor, IsWindow}
+use Rattle.token_window.specs.WindowView.{WindowView, RiseFrom, last_number_from, newest_held, entry_before, number_of, StandsFor, IsWindow}
 
 abbrev behind : ℕ → Entry → ℕ
 behind number entry = entry.number
 
 -- ---- numbers that rise
 
-pub last_over : (before : ℕ) (xs ys : List Entry) → last_from before (xs ++ ys) ≡ last_from (last_from before xs) ys
+pub last_over : (before : ℕ) (xs ys : List Entry) → last_number_from before (xs ++ ys) ≡ last_number_from (last_number_from before xs) ys
 last_over before xs ys = fold-append behind before xs ys
 
-at_least : (before : ℕ) (xs : List Entry) → RiseFrom before xs → before ≤ last_from before xs
+at_least : (before : ℕ) (xs : List Entry) → RiseFrom before xs → before ≤ last_number_from before xs
 at_least before [] rise = omega arith
 at_least before (x ∷ xs) rise = let rest = at_least x.number xs rise.1 in omega (arith, rise.0, rest)
 
-pub rise_parts : (before : ℕ) (xs ys : List Entry) → RiseFrom before (xs ++ ys) → RiseFrom before xs × RiseFrom (last_from before xs) ys
+pub rise_parts : (before : ℕ) (xs ys : List Entry) → RiseFrom before (xs ++ ys) → RiseFrom before xs × RiseFrom (last_number_from before xs) ys
 rise_parts before [] ys rise = (tt, rise)
 rise_parts before (x ∷ xs) ys rise = let rest = rise_parts x.number xs ys rise.1 in ((rise.0, rest.0), rest.1)
 
-pub rise_more : (before : ℕ) (xs : List Entry) (entry : Entry) → RiseFrom before xs → last_from before xs < entry.number → RiseFrom before (xs ++ entry ∷ [])
+pub rise_more : (before : ℕ) (xs : List Entry) (entry : Entry) → RiseFrom before xs → last_number_from before xs < entry.number → RiseFrom before (xs ++ entry ∷ [])
 rise_more before [] entry rise above = (above, tt)
 rise_more before (x ∷ xs) entry rise above = (rise.0, rise_more x.number xs entry rise.1 above)
 
@@ -45,19 +45,19 @@ pub in_order : (before : ℕ) (xs : List Entry) → RiseFrom before xs → IsNon
 in_order before xs rise = IsNonDecreasingBy-from_all_adjacent (λ (entry : Entry). entry.number) xs (adjacent before xs rise)
 
 -- the last one of entries, found by its place
-last_at : (before : ℕ) (xs : List Entry) (k : ℕ) (entry : Entry) → k + 1 ≡ length xs → slice_get xs k ≡ Some entry → last_from before xs ≡ entry.number
+last_at : (before : ℕ) (xs : List Entry) (k : ℕ) (entry : Entry) → k + 1 ≡ length xs → slice_get xs k ≡ Some entry → last_number_from before xs ≡ entry.number
 last_at before [] k entry same is = absurd (omega arith)
 last_at before (x ∷ []) zero entry same is = ap (number_of 0) is
 last_at before (x ∷ []) (suc k) entry same is = absurd (omega arith)
 last_at before (x ∷ y ∷ ys) zero entry same is = absurd (omega arith)
 last_at before (x ∷ y ∷ ys) (suc k) entry same is = last_at x.number (y ∷ ys) k entry (omega arith) is
 
-pub last_some : (before : ℕ) (xs : List Entry) (entry : Entry) → last_item xs ≡ Some entry → last_from before xs ≡ entry.number
+pub last_some : (before : ℕ) (xs : List Entry) (entry : Entry) → last_item xs ≡ Some entry → last_number_from before xs ≡ entry.number
 last_some before xs entry is =
     let within = slice_get_within xs (length xs - 1) entry is in
     last_at before xs (length xs - 1) entry (omega (arith, within)) is
 
-pub last_none : (before : ℕ) (xs : List Entry) → last_item xs ≡ None → last_from before xs ≡ before
+pub last_none : (before : ℕ) (xs : List Entry) → last_item xs ≡ None → last_number_from before xs ≡ before
 last_none before [] is = refl
 last_none before (x ∷ xs) is =
     let some = slice_get-get_or (x ∷ xs) (length (x ∷ xs) - 1) x (omega arith) in
@@ -73,11 +73,11 @@ all_above token before (x ∷ xs) rise less =
     ∙ ap (λ (rest : List Entry). x ∷ rest) (all_above token x.number xs rise.1 (omega (arith, rise.0, less)))
 
 -- those above the number of an entry are those behind it
-pub cut_above : (before : ℕ) (k : ℕ) (xs : List Entry) → RiseFrom before xs → filter (is_above (last_from before (take k xs))) xs ≡ drop k xs
+pub cut_above : (before : ℕ) (k : ℕ) (xs : List Entry) → RiseFrom before xs → filter (is_above (last_number_from before (take k xs))) xs ≡ drop k xs
 cut_above before zero xs rise = all_above before before xs rise (omega arith)
 cut_above before (suc k) [] rise = refl
 cut_above before (suc k) (x ∷ xs) rise =
-    let token : ℕ = last_from x.number (take k xs) in
+    let token : ℕ = last_number_from x.number (take k xs) in
     let parts = rise_parts x.number (take k xs) (drop k xs) (subst (λ (ys : List Entry). RiseFrom x.number ys) (sym (take-append-drop k xs)) rise.1) in
     let passed : x.number ≤ token = at_least x.number (take k xs) parts.0 in
     cond-false (ltb token x.number) (x ∷ filter (is_above token) xs) (filter (is_above token) xs) (le-ltb token x.number passed)
@@ -164,7 +164,7 @@ held_same width capacity floor room held entry is some = ap (λ (n : ℕ). drop 
     split (inr (same, all)) = omega (arith, same)
 
 -- Numbers rise from the floor that the entry that leaves makes.
-rise_in_ring : (capacity floor : ℕ) (held : List Entry) (entry : Entry) → RiseFrom floor held → last_from floor held < entry.number → (length held < capacity) ⊎ ((length held ≡ capacity) × (0 < capacity)) → RiseFrom (number_of floor (ring_left capacity held entry)) (ring_with capacity held entry)
+rise_in_ring : (capacity floor : ℕ) (held : List Entry) (entry : Entry) → RiseFrom floor held → last_number_from floor held < entry.number → (length held < capacity) ⊎ ((length held ≡ capacity) × (0 < capacity)) → RiseFrom (number_of floor (ring_left capacity held entry)) (ring_with capacity held entry)
 rise_in_ring capacity floor held entry rise above (inl less) =
     let left : ring_left capacity held entry ≡ None = cond-true (ltb (length held) capacity) None (slice_get (held ++ entry ∷ []) 0) (lt-ltb (length held) capacity less) in
     let none : length (held ++ entry ∷ []) - capacity ≡ 0 = omega (arith, size_more held entry, less) in
@@ -177,7 +177,7 @@ rise_in_ring capacity floor (x ∷ xs) entry rise above (inr all) =
     subst (λ (o : Option Entry). RiseFrom (number_of floor o) (ring_with capacity (x ∷ xs) entry)) (sym left)
     (subst (λ (n : ℕ). RiseFrom x.number (drop n (x ∷ xs ++ entry ∷ []))) (sym one) (rise_more x.number xs entry rise.1 above))
 
-pub still_window : (width capacity floor room left_room : ℕ) (held : List Entry) (entry : Entry) → IsWindow width capacity floor room held → left_room + 1 ≡ room → last_from floor held < entry.number → IsWindow width capacity (number_of floor (ring_left capacity held entry)) left_room (ring_with capacity held entry)
+pub still_window : (width capacity floor room left_room : ℕ) (held : List Entry) (entry : Entry) → IsWindow width capacity floor room held → left_room + 1 ≡ room → last_number_from floor held < entry.number → IsWindow width capacity (number_of floor (ring_left capacity held entry)) left_room (ring_with capacity held entry)
 still_window width capacity floor room left_room held entry is less above =
     let X : List Entry = held ++ entry ∷ [] in
     let size = size_more held entry in
@@ -205,10 +205,10 @@ held_cut history width window stands =
 pub newest_stands : (history : List Entry) (width : ℕ) (window : WindowView) → StandsFor history width window → newest_held window ≡ last_number history
 newest_stands history width window stands =
     let k : ℕ = length history - width in
-    ap (λ (n : ℕ). last_from n window.held) stands.floor
-    ∙ ap (last_from (last_from 0 (take k history))) (held_cut history width window stands)
+    ap (λ (n : ℕ). last_number_from n window.held) stands.floor
+    ∙ ap (last_number_from (last_number_from 0 (take k history))) (held_cut history width window stands)
     ∙ sym (last_over 0 (take k history) (drop k history))
-    ∙ ap (last_from 0) (take-append-drop k history)
+    ∙ ap (last_number_from 0) (take-append-drop k history)
 
 pub stands_alike : (history : List Entry) (width : ℕ) (old new : WindowView) → StandsFor history width old → new.width ≡ old.width → new.held ≡ old.held → new.floor ≡ old.floor → StandsFor history width new
 stands_alike history width old new stands wide held floor = record {

@@ -1,7 +1,8 @@
 -- What contracts see of a window, and the history that it stands for.
-use Rattle.std.specs.Prelude.{◌≡◌, ℕ, ◌+◌, ◌-◌, ◌<◌, ◌≤◌, nat_lt, if◌then◌else◌, ⊤, List, [], ◌∷◌, filter, fold, take, length, slice_get, Option, None, Some}
+use Rattle.std.specs.Prelude.{◌≡◌, ℕ, ◌+◌, ◌-◌, ◌<◌, ◌≤◌, nat_lt, if◌then◌else◌, ⊤, List, [], ◌∷◌, filter, take, length, slice_get, Option, None, Some}
 use Rattle.bank_model.specs.declared.entry.Entry.{Entry}
 use Rattle.bank_model.specs.Objects.{last_number}
+pub use Rattle.bank_model.specs.Objects.{last_number_from}
 use Rattle.bank_model.specs.Sync.{is_above}
 
 -- How many entries are held at most, those that are held, the number of the last one that left, and for how many more
@@ -17,13 +18,9 @@ abbrev pub RiseFrom : ℕ → List Entry → Type 0
 RiseFrom before [] = ⊤
 RiseFrom before (entry ∷ entries) = (before < entry.number) × RiseFrom entry.number entries
 
--- the number of the last entry, and the number before where there is none
-abbrev pub last_from : ℕ → List Entry → ℕ
-last_from before entries = fold (λ (number : ℕ) (entry : Entry). entry.number) before entries
-
 -- the number of the last entry that came
 abbrev pub newest_held : WindowView → ℕ
-newest_held window = last_from window.floor window.held
+newest_held window = last_number_from window.floor window.held
 
 -- the entry before the last so many of a history, where there are more than these
 abbrev pub entry_before : ℕ → List Entry → Option Entry

@@ -11,7 +11,7 @@ ghost use Rattle.bank_model.specs.SetupKeys.{kind_number, name_ties, account_tie
 
 use crate::directory::Keyed;
 use crate::setup::{AccountLine, User};
-use ofx_types::{AcctKind, AcctName, Text, UserId};
+use ofx_types::{AcctName, Text, UserId};
 use std::cmp::Ordering;
 
 /// A user is found by name.
@@ -86,23 +86,11 @@ impl Keyed for UserId {
     ghost ties = { λ owner user. number_ties owner.0 user.0 };
 }
 
-/// The place of a kind among the kinds.
-fn kind_number(kind: AcctKind) -> u8
-    ensures { result ≡ kind_number kind }
-{
-    match kind {
-        AcctKind::Checking => 0,
-        AcctKind::Savings => 1,
-        AcctKind::MoneyMarket => 2,
-        AcctKind::CreditLine => 3,
-    }
-}
-
 /// How an account's name compares with another of its number: by kind, and then by bank.
 fn compare_at_number(one: &AcctName, name: &AcctName) -> Ordering
     ensures { result ≡ ordering_then (nat_cmp (kind_number one.now.kind) (kind_number name.now.kind)) (slice_cmp nat_cmp one.now.bank name.now.bank) }
 {
-    match kind_number(one.kind).cmp(&kind_number(name.kind)) {
+    match one.kind.number().cmp(&name.kind.number()) {
         Ordering::Equal => compare_bytes(one.bank.as_bytes(), name.bank.as_bytes()),
         other => other,
     }

@@ -149,7 +149,7 @@ fn store(alloc: Global, records: &mut Vec<Record>, bytes: &[u8]) -> Result<(), A
 }
 
 // Puts these bytes in place of those that a buffer holds. A refusal leaves it empty.
-fn refill(into: &mut Vec<u8>, bytes: &[u8]) -> Result<(), AllocError>
+pub(super) fn refill(into: &mut Vec<u8>, bytes: &[u8]) -> Result<(), AllocError>
     ensures filled { OnOk result (into.new.items ≡ bytes.now) }
     ensures refused { OnErr result (into.new.items ≡ []) }
 {

@@ -1,7 +1,6 @@
 use Rattle.std.proofs.Common.{◌≡◌, ℕ, ◌+◌, ◌-◌, length, take, arith, ap, ◌∙◌}
 use Rattle.bank_model.specs.declared.setup.Setup.{Setup}
-use Rattle.bank_model.specs.Objects.{history_of}
-use Rattle.bank_telling.specs.Telling.{last_number_from}
+use Rattle.bank_model.specs.Objects.{history_of, last_number_from}
 use Rattle.bank_telling.proofs.HistoryLemmas.{counts_fit, floor-behind}
 use Rattle.bank_telling.proofs.history.floor.Goals as goal
 

@@ -1,6 +1,5 @@
 use Rattle.std.proofs.Common.{◌≡◌, take}
-use Rattle.bank_model.specs.Objects.{history_of}
-use Rattle.bank_telling.specs.Telling.{last_number_from}
+use Rattle.bank_model.specs.Objects.{history_of, last_number_from}
 use Rattle.bank_telling.proofs.history.last_number.Given as goal
 
 abbrev pub invariant-loop-entry : goal.invariant-loop-entry

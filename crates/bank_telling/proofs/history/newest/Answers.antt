@@ -1,8 +1,7 @@
 use Rattle.bank_telling.proofs.HistoryLemmas.{newest-behind}
 use Rattle.bank_telling.proofs.history.newest.Goals as goal
 use Rattle.std.proofs.Common.{ap, ◌∙◌}
-use Rattle.bank_model.specs.Objects.{history_of}
-use Rattle.bank_telling.specs.Telling.{last_number_from}
+use Rattle.bank_model.specs.Objects.{history_of, last_number_from}
 
 pub returns : goal.returns
 returns c =

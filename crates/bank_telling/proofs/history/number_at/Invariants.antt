@@ -1,6 +1,5 @@
 use Rattle.std.proofs.Common.{◌≡◌, ◌+◌, length, take}
-use Rattle.bank_model.specs.Objects.{history_of}
-use Rattle.bank_telling.specs.Telling.{last_number_from}
+use Rattle.bank_model.specs.Objects.{history_of, last_number_from}
 use Rattle.bank_telling.proofs.history.number_at.Given as goal
 
 -- as many as are taken and those that are left are all that are wanted

@@ -1,6 +1,6 @@
 use Rattle.std.proofs.Common.{filter, sym, ap, ◌∙◌, subst}
 use Rattle.bank_model.specs.Sync.{is_above}
-use Rattle.token_window.specs.WindowView.{WindowView, RiseFrom, last_from}
+use Rattle.token_window.specs.WindowView.{WindowView, RiseFrom, last_number_from}
 use Rattle.token_window.proofs.WindowLemmas.{rise_parts, in_order, above_stands}
 use Rattle.token_window.proofs.window.Window.since.Goals as goal
 
@@ -14,7 +14,7 @@ pub new-requires-clause-newer : goal.new-requires-clause-newer
 new-requires-clause-newer c =
     let floor = c.self.inside.floor in
     let parts = rise_parts floor c.as_slices.result.0.now c.as_slices.result.1.now (subst (RiseFrom floor) (sym c.as_slices.ensures) c.self.invariant.rising) in
-    in_order (last_from floor c.as_slices.result.0.now) c.as_slices.result.1.now parts.1
+    in_order (last_number_from floor c.as_slices.result.0.now) c.as_slices.result.1.now parts.1
 
 pub returns-clause-stood_for : goal.returns-clause-stood_for
 returns-clause-stood_for c history width stands =

@@ -1,0 +1,12 @@
+"""Programs that heed the rights of files where their user is root."""
+import ctypes
+
+# By which who is root reads and writes what they have no rights to.
+OVERRIDES = 1, 2  # CAP_DAC_OVERRIDE, CAP_DAC_READ_SEARCH
+LEAVE = 24  # PR_CAPBSET_DROP
+
+
+def heed_rights(c_library=ctypes.CDLL(None)):
+    """Has the program that this process becomes heed the rights of files where its user is root."""
+    for one in OVERRIDES:
+        c_library.prctl(LEAVE, one, 0, 0, 0)

@@ -1,0 +1,6 @@
+mod Lengths
+mod Plans
+mod Opens
+mod Working
+mod Doors
+mod Sharing

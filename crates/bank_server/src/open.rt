@@ -1,0 +1,67 @@
+//! How the bank opens to be served.
+
+ghost use Rattle.std.specs.Prelude.{◌≡◌, ◌≢◌, false, IfOk, IfErr, IsErrAnd, ◌↔◌};
+ghost use Rattle.ofx_ports.specs.Told.{Stays};
+ghost use Rattle.ofx_types.specs.declared.told.Note.TheVariants.{Plain};
+ghost use Rattle.bank_replay.specs.Opening.{Stands};
+ghost use Rattle.bank_session.specs.Run as runs;
+ghost use Rattle.bank_session.specs.SetupRead.{IsSetupOf};
+ghost use Rattle.bank_server.specs.Words.{AreServeWords, IsServeUsage};
+ghost use Rattle.bank_server.specs.Opening.{outside, RefusesOpening};
+
+use crate::plan::{Plan, plan_of};
+use bank_model::{Printer, one_setup};
+use bank_session::{Stop, end_told, one_bank, opening_stop, read_setup};
+use bank_shared::Opened;
+use ofx_ports::{Keeper, Source};
+use ofx_types::{Text, Told};
+use std::alloc::Global;
+
+/// Judges the words of `serve`, reads the setup whole, and opens the bank from the records that the keeper has. Each refusal hands the
+/// keeper back.
+///
+/// | Status | Note | Where |
+/// |---|---|---|
+/// | 2 | | the words have another form; nothing was read |
+/// | 3 | the line of the fault, from 1 | the setup has no form or is past a limit |
+/// | 5 | | a read of the setup failed |
+/// | 8 | | a call of the keeper failed |
+/// | 9 | the number of a record, from 1, and the place of its first fault | this record is the first that codes no event |
+/// | 9 | the number of a record, from 1 | this record is the first whose event isn't legal after those before it |
+/// | 7 | | memory was refused |
+pub fn serve_open<A: Source, K: Keeper, P: Printer>(
+    alloc: Global,
+    words: &[Text],
+    setup: &mut A,
+    keeper: K,
+    printer: P,
+) -> Result<(Plan, Opened<K, P>), (Told, K)>
+    requires settled { K.unsettled keeper ≡ false }
+    ensures usage { IsErrAnd result (λ refused. refused.0.status.0 ≡ 2) ↔ IsServeUsage words.now }
+    ensures plain { IfErr result (λ refused. refused.0.status.0 ≡ 2 → refused.0 ≡ runs.told 2 Plain) }
+    ensures unread { IsServeUsage words.now → setup.new ≡ setup.old }
+    ensures plan { IfOk result (λ opened. AreServeWords words.now opened.0) }
+    ensures found { IfOk result (λ opened. IsSetupOf (A.left setup.old) opened.1.setup) }
+    ensures stands { IfOk result (λ opened. Stands opened.1.setup (K.records keeper) opened.1.state) }
+    ensures opened { IfOk result (λ opened. opened.1.opened ≡ K.records keeper) }
+    ensures list { IfOk result (λ opened. Stays (K.records keeper) opened.1.records) }
+    ensures refused { IfErr result (λ refused. refused.0.status.0 ≢ 2 → RefusesOpening
+        (outside (A.left setup.old) (A.faults setup.old) (K.records keeper) (K.faults keeper))
+        (outside (A.left setup.new) (A.faults setup.new) (K.records refused.1) (K.faults refused.1)) refused.0) }
+    ensures handed_back { IfErr result (λ refused. Stays (K.records keeper) (K.records refused.1)) }
+    ensures settled { IfErr result (λ refused. K.unsettled refused.1 ≡ false) }
+{
+    one_setup();
+    one_bank();
+    let Some(plan) = plan_of(words) else {
+        return Err((end_told(Err(Stop::Usage)), keeper));
+    };
+    let found = match read_setup(alloc, setup) {
+        Ok(found) => found,
+        Err(stop) => return Err((end_told(Err(stop)), keeper)),
+    };
+    match Opened::open(alloc, keeper, found, printer) {
+        Ok(opened) => Ok((plan, opened)),
+        Err((fault, keeper)) => Err((end_told(Err(opening_stop(fault))), keeper)),
+    }
+}

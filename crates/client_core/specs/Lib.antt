@@ -1,0 +1,8 @@
+pub mod ClientForm
+pub mod Objects
+pub mod Wishes
+pub mod Making
+pub mod Answering
+pub mod Accepting
+pub mod Told
+pub mod Taking

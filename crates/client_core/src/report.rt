@@ -1,0 +1,13 @@
+//! What is told of a reply.
+
+use ofx_types::{Sequence, Text};
+
+/// Lines in order, each without its LF.
+pub type ReportLines = Sequence<Text>;
+
+/// What is to be printed of a reply that was accepted.
+#[derive(Debug, Drop)]
+pub struct Report {
+    /// The lines.
+    pub lines: ReportLines,
+}

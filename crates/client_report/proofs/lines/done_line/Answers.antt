@@ -1,0 +1,16 @@
+use Rattle.std.proofs.Common.{◌≡◌, List, ℕ, ◌++◌, sym, ap, subst, ◌∙◌, arith}
+use Rattle.std.specs.Prelude.{IfOk}
+use Rattle.ofx_types.specs.TextRules.{trimmed}
+use Rattle.client_report.specs.Lines.{done_text}
+use Rattle.client_report.proofs.Trimmed.{done_trimmed}
+use Rattle.client_report.proofs.lines.done_line.Goals as goal
+
+pub text_of-requires : goal.text_of-requires
+text_of-requires c =
+    let same = c.deref.ensures.value ∙ c.in_ok-put_done.ensures ∙ ap (λ (l : List ℕ). l ++ done_text c.args.trnuid.now c.args.code) c.new-line.ensures.items in
+    ap trimmed same ∙ done_trimmed c.args.trnuid.now c.args.code (omega arith) ∙ sym same
+
+pub returns : goal.returns
+returns c =
+    let same = c.deref.ensures.value ∙ c.in_ok-put_done.ensures ∙ ap (λ (l : List ℕ). l ++ done_text c.args.trnuid.now c.args.code) c.new-line.ensures.items in
+    subst (λ (bytes : List ℕ). IfOk c.text_of.result (λ (line : List ℕ). line ≡ bytes)) same c.text_of.ensures

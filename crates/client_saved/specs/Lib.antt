@@ -1,0 +1,4 @@
+pub mod Bounds
+pub mod Coding
+pub mod Reading
+pub mod SavedText

@@ -1,9 +1,0 @@
--- Bytes that were written as far as the link took them.
-use Rattle.std.specs.Prelude.{ℕ, ◌≤◌, List, length, take, Option}
-use Rattle.std.specs.Io.KnownBytes.{Appends}
-
--- a front of the bytes is written
-pub record AppendsFront (before after : Option (List ℕ)) (bytes : List ℕ) : Type 0 where
-  pub count : ℕ
-  pub within : count ≤ length bytes
-  pub appended : Appends before after (take count bytes)

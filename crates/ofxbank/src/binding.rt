@@ -1,0 +1,101 @@
+//! Which setup the records of a run belong to. They are bound to it before the run opens them.
+
+ghost use Rattle.std.specs.Prelude.{◌≡◌, false};
+
+use crate::keepers::ON_DISK;
+use crate::paths::{RECORDS, named};
+use crate::setup_file::SetupFile;
+use bank_replay::reopen;
+use bank_session::Stop;
+use ofx_file::OfxPrinter;
+use ofx_ports::Keeper;
+use ofx_types::Text;
+use record_files::{
+    Binding, Cause, bind_beside, bind_sqlite, find_beside, find_sqlite, make_on_disk, open_on_disk,
+};
+use sqlite_keeper::SqliteKeeper;
+
+/// Why the records of a run aren't opened.
+#[derive(Drop)]
+pub enum Unbound {
+    /// The setup has no form, or can't be read.
+    Setup(Stop),
+    /// The records are bound to another setup, or can't be opened.
+    Records(Cause),
+}
+
+/// Binds the records that the third word names to the setup: new ones, and ones that are bound to none and open under it. Under
+/// a setup that has no form nothing is opened or made.
+pub fn bind_records(rt: &HostRuntime, words: &[Text], setup: &SetupFile) -> Result<(), Unbound> {
+    if let Err(stop) = setup.setup(rt.alloc()) {
+        return Err(Unbound::Setup(stop));
+    }
+    match bind_to(rt, words, setup) {
+        Ok(()) => Ok(()),
+        Err(cause) => Err(Unbound::Records(cause)),
+    }
+}
+
+/// Binds the records to a setup that has its form.
+fn bind_to(rt: &HostRuntime, words: &[Text], setup: &SetupFile) -> Result<(), Cause> {
+    let Ok(lines) = setup.lines(rt.alloc()) else {
+        return Err(Cause::NoMemory);
+    };
+    match named(words, RECORDS) {
+        None | Some("-") => Ok(()),
+        Some(path) => match path.strip_prefix(ON_DISK) {
+            Some(file) => bind_on_disk(rt, file, setup, lines.as_str()),
+            None => bind_in_sqlite(rt, path, setup, lines.as_str()),
+        },
+    }
+}
+
+/// Binds the records of an SQLite file.
+fn bind_in_sqlite(
+    rt: &HostRuntime,
+    path: &str,
+    setup: &SetupFile,
+    lines: &str,
+) -> Result<(), Cause> {
+    match find_sqlite(rt, path, lines)? {
+        Binding::Bound => Ok(()),
+        Binding::Unbound => {
+            let mut keeper = SqliteKeeper::open(rt, path);
+            let opens = opens(rt, &mut keeper, setup);
+            drop(keeper);
+            if opens {
+                bind_sqlite(rt, path, lines)
+            } else {
+                Ok(())
+            }
+        }
+    }
+}
+
+/// Binds the records of a file on a disk.
+fn bind_on_disk(rt: &HostRuntime, path: &str, setup: &SetupFile, lines: &str) -> Result<(), Cause> {
+    if let Some(_made) = make_on_disk(rt, path)? {
+        return bind_beside(rt, path, lines);
+    }
+    match find_beside(rt, path, lines)? {
+        Binding::Bound => Ok(()),
+        Binding::Unbound => {
+            let mut keeper = open_on_disk(rt, path)?;
+            if opens(rt, &mut keeper, setup) {
+                bind_beside(rt, path, lines)
+            } else {
+                Ok(())
+            }
+        }
+    }
+}
+
+/// Whether a bank of this setup opens from these records.
+fn opens<K: Keeper>(rt: &HostRuntime, keeper: &mut K, setup: &SetupFile) -> bool
+    requires { K.unsettled keeper.old ≡ false }
+{
+    match setup.setup(rt.alloc()) {
+        Ok(setup) => reopen(rt.alloc(), keeper, setup, OfxPrinter).is_ok(),
+        Err(_) => false,
+    }
+}

@@ -1,0 +1,196 @@
+//! The command `check`: a setup and records are read, and what was found is told. Nothing is written.
+
+ghost use Rattle.std.specs.Prelude.{◌≡◌, false};
+
+use crate::keepers::ON_DISK;
+use crate::paths::{RECORDS, SETUP, named};
+use crate::setup_file::SetupFile;
+use crate::told::{plain, tell};
+use crate::totals::{Totals, amount_text, day_text, totals_of};
+use crate::why::{tell_open_files, tell_why};
+use bank_model::Setup;
+use bank_session::end_told;
+use command_help::text_at;
+use ofx_ports::Keeper;
+use ofx_types::{Text, Told};
+use record_files::{
+    Binding, Cause, ReadRecords, cause_at, compared, find_beside, is_there, read_disk, read_sqlite,
+};
+use std::io;
+
+/// The end of a check: what is told of it, and why the records can't be opened.
+type End = (Told, Option<Cause>);
+
+/// Checks the setup and the records that the words name, and answers the status.
+pub fn checked(rt: &HostRuntime, words: &[Text]) -> u8 {
+    let Ok(setup) = SetupFile::read(rt, words) else {
+        return tell(rt, plain(7));
+    };
+    let (end, cause) = checked_setup(rt, words, &setup);
+    let status = tell(rt, end);
+    tell_why(rt, end, words, &setup, cause);
+    tell_open_files(rt, words, status == 0);
+    status
+}
+
+/// Checks the setup, and then the records, where there are any.
+fn checked_setup(rt: &HostRuntime, words: &[Text], file: &SetupFile) -> End {
+    let setup = match file.setup(rt.alloc()) {
+        Ok(setup) => setup,
+        Err(stop) => return (end_told(Err(stop)), None),
+    };
+    if tell_of_setup(rt, text_at(words, SETUP), &setup).is_err() {
+        return (plain(6), None);
+    }
+    drop(setup);
+    match named(words, RECORDS) {
+        None => (plain(0), None),
+        Some("-") => ended(rt.println("records -: a run keeps none")),
+        Some(path) => checked_at(rt, words, path, file),
+    }
+}
+
+/// Prints what was found in the setup.
+fn tell_of_setup(rt: &HostRuntime, path: &str, setup: &Setup) -> io::Result<()> {
+    let users = setup.users.items().len();
+    let accounts = setup.accounts.items().len();
+    let objects = accounts.saturating_mul(3).saturating_add(users);
+    println!(rt; "setup {path}: {users} users, {accounts} accounts, {objects} objects")
+}
+
+/// The end where all that was left to do was to print.
+fn ended(printed: io::Result<()>) -> End {
+    match printed {
+        Ok(()) => (plain(0), None),
+        Err(_) => (plain(6), None),
+    }
+}
+
+/// Checks the records at a path.
+fn checked_at(rt: &HostRuntime, words: &[Text], path: &str, file: &SetupFile) -> End {
+    let place = path.strip_prefix(ON_DISK).unwrap_or(path);
+    if !is_there(rt, place) {
+        return match cause_at(rt, place) {
+            Some(cause) => (plain(8), Some(cause)),
+            None => ended(tell_none(rt, path)),
+        };
+    }
+    let found = match path.strip_prefix(ON_DISK) {
+        Some(place) => checked_on_disk(rt, place, file),
+        None => checked_in_sqlite(rt, place, file),
+    };
+    match found {
+        Ok((totals, binding)) => told_of(rt, path, totals, binding),
+        Err(end) => end,
+    }
+}
+
+fn tell_none(rt: &HostRuntime, path: &str) -> io::Result<()> {
+    println!(rt; "records {path}: there is no such file; a run makes it")
+}
+
+/// Tells what was found in records that open.
+fn told_of(rt: &HostRuntime, path: &str, totals: Totals, binding: Binding) -> End {
+    let (Ok(day), Ok(sum)) = (
+        day_text(rt.alloc(), totals.last),
+        amount_text(rt.alloc(), totals.sum),
+    ) else {
+        return (plain(7), None);
+    };
+    ended(tell_totals(rt, path, totals, (day.as_str(), sum.as_str()), binding))
+}
+
+/// Prints what was found in records, with the business day and the sum of balances.
+fn tell_totals(
+    rt: &HostRuntime,
+    path: &str,
+    totals: Totals,
+    texts: (&str, &str),
+    binding: Binding,
+) -> io::Result<()> {
+    let Totals {
+        records,
+        entries,
+        ..
+    } = totals;
+    let (day, sum) = texts;
+    println!(rt;
+        "records {path}: {records} records, {entries} entries, business day {day}, balances {sum}"
+    )?;
+    match binding {
+        Binding::Bound => Ok(()),
+        Binding::Unbound => println!(rt;
+            "records {path}: bound to no setup; the next run binds them to this one"
+        ),
+    }
+}
+
+/// Reads the records of a file on a disk.
+fn checked_on_disk(
+    rt: &HostRuntime,
+    path: &str,
+    file: &SetupFile,
+) -> Result<(Totals, Binding), End> {
+    let keeper = match read_disk(rt, path) {
+        Ok(keeper) => keeper,
+        Err(cause) => return Err((plain(8), Some(cause))),
+    };
+    match keeper {
+        None => Ok((
+            counted(rt, &mut ReadRecords::none(rt.alloc()), file)?,
+            Binding::Unbound,
+        )),
+        Some(mut keeper) => {
+            let binding = bound_beside(rt, path, file)?;
+            Ok((counted(rt, &mut keeper, file)?, binding))
+        }
+    }
+}
+
+fn bound_beside(rt: &HostRuntime, path: &str, file: &SetupFile) -> Result<Binding, End> {
+    let Ok(lines) = file.lines(rt.alloc()) else {
+        return Err((plain(7), None));
+    };
+    match find_beside(rt, path, lines.as_str()) {
+        Ok(binding) => Ok(binding),
+        Err(cause) => Err((plain(8), Some(cause))),
+    }
+}
+
+/// Reads the records of an SQLite file.
+fn checked_in_sqlite(
+    rt: &HostRuntime,
+    path: &str,
+    file: &SetupFile,
+) -> Result<(Totals, Binding), End> {
+    let mut found = match read_sqlite(rt, path) {
+        Ok(found) => found,
+        Err(cause) => return Err((plain(8), Some(cause))),
+    };
+    // For the proof alone: nothing was appended to what was read.
+    found.is_unsettled = false;
+    let binding = bound_within(rt, &found, file)?;
+    Ok((counted(rt, &mut found, file)?, binding))
+}
+
+fn bound_within(rt: &HostRuntime, found: &ReadRecords, file: &SetupFile) -> Result<Binding, End> {
+    let Some(began) = &found.lines else {
+        return Ok(Binding::Unbound);
+    };
+    let Ok(lines) = file.lines(rt.alloc()) else {
+        return Err((plain(7), None));
+    };
+    match compared(rt.alloc(), began.as_str(), lines.as_str()) {
+        Ok(binding) => Ok(binding),
+        Err(cause) => Err((plain(8), Some(cause))),
+    }
+}
+
+fn counted<K: Keeper>(rt: &HostRuntime, keeper: &mut K, file: &SetupFile) -> Result<Totals, End>
+    requires { K.unsettled keeper.old ≡ false }
+{
+    match totals_of(rt.alloc(), keeper, file) {
+        Ok(totals) => Ok(totals),
+        Err(told) => Err((told, None)),
+    }
+}

@@ -1,0 +1,164 @@
+//! The command `serve`: the bank over HTTP, for many connections at once.
+
+ghost use Rattle.std.specs.Prelude.{◌≡◌, false};
+
+use crate::keepers::{ON_DISK, Unopened, on_disk};
+use crate::paths::{RECORDS, SETUP, named};
+use crate::setup_file::SetupFile;
+use crate::told::{plain, tell_listening, tell_served};
+use crate::why::tell_open_files;
+use bank_server::{AllEnd, Plan, serve_all, serve_open};
+use bank_shared::{BankName, Opened};
+use ofx_file::OfxPrinter;
+use ofx_ports::{Keeper, LINK_SECONDS, MemKeeper, OpenGate, SystemClock, TcpDoor, listen};
+use ofx_types::{OutOfMemory, Text, Told};
+use serve_log::{Journal, Level, LoggedDoor, LoggedKeeper};
+use sqlite_keeper::SqliteKeeper;
+use std::marker::Brand;
+use std::net::TcpListener;
+use std::sync::Wait;
+use std::thread::Threads;
+use std::time::Duration;
+use std::{env, io};
+
+/// A doorway on this machine, of whose links each exchange is told.
+type Door = LoggedDoor<TcpListener, HostRuntime, HostRuntime>;
+
+/// A worker's doorway and its clock.
+type Worker = (Door, SystemClock<HostRuntime>);
+
+/// The end of serving the bank of this setup over the records that the third word names: those of a file, or of none with `-`. The threads
+/// are those of `threads`.
+pub fn served<R: Threads + Wait + Sync>(
+    threads: &R,
+    rt: &HostRuntime,
+    words: &[Text],
+    setup: &SetupFile,
+) -> Told {
+    match named(words, RECORDS) {
+        Some("-") => served_over(threads, rt, words, setup, MemKeeper::new(rt.alloc())),
+        Some(path) => match path.strip_prefix(ON_DISK) {
+            Some(file) => served_on_disk(threads, rt, words, setup, file),
+            None => served_over(threads, rt, words, setup, SqliteKeeper::open(rt, path)),
+        },
+        None => plain(2),
+    }
+}
+
+/// The end of serving over the records in a file on a disk. Where it can't be opened, each call of the keeper fails.
+fn served_on_disk<R: Threads + Wait + Sync>(
+    threads: &R,
+    rt: &HostRuntime,
+    words: &[Text],
+    setup: &SetupFile,
+    path: &str,
+) -> Told {
+    match on_disk(rt, path) {
+        Some(keeper) => served_over(threads, rt, words, setup, keeper),
+        None => served_over(threads, rt, words, setup, Unopened::new()),
+    }
+}
+
+/// The end of serving over the setup that was read and the records of this keeper.
+fn served_over<R: Threads + Wait + Sync, K: Keeper + Send>(
+    threads: &R,
+    rt: &HostRuntime,
+    words: &[Text],
+    setup: &SetupFile,
+    keeper: K,
+) -> Told
+    requires { K.unsettled keeper ≡ false }
+{
+    let Ok(mut setup) = setup.source(rt.alloc()) else {
+        return plain(7);
+    };
+    let count = keeper.len();
+    let journal = Journal::new(*rt, log_level(rt));
+    let logged = LoggedKeeper::over(keeper, journal);
+    match serve_open(rt.alloc(), words, &mut setup, logged, OfxPrinter) {
+        Ok((plan, opened)) => {
+            let Ok(room) = Vec::with_capacity(rt.alloc(), plan.workers as usize) else {
+                return plain(7);
+            };
+            let Ok(workers) = workers_at(rt, journal, plan, room) else {
+                return plain(5);
+            };
+            tell_listening(
+                rt,
+                plan.port,
+                named(words, SETUP),
+                named(words, RECORDS),
+                count,
+            );
+            tell_open_files(rt, words, false);
+            all_served::<Brand, _, _>(threads, rt, opened, workers, plan.most)
+        }
+        Err((told, _keeper)) => told,
+    }
+}
+
+/// The name of the environment's word that says how much is told.
+const LOG_WORD: &str = "OFXBANK_LOG";
+
+/// How much is told: what the environment says, and each exchange where it says nothing, or another word.
+fn log_level(rt: &HostRuntime) -> Level {
+    match env::var(rt, LOG_WORD) {
+        Ok(word) => Level::named(word.as_str()).unwrap_or(Level::Info),
+        Err(_) => Level::Info,
+    }
+}
+
+/// A doorway at one listener and a clock for each worker, in the room that was made for them. An error where the port can't be
+/// bound.
+fn workers_at(
+    rt: &HostRuntime,
+    journal: Journal<HostRuntime>,
+    plan: Plan,
+    room: Vec<Worker>,
+) -> io::Result<Vec<Worker>> {
+    let listener = listen(rt, plan.port)?;
+    let limit = Duration::from_secs(LINK_SECONDS);
+    let mut workers = room;
+    for place in 0..plan.workers {
+        let door = TcpDoor::at(*rt, listener.try_clone()?, limit);
+        let logged = LoggedDoor::over(door, rt.alloc(), journal, place + 1);
+        workers.push((logged, SystemClock::new(*rt)))?;
+    }
+    Ok(workers)
+}
+
+/// The end of all workers over a bank that has opened.
+fn all_served<N: BankName + Send + Sync, R: Threads + Wait + Sync, K: Keeper + Send>(
+    threads: &R,
+    rt: &HostRuntime,
+    opened: Opened<K, OfxPrinter>,
+    workers: Vec<Worker>,
+    most: u32,
+) -> Told
+    requires setup { opened.setup ≡ N.setup }
+    requires opening { opened.state ≡ N.opening }
+{
+    match serve_all::<N, _, _, _, _, _, _, _>(
+        threads,
+        rt.alloc(),
+        opened,
+        workers,
+        &OpenGate,
+        most,
+    ) {
+        Ok(all) => {
+            tell_served(rt, served_in(&all));
+            plain(all.status.0)
+        }
+        Err(OutOfMemory) => plain(7),
+    }
+}
+
+/// How many links all workers served.
+fn served_in(all: &AllEnd<Door, SystemClock<HostRuntime>>) -> u64 {
+    let mut links = 0u64;
+    for worked in &all.ends {
+        links = links.saturating_add(u64::from(worked.end.served));
+    }
+    links
+}

@@ -1,0 +1,159 @@
+//! What people are told behind the fixed first line of an end: where, why, and what to do.
+
+use crate::keepers::ON_DISK;
+use crate::paths::{RECORDS, SETUP, named};
+use crate::setup_file::SetupFile;
+use command_help::text_at;
+use ofx_types::{Note, Text, Told};
+use record_files::{
+    Cause, is_open_to_others, open_on_disk, why_stopped_on_disk, why_stopped_on_sqlite,
+};
+use setup_binding::wanted_in;
+use std::io;
+
+/// Tells on the error stream where and why a run ended that has told its first line. `unopened` is why its records weren't opened,
+/// where they weren't.
+pub fn tell_why(
+    rt: &HostRuntime,
+    end: Told,
+    words: &[Text],
+    setup: &SetupFile,
+    unopened: Option<Cause>,
+) {
+    let _ = match end.status.0 {
+        3 | 10 => tell_setup(rt, end.note, words, setup),
+        4 => tell_input(rt, words),
+        5 => tell_read(rt, words, setup),
+        6 => rt.eprintln(
+            "standard output: it can't be written; the disk is full, or its reader is gone",
+        ),
+        8 => tell_records(rt, words, unopened),
+        9 => tell_record(rt, end.note, words),
+        _ => Ok(()),
+    };
+}
+
+/// Tells what is wrong with the setup, or missing in it.
+fn tell_setup(rt: &HostRuntime, note: Note, words: &[Text], setup: &SetupFile) -> io::Result<()> {
+    let path = text_at(words, SETUP);
+    match note {
+        Note::Place(line) => {
+            let wanted = wanted_in(setup.bytes(), line);
+            eprintln!(rt; "{path}: line {line}: {wanted}")
+        }
+        Note::NoUser => {
+            let user = text_at(words, 3);
+            eprintln!(rt; "{path}: no line USER has the name '{user}'")
+        }
+        Note::Full => eprintln!(rt; "{path}: all numbers that its line ENTRIES allows are given"),
+        _ => Ok(()),
+    }
+}
+
+/// Tells what the standard input wants.
+fn tell_input(rt: &HostRuntime, words: &[Text]) -> io::Result<()> {
+    match text_at(words, 0) {
+        "mail" => rt.eprintln(
+            "standard input: a letter has 1 to 10000 bytes, and of those below a blank only tab, CR and LF",
+        ),
+        _ => rt.eprintln(
+            "standard input: a frame is a line FILE and a number up to 262144, and so many bytes, or a line DUE",
+        ),
+    }
+}
+
+/// Tells what couldn't be read.
+fn tell_read(rt: &HostRuntime, words: &[Text], setup: &SetupFile) -> io::Result<()> {
+    let path = text_at(words, SETUP);
+    match setup.cause() {
+        Some(Cause::NoRights) => return eprintln!(rt; "{path}: no rights to read it"),
+        Some(cause) => return eprintln!(rt; "{path}: {cause}"),
+        None => {}
+    }
+    match text_at(words, 0) {
+        "serve" => {
+            let port = text_at(words, 3);
+            eprintln!(rt;
+                "port {port}: no more connections can be taken; another program may have it, rights may be missing, or too many files are open"
+            )
+        }
+        _ => rt.eprintln("standard input: it can't be read; it may be a folder, or closed"),
+    }
+}
+
+/// Tells why the records failed.
+fn tell_records(rt: &HostRuntime, words: &[Text], unopened: Option<Cause>) -> io::Result<()> {
+    match unopened {
+        Some(cause) => tell_cause(rt, words, Some(cause)),
+        None => tell_cause(rt, words, stopped_cause(rt, words)),
+    }
+}
+
+fn tell_cause(rt: &HostRuntime, words: &[Text], cause: Option<Cause>) -> io::Result<()> {
+    let path = text_at(words, RECORDS);
+    match cause {
+        Some(cause) => eprintln!(rt; "{path}: {cause}"),
+        None => eprintln!(rt;
+            "{path}: the disk failed; look into the system's log, and start again"
+        ),
+    }
+}
+
+/// Why records failed that were opened, by a look at them now.
+fn stopped_cause(rt: &HostRuntime, words: &[Text]) -> Option<Cause> {
+    let path = named(words, RECORDS)?;
+    match path.strip_prefix(ON_DISK) {
+        Some(file) => match open_on_disk(rt, file) {
+            Ok(_) => why_stopped_on_disk(rt, file),
+            Err(cause) => Some(cause),
+        },
+        None => why_stopped_on_sqlite(rt, path),
+    }
+}
+
+/// Tells what is wrong with a record.
+fn tell_record(rt: &HostRuntime, note: Note, words: &[Text]) -> io::Result<()> {
+    let path = text_at(words, RECORDS);
+    match note {
+        Note::Record(number, at) => {
+            eprintln!(rt;
+                "{path}: record {number} codes no event, by its byte {at}; it is damaged or of another program: restore a copy"
+            )
+        }
+        Note::Illegal(number) => {
+            eprintln!(rt;
+                "{path}: record {number} can't have happened at the bank of this setup; run it with the setup that it began with"
+            )
+        }
+        _ => Ok(()),
+    }
+}
+
+/// Says on the error stream where the setup or the records can be read by others. Behind a run that told nothing an empty line
+/// stands in front, since the first line is that of a run that failed.
+pub fn tell_open_files(rt: &HostRuntime, words: &[Text], is_first: bool) {
+    let setup = named(words, SETUP).unwrap_or("");
+    let records = named(words, RECORDS).unwrap_or("");
+    let file = records.strip_prefix(ON_DISK).unwrap_or(records);
+    let is_setup_open = is_open_to_others(rt, setup);
+    let are_records_open = records != "-" && is_open_to_others(rt, file);
+    if is_first && (is_setup_open || are_records_open) {
+        let _ = rt.eprintln("");
+    }
+    if is_setup_open {
+        let _ = tell_open_setup(rt, setup);
+    }
+    if are_records_open {
+        let _ = tell_open_records(rt, file);
+    }
+}
+
+fn tell_open_setup(rt: &HostRuntime, path: &str) -> io::Result<()> {
+    eprintln!(rt; "warning: {path}: others can read it, and it has the passwords; chmod 600 {path}")
+}
+
+fn tell_open_records(rt: &HostRuntime, path: &str) -> io::Result<()> {
+    eprintln!(rt;
+        "warning: {path}: others can read it, and it has all that the bank knows; chmod 600 {path}"
+    )
+}

@@ -1,0 +1,107 @@
+//! Reading an SQLite file of records without writing: its bytes and those of its log are copied, and the copy is opened in memory.
+
+use crate::cause::Cause;
+use crate::database::{Found, cause_of_sqlite, found_without_writing};
+use crate::looking::cause_of;
+use crate::reading::{ReadRecords, bytes_if_there, bytes_of, open_to_read};
+use os::RangeLock;
+use sqlite::{Connection, Error, ErrorCode, FileStore, Files, Options};
+use sqlite_disk::{Disk, Memory};
+use std::alloc::{AllocError, Global};
+use std::fs;
+use std::os::fd::AsRawFd;
+
+/// Where SQLite's locks of a file begin.
+const LOCKS: u64 = 1 << 30;
+
+/// How many bytes these locks have.
+const LOCKED: u64 = 512;
+
+const RECORDS: &str = "SELECT number, bytes FROM records ORDER BY number";
+
+/// A database in memory.
+type Database = Connection<FileStore<Memory>>;
+
+/// The records in the file at this path, and the text of the setup to which they are bound. Nothing is written.
+pub fn read_sqlite(rt: &HostRuntime, path: &str) -> Result<ReadRecords, Cause> {
+    let mut file = open_to_read(rt, path)?;
+    if os::try_lock_range(file.as_raw_fd(), RangeLock::Exclusive, LOCKS, LOCKED) != 0 {
+        return Err(Cause::Held);
+    }
+    let log = log_bytes(rt, path)?;
+    let bytes = bytes_of(rt, &mut file)?;
+    match read_copy(rt.alloc(), bytes.as_slice(), log.as_slice()) {
+        Ok(found) => found,
+        Err(error) => Err(cause_of_sqlite(rt, path, error)),
+    }
+}
+
+/// The bytes of the log beside the file to which a path leads. None where it has none.
+fn log_bytes(rt: &HostRuntime, path: &str) -> Result<Vec<u8>, Cause> {
+    let real = match fs::canonicalize(rt, path) {
+        Ok(real) => real,
+        Err(error) => return Err(cause_of(error)),
+    };
+    match format!(in rt.alloc(); "{}-wal", real.as_str()) {
+        Ok(log) => bytes_if_there(rt, log.as_str()),
+        Err(_) => Err(Cause::NoMemory),
+    }
+}
+
+/// What is in a database of these bytes and of this log.
+fn read_copy(alloc: Global, bytes: &[u8], log: &[u8]) -> Result<Result<ReadRecords, Cause>, Error> {
+    let mut database = opened(alloc, bytes, log)?;
+    match found_without_writing(&mut database)? {
+        Found::Other => Ok(Err(Cause::OtherDatabase)),
+        Found::Nothing => Ok(Ok(ReadRecords::none(alloc))),
+        Found::Unbound => records_in(alloc, &mut database, None),
+        Found::Lines(lines) => records_in(alloc, &mut database, Some(lines)),
+    }
+}
+
+fn opened(alloc: Global, bytes: &[u8], log: &[u8]) -> Result<Database, Error> {
+    let files = Files {
+        log: memory_of(alloc, log)?,
+        db: memory_of(alloc, bytes)?,
+    };
+    if !files.may_be_used() {
+        return Err(Error::SqliteFailure(ErrorCode::SystemIoFailure));
+    }
+    match Connection::open_files(alloc, files, Options::new(0)) {
+        Ok(database) => Ok(database),
+        Err((error, _)) => Err(error),
+    }
+}
+
+/// A disk in memory with these bytes.
+fn memory_of(alloc: Global, bytes: &[u8]) -> Result<Memory, AllocError> {
+    let mut memory = Memory::new(alloc);
+    if !bytes.is_empty() && memory.write_at(0, bytes).is_err() {
+        return Err(AllocError);
+    }
+    Ok(memory)
+}
+
+/// The records of a database, up to one that is missing.
+fn records_in(
+    alloc: Global,
+    database: &mut Database,
+    lines: Option<String>,
+) -> Result<Result<ReadRecords, Cause>, Error> {
+    let mut records = ReadRecords::none(alloc);
+    records.lines = lines;
+    let mut rows = database.query(RECORDS, &[])?;
+    for _ in 0..u64::MAX {
+        let Some(row) = rows.next()? else {
+            break;
+        };
+        let number: i64 = row.get(0)?;
+        let bytes: Vec<u8> = row.get(1)?;
+        let wanted = records.count().saturating_add(1);
+        if u64::try_from(number) != Ok(wanted) {
+            return Ok(Err(Cause::Gap(wanted)));
+        }
+        records.put(bytes)?;
+    }
+    Ok(Ok(records))
+}

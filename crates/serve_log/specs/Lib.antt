@@ -1,0 +1,2 @@
+-- What the log stands round.
+pub mod Within

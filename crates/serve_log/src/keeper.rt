@@ -1,0 +1,95 @@
+//! A keeper whose faults are told.
+
+ghost use Rattle.std.specs.Prelude.{◌≡◌};
+ghost use Rattle.serve_log.specs.Within.{keeper_within};
+
+use crate::journal::Journal;
+use crate::stamp::Stamp;
+use ofx_ports::{Failed, FetchFault, Keeper, PutFault};
+use std::{fmt, rt};
+
+/// A keeper of records, of which each append that fails is told in a line, and each try to settle one. It tells what the keeper
+/// within tells. A fetch that fails isn't told: records are read where the bank opens, and that run tells of it by its end.
+#[derive(Drop)]
+pub struct LoggedKeeper<K: Keeper, R: Copy> {
+    keeper: K,
+    journal: Journal<R>,
+}
+
+/// The line of a call that failed.
+#[derive(Clone, Copy, Debug)]
+struct FaultEntry {
+    stamp: Stamp,
+    call: &'static str,
+    faults: u64,
+}
+
+impl fmt::Display for FaultEntry {
+    fn fmt<W: fmt::Write>(&self, f: &mut fmt::Formatter<W>) -> fmt::Result {
+        let (stamp, call, faults) = (self.stamp, self.call, self.faults);
+        write!(
+            f,
+            "at={stamp} level=warn keeper=failed call={call} faults={faults}"
+        )
+    }
+}
+
+impl<K: Keeper, R: Eprint + rt::Clock + Copy> LoggedKeeper<K, R> {
+    /// This keeper, whose faults are told.
+    pub fn over(keeper: K, journal: Journal<R>) -> LoggedKeeper<K, R>
+        ensures { keeper_within result ≡ keeper }
+    {
+        LoggedKeeper { keeper, journal }
+    }
+
+    /// Tells that a call failed.
+    fn tell(&self, call: &'static str) {
+        if self.journal.level().is_on() {
+            self.journal.tell(FaultEntry {
+                stamp: self.journal.stamp(),
+                call,
+                faults: self.keeper.faults(),
+            });
+        }
+    }
+}
+
+impl<K: Keeper, R: Eprint + rt::Clock + Copy + Drop> Keeper for LoggedKeeper<K, R> {
+    ghost records = { λ k. K.records (keeper_within k) };
+
+    ghost size = { λ k. K.size (keeper_within k) };
+
+    ghost unsettled = { λ k. K.unsettled (keeper_within k) };
+
+    ghost landed = { λ k. K.landed (keeper_within k) };
+
+    ghost faults = { λ k. K.faults (keeper_within k) };
+
+    fn append(&mut self, rec: &[u8]) -> Result<(), PutFault> {
+        let result = self.keeper.append(rec);
+        if matches!(result, Err(PutFault::Failed)) {
+            self.tell("append");
+        }
+        result
+    }
+
+    fn settle(&mut self) -> Result<bool, Failed> {
+        let result = self.keeper.settle();
+        if result.is_err() {
+            self.tell("settle");
+        }
+        result
+    }
+
+    fn fetch(&mut self, number: u64, into: &mut Vec<u8>) -> Result<(), FetchFault> {
+        self.keeper.fetch(number, into)
+    }
+
+    fn len(&self) -> u64 {
+        self.keeper.len()
+    }
+
+    fn faults(&self) -> u64 {
+        self.keeper.faults()
+    }
+}

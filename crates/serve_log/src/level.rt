@@ -1,0 +1,38 @@
+//! How much the log tells.
+
+/// How much the log tells.
+#[derive(Clone, Copy, Debug, PartialEq, Eq)]
+pub enum Level {
+    /// Nothing.
+    Off,
+    /// Failed signons, and faults of the bank: of the keeper of its records, and want of memory.
+    Warn,
+    /// Each exchange.
+    Info,
+}
+
+impl Level {
+    /// The level of this word: `off`, `warn` or `info`.
+    pub fn named(word: &str) -> Option<Level> {
+        match word {
+            "off" => Some(Level::Off),
+            "warn" => Some(Level::Warn),
+            "info" => Some(Level::Info),
+            _ => None,
+        }
+    }
+
+    /// Whether anything is told.
+    pub(crate) fn is_on(self) -> bool {
+        !matches!(self, Level::Off)
+    }
+
+    /// Whether an exchange is told, which is a warning or not.
+    pub(crate) fn tells(self, is_warning: bool) -> bool {
+        match self {
+            Level::Off => false,
+            Level::Warn => is_warning,
+            Level::Info => true,
+        }
+    }
+}

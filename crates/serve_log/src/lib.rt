@@ -1,0 +1,22 @@
+//! The log of a server: a line on the error stream for each exchange, and for each fault of the keeper of the records.
+//!
+//! The adapters stand round a doorway, its links and a keeper. They hand each call on, look at what goes through, and tell what
+//! these tell. No line has a password, the number of an account or a body.
+#![tactic(auto)]
+
+mod door;
+mod entry;
+mod journal;
+mod keeper;
+mod level;
+mod link;
+mod reply;
+mod request;
+mod stamp;
+mod watch;
+
+pub use door::LoggedDoor;
+pub use journal::Journal;
+pub use keeper::LoggedKeeper;
+pub use level::Level;
+pub use link::LoggedLink;

@@ -1,0 +1,73 @@
+//! A link that is watched.
+
+ghost use Rattle.std.specs.Prelude.{◌≡◌};
+ghost use Rattle.serve_log.specs.Within.{link_within};
+
+use crate::journal::Journal;
+use crate::watch::Watch;
+use ofx_ports::{Failed, Link};
+use std::alloc::Global;
+use std::rt;
+
+/// A link of which each exchange is told in a line. It tells what the link within tells.
+#[derive(Drop)]
+pub struct LoggedLink<L, R: Copy> {
+    link: L,
+    journal: Journal<R>,
+    watch: Watch,
+}
+
+impl<L, R: Copy> LoggedLink<L, R> {
+    /// The link of this number among those of a worker, which has a number too.
+    pub fn over(
+        link: L,
+        alloc: Global,
+        journal: Journal<R>,
+        worker: u32,
+        number: u64,
+    ) -> LoggedLink<L, R> {
+        LoggedLink {
+            link,
+            journal,
+            watch: Watch::new(alloc, worker, number),
+        }
+    }
+
+    /// The link within.
+    pub fn into_link(self) -> L
+        ensures { result ≡ link_within self }
+    {
+        self.link
+    }
+}
+
+impl<L: Link, R: Eprint + rt::Clock + Copy + Send> Link for LoggedLink<L, R> {
+    ghost left = { λ l. L.left (link_within l) };
+
+    ghost held = { λ l. L.held (link_within l) };
+
+    ghost read_faults = { λ l. L.read_faults (link_within l) };
+
+    ghost write_faults = { λ l. L.write_faults (link_within l) };
+
+    fn read(&mut self, into: &mut [u8]) -> Result<usize, Failed> {
+        let result = self.link.read(into);
+        if self.journal.level().is_on()
+            && let Ok(count) = result
+        {
+            self.watch.came(&into[..count], self.journal.instant());
+        }
+        result
+    }
+
+    fn write(&mut self, bytes: &[u8]) -> Result<usize, Failed> {
+        let result = self.link.write(bytes);
+        if self.journal.level().is_on() {
+            match result {
+                Ok(count) => self.watch.wrote(bytes, count, &self.journal),
+                Err(Failed) => self.watch.failed(bytes, &self.journal),
+            }
+        }
+        result
+    }
+}

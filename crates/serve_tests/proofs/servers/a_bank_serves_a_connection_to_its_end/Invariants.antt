@@ -1,0 +1,5 @@
+use Rattle.serve_tests.proofs.servers.a_bank_serves_a_connection_to_its_end.Given as goal
+
+-- the call is one of the bank that has opened
+abbrev pub ghosts-connected : goal.ghosts-connected
+ghosts-connected g a = record { setup = a.opened.setup; opening = a.opened.state }

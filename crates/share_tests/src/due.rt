@@ -1,0 +1,95 @@
+//! Due work of a bank, one event after another until nothing is due.
+
+ghost use Rattle.std.specs.Prelude.{◌≡◌, false, is_some};
+ghost use Rattle.ofx_types.specs.Calendar.{IsMoment};
+
+use crate::callers::{asked, opened_over};
+use bank_due::{DueFault, due_run};
+use bank_samples::changes::{DUE_LATER, NEXT_DAY, NOON};
+use bank_samples::sample::request_with;
+use bank_samples::transfer::TRANSFER;
+use bank_shared::{Bank, BankName, Opened, Pass};
+use ofx_file::OfxPrinter;
+use ofx_ports::{MemKeeper, OpenGate};
+use ofx_types::Moment;
+use std::alloc::Global;
+use std::marker::Brand;
+use std::sync::Wait;
+use std::test::Fail;
+
+/// The first of two transfers has another TRNUID than the second.
+const RENAMED: (&str, &str) = ("<TRNUID>t1", "<TRNUID>t0");
+
+/// The day of the one of two transfers that has none yet.
+const DUE_LATER_TOO: (&str, &str) = (
+    "<TRNAMT>10.00\r\n</XFERINFO>",
+    "<TRNAMT>10.00\r\n<DTDUE>20240201000000\r\n</XFERINFO>",
+);
+
+/// What a run of due work at a moment answers.
+fn run_at<N: BankName, R: Wait>(
+    rt: &R,
+    alloc: Global,
+    bank: &Bank<N, MemKeeper, OfxPrinter>,
+    pass: &mut Pass,
+    at: Moment,
+) -> Result<String, Fail>
+    requires { IsMoment at.0 }
+{
+    match due_run(bank, rt, pass, at, &OpenGate) {
+        Ok(count) => Ok(format!(in alloc; "did {count}\n")?),
+        Err(DueFault::Left(id)) => Ok(format!(in alloc; "left {id}\n")?),
+        Err(DueFault::Keeper(count)) => Ok(format!(in alloc; "keeper {count}\n")?),
+        Err(DueFault::OutOfMemory) => Ok(String::from_str(alloc, "no memory\n")?),
+    }
+}
+
+/// What runs of due work answer in a bank with two transfers that are due on the next day, one on the day before and two on that
+/// day, and what the statement behind them tells.
+fn told_of_runs<N: BankName, R: Wait>(
+    rt: &R,
+    alloc: Global,
+    opened: Opened<MemKeeper, OfxPrinter>,
+) -> Result<(String, String), Fail>
+    requires setup { opened.setup ≡ N.setup }
+    requires opening { opened.state ≡ N.opening }
+{
+    let waiting = [TRANSFER, DUE_LATER, RENAMED, TRANSFER, DUE_LATER_TOO];
+    let (bank, mut pass) = Bank::<N, _, _>::begin(opened);
+    let file = request_with(alloc, &waiting)?;
+    let _waits = asked(rt, alloc, &bank, &mut pass, &file, NOON)?;
+    let mut told = run_at(rt, alloc, &bank, &mut pass, NOON)?;
+    told.push_str(&run_at(rt, alloc, &bank, &mut pass, NEXT_DAY)?)?;
+    told.push_str(&run_at(rt, alloc, &bank, &mut pass, NEXT_DAY)?)?;
+    let plain = request_with(alloc, &[])?;
+    let statement = asked(rt, alloc, &bank, &mut pass, &plain, NEXT_DAY)?;
+    Ok((told, statement))
+}
+
+/// The same over a keeper without records.
+fn runs_over<R: Wait>(rt: &R, alloc: Global, keeper: MemKeeper) -> Result<(String, String), Fail>
+    requires { is_some keeper.landed ≡ false }
+{
+    told_of_runs::<Brand, _>(rt, alloc, opened_over(alloc, keeper)?)
+}
+
+/// Which calls of the keeper fail and which of these land, and what the runs answer.
+const RUNS: [(&[u64], &[u64], &str); 4] = [
+    (&[], &[], "did 0\ndid 2\ndid 0\n"),
+    (&[2], &[], "did 0\nkeeper 1\ndid 2\n"),
+    (&[3], &[], "did 0\nkeeper 1\ndid 1\n"),
+    (&[3], &[3], "did 0\nkeeper 1\ndid 0\n"),
+];
+
+/// The keeper's first call is that of the file, and each transfer is posted in the end.
+#[test]
+fn all_that_is_due_happens_in_a_run(rt: HostRuntime) -> Result<(), Fail> {
+    let alloc = rt.alloc();
+    for (failing, landing, answers) in RUNS {
+        let keeper = MemKeeper::failing(alloc, failing, landing)?;
+        let (told, statement) = runs_over(&rt, alloc, keeper)?;
+        assert_eq!(rt; told.as_str(), answers);
+        assert!(rt; statement.contains("<BALAMT>80.00\r\n"), "{statement}");
+    }
+    Ok(())
+}

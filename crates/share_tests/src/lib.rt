@@ -1,0 +1,12 @@
+//! Tests of a bank that many callers share by public calls: its journal over keepers whose calls fail, its callers by turns, and
+//! its due work.
+#![tactic(auto)]
+
+#[cfg(test)]
+mod callers;
+#[cfg(test)]
+mod due;
+#[cfg(test)]
+mod script;
+#[cfg(test)]
+mod tellers;

@@ -1,0 +1,158 @@
+//! Calls of a teller, one after another, in lines of text: what each is told, and the log that they leave.
+
+ghost use Rattle.std.specs.Prelude.{◌≡◌, ◌<◌, false, is_some, length, All, IfOk};
+ghost use Rattle.ofx_types.specs.Calendar.{IsMoment};
+ghost use Rattle.bank_model.specs.SetupForm.{IsWithinLimits};
+
+use bank_model::{Event, LogItem, Setup, SubmitFault};
+use bank_samples::sample::SETUP;
+use bank_shared::{Advance, BankName, Opened, Teller};
+use bank_signon::{Judgement, judge};
+use ofx_file::OfxPrinter;
+use ofx_ports::{Clock, MemClock, MemKeeper};
+use ofx_types::Moment;
+use std::alloc::Global;
+use std::marker::Brand;
+use std::test::Fail;
+
+/// What a caller asks for.
+#[derive(Clone, Copy)]
+pub enum Call<'a> {
+    /// The answer to a file in its frame.
+    File(&'a str),
+    /// That what is due happens.
+    Due,
+}
+
+/// The sample's setup.
+pub fn setup(alloc: Global) -> Result<Setup, Fail>
+    ensures { IfOk result IsWithinLimits }
+{
+    Ok(Setup::read(alloc, SETUP)?)
+}
+
+/// What the calls of a bank of the sample's setup tell at the moments of a clock, which then stands still, and the log that they
+/// leave.
+pub fn told_over(
+    alloc: Global,
+    keeper: MemKeeper,
+    moments: &[Moment],
+    calls: &[Call<'_>],
+) -> Result<String, Fail>
+    requires settled { is_some keeper.landed ≡ false }
+    requires some { 0 < length moments.now }
+    requires lawful { All (λ moment. IsMoment moment.0) moments.now }
+{
+    let mut clock = MemClock::new(alloc, moments)?;
+    match Opened::open(alloc, keeper, setup(alloc)?, OfxPrinter) {
+        Ok(opened) => told::<Brand>(alloc, opened, &mut clock, calls),
+        Err((fault, _)) => Err(Fail::from(fault)),
+    }
+}
+
+fn told<N: BankName>(
+    alloc: Global,
+    opened: Opened<MemKeeper, OfxPrinter>,
+    clock: &mut MemClock,
+    calls: &[Call<'_>],
+) -> Result<String, Fail>
+    requires setup { opened.setup ≡ N.setup }
+    requires opening { opened.state ≡ N.opening }
+{
+    let (_, journal, accounts) = opened.solo::<N>();
+    let mut teller = Teller::with_accounts(alloc, journal, accounts)?;
+    let mut told = String::new(alloc);
+    for call in calls {
+        let at = clock.now();
+        told.push_str(&answer(alloc, &mut teller, call, at)?)?;
+    }
+    for item in teller.journal().log() {
+        told.push_str(&line(alloc, item)?)?;
+    }
+    Ok(told)
+}
+
+/// What one call tells.
+fn answer<N: BankName>(
+    alloc: Global,
+    teller: &mut Teller<N, MemKeeper, OfxPrinter>,
+    call: &Call<'_>,
+    at: Moment,
+) -> Result<String, Fail>
+    requires { IsMoment at.0 }
+{
+    match call {
+        Call::File(framed) => {
+            let (_, text) = framed.split_once("\n").unwrap_or(("", ""));
+            file_answer(alloc, teller, text.as_bytes(), at)
+        }
+        Call::Due => match teller.advance(at) {
+            Ok(Advance::Done(Event::Post(id))) => Ok(format!(in alloc; "posted {id}\n")?),
+            Ok(Advance::Done(_)) => Ok(String::from_str(alloc, "done\n")?),
+            Ok(Advance::Gone(_)) => Ok(String::from_str(alloc, "gone\n")?),
+            Ok(Advance::Nothing) => Ok(String::from_str(alloc, "nothing due\n")?),
+            Err(fault) => refusal(alloc, fault),
+        },
+    }
+}
+
+/// What a file is told, in a frame.
+fn file_answer<N: BankName>(
+    alloc: Global,
+    teller: &mut Teller<N, MemKeeper, OfxPrinter>,
+    bytes: &[u8],
+    at: Moment,
+) -> Result<String, Fail>
+    requires { IsMoment at.0 }
+{
+    if bytes.len() > 262_144 {
+        return Ok(String::from_str(alloc, "too long\n")?);
+    }
+    match judge(alloc, teller.journal().book().setup(), bytes)? {
+        Judgement::Event(user, file) => match teller.submit(user, &file, at) {
+            Ok(reply) => framed(alloc, &reply),
+            Err(fault) => refusal(alloc, fault),
+        },
+        Judgement::Poll(user, file) => framed(alloc, &teller.poll(user, &file, at)?),
+        Judgement::Denied(_) => Ok(String::from_str(alloc, "denied\n")?),
+        Judgement::Refused(place) => Ok(format!(in alloc; "refused at {place}\n")?),
+    }
+}
+
+/// A reply in its frame.
+pub fn framed(alloc: Global, reply: &[u8]) -> Result<String, Fail> {
+    Ok(format!(in alloc; "FILE {}\n{}", reply.len(), str::from_utf8(reply)?)?)
+}
+
+/// The line of a fault.
+pub fn refusal(alloc: Global, fault: SubmitFault) -> Result<String, Fail> {
+    match fault {
+        SubmitFault::Keeper(count) => Ok(format!(in alloc; "keeper {count}\n")?),
+        SubmitFault::OutOfMemory => Ok(String::from_str(alloc, "no memory\n")?),
+    }
+}
+
+/// The line of an item of a log.
+fn line(alloc: Global, item: &LogItem) -> Result<String, Fail> {
+    match item {
+        LogItem::Effect(entry) => Ok(format!(in alloc; "effect {}\n", entry.number)?),
+        LogItem::Answer(event, _, _) => Ok(format!(in alloc; "answer {}\n", kind(event))?),
+        LogItem::Adopted(number, event, _) => {
+            Ok(format!(in alloc; "adopted {number} {}\n", kind(event))?)
+        }
+        LogItem::Fault(count, Some((event, _))) => {
+            Ok(format!(in alloc; "fault {count} {}\n", kind(event))?)
+        }
+        LogItem::Fault(count, None) => Ok(format!(in alloc; "fault {count}\n")?),
+    }
+}
+
+/// The word of an event.
+fn kind(event: &Event) -> &'static str {
+    match event {
+        Event::File(_, _) => "file",
+        Event::Post(_) => "post",
+        Event::Spawn(_, _) => "spawn",
+        Event::Letter(_, _, _) => "letter",
+    }
+}

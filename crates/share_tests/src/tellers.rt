@@ -1,0 +1,243 @@
+//! The calls of a bank over keepers whose calls fail: what is told of them, and the log of all that.
+
+use crate::script::{Call, setup, told_over};
+use bank_replay::OpenFault;
+use bank_samples::changes::{DUE_LATER, NAMED, NEXT_DAY, NOON, POLL};
+use bank_samples::sample::{reply_with, request_with};
+use bank_samples::transfer::{PAID, POSTED, SOURCE_BALANCE, TRANSFER};
+use bank_shared::Opened;
+use ofx_file::OfxPrinter;
+use ofx_ports::{Keeper, MemKeeper};
+use std::alloc::Global;
+use std::test::Fail;
+
+/// What the first reply to the named file with the transfer tells.
+const FIRST: [(&str, &str); 5] = [NAMED, POSTED, PAID, SOURCE_BALANCE, SOURCE_BALANCE];
+
+/// What a statement tells behind the transfer.
+const PAID_BEFORE: [(&str, &str); 3] = [PAID, SOURCE_BALANCE, SOURCE_BALANCE];
+
+/// On 31 January 2024 at 12:00:00 the transfer with the id 1 is posted.
+const POST: &[u8] = b"\
+    \x01\x02\x00\x00\x00\x00\x65\xba\x36\x40\
+    \x00\x00\x00\x00\x00\x00\x00\x01";
+
+/// The append of a named file fails, and its record has landed. In the second call it can't be settled. The third one adopts it,
+/// and is answered by the reply that was kept then.
+#[test]
+fn a_record_that_landed_is_adopted_before_the_next_file(rt: HostRuntime) -> Result<(), Fail> {
+    let alloc = rt.alloc();
+    let file = request_with(alloc, &[NAMED, TRANSFER])?;
+    let keeper = MemKeeper::failing(alloc, &[1, 2], &[1])?;
+    let calls = [Call::File(&file), Call::File(&file), Call::File(&file)];
+    let reply = reply_with(alloc, &FIRST)?;
+    let log = "fault 1 file\nfault 2\neffect 1\nadopted 1 file\nanswer file\n";
+    assert_eq!(rt;
+        told_over(alloc, keeper, &[NOON], &calls)?,
+        format!(in alloc; "keeper 1\nkeeper 2\n{reply}{log}")?
+    );
+    Ok(())
+}
+
+/// The append of a file fails, and its record hasn't landed.
+#[test]
+fn a_file_whose_record_is_lost_never_happened(rt: HostRuntime) -> Result<(), Fail> {
+    let alloc = rt.alloc();
+    let file = request_with(alloc, &[TRANSFER])?;
+    let plain = request_with(alloc, &[])?;
+    let keeper = MemKeeper::failing(alloc, &[1], &[])?;
+    let reply = reply_with(alloc, &[])?;
+    assert_eq!(rt;
+        told_over(
+            alloc,
+            keeper,
+            &[NOON],
+            &[Call::File(&file), Call::File(&plain)]
+        )?,
+        format!(in alloc; "keeper 1\n{reply}fault 1 file\nanswer file\n")?
+    );
+    Ok(())
+}
+
+/// It can't be settled three times, and is adopted then: faults that come since the append's don't take its place.
+#[test]
+fn what_is_pending_stays_so_until_it_is_settled(rt: HostRuntime) -> Result<(), Fail> {
+    let alloc = rt.alloc();
+    let file = request_with(alloc, &[TRANSFER])?;
+    let plain = request_with(alloc, &[])?;
+    let keeper = MemKeeper::failing(alloc, &[2, 3, 4, 5], &[2])?;
+    let calls = [
+        Call::File(&plain),
+        Call::File(&file),
+        Call::Due,
+        Call::File(&file),
+        Call::Due,
+        Call::Due,
+        Call::File(&plain),
+    ];
+    let (before, behind) = (reply_with(alloc, &[])?, reply_with(alloc, &PAID_BEFORE)?);
+    let faults = "keeper 1\nkeeper 2\nkeeper 3\nkeeper 4\nnothing due\n";
+    let log =
+        "answer file\nfault 1 file\nfault 2\nfault 3\nfault 4\neffect 1\nadopted 2 file\nanswer file\n";
+    assert_eq!(rt;
+        told_over(alloc, keeper, &[NOON], &calls)?,
+        format!(in alloc; "{before}{faults}{behind}{log}")?
+    );
+    Ok(())
+}
+
+/// Which calls of the keeper fail and which of these land, while a named file with a transfer is handed in four times and a file
+/// without a name once, and the log behind that.
+const FAILING: [(&[u64], &[u64], &str); 10] = [
+    (
+        &[],
+        &[],
+        "effect 1\nanswer file\nanswer file\nanswer file\nanswer file\nanswer file\n",
+    ),
+    (
+        &[1],
+        &[],
+        "fault 1 file\neffect 1\nanswer file\nanswer file\nanswer file\nanswer file\n",
+    ),
+    (
+        &[1],
+        &[1],
+        "fault 1 file\neffect 1\nadopted 1 file\nanswer file\nanswer file\nanswer file\nanswer file\n",
+    ),
+    (
+        &[1, 2],
+        &[],
+        "fault 1 file\nfault 2\neffect 1\nanswer file\nanswer file\nanswer file\n",
+    ),
+    (
+        &[1, 2],
+        &[1],
+        "fault 1 file\nfault 2\neffect 1\nadopted 1 file\nanswer file\nanswer file\nanswer file\n",
+    ),
+    (
+        &[1, 3],
+        &[],
+        "fault 1 file\nfault 2 file\neffect 1\nanswer file\nanswer file\nanswer file\n",
+    ),
+    (
+        &[1, 3],
+        &[3],
+        "fault 1 file\nfault 2 file\neffect 1\nadopted 2 file\nanswer file\nanswer file\nanswer file\n",
+    ),
+    (
+        &[1, 3],
+        &[1, 3],
+        "fault 1 file\neffect 1\nadopted 1 file\nfault 2 file\nadopted 3 file\nanswer file\nanswer file\nanswer file\n",
+    ),
+    (
+        &[2],
+        &[],
+        "effect 1\nanswer file\nfault 1 file\nanswer file\nanswer file\nanswer file\n",
+    ),
+    (
+        &[2],
+        &[2],
+        "effect 1\nanswer file\nfault 1 file\nadopted 2 file\nanswer file\nanswer file\nanswer file\n",
+    ),
+];
+
+/// Its transfer is posted once, whichever append fails, landed or not, and whichever settle.
+#[test]
+fn a_named_file_happens_once_however_the_keeper_fails(rt: HostRuntime) -> Result<(), Fail> {
+    let alloc = rt.alloc();
+    let file = request_with(alloc, &[NAMED, TRANSFER])?;
+    let plain = request_with(alloc, &[])?;
+    let behind = reply_with(alloc, &PAID_BEFORE)?;
+    let calls = [
+        Call::File(&file),
+        Call::File(&file),
+        Call::File(&file),
+        Call::File(&file),
+        Call::File(&plain),
+    ];
+    for (failing, landing, log) in FAILING {
+        let keeper = MemKeeper::failing(alloc, failing, landing)?;
+        let told = told_over(alloc, keeper, &[NOON], &calls)?;
+        let before = told.strip_suffix(log).unwrap_or("");
+        assert!(rt; before.ends_with(behind.as_str()), "{told}");
+    }
+    Ok(())
+}
+
+/// Which calls of the keeper fail and which of these land, in a bank with a transfer that is due on the next day, which is looked
+/// for three times, and what is told then.
+const DUE: [(&[u64], &[u64], &str); 3] = [
+    (
+        &[],
+        &[],
+        "posted 1\nnothing due\nnothing due\neffect 1\nanswer file\neffect 2\nanswer post\n",
+    ),
+    (
+        &[2],
+        &[],
+        "keeper 1\nposted 1\nnothing due\neffect 1\nanswer file\nfault 1 post\neffect 2\nanswer post\n",
+    ),
+    (
+        &[2, 3],
+        &[2],
+        "keeper 1\nkeeper 2\nnothing due\neffect 1\nanswer file\nfault 1 post\nfault 2\neffect 2\nadopted 2 post\n",
+    ),
+];
+
+#[test]
+fn what_is_due_happens_once(rt: HostRuntime) -> Result<(), Fail> {
+    let alloc = rt.alloc();
+    let file = request_with(alloc, &[TRANSFER, DUE_LATER])?;
+    let calls = [Call::File(&file), Call::Due, Call::Due, Call::Due];
+    for (failing, landing, lines) in DUE {
+        let keeper = MemKeeper::failing(alloc, failing, landing)?;
+        let told = told_over(alloc, keeper, &[NOON, NEXT_DAY], &calls)?;
+        assert!(rt; told.strip_suffix(lines).is_some(), "{told}");
+    }
+    Ok(())
+}
+
+/// A poll is answered while a file is pending, as if it never had been, and settles nothing.
+#[test]
+fn a_poll_looks_at_what_was_answered(rt: HostRuntime) -> Result<(), Fail> {
+    let alloc = rt.alloc();
+    let file = request_with(alloc, &[TRANSFER])?;
+    let poll = request_with(alloc, &POLL)?;
+    let keeper = MemKeeper::failing(alloc, &[1], &[1])?;
+    let calls = [
+        Call::File(&file),
+        Call::File(&poll),
+        Call::Due,
+        Call::File(&poll),
+    ];
+    let told = told_over(alloc, keeper, &[NOON], &calls)?;
+    let (pending, settled) = told.split_once("nothing due\n").unwrap_or(("", ""));
+    assert!(rt; pending.starts_with("keeper 1\nFILE "), "{told}");
+    assert!(rt; pending.contains("<TOKEN>0\r\n"), "{told}");
+    assert!(rt; settled.contains("<TOKEN>1\r\n"), "{told}");
+    assert!(rt;
+        settled
+            .strip_suffix("fault 1 file\neffect 1\nadopted 1 file\n")
+            .is_some(),
+        "{told}"
+    );
+    Ok(())
+}
+
+/// The keeper comes back with what it keeps.
+#[test]
+fn a_bank_that_does_not_open_hands_its_keeper_back(rt: HostRuntime) -> Result<(), Fail> {
+    let alloc = rt.alloc();
+    let setup = setup(alloc)?;
+    let mut keeper = MemKeeper::new(alloc);
+    keeper.append(POST)?;
+    let refused = Opened::open(alloc, keeper, setup, OfxPrinter).err();
+    match refused {
+        Some((fault, keeper)) => {
+            assert_eq!(rt; fault, OpenFault::Illegal(1));
+            assert_eq!(rt; keeper.record_count(), 1);
+        }
+        None => assert!(rt; false),
+    }
+    Ok(())
+}
