@@ -53,7 +53,9 @@ def read_header(file):
     return Header(values[2], older, newer, tuple(lines), at)
 
 
-def written_header(version, newer):
-    """A reply's header."""
-    values = (b"100", b"OFXSGML", version, b"NONE", b"USASCII", b"1252", b"NONE", b"NONE", newer or b"NONE")
+def written_header(version, newer, older=None):
+    """A header as it is written. That of a reply releases nothing."""
+    values = (
+        b"100", b"OFXSGML", version, b"NONE", b"USASCII", b"1252", b"NONE", older or b"NONE", newer or b"NONE",
+    )
     return b"".join(tag + b":" + value + b"\r\n" for (tag, _), value in zip(LINES, values)) + b"\r\n"

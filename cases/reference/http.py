@@ -74,9 +74,14 @@ def part(pattern, data, at):
 
 def read_head(data):
     """The head that begins the bytes: empty lines, the method, the target, the version, the fields, and an empty line.
-    It has at most 8,192 bytes and 64 fields. A target is UTF-8, which is judged where it ends."""
+    A target is UTF-8, which is judged where it ends."""
+    return within_limits(any_head, data)
+
+
+def within_limits(read, data):
+    """The head that is read of the bytes. It has at most 8,192 bytes and 64 fields."""
     try:
-        head = any_head(data)
+        head = read(data)
     except NotYet:
         if len(data) >= MOST_IN_A_HEAD:
             raise Bad from None
@@ -94,12 +99,17 @@ def any_head(data):
     except UnicodeDecodeError:
         raise Bad from None
     version = part(VERSION, data, target.end())
-    fields, at = [], version.end()
+    return Head(method[1], target[1], int(version[1]), *fields_of(data, version.end()))
+
+
+def fields_of(data, at):
+    """The fields that stand there, up to an empty line, and where that ends."""
+    fields = []
     while not END.match(data, at):
         field = part(FIELD, data, at)
         fields.append((field[1].lower(), field[2].strip(b" \t")))
         at = field.end()
-    return Head(method[1], target[1], int(version[1]), fields, END.match(data, at).end())
+    return fields, END.match(data, at).end()
 
 
 def values_of(head, name):

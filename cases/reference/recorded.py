@@ -132,13 +132,16 @@ def read_record(record):
 
 
 def file(fields):
-    """A file's request has no name and no password."""
-    user, version = fields.number(4), fields.number(2, FILE_VERSIONS)
-    older, newer = fields.file_uid(), fields.file_uid()
+    return File(fields.number(4), request(fields))
+
+
+def request(fields):
+    """A request has no name and no password."""
+    version, older, newer = fields.number(2, FILE_VERSIONS), fields.file_uid(), fields.file_uid()
     asks, count = [], fields.number(2)
     while len(asks) < count:
         asks.append(ask(fields, bool(asks) and is_of_mail(asks[-1])))
-    return File(user, Request(Header(b"%d" % version, older, newer, (), 0), b"", b"", tuple(asks)))
+    return Request(Header(b"%d" % version, older, newer, (), 0), b"", b"", tuple(asks))
 
 
 def is_of_mail(ask):

@@ -120,9 +120,13 @@ def any_ask(ask):
 
 
 def file(event):
-    header = event.request.header
+    return number(4, event.user) + request(event.request)
+
+
+def request(what):
+    header = what.header
     names = uid(header.older) + uid(header.newer)
-    return number(4, event.user) + number(2, int(header.version)) + names + listed(any_ask, event.request.asks)
+    return number(2, int(header.version)) + names + listed(any_ask, what.asks)
 
 
 WRITERS = (

@@ -1,11 +1,13 @@
 //! What the bank and a client come to together: a store that is right is right behind the bank's own reply, and a client accepts
-//! the bank's reply to its outstanding file.
+//! the bank's reply to its outstanding file. A client may take in every reply that bytes spell.
 //!
 //! Nothing here runs in a program: one call takes a reply in as a client does, and the contracts are laws.
 #![tactic(auto)]
 
 mod answering;
+mod spelled;
 mod taking;
 
 pub use answering::bank_replies_answer;
+pub use spelled::spelled_replies_are_sound;
 pub use taking::take_bank_reply;

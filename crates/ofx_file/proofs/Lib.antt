@@ -7,7 +7,7 @@ mod TagPlaces
 mod FileFaults
 mod Files
 mod Within
-mod SoundDeeds
+pub mod SoundDeeds
 mod Soundness
 mod PrintableFiles
 mod Outcomes

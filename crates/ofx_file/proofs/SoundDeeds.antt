@@ -47,7 +47,7 @@ text_within most value text small stands = record {
   is_within = (faultless is_refused_in_text most text stands.is_faultless).0;
 }
 
-within : (name : List ℕ) (most : ℕ) (parent : Item) (text : List ℕ) → most < 2 ^ 32 → IsTextIn name most parent text → IsTextWithin most text
+pub within : (name : List ℕ) (most : ℕ) (parent : Item) (text : List ℕ) → most < 2 ^ 32 → IsTextIn name most parent text → IsTextWithin most text
 within name most parent text small t = text_within most t.child.node.text text small t.stands
 
 pub client_uid : (wrapper : Item) (trnuid : List ℕ) → IsTrnUidOf wrapper trnuid → IsClientUid trnuid
@@ -112,7 +112,7 @@ id_within text = by_test (is_number_within 10 text) (digits_within 10 text)
     by_test true small = let least : digits_value 10 text < 10 ^ 10 = small refl in omega arith
     by_test false small = omega arith
 
-sound_id : (name : List ℕ) (parent : Item) (id : ℕ) → IsIdIn name parent id → IsId id
+pub sound_id : (name : List ℕ) (parent : Item) (id : ℕ) → IsIdIn name parent id → IsId id
 sound_id name parent id i = rw i.is_id (id_within i.text)
 
 -- three digits stay below 1,000
@@ -131,7 +131,7 @@ sound_count : (recurrinst : Item) (count : Option ℕ) → IsMaybeCount recurrin
 sound_count recurrinst None h = tt
 sound_count recurrinst (Some count) (there, some) = (some, count_within _ count there.stands)
 
-sound_recur : (parent : Item) (recur : Recur) → HasRecur parent recur → IsSoundRecur recur
+pub sound_recur : (parent : Item) (recur : Recur) → HasRecur parent recur → IsSoundRecur recur
 sound_recur parent recur (recurrinst, only, is) = sound_count recurrinst recur.count is.count
 
 -- ---- deeds
@@ -160,7 +160,7 @@ sound_deed request (Mail mail) r = absurd r
 
 -- ---- mails
 
-sound_text : (item : Item) (mail : MailText) → IsMailText item mail → IsSoundMail mail
+pub sound_text : (item : Item) (mail : MailText) → IsMailText item mail → IsSoundMail mail
 sound_text item mail m = record {
   created = m.created.stands.is_moment;
   sender = within (codes "FROM") 32 item mail.sender (omega arith) m.sender;

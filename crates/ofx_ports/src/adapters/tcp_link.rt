@@ -13,8 +13,9 @@ use std::net::{Net, OpenStream, Shutdown, SocketAddr, TcpStream};
 use std::time::{Duration, Instant};
 use std::{io, rt};
 
-/// A connection over TCP. It sends what is written at once (Nagle's algorithm is off), and a read or a write that waits
-/// longer than its limit is a fault of the link, so that a peer that falls silent holds nobody for ever.
+/// A connection over TCP. It sends what is written at once (Nagle's algorithm is off). A read that waits longer than its limit
+/// for a byte, or a write that waits longer for room for one, is a fault of the link, so that a peer that falls silent holds
+/// nobody for ever. Each write that takes some bytes waits anew for the rest: a peer that reads slowly isn't given up.
 ///
 /// A call that a signal cuts short is made again, up to 64 times.
 #[derive(Drop)]

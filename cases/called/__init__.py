@@ -1,0 +1,1 @@
+"""Runs of `ofxclient`, the bank that each calls, and what stands between them."""

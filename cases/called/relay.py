@@ -1,0 +1,171 @@
+"""Stands between a customer's program and a bank, hands on what comes from either, and keeps it.
+
+Each connection of a customer gets one to the bank. The bank's reply to a request is read whole before any of it is
+handed on, so that what is then done to it, by the action of this exchange, is done behind the bank's back.
+"""
+import re
+import socket
+import struct
+import threading
+
+from served.link import Link
+from served.server import MOST_SECONDS, Wrong
+
+LENGTH = re.compile(rb"(?i)\r\ncontent-length: *([0-9]+)")
+LOOK = 0.02  # seconds
+PIECE = 65536
+
+
+class Exchange:
+    """A request, and the bank's reply to it. An action changes what is handed on to the customer."""
+
+    def __init__(self, relay, request):
+        self.relay, self.request, self.reply = relay, request, b""
+        self.given = None  # what the customer gets
+        self.ends = False  # whether its connection ends behind that
+        self.is_reset = False  # and how
+
+
+class Talk:
+    """What was said on a customer's connection and on that to the bank."""
+
+    def __init__(self):
+        self.sent = self.given = b""  # by the customer, and to it
+        self.asked = self.answered = b""  # of the bank
+        self.is_reset = False  # whether the customer's connection was
+        self.over = threading.Event()
+
+
+def passes(exchange, number):
+    """The action that hands both on as they come."""
+    exchange.relay.ask(exchange)
+
+
+def loses(count=0, resets=False, of=0):
+    """The action by which only so many bytes of a reply come; a count below 0 is from its end. Of the exchange with
+    this number; all others pass."""
+    def act(exchange, number):
+        exchange.relay.ask(exchange)
+        if number == of:
+            exchange.given, exchange.ends, exchange.is_reset = exchange.reply[:count], True, resets
+    return act
+
+
+def swallows(exchange, number):
+    """The action by which the bank gets no request."""
+    exchange.given, exchange.ends = b"", True
+
+
+class Relay(threading.Thread):
+    """A relay to the bank at a port, on a free one. `act` is called with each exchange and its number, from 0; it has
+    the bank asked, or doesn't."""
+
+    def __init__(self, bank_port, act=None):
+        super().__init__(daemon=True)
+        self.bank_port, self.act = bank_port, act or passes
+        self.door = socket.create_server(("127.0.0.1", 0))
+        self.door.settimeout(LOOK)
+        self.port = self.door.getsockname()[1]
+        self.talks, self.count, self.is_over, self.wrong = [], 0, False, None
+        self.links = self.own = 0  # connections to it, and those of them that it made itself
+        self.start()
+
+    def run(self):
+        while not self.is_over:
+            try:
+                link, _ = self.door.accept()
+            except TimeoutError:
+                continue
+            self.links += 1
+            with link:
+                try:
+                    self.talk(link)
+                except OSError:
+                    pass  # one of them has gone away
+                except Wrong as wrong:
+                    self.wrong = wrong
+
+    def talk(self, link):
+        link.settimeout(MOST_SECONDS)
+        link.setsockopt(socket.IPPROTO_TCP, socket.TCP_NODELAY, 1)
+        talk, self.bank = Talk(), None
+        self.talks.append(talk)
+        try:
+            while True:
+                request = whole(link.recv)
+                talk.sent += request
+                if LENGTH.search(request) is None:
+                    return
+                exchange = Exchange(self, request)
+                self.act(exchange, self.count)
+                self.count += 1
+                exchange.given = exchange.reply if exchange.given is None else exchange.given
+                talk.given += exchange.given
+                link.sendall(exchange.given)
+                if exchange.ends:
+                    talk.is_reset = exchange.is_reset
+                    if exchange.is_reset:
+                        link.setsockopt(socket.SOL_SOCKET, socket.SO_LINGER, struct.pack("ii", 1, 0))
+                    return
+        finally:
+            if self.bank is not None:
+                self.bank.close()
+            talk.over.set()
+
+    def ask(self, exchange):
+        """Has the bank answer the request of an exchange."""
+        talk = self.talks[-1]
+        if self.bank is None:
+            self.bank = Link(self.bank_port)
+        talk.asked += exchange.request
+        self.bank.send(exchange.request)
+        exchange.reply = whole(lambda _: some(self.bank))
+        talk.answered += exchange.reply
+
+    def last(self):
+        """What was said on the one connection since this was asked last; nothing where nothing was."""
+        talks, self.talks = self.talks, []
+        for talk in talks:
+            if not talk.over.wait(MOST_SECONDS):
+                raise Wrong("a connection stays open")
+        if self.wrong:
+            raise self.wrong
+        talks = [talk for talk in talks if talk.sent]
+        if len(talks) > 1:
+            raise Wrong("%d connections were made by one run" % len(talks))
+        return talks[0] if talks else Talk()
+
+    def calls(self):
+        """How many connections were made to it so far. It makes one itself, which is taken in behind all others."""
+        with socket.create_connection(("127.0.0.1", self.port), MOST_SECONDS) as own:
+            own.shutdown(socket.SHUT_WR)
+            own.recv(1)
+        self.own += 1
+        return self.links - self.own
+
+    def stop(self):
+        self.is_over = True
+        self.join()
+        self.door.close()
+
+
+def some(link):
+    """What a link has next; nothing where it has ended."""
+    link.socket.settimeout(MOST_SECONDS)
+    link.take_in()
+    come, link.come = link.come, b""
+    return come
+
+
+def whole(read):
+    """The bytes of a request or a reply, or those that came before the other side ended."""
+    data = b""
+    while True:
+        head, end, body = data.partition(b"\r\n\r\n")
+        length = LENGTH.search(head + end)
+        if end and len(body) >= int(length[1] if length else 0):
+            return data
+        more = read(PIECE)
+        if not more:
+            return data
+        data += more

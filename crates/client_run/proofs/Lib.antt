@@ -1,0 +1,16 @@
+pub mod Checked
+pub mod Days
+pub mod Kept
+pub mod Outstanding
+pub mod Received
+pub mod Exchanged
+pub mod Settled
+pub mod Made
+pub mod Working
+pub mod WorkEnds
+pub mod Opened
+pub mod GoingOn
+pub mod Replied
+pub mod StoreFaults
+pub mod LinkFaults
+pub mod TakenIn

@@ -1,0 +1,11 @@
+pub mod Views
+pub mod Exchange
+pub mod Saves
+pub mod Lines
+pub mod Settling
+pub mod Commands
+pub mod Run
+pub mod Stopping
+pub mod GoingOn
+pub mod Exact
+pub mod Complete

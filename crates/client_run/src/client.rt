@@ -1,0 +1,133 @@
+//! Whole runs of the customer's program.
+
+ghost use Rattle.std.specs.Prelude.{◌≡◌, ◌<◌};
+ghost use Rattle.bank_model.specs.Sound.{IsTextWithin};
+ghost use Rattle.client_saved.specs.Bounds.{IsName};
+ghost use Rattle.client_words.specs.Reading.{IsInBounds};
+ghost use Rattle.client_run.specs.Commands.{Works};
+ghost use Rattle.ofx_types.specs.declared.told.Told.{Told as WhatIsTold};
+ghost use Rattle.client_run.specs.Run.{Runs, IsClientRun};
+
+use crate::checking::check;
+use crate::keeping::open_client;
+use crate::making::act;
+use crate::ports::Ports;
+use crate::showing::show;
+use crate::stop::Stop;
+use crate::told::{end_told, plain};
+use client_core::{Client, Wish};
+use client_words::{Order, WordsFault, order_of};
+use ofx_ports::{Clock, Link, Sink, StoreKeeper};
+use ofx_types::{Status, Text, Told};
+use std::alloc::Global;
+
+/// Does what is wished, with the client that was found.
+#[tactic(auto, using(crate::proofs::Working::does_work))]
+fn work<L: Link, S: StoreKeeper, C: Clock, W: Sink>(
+    alloc: Global,
+    client: &mut Client,
+    order: &Order,
+    link: &mut L,
+    store: &mut S,
+    clock: &mut C,
+    out: &mut W,
+) -> Result<(), Stop>
+    requires number { client.old.next < 9999999999 }
+    requires wish { IsInBounds order.now.wish }
+    ensures { Works order.now.pass order.now.wish client.old
+        (⟦<(L, S, C, W) as Ports>⟧.seen (link.old, store.old, clock.old, out.old))
+        (⟦<(L, S, C, W) as Ports>⟧.seen (link.new, store.new, clock.new, out.new)) result }
+{
+    match &order.wish {
+        Wish::Show => show(alloc, client, out),
+        Wish::Check(account) => check(alloc, client, &order.pass, account, link, clock, out),
+        wish => act(alloc, client, &order.pass, wish, link, store, clock, out),
+    }
+}
+
+/// Finds the client that is kept and does what is wished.
+fn run<L: Link, S: StoreKeeper, C: Clock, W: Sink>(
+    alloc: Global,
+    order: &Order,
+    link: &mut L,
+    store: &mut S,
+    clock: &mut C,
+    out: &mut W,
+) -> Result<(), Stop>
+    requires name { IsName order.now.name }
+    requires user { IsTextWithin 32 order.now.user }
+    requires wish { IsInBounds order.now.wish }
+    ensures { Runs order.now
+        (⟦<(L, S, C, W) as Ports>⟧.seen (link.old, store.old, clock.old, out.old))
+        (⟦<(L, S, C, W) as Ports>⟧.seen (link.new, store.new, clock.new, out.new)) result }
+{
+    let mut client = match open_client(alloc, order, store) {
+        Ok(client) => client,
+        Err(fault) => return Err(Stop::Open(fault)),
+    };
+    work(alloc, &mut client, order, link, store, clock, out)
+}
+
+/// Does what the words order, over a link to the bank, and tells how the run ended.
+///
+/// The words are PORT, STORE, CLIENT, USER, PASS, BANK and one command; PORT and STORE were used to open the link and the store.
+/// The client in the store's text goes on from where it was; an empty text is a new client. For `show` it is printed what the
+/// client keeps. For `check` a poll is sent, and the newest tokens of an account's objects are printed; nothing is saved. For
+/// every other command a file that is outstanding from an earlier run is sent again first and its reply is taken in. Then the
+/// file of the command is made at the moment that the clock shows and saved, and only then sent; its reply is taken in, the
+/// client saved, and only then the lines that tell of it are printed (OFX 1.6, "File-Based Error Recovery", "Data
+/// Synchronization").
+///
+/// | Status | Note | Where |
+/// |---|---|---|
+/// | 0 | | all was done, saved and printed |
+/// | 2 | | the words have another form, or the store is another client's or user's, or no number is left for a file |
+/// | 5 | | a read of the link failed |
+/// | 6 | | a write of the link or of the output failed |
+/// | 7 | | memory was refused |
+/// | 8 | | a call of the store failed |
+/// | 11 | the code | the reply's HTTP code isn't 200; after 400 the outstanding file is given up, and that is saved |
+/// | 12 | a place | the reply's body spells no reply file |
+/// | 12 | the number of a reply, from 1 | this one doesn't answer what was asked |
+/// | 13 | | the reply is to another file |
+/// | 14 | the code | the signon failed |
+/// | 15 | a place | the store's text has no form |
+/// | 16 | | the reply's head has no form or no usable length |
+/// | 17 | a number of bytes | the link ended so far into the reply |
+/// | 18 | an id | no store has the row that the command names |
+///
+/// With 2 and 15 nothing is sent, printed or saved. With 5, 11 to 14, 16 and 17 the file stays outstanding, but for 400.
+pub fn client_told<L: Link, S: StoreKeeper, C: Clock, W: Sink>(
+    alloc: Global,
+    words: &[Text],
+    link: &mut L,
+    store: &mut S,
+    clock: &mut C,
+    out: &mut W,
+) -> Told
+    ensures { IsClientRun words.now
+        (⟦<(L, S, C, W) as Ports>⟧.seen (link.old, store.old, clock.old, out.old))
+        (⟦<(L, S, C, W) as Ports>⟧.seen (link.new, store.new, clock.new, out.new)) result }
+{
+    match order_of(words) {
+        Ok(order) => end_told(run(alloc, &order, link, store, clock, out)),
+        Err(WordsFault::Usage) => plain(2),
+        Err(WordsFault::OutOfMemory) => plain(7),
+    }
+}
+
+/// Does what `client_told` does, and answers the status alone.
+pub fn client_run<L: Link, S: StoreKeeper, C: Clock, W: Sink>(
+    alloc: Global,
+    words: &[Text],
+    link: &mut L,
+    store: &mut S,
+    clock: &mut C,
+    out: &mut W,
+) -> Status
+    ensures { (what : WhatIsTold) × (what.status ≡ result) × IsClientRun words.now
+        (⟦<(L, S, C, W) as Ports>⟧.seen (link.old, store.old, clock.old, out.old))
+        (⟦<(L, S, C, W) as Ports>⟧.seen (link.new, store.new, clock.new, out.new)) what }
+{
+    client_told(alloc, words, link, store, clock, out).status
+}

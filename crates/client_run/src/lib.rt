@@ -1,0 +1,23 @@
+//! Runs of the customer's program: the client that is kept is found, the file of a wish is made, sent and answered, and what the
+//! reply makes of the client is saved and told.
+//!
+//! The clauses of `client_told` say what a run sent, saved and printed, and why it ended.
+#![tactic(auto)]
+
+mod calling;
+mod checking;
+mod client;
+mod keeping;
+pub mod laws;
+mod lines;
+mod making;
+mod ports;
+mod printing;
+mod settling;
+mod showing;
+mod stop;
+mod told;
+
+pub use client::{client_run, client_told};
+pub use ports::Ports;
+pub use stop::{CallStop, OpenFault, Stop};

@@ -1,0 +1,76 @@
+//! Accounts and other texts among the words.
+
+ghost use Rattle.std.specs.Prelude.{◌≡◌, ◌↔◌, IsTrue};
+ghost use Rattle.std.specs.List.{find};
+ghost use Rattle.std.specs.Option.{option_map};
+ghost use Rattle.std.specs.Str.{bytes_eq};
+ghost use Rattle.ofx_types.specs.AccountForm.{kind_word};
+ghost use Rattle.bank_model.specs.Sound.{IsTextWithin};
+ghost use Rattle.client_words.specs.Words.{IsAccount};
+ghost use Rattle.client_words.specs.Reading.{Reads};
+
+use crate::fault::WordsFault;
+use ofx_types::{AcctKind, AcctName, Duplicate, Text};
+
+/// The most bytes of the number of an account.
+const MOST_NUMBER: usize = 32;
+
+/// Whether a word has 1 byte up to the limit.
+pub(crate) fn is_within(word: &Text, most: usize) -> bool
+    ensures { IsTrue result ↔ IsTextWithin most word.now }
+{
+    let length = word.as_bytes().len();
+    0 < length && length <= most
+}
+
+/// All kinds of accounts.
+const KINDS: [AcctKind; 4] = [
+    AcctKind::Checking,
+    AcctKind::Savings,
+    AcctKind::MoneyMarket,
+    AcctKind::CreditLine,
+];
+
+/// The word of a kind.
+fn word_of(kind: AcctKind) -> &'static [u8]
+    ensures { result.now ≡ kind_word kind }
+{
+    match kind {
+        AcctKind::Checking => b"CHECKING",
+        AcctKind::Savings => b"SAVINGS",
+        AcctKind::MoneyMarket => b"MONEYMRKT",
+        AcctKind::CreditLine => b"CREDITLINE",
+    }
+}
+
+/// The first of these kinds whose word this is.
+fn kind_among<'k>(word: &Text, kinds: &'k [AcctKind]) -> Option<&'k AcctKind>
+    ensures { option_map (λ kind. kind.now) result ≡ find (λ kind. bytes_eq word.now (kind_word kind)) kinds.now }
+{
+    kinds.iter().find(|kind| word.as_bytes() == word_of(**kind))
+}
+
+/// The kind of account that a word names.
+fn kind_of(word: &Text) -> Result<AcctKind, WordsFault>
+    ensures { Reads (λ (kind : AcctKind). word.now ≡ kind_word kind) result }
+{
+    match kind_among(word, &KINDS) {
+        Some(kind) => Ok(*kind),
+        None => Err(WordsFault::Usage),
+    }
+}
+
+/// The account of a bank that two words name.
+pub(crate) fn account_of(bank: &Text, number: &Text, kind: &Text) -> Result<AcctName, WordsFault>
+    ensures { Reads (IsAccount bank.now number.now kind.now) result }
+{
+    if !is_within(number, MOST_NUMBER) {
+        return Err(WordsFault::Usage);
+    }
+    let kind = kind_of(kind)?;
+    Ok(AcctName {
+        bank: bank.copy()?,
+        number: number.copy()?,
+        kind,
+    })
+}
