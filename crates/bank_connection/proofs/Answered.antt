@@ -1,6 +1,6 @@
 -- What each answer to a body is worth to a connection.
-use Rattle.std.proofs.Common.{◌≡◌, ◌≢◌, ℕ, ◌≤◌, Bool, true, false, List, [], ◌∷◌, ◌++◌, length, get_or, codes, decimal, All, Contains, Option, None, Some, IfSome, option_to_list, refl, sym, ap, ◌∙◌, subst, arith, append_assoc, append-nil}
-use Rattle.std.proofs.lemmas.List.Elements.{Contains-append_right, Contains-get_or}
+use Rattle.std.proofs.Common.{◌≡◌, ℕ, ◌≤◌, Bool, true, false, List, [], ◌∷◌, ◌++◌, length, get_or, codes, decimal, All, Contains, Option, None, Some, IfSome, option_to_list, refl, sym, ap, ◌∙◌, subst, append_assoc, append-nil}
+use Rattle.std.proofs.lemmas.List.Elements.{Contains-append_right, Contains-get_or, All-nil}
 use Rattle.ofx_types.specs.FileForm.{SpellsFile}
 use Rattle.ofx_types.specs.ReplyForm.{reply_text}
 use Rattle.ofx_types.specs.declared.number.UserId.{UserId}
@@ -15,9 +15,9 @@ use Rattle.bank_model.specs.Log.{is_ending, endings, ending}
 use Rattle.bank_model.specs.Polls.{is_poll}
 use Rattle.bank_model.specs.Rules.{denial}
 use Rattle.bank_signon.specs.Signon.{IsSignedOn, IsDenied, IsRefused}
-use Rattle.bank_connection.specs.Polled.{Load, loads_made, poll_told}
+use Rattle.bank_connection.specs.Polled.{Load, loads_made}
 use Rattle.bank_connection.specs.Offices.{OfficeView, Knows, GainsEnding, GainsNothing, IsCommitted, IsFaulted, HasPolled, IsLooked, HasLoaded}
-use Rattle.bank_connection.specs.Exchanges.{Outcome, refused, misspelled, denied, polled, ended, no_memory, EndsFile, ComesTo, is_no_memory, moments_of, endings_of}
+use Rattle.bank_connection.specs.Exchanges.{Outcome, misspelled, denied, polled, ended, no_memory, EndsFile, endings_of}
 use Rattle.http_link.specs.Replies.{line, reply_of}
 use Rattle.bank_connection.specs.ReplyText.{ending_reply, outcome_reply}
 use Rattle.bank_connection.specs.Watched.{SeesAt, loads_of}
@@ -26,16 +26,13 @@ use Rattle.bank_connection.specs.declared.answer.Answer.{Answer}
 use Rattle.bank_connection.specs.declared.answer.Answer.TheVariants.{NoMemory}
 use Rattle.bank_connection.proofs.Logs.{last_ending}
 
-none : {A : Type 0} (P : A → Type 0) → All P []
-none P k d below = absurd (omega arith)
-
 -- the later elements of a list are among all of its elements
 all_behind : (xs ys : List Load) → All (Contains (xs ++ ys)) ys
 all_behind xs ys k d below = Contains-append_right xs ys (get_or ys k d) (Contains-get_or ys k d below)
 
 -- an answer that says this is so much
-abbrev pub Says : Answer → ℕ → List ℕ → Type 0
-Says answer code body = (answer_code answer ≡ code) × (answer_body answer ≡ body) × (tells_no_memory answer ≡ false)
+abbrev pub HasAnswer : Answer → ℕ → List ℕ → Type 0
+HasAnswer answer code body = (answer_code answer ≡ code) × (answer_body answer ≡ body) × (tells_no_memory answer ≡ false)
 
 -- ---- answers for which the office isn't asked
 
@@ -53,12 +50,12 @@ watches-same outcome no_endings no_loads sees office = knows-same office (Watche
   mine = sym (append-nil v.mine) ∙ ap (λ (l : List ℕ). v.mine ++ l) (sym no_endings);
   loads = [];
   polled = sym (append-nil v.polled);
-  among = subst (All (Contains v.polled)) (sym no_loads) (none (Contains v.polled));
+  among = subst (All (Contains v.polled)) (sym no_loads) (All-nil (Contains v.polled));
   stand = λ some. absurd (some no_endings);
 })
 
 pub misspelled_is : (setup : Setup) (body : List ℕ) (place : ℕ) (shown : Option (List Moment)) (known : Option OfficeView) (answer : Answer)
-    → IsRefused body place → Says answer 400 (line (codes "bad file at " ++ decimal place)) → Answers setup body shown shown known known answer
+    → IsRefused body place → HasAnswer answer 400 (line (codes "bad file at " ++ decimal place)) → Answers setup body shown shown known known answer
 unfolding outcome_reply
 misspelled_is setup body place shown known answer is says log seen = record {
   grown = [];
@@ -71,7 +68,7 @@ misspelled_is setup body place shown known answer is says log seen = record {
 }
 
 pub denied_is : (setup : Setup) (body : List ℕ) (file : RequestFile) (at : Moment) (shown shown' : Option (List Moment)) (known : Option OfficeView) (answer : Answer)
-    → IsDenied setup body file → Grows shown shown' (at ∷ []) → Says answer 200 (reply_text (denial file at)) → Answers setup body shown shown' known known answer
+    → IsDenied setup body file → Grows shown shown' (at ∷ []) → HasAnswer answer 200 (reply_text (denial file at)) → Answers setup body shown shown' known known answer
 unfolding outcome_reply
 denied_is setup body file at shown shown' known answer is moments says log seen = record {
   grown = [];
@@ -122,7 +119,7 @@ polled_watches (Some v) (Some w) user file at loads p = record {
 }
 
 pub looked_is : (setup : Setup) (body : List ℕ) (user : UserId) (file : RequestFile) (at : Moment) (reply : List ℕ) (shown shown' : Option (List Moment)) (old new : Option OfficeView) (answer : Answer)
-    → IsSignedOn setup body file user → is_poll file ≡ true → IsLooked setup user file at reply old new → Grows shown shown' (at ∷ []) → Says answer 200 reply
+    → IsSignedOn setup body file user → is_poll file ≡ true → IsLooked setup user file at reply old new → Grows shown shown' (at ∷ []) → HasAnswer answer 200 reply
     → Answers setup body shown shown' old new answer
 unfolding outcome_reply
 looked_is setup body user file at reply shown shown' old new answer signed poll looked moments says log seen = record {
@@ -146,7 +143,7 @@ loaded_watches (Some v) (Some w) at p = record {
   mine = p.mine ∙ sym (append-nil v.mine);
   loads = p.loads;
   polled = p.polled;
-  among = none (Contains w.polled);
+  among = All-nil (Contains w.polled);
   stand = λ some. absurd (some refl);
 }
 
@@ -178,7 +175,7 @@ gains_watches (Some v) (Some w) log grown user file at seen g =
       mine = g.mine ∙ ap (λ (n : ℕ). v.mine ++ n ∷ []) (sym number);
       loads = [];
       polled = g.polled ∙ sym (append-nil v.polled);
-      among = none (Contains w.polled);
+      among = All-nil (Contains w.polled);
       stand = λ some. g.stand;
     }
 
@@ -187,7 +184,7 @@ ended_is : (setup : Setup) (body : List ℕ) (user : UserId) (file : RequestFile
     (shown shown' : Option (List Moment)) (old new : Option OfficeView) (answer : Answer)
     → IsSignedOn setup body file user → is_poll file ≡ false → is_ending item ≡ true → EndsFile user file at (Some item)
     → ((closes : Bool) → ending_reply (Some item) closes ≡ reply_of code reply closes) → Grows shown shown' (at ∷ [])
-    → Knows old new (GainsEnding (others ++ item ∷ [])) → Says answer code reply → Answers setup body shown shown' old new answer
+    → Knows old new (GainsEnding (others ++ item ∷ [])) → HasAnswer answer code reply → Answers setup body shown shown' old new answer
 unfolding outcome_reply
 ended_is setup body user file at others item code reply shown shown' old new answer signed event is ends text moments knows says log seen =
     let own = own_ending log others item is in
@@ -202,13 +199,13 @@ ended_is setup body user file at others item code reply shown shown' old new ans
     }
 
 pub committed_is : (setup : Setup) (body : List ℕ) (user : UserId) (file : RequestFile) (at : Moment) (reply : List ℕ) (shown shown' : Option (List Moment)) (old new : Option OfficeView) (answer : Answer)
-    → IsSignedOn setup body file user → is_poll file ≡ false → IsCommitted user file at reply old new → Grows shown shown' (at ∷ []) → Says answer 200 reply
+    → IsSignedOn setup body file user → is_poll file ≡ false → IsCommitted user file at reply old new → Grows shown shown' (at ∷ []) → HasAnswer answer 200 reply
     → Answers setup body shown shown' old new answer
 committed_is setup body user file at reply shown shown' old new answer signed event c moments says =
     ended_is setup body user file at c.others (AnswerItem c.event at reply) 200 reply shown shown' old new answer signed event refl (c.same, refl) (λ closes. refl) moments c.knows says
 
 pub faulted_is : (setup : Setup) (body : List ℕ) (user : UserId) (file : RequestFile) (at : Moment) (count : ℕ) (shown shown' : Option (List Moment)) (old new : Option OfficeView) (answer : Answer)
-    → IsSignedOn setup body file user → is_poll file ≡ false → IsFaulted user file at count old new → Grows shown shown' (at ∷ []) → Says answer 503 (line (codes "keeper failed"))
+    → IsSignedOn setup body file user → is_poll file ≡ false → IsFaulted user file at count old new → Grows shown shown' (at ∷ []) → HasAnswer answer 503 (line (codes "keeper failed"))
     → Answers setup body shown shown' old new answer
 faulted_is setup body user file at count shown shown' old new answer signed event c moments says =
     ended_is setup body user file at c.others (Fault count c.pending) 503 (line (codes "keeper failed")) shown shown' old new answer signed event refl c.own (λ closes. refl) moments c.knows says
@@ -230,7 +227,7 @@ nothing_watches (Some v) (Some w) p = (
     mine = p.mine ∙ sym (append-nil v.mine);
     loads = [];
     polled = p.polled ∙ sym (append-nil v.polled);
-    among = none (Contains w.polled);
+    among = All-nil (Contains w.polled);
     stand = λ some. absurd (some refl);
   },
 )

@@ -1,16 +1,14 @@
 -- Endings and entries of logs that grow.
-use Rattle.std.proofs.Common.{◌≡◌, ℕ, zero, suc, ◌+◌, ◌-◌, ◌≤◌, ◌<◌, List, [], ◌∷◌, ◌++◌, length, slice_get, Some, true, false, refl, sym, ap, ◌∙◌, arith, true≢false, append_assoc, length-append, flat_map}
+use Rattle.std.proofs.Common.{◌≡◌, ℕ, zero, suc, ◌+◌, ◌-◌, ◌≤◌, List, [], ◌∷◌, ◌++◌, length, slice_get, Some, true, false, refl, sym, ap, ◌∙◌, arith, true≢false, length-append}
 use Rattle.std.proofs.lemmas.List.Elements.{filter-append, Contains-append_left}
-use Rattle.std.proofs.lemmas.Grind.{flat_map-append}
 use Rattle.bank_model.specs.declared.entry.Entry.{Entry}
-use Rattle.bank_model.specs.declared.event.State.{State}
 use Rattle.bank_model.specs.declared.log.LogItem.{LogItem}
 use Rattle.bank_model.specs.declared.log.LogItem.TheVariants.{Effect, Answer, Adopted, Fault}
-use Rattle.bank_model.specs.Log.{is_ending, endings, ending, entry_of, entries_in}
+use Rattle.bank_model.specs.Log.{is_ending, endings, ending}
 use Rattle.bank_connection.specs.Polled.{Load}
 use Rattle.bank_connection.specs.Offices.{StandsIn}
 
--- the element behind a list is at the list's length
+-- the element after a list is at the list's length
 slice_get-last : {A : Type 0} (xs : List A) (x : A) → slice_get (xs ++ x ∷ []) (length xs) ≡ Some x
 slice_get-last [] x = refl
 slice_get-last (y ∷ xs) x = slice_get-last xs x
@@ -27,7 +25,7 @@ one_ending (Answer event at reply) is = refl
 one_ending (Adopted fault event at) is = refl
 one_ending (Fault count pending) is = refl
 
--- an ending behind a log is the last of its endings
+-- an ending after a log is the last of its endings
 endings-last : (log : List LogItem) (item : LogItem) → is_ending item ≡ true → endings (log ++ item ∷ []) ≡ endings log ++ item ∷ []
 endings-last log item is = filter-append is_ending log (item ∷ []) ∙ ap (λ (l : List LogItem). endings log ++ l) (one_ending item is)
 
@@ -43,11 +41,6 @@ last_ending log item is =
 pub ending-kept : (log more : List LogItem) (number : ℕ) (item : LogItem) → ending log number ≡ Some item → ending (log ++ more) number ≡ Some item
 ending-kept log more number item is =
     rw (filter-append is_ending log more) (slice_get-kept (endings log) (endings more) (number - 1) item is)
-
-pub entries-grown : (S : State) (log more : List LogItem) → entries_in S (log ++ more) ≡ entries_in S log ++ flat_map entry_of more
-entries-grown S log more =
-    ap (λ (l : List Entry). S.entries ++ l) (flat_map-append entry_of log more)
-    ∙ sym (append_assoc S.entries (flat_map entry_of log) (flat_map entry_of more))
 
 -- a token that is the number of an entry stays one when there are more entries
 pub stands-kept : (entries more : List Entry) (load : Load) → StandsIn entries load → StandsIn (entries ++ more) load

@@ -13,7 +13,7 @@ use Rattle.bank_connection.specs.Polled.{Load, object_asked, loads_made}
 use Rattle.bank_connection.specs.NewestTokens.{newest_load, newest_loads}
 use Rattle.bank_connection.specs.Offices.{StandsIn}
 
--- the number of the last entry of an object, where there is one behind a number so far
+-- the number of the last entry of an object, where there is one after a number so far
 abbrev last_behind : ℕ → ObjectId → List Entry → ℕ
 last_behind so_far object entries = fold (λ (number : ℕ) (entry : Entry). entry.number) so_far (filter (belongs_to object) entries)
 

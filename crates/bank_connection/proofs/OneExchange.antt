@@ -14,7 +14,7 @@ use Rattle.bank_connection.specs.Exchanges.{Outcome, refused, misspelled, denied
 use Rattle.http_link.specs.Replies.{reply_of, refusal_code, refusal_body}
 use Rattle.bank_connection.specs.ReplyText.{outcome_reply}
 use Rattle.bank_connection.specs.Answering.{answer_code, answer_body, tells_no_memory, HasSeen, IsAnswerTo, Answers}
-use Rattle.bank_connection.specs.Connection.{Around, around}
+use Rattle.bank_connection.specs.Connection.{LinkView, around}
 use Rattle.bank_connection.specs.Steps.{SendsReply, HasExchange, Exchanges}
 use Rattle.bank_connection.specs.declared.answer.Answer.{Answer}
 use Rattle.http_link.specs.declared.refusal.Refusal.{Refusal}
@@ -47,7 +47,7 @@ is_outcome setup log number x (ended user file at ending) e is = is
 is_outcome setup log number x (no_memory at) e is = is
 
 -- a whole request
-pub answered_exchange : (setup : Setup) (number : ℕ) (ahead : List ℕ) (head : Head) (size : ℕ) (answer : Answer) (closes : Bool) (before after : Around) (result : Result Bool ServeError)
+pub answered_exchange : (setup : Setup) (number : ℕ) (ahead : List ℕ) (head : Head) (size : ℕ) (answer : Answer) (closes : Bool) (before after : LinkView) (result : Result Bool ServeError)
     → HoldsWhole ahead head size → Answers setup (take (size - head.size) (drop head.size ahead)) before.shown after.shown before.office after.office answer
     → closes ≡ (head.last || tells_no_memory answer || number == 100) → Keeps before.left after.left
     → SendsReply before after (reply_of (answer_code answer) (answer_body answer) closes) closes result → Exchanges setup number ahead (drop size ahead) before after result

@@ -1,10 +1,9 @@
 -- A connection so far, one exchange more, and each of its ends.
-use Rattle.std.proofs.Common.{◌≡◌, ◌≢◌, ℕ, zero, suc, ◌+◌, ◌<◌, ◌≤◌, Bool, true, false, List, [], ◌∷◌, ◌++◌, length, get_or, take, All, Contains, Option, None, Some, Result, IfSome, Ok, Err, refl, sym, ap, ◌∙◌, subst, arith, append_assoc, append-nil, length-append, flat_map}
-use Rattle.std.proofs.lemmas.List.Elements.{All-append, Contains-append_left}
+use Rattle.std.proofs.Common.{◌≡◌, ℕ, zero, suc, ◌+◌, ◌<◌, ◌≤◌, Bool, true, false, List, [], ◌∷◌, ◌++◌, length, get_or, take, All, Contains, Option, None, Some, Result, IfSome, Ok, Err, refl, sym, ap, ◌∙◌, subst, arith, append_assoc, append-nil, length-append, flat_map}
+use Rattle.std.proofs.lemmas.List.Elements.{All-append, Contains-append_left, All-nil}
 use Rattle.std.proofs.Math.Seq.{take-append-add}
-use Rattle.std.specs.Io.KnownBytes.{Keeps, Consumes, Appends, IsAtEnd, prepend_known}
+use Rattle.std.specs.Io.KnownBytes.{Keeps, Consumes, Appends, prepend_known}
 use Rattle.std.proofs.KnownBytes.{Consumes-nil, Consumes-trans, Consumes-kept, Appends-nil, Appends-trans, Appends-kept, prepend_known-nil}
-use Rattle.ofx_ports.specs.Faults.{Rose}
 use Rattle.ofx_ports.specs.Told.{Grows}
 use Rattle.ofx_ports.proofs.ToldLaws.{Grows-nil, Grows-trans}
 use Rattle.ofx_ports.proofs.FaultLaws.{Rose-later}
@@ -13,27 +12,21 @@ use Rattle.bank_model.specs.declared.entry.Entry.{Entry}
 use Rattle.bank_model.specs.declared.event.State.{State}
 use Rattle.bank_model.specs.declared.log.LogItem.{LogItem}
 use Rattle.bank_model.specs.Log.{entry_of, entries_in}
-use Rattle.ofx_types.specs.declared.number.Moment.{Moment}
 use Rattle.bank_connection.specs.Polled.{Load}
 use Rattle.bank_connection.specs.Offices.{OfficeView, Knows, IsRightView, StandsIn, entries_seen}
 use Rattle.bank_connection.specs.Exchanges.{Exchange, IsExchange, AreExchanges, requests_in, moments_of, moments_in, endings_of, endings_in, GoOn}
 use Rattle.bank_connection.specs.ReplyText.{outcome_reply, out}
-use Rattle.bank_connection.specs.Watched.{SeesAt, SeesIn, loads_of, loads_in, TokensStand, HasWatched}
+use Rattle.bank_connection.specs.Watched.{SeesAt, loads_of, loads_in, TokensStand, HasWatched}
 use Rattle.bank_connection.specs.Answering.{HasSeen, Watches}
-use Rattle.bank_connection.specs.Connection.{Around, EndsSo, EndsAtLast, BreaksInLast, Writes, Converses}
-use Rattle.http_link.specs.Incoming.{HasNoNext}
+use Rattle.bank_connection.specs.Connection.{LinkView, Converses}
 use Rattle.ofx_ports.specs.Writes.{AppendsPart}
 use Rattle.bank_connection.specs.Steps.{HasExchange, Exchanges, SoFar}
-use Rattle.http_link.specs.declared.served.Served.{Served}
-use Rattle.http_link.specs.declared.served.Served.TheVariants.{End, Closed}
+use Rattle.http_link.specs.declared.served.Served.TheVariants.{Closed}
 use Rattle.http_link.specs.declared.served.ServeError.{ServeError}
 use Rattle.http_link.specs.declared.served.ServeError.TheVariants.{ReadFault, WriteFault, Cut, OutOfMemory}
-use Rattle.bank_connection.proofs.Logs.{entries-grown}
 use Rattle.bank_connection.proofs.Lifting.{exchanges-kept, out-kept}
-use Rattle.bank_connection.proofs.Joining.{exchanges-more, sees-more, one_more, tokens-kept, all_stand-kept, tokens-more}
-
-none : {A : Type 0} (P : A → Type 0) → All P []
-none P k d below = absurd (omega arith)
+use Rattle.bank_connection.proofs.Joining.{exchanges-more, sees-more, one_more, tokens-kept, tokens-more}
+use Rattle.bank_model.proofs.Logs.{entries-grown}
 
 just : (x : Exchange) → x.closes ≡ false → GoOn (x ∷ [])
 just x is zero d below = is
@@ -58,17 +51,17 @@ start_watched (Some v) = record {
   log_is = refl;
   sees = refl;
   mine = sym (append-nil v.mine);
-  polled = none (Contains v.polled);
+  polled = All-nil (Contains v.polled);
   stand = tt;
 }
 
-pub start : (setup : Setup) (before : Around) → SoFar setup 0 [] before before
+pub start : (setup : Setup) (before : LinkView) → SoFar setup 0 [] before before
 start setup before = record {
   exchanges = [];
   log = seen_of before.office;
   counted = refl;
   are_exchanges = tt;
-  go_on = none (λ (x : Exchange). x.closes ≡ false);
+  go_on = All-nil (λ (x : Exchange). x.closes ≡ false);
   read = rw (prepend_known-nil before.left) (Consumes-nil before.left);
   moments = Grows-nil before.shown;
   written = Appends-nil before.held;
@@ -78,10 +71,10 @@ start setup before = record {
 -- ---- bytes that come
 
 -- what stands around after the link was read or written: its bytes and its counts
-abbrev pub with_link : Around → Option (List ℕ) → ℕ → Option (List ℕ) → ℕ → Around
+abbrev pub with_link : LinkView → Option (List ℕ) → ℕ → Option (List ℕ) → ℕ → LinkView
 with_link now left reads held writes = record { left = left; reads = reads; held = held; writes = writes; shown = now.shown; office = now.office }
 
-pub read_on : (setup : Setup) (count : ℕ) (ahead ahead' : List ℕ) (before now : Around) (left : Option (List ℕ)) (reads : ℕ) (held : Option (List ℕ)) (writes : ℕ)
+pub read_on : (setup : Setup) (count : ℕ) (ahead ahead' : List ℕ) (before now : LinkView) (left : Option (List ℕ)) (reads : ℕ) (held : Option (List ℕ)) (writes : ℕ)
     → SoFar setup count ahead before now → Keeps (prepend_known ahead now.left) (prepend_known ahead' left) → Keeps now.held held
     → SoFar setup count ahead' before (with_link now left reads held writes)
 read_on setup count ahead ahead' before now left reads held writes s kept unwritten = record {
@@ -146,7 +139,7 @@ joined_watches log grown xs x (Some u) (Some v) None h s = absurd s
 joined_watches log grown xs x (Some u) (Some v) (Some w) h s = joined_watch log grown xs x u v w h s
 
 -- the exchanges so far and one more, with what is common to all of its ends
-record Joined (setup : Setup) (count : ℕ) (ahead : List ℕ) (before now : Around) (xs : List Exchange) (log : List LogItem) (x : Exchange) : Type 0 where
+record Joined (setup : Setup) (count : ℕ) (ahead : List ℕ) (before now : LinkView) (xs : List Exchange) (log : List LogItem) (x : Exchange) : Type 0 where
   counted : count ≡ length (xs ++ x ∷ [])
   are_exchanges : AreExchanges setup log 1 (xs ++ x ∷ [])
   go_on : GoOn xs
@@ -154,7 +147,7 @@ record Joined (setup : Setup) (count : ℕ) (ahead : List ℕ) (before now : Aro
   moments : Grows before.shown now.shown (moments_in (xs ++ x ∷ []))
   watched : Knows before.office now.office (HasWatched log (xs ++ x ∷ []))
 
-joined : (setup : Setup) (count : ℕ) (ahead ahead' : List ℕ) (before now then : Around) (result : Result Bool ServeError) (s : SoFar setup count ahead before now)
+joined : (setup : Setup) (count : ℕ) (ahead ahead' : List ℕ) (before now then : LinkView) (result : Result Bool ServeError) (s : SoFar setup count ahead before now)
     (h : HasExchange setup s.log (count + 1) ahead ahead' now then result) → Joined setup (count + 1) ahead' before then s.exchanges (s.log ++ h.grown) h.x
 joined setup count ahead ahead' before now then result s h =
     let xs = s.exchanges in
@@ -179,8 +172,8 @@ joined_text setup log grown xs x are =
     one_more (λ (y : Exchange). outcome_reply (log ++ grown) y.outcome y.closes) xs x
     ∙ ap (λ (l : List ℕ). l ++ outcome_reply (log ++ grown) x.outcome x.closes) (out-kept setup log grown 1 xs are)
 
--- an exchange behind which the connection goes on
-pub goes_on : (setup : Setup) (count : ℕ) (ahead ahead' : List ℕ) (before now then : Around) → SoFar setup count ahead before now
+-- an exchange after which the connection goes on
+pub goes_on : (setup : Setup) (count : ℕ) (ahead ahead' : List ℕ) (before now then : LinkView) → SoFar setup count ahead before now
     → Exchanges setup (count + 1) ahead ahead' now then (Ok false) → SoFar setup (count + 1) ahead' before then
 goes_on setup count ahead ahead' before now then s exchanges =
     let h = exchanges s.log (has_seen before.office now.office s.log s.exchanges s.watched) in
@@ -199,7 +192,7 @@ goes_on setup count ahead ahead' before now then s exchanges =
     }
 
 -- an exchange that closes the connection
-pub closes : (setup : Setup) (count : ℕ) (ahead ahead' : List ℕ) (before now then : Around) → count < 100 → IfSome then.office (IsRightView setup)
+pub closes : (setup : Setup) (count : ℕ) (ahead ahead' : List ℕ) (before now then : LinkView) → count < 100 → IfSome then.office (IsRightView setup)
     → SoFar setup count ahead before now → Exchanges setup (count + 1) ahead ahead' now then (Ok true) → Converses setup before then (Ok (Closed (count + 1)))
 closes setup count ahead ahead' before now then low right s exchanges =
     let h = exchanges s.log (has_seen before.office now.office s.log s.exchanges s.watched) in
@@ -229,7 +222,7 @@ front_written a b c text reply whole part = (
 )
 
 -- an exchange whose reply couldn't be written
-pub breaks : (setup : Setup) (count : ℕ) (ahead ahead' : List ℕ) (before now then : Around) → count < 100 → IfSome then.office (IsRightView setup) → before.writes ≤ now.writes
+pub breaks : (setup : Setup) (count : ℕ) (ahead ahead' : List ℕ) (before now then : LinkView) → count < 100 → IfSome then.office (IsRightView setup) → before.writes ≤ now.writes
     → SoFar setup count ahead before now → Exchanges setup (count + 1) ahead ahead' now then (Err WriteFault) → Converses setup before then (Err WriteFault)
 breaks setup count ahead ahead' before now then low right earlier s exchanges =
     let h = exchanges s.log (has_seen before.office now.office s.log s.exchanges s.watched) in
@@ -250,7 +243,7 @@ breaks setup count ahead ahead' before now then low right earlier s exchanges =
     }
 
 -- an exchange that fails can only have failed to write its reply
-pub breaks_so : (setup : Setup) (count : ℕ) (ahead ahead' : List ℕ) (before now then : Around) (fault : ServeError) → count < 100 → IfSome then.office (IsRightView setup) → before.writes ≤ now.writes
+pub breaks_so : (setup : Setup) (count : ℕ) (ahead ahead' : List ℕ) (before now then : LinkView) (fault : ServeError) → count < 100 → IfSome then.office (IsRightView setup) → before.writes ≤ now.writes
     → SoFar setup count ahead before now → Exchanges setup (count + 1) ahead ahead' now then (Err fault) → Converses setup before then (Err fault)
 breaks_so setup count ahead ahead' before now then ReadFault low right earlier s exchanges = absurd (exchanges s.log (has_seen before.office now.office s.log s.exchanges s.watched)).sends
 breaks_so setup count ahead ahead' before now then WriteFault low right earlier s exchanges = breaks setup count ahead ahead' before now then low right earlier s exchanges
@@ -258,64 +251,3 @@ breaks_so setup count ahead ahead' before now then (Cut size) low right earlier 
 breaks_so setup count ahead ahead' before now then OutOfMemory low right earlier s exchanges = absurd (exchanges s.log (has_seen before.office now.office s.log s.exchanges s.watched)).sends
 
 -- ---- ends between exchanges
-
--- the link ended where an exchange had
-pub ends_whole : (setup : Setup) (count : ℕ) (before now : Around) → count < 100 → IfSome now.office (IsRightView setup) → SoFar setup count [] before now → IsAtEnd now.left
-    → Converses setup before now (Ok (End count))
-ends_whole setup count before now low right s end = record {
-  exchanges = s.exchanges;
-  log = s.log;
-  rest = [];
-  few = omega (arith, s.counted, low);
-  are_exchanges = s.are_exchanges;
-  read = consumes-ahead before.left now.left [] (requests_in s.exchanges) s.read;
-  moments = s.moments;
-  written = s.written;
-  watched = s.watched;
-  right = right;
-  ends = (s.counted, s.go_on, refl, end);
-}
-
--- no request came
-pub ends_early : (setup : Setup) (count : ℕ) (ahead : List ℕ) (before now : Around) (reads : ℕ) (fault : ServeError) → count < 100 → IfSome now.office (IsRightView setup)
-    → before.reads ≤ reads → SoFar setup count ahead before now → HasNoNext ahead now.left reads now.reads fault → Converses setup before now (Err fault)
-ends_early setup count ahead before now reads ReadFault low right earlier s none_is = record {
-  exchanges = s.exchanges;
-  log = s.log;
-  rest = ahead;
-  few = omega (arith, s.counted, low);
-  are_exchanges = s.are_exchanges;
-  read = consumes-ahead before.left now.left ahead (requests_in s.exchanges) s.read;
-  moments = s.moments;
-  written = s.written;
-  watched = s.watched;
-  right = right;
-  ends = (s.go_on, none_is.0, Rose-later before.reads reads now.reads earlier none_is.1);
-}
-ends_early setup count ahead before now reads WriteFault low right earlier s none_is = absurd none_is
-ends_early setup count ahead before now reads (Cut size) low right earlier s none_is = record {
-  exchanges = s.exchanges;
-  log = s.log;
-  rest = ahead;
-  few = omega (arith, s.counted, low);
-  are_exchanges = s.are_exchanges;
-  read = consumes-ahead before.left now.left ahead (requests_in s.exchanges) s.read;
-  moments = s.moments;
-  written = s.written;
-  watched = s.watched;
-  right = right;
-  ends = (none_is.0, omega (arith, none_is.1), s.go_on, none_is.2, none_is.3);
-}
-ends_early setup count ahead before now reads OutOfMemory low right earlier s none_is = record {
-  exchanges = s.exchanges;
-  log = s.log;
-  rest = ahead;
-  few = omega (arith, s.counted, low);
-  are_exchanges = s.are_exchanges;
-  read = consumes-ahead before.left now.left ahead (requests_in s.exchanges) s.read;
-  moments = s.moments;
-  written = s.written;
-  watched = s.watched;
-  right = right;
-  ends = s.go_on;
-}

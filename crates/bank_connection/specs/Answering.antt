@@ -50,7 +50,7 @@ pub record Watches (grown : List LogItem) (outcome : Outcome) (before after : Of
   pub among : All (Contains after.polled) (loads_of outcome)
   pub stand : endings_of outcome ≢ [] → All (StandsIn (entries_seen after)) before.polled
 
--- An answer to the body of a request, behind this log.
+-- An answer to the body of a request, after this log.
 pub record IsAnswerTo (setup : Setup) (log : List LogItem) (body : List ℕ) (shown shown' : Option (List Moment)) (old new : Option OfficeView) (answer : Answer) : Type 0 where
   pub grown : List LogItem
   pub outcome : Outcome

@@ -19,7 +19,7 @@ use Rattle.http_link.specs.declared.served.ServeError.TheVariants.{ReadFault, Wr
 
 -- What a connection finds and leaves outside of it: the bytes that the link has left, those that it holds, its two counts of
 -- faults, the answers that the clock has given, and what the office knows.
-pub record Around : Type 0 where
+pub record LinkView : Type 0 where
   pub left : Option (List ℕ)
   pub reads : ℕ
   pub held : Option (List ℕ)
@@ -27,7 +27,7 @@ pub record Around : Type 0 where
   pub shown : Option (List Moment)
   pub office : Option OfficeView
 
-abbrev pub around : Option (List ℕ) → ℕ → Option (List ℕ) → ℕ → Option (List Moment) → Option OfficeView → Around
+abbrev pub around : Option (List ℕ) → ℕ → Option (List ℕ) → ℕ → Option (List Moment) → Option OfficeView → LinkView
 around left reads held writes shown office =
     record { left = left; reads = reads; held = held; writes = writes; shown = shown; office = office }
 
@@ -41,21 +41,21 @@ pub record EndsAtLast (xs : List Exchange) : Type 0 where
   pub go_on : GoOn earlier
   pub closes : last.closes ≡ true
 
--- There is a last exchange, and the connection goes on behind those before it.
+-- There is a last exchange, and the connection goes on after those before it.
 pub record BreaksInLast (xs : List Exchange) : Type 0 where
   pub earlier : List Exchange
   pub last : Exchange
   pub parts : xs ≡ earlier ++ last ∷ []
   pub go_on : GoOn earlier
 
--- Why a connection ended behind its exchanges and a rest of bytes that were read and not answered:
+-- Why a connection ended after its exchanges and a rest of bytes that were read and not answered:
 -- - `End`: the link ended where an exchange had ended;
 -- - `Closed`: the last reply says so;
 -- - `Cut`: the link ended so many bytes into a request;
 -- - `ReadFault`: a read failed when no request was whole;
 -- - `WriteFault`: a write of the last reply failed;
 -- - `OutOfMemory`: memory was refused between two exchanges.
-abbrev pub EndsSo : List Exchange → List ℕ → Around → Around → Result Served ServeError → Type 0
+abbrev pub EndsSo : List Exchange → List ℕ → LinkView → LinkView → Result Served ServeError → Type 0
 EndsSo xs rest before after (Ok (End count)) = (count ≡ length xs) × GoOn xs × (rest ≡ []) × IsAtEnd after.left
 EndsSo xs rest before after (Ok (Closed count)) = (count ≡ length xs) × EndsAtLast xs
 EndsSo xs rest before after (Err (Cut count)) =
@@ -74,7 +74,7 @@ Writes old new text answer = Appends old new text
 -- A connection has had these exchanges, at most a hundred. The bytes read are their requests and a rest; the bytes written are
 -- the replies to them over one log, which is what the office has seen where that is told, and is legal; and the moments are the
 -- clock's answers.
-pub record Converses (setup : Setup) (before after : Around) (answer : Result Served ServeError) : Type 0 where
+pub record Converses (setup : Setup) (before after : LinkView) (answer : Result Served ServeError) : Type 0 where
   pub exchanges : List Exchange
   pub log : List LogItem
   pub rest : List ℕ

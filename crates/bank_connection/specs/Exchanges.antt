@@ -32,10 +32,10 @@ pub data Outcome : Type 0 where
   polled : UserId → RequestFile → Moment → List (Option Load) → Outcome
   -- its body is another file of this user, at this moment, and the ending of this number answers it
   ended : UserId → RequestFile → Moment → ℕ → Outcome
-  -- memory was refused, behind this moment if the clock was read
+  -- memory was refused, after this moment if the clock was read
   no_memory : Option Moment → Outcome
 
--- An exchange: the bytes of a request, what it comes to, and whether the connection ends behind its reply.
+-- An exchange: the bytes of a request, what it comes to, and whether the connection ends after its reply.
 pub record Exchange : Type 0 where
   pub request : List ℕ
   pub outcome : Outcome
@@ -74,8 +74,8 @@ is_no_memory (polled user file at loads) = false
 is_no_memory (ended user file at number) = false
 is_no_memory (no_memory at) = true
 
--- The connection ends behind a reply to a whole request where the request is HTTP/1.0 or says `close`, where memory was refused,
--- and behind the hundredth reply.
+-- The connection ends after a reply to a whole request where the request is HTTP/1.0 or says `close`, where memory was refused,
+-- and after the hundredth reply.
 abbrev pub closes_behind : Head → ℕ → Outcome → Bool
 closes_behind head number outcome = head.last || is_no_memory outcome || number == 100
 
@@ -130,6 +130,6 @@ endings_of (no_memory at) = []
 abbrev pub endings_in : List Exchange → List ℕ
 endings_in xs = flat_map (λ (x : Exchange). endings_of x.outcome) xs
 
--- The connection goes on behind each of them.
+-- The connection goes on after each of them.
 abbrev pub GoOn : List Exchange → Type 0
 GoOn xs = All (λ (x : Exchange). x.closes ≡ false) xs

@@ -38,7 +38,7 @@ Rises [] = Unit {0}
 Rises (n ∷ ns) = All (λ later. n < later) ns × Rises ns
 
 -- What an office knows is right: the bank opened from records; what was seen of its log is legal from there and ends with no cut
--- group; behind it the books are right; and its own endings rise and are among those that were seen.
+-- group; after it the books are right; and its own endings rise and are among those that were seen.
 pub record IsRightView (setup : Setup) (view : OfficeView) : Type 0 where
   pub records : List (List ℕ)
   pub reopened : Reopens setup opening_state records view.opening
@@ -71,7 +71,7 @@ IsFresh entries load = newest load.object entries ≤ load.token
 
 -- ---- a user's file
 
--- What was seen grows by these items, of which the last is an ending of the office's own: just its number is new to those. Behind
+-- What was seen grows by these items, of which the last is an ending of the office's own: just its number is new to those. After
 -- it every token that was loaded before is the number of an entry that was seen.
 pub record GainsEnding (grown : List LogItem) (before after : OfficeView) : Type 0 where
   pub opening : after.opening ≡ before.opening

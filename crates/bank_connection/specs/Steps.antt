@@ -11,19 +11,19 @@ use Rattle.bank_connection.specs.Exchanges.{Exchange, IsExchange, AreExchanges, 
 use Rattle.bank_connection.specs.ReplyText.{outcome_reply, out}
 use Rattle.bank_connection.specs.Watched.{HasWatched}
 use Rattle.bank_connection.specs.Answering.{HasSeen, Watches}
-use Rattle.bank_connection.specs.Connection.{Around}
+use Rattle.bank_connection.specs.Connection.{LinkView}
 use Rattle.ofx_ports.specs.Writes.{AppendsPart}
 use Rattle.http_link.specs.declared.served.ServeError.{ServeError}
 use Rattle.http_link.specs.declared.served.ServeError.TheVariants.{WriteFault}
 
 -- A reply is written whole, or where a write failed a front of it.
-abbrev pub SendsReply : Around → Around → List ℕ → Bool → Result Bool ServeError → Type 0
+abbrev pub SendsReply : LinkView → LinkView → List ℕ → Bool → Result Bool ServeError → Type 0
 SendsReply before after text closes (Ok closed) = Appends before.held after.held text × (closed ≡ closes)
 SendsReply before after text closes (Err WriteFault) = AppendsPart before.held after.held text × Rose before.writes after.writes
 SendsReply before after text closes (Err fault) = ⊥
 
--- The exchange of this number, behind this log: its request was in front of the bytes that had come.
-pub record HasExchange (setup : Setup) (log : List LogItem) (number : ℕ) (ahead ahead' : List ℕ) (before after : Around) (result : Result Bool ServeError) : Type 0 where
+-- The exchange of this number, after this log: its request was in front of the bytes that had come.
+pub record HasExchange (setup : Setup) (log : List LogItem) (number : ℕ) (ahead ahead' : List ℕ) (before after : LinkView) (result : Result Bool ServeError) : Type 0 where
   pub x : Exchange
   pub grown : List LogItem
   pub is_exchange : IsExchange setup (log ++ grown) number x
@@ -33,17 +33,17 @@ pub record HasExchange (setup : Setup) (log : List LogItem) (number : ℕ) (ahea
   pub watches : Knows before.office after.office (Watches grown x.outcome)
   pub unread : Keeps before.left after.left
 
--- a reply behind which the connection ends
+-- a reply after which the connection ends
 abbrev pub closing : Result (Unit {0}) ServeError → Result Bool ServeError
 closing (Ok done) = Ok true
 closing (Err fault) = Err fault
 
-abbrev pub Exchanges : Setup → ℕ → List ℕ → List ℕ → Around → Around → Result Bool ServeError → Type 0
+abbrev pub Exchanges : Setup → ℕ → List ℕ → List ℕ → LinkView → LinkView → Result Bool ServeError → Type 0
 Exchanges setup number ahead ahead' before after result =
     (log : List LogItem) → HasSeen log before.office → HasExchange setup log number ahead ahead' before after result
 
--- A connection so far: so many exchanges, behind each of which it goes on, and the bytes that have come and aren't answered.
-pub record SoFar (setup : Setup) (count : ℕ) (ahead : List ℕ) (before now : Around) : Type 0 where
+-- A connection so far: so many exchanges, after each of which it goes on, and the bytes that have come and aren't answered.
+pub record SoFar (setup : Setup) (count : ℕ) (ahead : List ℕ) (before now : LinkView) : Type 0 where
   pub exchanges : List Exchange
   pub log : List LogItem
   pub counted : count ≡ length exchanges

@@ -13,8 +13,8 @@ use Rattle.bank_connection.specs.Exchanges.{Outcome, refused, misspelled, denied
 abbrev pub Begins : {A : Type 0} → List A → List A → Type 0
 Begins {A} front all = (rest : List A) × (all ≡ front ++ rest)
 
--- What was seen before an exchange and behind it. It never shrinks. Each token of a poll is no older than the newest one of its
--- object in what was seen then, and a file's ending is the last of those that were seen behind it.
+-- What was seen before an exchange and after it. It never shrinks. Each token of a poll is no older than the newest one of its
+-- object in what was seen then, and a file's ending is the last of those that were seen after it.
 abbrev pub SeesAt : State → List LogItem → Outcome → List LogItem → Type 0
 SeesAt opening seen (polled user file at loads) next = Begins seen next × All (IsFresh (entries_in opening seen)) (loads_made loads)
 SeesAt opening seen (ended user file at number) next = Begins seen next × (number ≡ length (endings next))
@@ -48,7 +48,7 @@ abbrev pub TokensStand : List Entry → List Exchange → Type 0
 TokensStand entries [] = Unit {0}
 TokensStand entries (x ∷ xs) = (HasEnding xs → All (StandsIn entries) (loads_of x.outcome)) × TokensStand entries xs
 
--- What an office knows behind a connection: it has seen this log, which begins with what it had seen; the endings of its own that
+-- What an office knows after a connection: it has seen this log, which begins with what it had seen; the endings of its own that
 -- are new are just those of the exchanges, in order; the tokens of polls stand among those loaded, none was too old, and none
 -- before a file's ending was made up.
 pub record HasWatched (log : List LogItem) (xs : List Exchange) (before after : OfficeView) : Type 0 where

@@ -46,7 +46,7 @@ pub fn refuse<L: Link>(
 }
 
 /// Answers a whole request of so many bytes, which is the exchange of this number, and answers whether the connection ends
-/// behind it. What it is answered is settled before a byte of the reply is written, and the head of the reply takes no memory.
+/// after it. What it is answered is settled before a byte of the reply is written, and the head of the reply takes no memory.
 pub fn exchange<O: Office, L: Link, C: Clock>(
     alloc: Global,
     office: &mut O,
@@ -80,7 +80,7 @@ pub fn exchange<O: Office, L: Link, C: Clock>(
     }
 }
 
-/// Whether the connection ends behind the reply of this number.
+/// Whether the connection ends after the reply of this number.
 fn closes_behind(head: &Head, answer: &Answer, number: u32) -> bool
     requires { number ≤ 100 }
     ensures value { result ≡ (head.now.last || tells_no_memory answer.now || number == 100) }

@@ -15,7 +15,7 @@ use std::alloc::Global;
 ///
 /// | Answer | Where |
 /// |---|---|
-/// | `End(n)` | the link ended behind n exchanges |
+/// | `End(n)` | the link ended after n exchanges |
 /// | `Closed(n)` | the n-th reply said that the connection ends |
 /// | `Cut(n)` | the link ended n bytes into a request |
 /// | `ReadFault`, `WriteFault` | a read or a write of the link failed in this call |

@@ -1,7 +1,7 @@
 -- The asks of a file, answered one after another.
-use Rattle.std.proofs.Common.{◌≡◌, ℕ, zero, suc, ◌+◌, ◌<◌, ◌≤◌, List, [], ◌∷◌, ◌++◌, length, length-append, map, drop, get_or, Option, refl, sym, ap, ◌∙◌, subst, append_assoc, add-one, drop-cons, arith}
+use Rattle.std.proofs.Common.{◌≡◌, ℕ, zero, suc, ◌+◌, ◌<◌, ◌≤◌, List, [], ◌∷◌, ◌++◌, length, length-append, map, drop, get_or, Option, refl, sym, ap, ◌∙◌, subst, append_assoc, arith}
 use Rattle.std.proofs.lemmas.List.{append-nil, get_or_append_left, get_or-append-add}
-use Rattle.std.specs.List.{All, AllByRecursion, Contains, flat_map}
+use Rattle.std.specs.List.{All, Contains, flat_map}
 use Rattle.std.specs.Option.{IfSome}
 use Rattle.ofx_types.specs.declared.number.AcctId.{AcctId}
 use Rattle.ofx_types.specs.declared.number.UserId.{UserId}
@@ -13,6 +13,7 @@ use Rattle.bank_model.specs.declared.event.State.{State}
 use Rattle.bank_model.specs.Rules.{ask_answer, ask_answers}
 use Rattle.bank_accounts.specs.AccountView.{AccountView}
 use Rattle.bank_accounts.specs.HeldAccounts.{AreHeld}
+use Rattle.bank_model.proofs.Lists.{rest_is}
 
 -- ---- the accounts that one ask names
 
@@ -39,19 +40,7 @@ held_at names accounts (x ∷ xs) (suc k) d held below = held_at names accounts 
 pub AreHeld-one : {X : Type 0} (names : X → List (Option AcctId)) (accounts : List AccountView) (xs : List X) (k : ℕ) (x : X) → AreHeld accounts (flat_map names xs) → k < length xs → x ≡ get_or xs k x → AreHeld accounts (names x)
 AreHeld-one names accounts xs k x held below is = subst (λ y. AreHeld accounts (names y)) (sym is) (held_at names accounts xs k x held below)
 
-pub all_by_index : {X : Type 0} (P : X → Type 0) (xs : List X) (k : ℕ) (d : X) → AllByRecursion P xs → k < length xs → P (get_or xs k d)
-all_by_index P [] k d all below = absurd (omega arith)
-all_by_index P (x ∷ xs) zero d all below = all.0
-all_by_index P (x ∷ xs) (suc k) d all below = all_by_index P xs k d all.1 (omega arith)
-
-pub all_from : {X : Type 0} (P : X → Type 0) (xs : List X) → ((k : ℕ) (d : X) → k < length xs → P (get_or xs k d)) → AllByRecursion P xs
-all_from P [] each = tt
-all_from P (x ∷ xs) each = (each 0 x (omega arith), all_from P xs (λ k d below. each (suc k) d (omega arith)))
-
 -- ---- one more of some that are answered in turn, each in the state that the one before left
-
-pub rest_is : {X : Type 0} (xs : List X) (k : ℕ) (x : X) → k < length xs → x ≡ get_or xs k x → drop k xs ≡ x ∷ drop (k + 1) xs
-rest_is xs k x below is = rw (add-one, drop-cons xs k x, ← is) refl
 
 pub told_more : {X R : Type 0} (answers : State → List X → List R) (S next : State) (xs : List X) (k : ℕ) (x : X) (all replies more : List R) (reply : R) → k < length xs → x ≡ get_or xs k x → answers S (x ∷ drop (k + 1) xs) ≡ reply ∷ answers next (drop (k + 1) xs) → more ≡ replies ++ reply ∷ [] → all ≡ replies ++ answers S (drop k xs) → all ≡ more ++ answers next (drop (k + 1) xs)
 told_more answers S next xs k x all replies more reply below is step is_more so_far =

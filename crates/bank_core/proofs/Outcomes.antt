@@ -34,6 +34,7 @@ use Rattle.bank_ledger.proofs.StateParts.{same_state}
 use Rattle.bank_ledger.proofs.DraftStates.{drafted-added, added_as}
 use Rattle.bank_core.specs.BookView.{PreparedView, HasRoom}
 use Rattle.bank_core.specs.Preparing.{prepared_after, IsPrepared}
+use Rattle.bank_rules.proofs.RunLaws.{kept_for-raised, again_outcome}
 
 abbrev pub started : Setup → State → List AccountView → UserId → Moment → DraftView
 started setup S held user at = record { setup = setup; before = S; held = held; user = user; at = at; day = (raised S at).day; entries = []; uids = [] }
@@ -66,16 +67,7 @@ IsAddedTo-of setup S old draft added is_setup is_before same by =
       state = ap (λ (T : State). with_added T added) (sym before) ∙ added_state draft added by;
     }
 
-kept_for-raised : (S : State) (user : UserId) (at : Moment) (newer : Option (List ℕ)) → kept_for (raised S at) user newer ≡ kept_for S user newer
-kept_for-raised S user at None = refl
-kept_for-raised S user at (Some newer) = refl
-
 -- ---- a file whose name is kept
-
-pub again_outcome : (setup : Setup) (S : State) (user : UserId) (at : Moment) (file : RequestFile) (reply : List ℕ) → kept_for S user file.newer ≡ Some reply → file_outcome setup (raised S at) user at file ≡ record { reply = reply; after = raised S at }
-unfolding file_outcome
-again_outcome setup S user at file reply kept =
-    ap (outcome_or_kept setup (raised S at) user at file) (kept_for-raised S user at file.newer ∙ kept)
 
 abbrev pub prepared_with : Setup → State → Event → State → List ℕ → PreparedView
 prepared_with setup S event after reply = record { setup = setup; before = S; event = event; after = after; reply = reply }

@@ -37,7 +37,7 @@ use Rattle.bank_model.specs.Deeds.{done, code_of, first_change, deed_answer}
 use Rattle.bank_model.specs.SetupLookups.{own_account}
 use Rattle.bank_model.specs.Objects.{account_about, object_named, belongs_to, history_of, newest}
 use Rattle.bank_model.specs.Polls.{told_token, newest_if_any, poll_answer, poll_reply}
-use Rattle.bank_model.specs.Sync.{token_of, is_lost, told_as, is_above, entries_above, told_entry, standing_transfer, standing_model, standing_in, standing, history_told, refused_with, is_newest, unless_newest, rejection, deed_answers, deeds_or_rejection, sync_on, sync_answer}
+use Rattle.bank_model.specs.Sync.{token_of, is_lost, told_as, is_above, entries_above, told_entry, standing_transfer, standing_model, standing_in, standing, history_told, refused_with, rejection, deed_answers, deeds_or_rejection, sync_on, sync_answer}
 use Rattle.bank_model.specs.Rules.{asked_list, list_of, statement_reply, ask_answer, ask_answers, reply_file}
 use Rattle.bank_model.specs.Sound.{IsSoundAsk, IsSoundDeed, IsSoundPair, IsSoundSync, IsSoundPeriod}
 use Rattle.bank_model.specs.Models.{model_of, is_model_dropped}
@@ -46,6 +46,8 @@ use Rattle.bank_rules.proofs.NextLemmas.{not_cancelled}
 use Rattle.bank_rules.proofs.DoneLemmas.{IsDone, deed_done}
 use Rattle.bank_rules.proofs.SoundFound.{row_sound, model_sound}
 use Rattle.bank_rules.proofs.StateLemmas.{IsAllowed-from_code, IsSoundState-deed, IsSoundState-ask}
+use Rattle.bank_model.proofs.Lists.{all_append, all_filtered}
+use Rattle.bank_model.proofs.Rejections.{rejection_coded}
 
 -- ---- statements
 
@@ -136,20 +138,9 @@ printable_deed setup S user only at trnuid deed within good lawful sound =
 abbrev MayBePrinted : DeedReply → Type 0
 MayBePrinted reply = HasChangeByCode reply.code reply.change
 
-all_append : {X : Type 0} (P : X → Type 0) (xs ys : List X) → AllByRecursion P xs → AllByRecursion P ys → AllByRecursion P (xs ++ ys)
-all_append P [] ys first second = second
-all_append P (x ∷ xs) ys first second = (first.0, all_append P xs ys first.1 second)
-
-all_filter : {X : Type 0} (P : X → Type 0) (p : X → Bool) (xs : List X) → AllByRecursion P xs → AllByRecursion P (filter p xs)
-all_filter P p [] all = tt
-all_filter P p (x ∷ xs) all = elim (p x) as (λ b. AllByRecursion P (cond b (x ∷ filter p xs) (filter p xs))) [
-  | true ↦ (all.0, all_filter P p xs all.1)
-  | false ↦ all_filter P p xs all.1
-]
-
 history_told_of : (object : ObjectId) (entries : List Entry) → AllByRecursion MayBeTold entries → AllByRecursion MayBeTold (history_of object entries)
 unfolding history_of
-history_told_of object entries told = all_filter MayBeTold (belongs_to object) entries told
+history_told_of object entries told = all_filtered MayBeTold (belongs_to object) entries told
 
 told_entries : (family : Family) (entries : List Entry) → AllByRecursion MayBeTold entries → AllByRecursion MayBePrinted (map (told_entry family) entries)
 told_entries family [] told = tt
@@ -157,7 +148,7 @@ told_entries family (entry ∷ entries) told = ((refl, told.0), told_entries fam
 
 above_told : (token : Option ℕ) (entries : List Entry) → AllByRecursion MayBeTold entries → AllByRecursion MayBeTold (entries_above token entries)
 above_told None entries told = tt
-above_told (Some token) entries told = all_filter MayBeTold (is_above token) entries told
+above_told (Some token) entries told = all_filtered MayBeTold (is_above token) entries told
 
 -- what stands now of a change that may be told
 standing_row : (setup : Setup) (S : State) (id : ℕ) (found : Option TransferRow) → IsSoundState setup S → row_of id S.entries ≡ found → AllByRecursion IsPrintableChange (standing_transfer found)
@@ -216,18 +207,6 @@ printable_deeds setup S user only at family (deed ∷ deeds) within good lawful 
   printable_deed setup S user only at deed.0 deed.1 within good lawful sound.0.1,
   printable_deeds setup (deed_answer setup S user only at deed.0 deed.1).after user only at family deeds within (IsSoundState-deed setup S user only at deed.0 deed.1 within good lawful sound.0.1) lawful sound.1,
 )
-
-unless_coded : (number : ℕ) (kind : SyncKind) → IfSome (unless_newest number kind) (λ (code : ℕ). code ≢ 0)
-unless_coded number (After text) = elim (is_newest number (token_of text)) as (λ b. IfSome (cond b None (Some 6502)) (λ (code : ℕ). code ≢ 0)) [
-  | true ↦ tt
-  | false ↦ (λ (e : 6502 ≡ 0). omega arith)
-]
-unless_coded number TokenOnly = λ (e : 6500 ≡ 0). omega arith
-unless_coded number Refresh = λ (e : 6500 ≡ 0). omega arith
-
-rejection_coded : (reject : Bool) (number : ℕ) (kind : SyncKind) → IfSome (rejection reject number kind) (λ (code : ℕ). code ≢ 0)
-rejection_coded true number kind = unless_coded number kind
-rejection_coded false number kind = tt
 
 printable_sync : (setup : Setup) (S : State) (user : UserId) (at : Moment) (ask : SyncAsk) (found : Option ObjectId) → IsWithinLimits setup → IsSoundState setup S → IsMoment at.0 → IsSoundSync ask → AllByRecursion MayBePrinted (sync_on setup S user at ask found).reply.replies
 unfolding sync_on deeds_or_rejection

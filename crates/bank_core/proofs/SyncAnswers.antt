@@ -19,7 +19,8 @@ use Rattle.bank_model.specs.Deeds.{deed_answer}
 use Rattle.bank_model.specs.Objects.{newest}
 use Rattle.bank_model.specs.Sync.{is_lost, history_told, rejection, deed_answers, deeds_or_rejection, sync_on}
 use Rattle.bank_model.specs.Sound.{IsSoundDeed, IsSoundPair}
-use Rattle.bank_core.proofs.AskAnswers.{all_by_index, told_more, left_more, told_end, left_end}
+use Rattle.bank_core.proofs.AskAnswers.{told_more, left_more, told_end, left_end}
+use Rattle.bank_model.proofs.Lists.{all_by_index}
 
 pub sound_deeds : (family : Family) (deeds : List (List ℕ × Deed)) → AllByRecursion (IsSoundPair family) deeds → AllByRecursion (λ (deed : List ℕ × Deed). IsSoundDeed deed.1) deeds
 sound_deeds family [] sound = tt

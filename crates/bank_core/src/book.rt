@@ -24,6 +24,7 @@ use bank_ledger::Ledger;
 use bank_model::{Event, Printer, Setup};
 use ofx_types::{Moment, OutOfMemory};
 use std::alloc::Global;
+use std::hash::RandomState;
 use std::marker::Model;
 
 /// A bank's setup and the state that it stands in, with the printer of its replies.
@@ -47,9 +48,10 @@ impl<P: Printer> Model for Book<P> {
 }
 
 impl<P: Printer> Book<P> {
-    /// A bank of that setup that opens, and its accounts.
+    /// A bank of that setup that opens, and its accounts. Clients' names are found by hashes with these keys.
     pub fn begin(
         alloc: Global,
+        keys: RandomState,
         setup: Setup,
         printer: P,
     ) -> Result<(Book<P>, Vec<Account>), OutOfMemory>
@@ -61,7 +63,7 @@ impl<P: Printer> Book<P> {
         let accounts = opened_accounts(alloc, &setup)?;
         let book = Book {
             setup,
-            ledger: Ledger::new(alloc),
+            ledger: Ledger::new(alloc, keys),
             printer,
         };
         Ok((book, accounts))

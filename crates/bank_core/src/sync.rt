@@ -80,7 +80,7 @@ fn sync_object(
     })
 }
 
-/// Answers the deeds of a synchronisation behind what is told of the history: each by itself, or all with one code.
+/// Answers the deeds of a synchronisation after what is told of the history: each by itself, or all with one code.
 #[tactic(auto, unfolding(bank_model::specs::Sync::deeds_or_rejection))]
 fn deeds_or_rejection(
     draft: &mut Draft<'_>,
@@ -108,7 +108,7 @@ fn deeds_or_rejection(
     }
 }
 
-/// Answers deeds in their order behind other replies, and adds what they do.
+/// Answers deeds in their order after other replies, and adds what they do.
 fn answer_deeds(
     draft: &mut Draft<'_>,
     alloc: Global,
@@ -152,7 +152,7 @@ fn stranger_reply(alloc: Global, ask: &SyncAsk) -> Result<SyncReply, OutOfMemory
     })
 }
 
-/// The same refusal of each deed of a synchronisation, behind other replies.
+/// The same refusal of each deed of a synchronisation, after other replies.
 fn refused_behind(
     told: Vec<DeedReply>,
     ask: &SyncAsk,

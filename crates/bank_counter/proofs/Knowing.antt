@@ -67,7 +67,7 @@ pub all_refused : {A : Type 0} (opening : State) (old new : JournalView) (polled
 all_refused opening old new polled user file at (Ok reply) stand fails = tt
 all_refused opening old new polled user file at (Err fault) stand fails = refused opening old new polled user file at fault stand fails
 
--- the tokens that were told stand behind a file too
+-- the tokens that were told stand after a file too
 pub still_stand : {A : Type 0} (bytes : A → List ℕ) (opening : State) (old new : JournalView) (polled : List Load) (user : UserId) (file : RequestFile) (at : Moment) (result : Result A SubmitFault)
     → All (StandsIn (entries_in opening old.log)) polled → IfOk result (λ reply. AnswersNext old new (File user file) at (bytes reply)) → IfErr result (FailsToSubmit old new (File user file) at)
     → All (StandsIn (entries_in opening new.log)) polled

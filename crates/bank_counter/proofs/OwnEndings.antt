@@ -7,7 +7,7 @@ use Rattle.bank_model.specs.Log.{is_ending, endings}
 use Rattle.bank_connection.specs.Offices.{Rises}
 use Rattle.bank_counter.specs.Views.{own_from, own_endings}
 
--- those of a list and of what stands behind it
+-- those of a list and of what stands after it
 own-append : (number : ℕ) (xs ys : List LogItem) → own_from number (xs ++ ys) ≡ own_from number xs ++ own_from (number + length xs) ys
 own-append number [] ys = ap (λ (n : ℕ). own_from n ys) (omega arith)
 own-append number (item ∷ xs) ys =
@@ -77,7 +77,7 @@ pub no_ones_behind : (log more : List LogItem) → AreNoOnes more → own_ending
 no_ones_behind log more none =
     own_endings-append log more ∙ ap (λ (l : List ℕ). own_endings log ++ l) (none (1 + length (endings log))) ∙ append-nil (own_endings log)
 
--- the ending of a call, behind items that are no caller's
+-- the ending of a call, after items that are no caller's
 pub own_behind : (log others : List LogItem) (item : LogItem) → AreNoOnes others → IsOwn item
     → own_endings (log ++ (others ++ item ∷ [])) ≡ own_endings log ++ length (endings (log ++ (others ++ item ∷ []))) ∷ []
 own_behind log others item none own =

@@ -1,11 +1,9 @@
 -- What the calls of the teller do to what its office knows.
-use Rattle.std.proofs.Common.{◌≡◌, ℕ, ◌+◌, ◌⊎◌, inl, inr, true, List, [], ◌∷◌, ◌++◌, length, map, drop, All, get_or, Option, None, Some, Result, Ok, Err, IfOk, IfErr, refl, sym, ap, ◌∙◌, subst, arith, append_assoc, append-nil, flat_map}
+use Rattle.std.proofs.Common.{◌≡◌, ℕ, ◌+◌, inl, inr, List, [], ◌∷◌, ◌++◌, length, drop, All, Option, None, Some, Result, Ok, Err, IfOk, IfErr, refl, sym, ap, ◌∙◌, append_assoc, append-nil, flat_map}
 use Rattle.std.proofs.lemmas.List.Elements.{filter-append, Contains-append_left}
-use Rattle.std.proofs.lemmas.Grind.{flat_map-append}
 use Rattle.ofx_types.specs.declared.number.UserId.{UserId}
 use Rattle.ofx_types.specs.declared.number.Moment.{Moment}
 use Rattle.ofx_types.specs.declared.request.RequestFile.{RequestFile}
-use Rattle.bank_model.specs.declared.entry.Entry.{Entry}
 use Rattle.bank_model.specs.declared.event.Event.{Event}
 use Rattle.bank_model.specs.declared.event.Event.TheVariants.{File}
 use Rattle.bank_model.specs.declared.event.State.{State}
@@ -18,22 +16,18 @@ use Rattle.bank_model.specs.LegalLog.{effects_of, group}
 use Rattle.bank_model.specs.Log.{is_ending, endings, entry_of, entries_in}
 use Rattle.bank_model.specs.Rules.{state_after}
 use Rattle.bank_shared.specs.Views.{JournalView}
-use Rattle.bank_shared.specs.Calls.{IsAsBefore, Answers, FailsToCommit, FailsToKeep, SettlesAny, Settles, StaysPending, FailsToSettle, AnswersNext, FailsBehind, FailsToSubmit}
+use Rattle.bank_shared.specs.Calls.{Answers, SettlesAny, AnswersNext, FailsToSubmit}
 use Rattle.bank_connection.specs.Polled.{Load}
-use Rattle.bank_connection.specs.Offices.{OfficeView, Knows, GainsEnding, GainsNothing, StandsIn, IsOfFile, IsCommitted, IsFaulted, IsUncommitted}
-use Rattle.bank_counter.specs.Views.{own_from, own_endings, SoloView, office_view}
+use Rattle.bank_connection.specs.Offices.{GainsEnding, GainsNothing, StandsIn, IsOfFile, IsCommitted, IsFaulted, IsUncommitted}
+use Rattle.bank_counter.specs.Views.{own_from, own_endings, office_view}
 use Rattle.bank_counter.proofs.OwnEndings.{AreNoOnes, IsOwn, no_ones_behind, own_behind}
+use Rattle.bank_model.proofs.Logs.{entries-grown, endings_of_effects}
 
 -- ---- logs that grow
 
 -- a log that has more items than before
 abbrev pub HasGrown : List LogItem → List LogItem → Type 0
 HasGrown log log' = (grown : List LogItem) × (log' ≡ log ++ grown)
-
-entries-grown : (S : State) (log more : List LogItem) → entries_in S (log ++ more) ≡ entries_in S log ++ flat_map entry_of more
-entries-grown S log more =
-    ap (λ (l : List Entry). S.entries ++ l) (flat_map-append entry_of log more)
-    ∙ sym (append_assoc S.entries (flat_map entry_of log) (flat_map entry_of more))
 
 -- tokens stand among the entries of a log that has grown
 pub stand-grown : (S : State) (log log' : List LogItem) (loads : List Load) → HasGrown log log' → All (StandsIn (entries_in S log)) loads → All (StandsIn (entries_in S log')) loads
@@ -44,12 +38,8 @@ stand-grown S log log' loads (grown, is) all k d below low =
 
 -- ---- items of nobody's calls
 
-effects_end_nothing : (entries : List Entry) → endings (map Effect entries) ≡ []
-effects_end_nothing [] = refl
-effects_end_nothing (entry ∷ more) = effects_end_nothing more
-
 no_effects : (setup : Setup) (S : State) (at : Moment) (event : Event) → AreNoOnes (effects_of setup S at event)
-no_effects setup S at event number = ap (own_from number) (effects_end_nothing (drop (length S.entries) (state_after setup S at event).entries))
+no_effects setup S at event number = ap (own_from number) (endings_of_effects (drop (length S.entries) (state_after setup S at event).entries))
 
 own_answer : (event : Event) (at : Moment) (reply : List ℕ) → IsOwn (Answer event at reply)
 own_answer event at reply = (refl, λ number. refl)
@@ -57,7 +47,7 @@ own_answer event at reply = (refl, λ number. refl)
 own_fault : (count : ℕ) (pending : Option (Event × Moment)) → IsOwn (Fault count pending)
 own_fault count pending = (refl, λ number. refl)
 
--- items that are no caller's behind such ones
+-- items that are no caller's after such ones
 no_ones_both : (xs ys : List LogItem) → AreNoOnes xs → AreNoOnes ys → AreNoOnes (xs ++ ys)
 no_ones_both xs ys none no_ones number = ap (own_from number) (filter-append is_ending xs ys) ∙ both number (endings xs) (none number)
   where
@@ -91,7 +81,7 @@ settled old between (Some pending) (inl landed) = record {
 }
 settled old between (Some pending) (inr lost) = nothing_added old between lost.1.log
 
--- ---- what the office knows behind a call
+-- ---- what the office knows after a call
 
 -- an ending of its own
 gains : (opening : State) (old new : JournalView) (polled : List Load) (others : List LogItem) (item : LogItem) → new.log ≡ old.log ++ (others ++ item ∷ []) → AreNoOnes others
@@ -116,7 +106,7 @@ gains_nothing opening old new polled grown log none = record {
   polled = refl;
 }
 
--- the log behind a settling and one item more
+-- the log after a settling and one item more
 behind_settling : (old between : List LogItem) (new added own : List LogItem) → between ≡ old ++ added → new ≡ between ++ own → new ≡ old ++ (added ++ own)
 behind_settling old between new added own first second =
     second ∙ (ap (λ (l : List LogItem). l ++ own) first ∙ append_assoc old added own)
@@ -143,7 +133,7 @@ committed opening old new polled user file at reply stand next =
           (own_answer (File user file) at reply) stand;
     }
 
--- a fault behind a settling, or in it
+-- a fault after a settling, or in it
 faulted : (opening : State) (old new : JournalView) (polled : List Load) (user : UserId) (file : RequestFile) (at : Moment) (count : ℕ) (others : List LogItem) (pending : Option (Event × Moment))
     → All (StandsIn (entries_in opening old.log)) polled → new.log ≡ old.log ++ (others ++ Fault count pending ∷ []) → AreNoOnes others → IsOfFile user file at pending
     → IsFaulted user file at count (Some (office_view opening (record { teller = old; polled = polled }))) (Some (office_view opening (record { teller = new; polled = polled })))

@@ -3,7 +3,8 @@
 ghost use Rattle.std.specs.Prelude.{◌≡◌, ◌≤◌, None};
 ghost use Rattle.bank_connection.specs.Connection.{around, Converses};
 
-use bank_connection::{Office, ServeError, Served, newest_are_told, serve_link};
+use bank_connection::laws::newest_are_told;
+use bank_connection::{Office, ServeError, Served, serve_link};
 use bank_model::{Printer, Setup, SubmitFault};
 use bank_shared::{Bank, BankName, Pass};
 use ofx_ports::{Clock, Gate, Keeper, Link, OpenGate};

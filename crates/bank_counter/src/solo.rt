@@ -11,7 +11,8 @@ ghost use Rattle.bank_connection.specs.Offices.{IsRightView, Knows, IsCommitted,
 ghost use Rattle.bank_counter.specs.Views.{office_view};
 
 use crate::trail::{Trail, behind};
-use bank_connection::{Office, ServeError, Served, newest_are_told, serve_link};
+use bank_connection::laws::newest_are_told;
+use bank_connection::{Office, ServeError, Served, serve_link};
 use bank_model::{Printer, Setup, SubmitFault};
 use bank_rules::laws::states::books_are_right;
 use bank_shared::{BankName, Opened, Teller};

@@ -1,4 +1,4 @@
--- A deed on a recurring transfer enters its own entry, and behind it those of the transfers that wait.
+-- A deed on a recurring transfer enters its own entry, and after it those of the transfers that wait.
 use Rattle.std.proofs.Common.{◌≡◌, ℕ, ◌+◌, Bool, true, false, eqb, List, [], ◌∷◌, ◌++◌, length, length-append, Option, refl, sym, ap, ◌∙◌, subst}
 use Rattle.std.specs.Prelude.{option_to_list}
 use Rattle.std.specs.List.{AllByRecursion, IsDistinct}
@@ -44,7 +44,7 @@ nothing_waits : (entries : List Entry) → AreWaiting entries []
 unfolding IsDistinct
 nothing_waits entries = record { wait = tt; once = tt }
 
--- The transfers that go along wait behind the deed's own entry.
+-- The transfers that go along wait after the deed's own entry.
 pub along_wait : (setup : Setup) (S : State) (entry : Entry) (also : Bool) (id : ℕ) → IsSoundState setup S → IsOfModel entry.change → AreWaiting (S.entries ++ entry ∷ []) (ids_of (waiting_if also id S))
 along_wait setup S entry false id sound of = nothing_waits (S.entries ++ entry ∷ [])
 along_wait setup S entry true id sound of =

@@ -47,11 +47,12 @@ use Rattle.bank_ledger.specs.Changes.{GivesRows}
 use Rattle.bank_ledger.specs.DraftView.{DraftView, pair_of, drafted, with_uid, IsSameFile, HasAdded, HasBothHeld}
 use Rattle.bank_ledger.proofs.StateParts.{same_state}
 use Rattle.bank_ledger.proofs.DraftStates.{drafted-added, drafted-uid}
-use Rattle.bank_deeds.specs.Entries.{told_of}
+use Rattle.bank_deeds.specs.Entries.{told_of, entry_with}
 use Rattle.bank_deeds.proofs.Giving.{new_gives, set_gives, drop_gives, new_model_gives}
 use Rattle.bank_rules.specs.Standing.{IsSoundState}
 use Rattle.bank_rules.proofs.Verdicts.{IsInBank-from_mail_code}
 use Rattle.bank_rules.proofs.DeedLemmas.{taken_entry, new_fields, changed_fields, transfer_next, transfer_entries, modify_row, modify_entries, modify_next, cancel_row, cancel_entries, cancel_next, model_taken, model_entry, model_entries, model_next}
+use Rattle.bank_rules.proofs.UidLaws.{used_code-is}
 
 -- ---- answers
 
@@ -64,7 +65,7 @@ change_behind [] [] = refl
 change_behind [] (entry ∷ more) = refl
 change_behind (one ∷ before) more = change_behind before more
 
--- The reply tells the change of the first entry behind those that stood.
+-- The reply tells the change of the first entry after those that stood.
 pub done_reply-is : (setup : Setup) (S : State) (user : UserId) (only : Option AcctId) (at : Moment) (trnuid : List ℕ) (deed : Deed) (before after : List Entry) (place : ℕ) → code_of setup S user only at trnuid deed ≡ 0 → after ≡ before ++ done setup S user at trnuid deed → place ≡ length before → told_of trnuid deed (slice_get after place) ≡ (deed_answer setup S user only at trnuid deed).reply
 done_reply-is setup S user only at trnuid deed before after place is more behind =
     ap (λ (entries : List Entry). told_of trnuid deed (slice_get entries place)) more
@@ -128,10 +129,6 @@ again_after-is draft only trnuid deed is =
 
 -- ---- codes
 
-pub used_code-is : (setup : Setup) (S : State) (user : UserId) (only : Option AcctId) (at : Moment) (trnuid : List ℕ) (deed : Deed) → is_used user trnuid S.used ≡ true → code_of setup S user only at trnuid deed ≡ 2019
-unfolding code_of
-used_code-is setup S user only at trnuid deed used = rw used refl
-
 pub room_code-is : (setup : Setup) (S : State) (user : UserId) (only : Option AcctId) (at : Moment) (trnuid : List ℕ) (deed : Deed) (count : ℕ) → is_used user trnuid S.used ≡ false → judged setup S user only deed ≡ 0 → length (done setup S user at trnuid deed) ≡ count → code_of setup S user only at trnuid deed ≡ cond (is_full setup (length S.entries + count)) 2000 0
 unfolding code_of
 room_code-is setup S user only at trnuid deed count unused none is = rw (unused, none, is) refl
@@ -182,28 +179,25 @@ judged_cancel-is setup S user only deed id found result is row code =
 
 -- ---- what is entered
 
-abbrev pub entry_of : ℕ → ObjectId → List ℕ → Change → Entry
-entry_of number object trnuid change = record { number = number; object = object; trnuid = trnuid; change = change }
-
-pub entry_is : (n m : ℕ) (o p : ObjectId) (t u : List ℕ) (c d : Change) → n ≡ m → o ≡ p → t ≡ u → c ≡ d → entry_of n o t c ≡ entry_of m p u d
+pub entry_is : (n m : ℕ) (o p : ObjectId) (t u : List ℕ) (c d : Change) → n ≡ m → o ≡ p → t ≡ u → c ≡ d → entry_with n o t c ≡ entry_with m p u d
 entry_is n m o p t u c d number object trnuid change =
-    ap (λ (x : ℕ). entry_of x o t c) number ∙ ap (λ (x : ObjectId). entry_of m x t c) object ∙ ap (λ (x : List ℕ). entry_of m p x c) trnuid ∙ ap (entry_of m p u) change
+    ap (λ (x : ℕ). entry_with x o t c) number ∙ ap (λ (x : ObjectId). entry_with m x t c) object ∙ ap (λ (x : List ℕ). entry_with m p x c) trnuid ∙ ap (entry_with m p u) change
 
 -- What a transfer enters, by the parts that are made of it.
 pub record IsTransferEntry (setup : Setup) (S : State) (user : UserId) (at : Moment) (trnuid : List ℕ) (info : XferInfo) (number : ℕ) (object : ObjectId) (uid : List ℕ) (row told : TransferRow) : Type 0 where
-  pub next : IsNext setup S (entry_of number object uid (NewTransfer told))
+  pub next : IsNext setup S (entry_with number object uid (NewTransfer told))
   pub gives : GivesRows S.entries (NewTransfer told) (Row row)
-  pub entries : entry_of number object uid (NewTransfer told) ∷ [] ≡ done setup S user at trnuid (Transfer info)
+  pub entries : entry_with number object uid (NewTransfer told) ∷ [] ≡ done setup S user at trnuid (Transfer info)
   pub held : (accounts : List AccountView) → AreHeld accounts (named_by_deed setup (Transfer info)) → HasBothHeld setup accounts row
 
 pub IsTransferEntry-of : (setup : Setup) (S : State) (user : UserId) (only : Option AcctId) (at : Moment) (trnuid : List ℕ) (info : XferInfo) (number : ℕ) (object : ObjectId) (uid : List ℕ) (row told : TransferRow) → IsWithinLimits setup → IsSoundState setup S → IsMoment at.0 → IsSoundDeed (Transfer info) → judged setup S user only (Transfer info) ≡ 0 → number ≡ length S.entries + 1 → object ≡ object_of setup info.from → uid ≡ trnuid → row ≡ new_row number at S.day info → told ≡ row → IsTransferEntry setup S user at trnuid info number object uid row told
 IsTransferEntry-of setup S user only at trnuid info number object uid row told within sound moment deed none is_number is_object is_uid is_row is_told =
     let row_is : row ≡ new_row (length S.entries + 1) at S.day info = is_row ∙ ap (λ (n : ℕ). new_row n at S.day info) is_number in
-    let entry : entry_of number object uid (NewTransfer told) ≡ taken_entry setup S at trnuid info =
+    let entry : entry_with number object uid (NewTransfer told) ≡ taken_entry setup S at trnuid info =
     entry_is _ _ _ _ _ _ _ _ is_number is_object is_uid (ap (λ (r : TransferRow). NewTransfer r) (is_told ∙ row_is)) in
-    let entries : entry_of number object uid (NewTransfer told) ∷ [] ≡ done setup S user at trnuid (Transfer info) =
+    let entries : entry_with number object uid (NewTransfer told) ∷ [] ≡ done setup S user at trnuid (Transfer info) =
     ap (λ (e : Entry). e ∷ []) entry ∙ sym (transfer_entries setup S user at trnuid info) in
-    let next : IsNext setup S (entry_of number object uid (NewTransfer told)) = subst (IsNext setup S) (sym entry) (transfer_next setup S user only at trnuid info within sound moment deed none) in
+    let next : IsNext setup S (entry_with number object uid (NewTransfer told)) = subst (IsNext setup S) (sym entry) (transfer_next setup S user only at trnuid info within sound moment deed none) in
     record {
       next = next;
       gives = new_gives setup S told row sound next.lawful next.told is_told (ap (λ (r : TransferRow). r.model) (is_told ∙ row_is) ∙ (new_fields (length S.entries + 1) at S.day info).4);
@@ -221,9 +215,9 @@ IsTransferEntry-of setup S user only at trnuid info number object uid row told w
 
 -- What a change of a transfer enters.
 pub record IsModifyEntry (setup : Setup) (S : State) (user : UserId) (at : Moment) (trnuid : List ℕ) (id : ℕ) (info : XferInfo) (number : ℕ) (object : ObjectId) (uid : List ℕ) (row told : TransferRow) : Type 0 where
-  pub next : IsNext setup S (entry_of number object uid (SetTransfer told))
+  pub next : IsNext setup S (entry_with number object uid (SetTransfer told))
   pub gives : GivesRows S.entries (SetTransfer told) (Row row)
-  pub entries : entry_of number object uid (SetTransfer told) ∷ [] ≡ done setup S user at trnuid (ModifyTransfer id info)
+  pub entries : entry_with number object uid (SetTransfer told) ∷ [] ≡ done setup S user at trnuid (ModifyTransfer id info)
   pub nothing : posting_of number (Some told) ≡ []
 
 pub modify_there : (setup : Setup) (S : State) (user : UserId) (only : Option AcctId) (id : ℕ) (info : XferInfo) → judged setup S user only (ModifyTransfer id info) ≡ 0 → is_some (row_of id S.entries) ≡ true
@@ -244,11 +238,11 @@ IsModifyEntry-of setup S user only at trnuid id info number object uid row told 
     let fields = changed_fields S.day info found.0 in
     let row_is : row ≡ changed_row S.day info found.0 = some_row (row_of id S.entries) (changed_row S.day info) found.0 row found.1 is_row in
     let from : row.from ≡ found.0.from = ap (λ (r : TransferRow). r.from) row_is ∙ fields.2 in
-    let entry : entry_of number object uid (SetTransfer told) ≡ next_entry S (object_of setup found.0.from) trnuid (SetTransfer (changed_row S.day info found.0)) =
+    let entry : entry_with number object uid (SetTransfer told) ≡ next_entry S (object_of setup found.0.from) trnuid (SetTransfer (changed_row S.day info found.0)) =
     entry_is _ _ _ _ _ _ _ _ is_number (is_object ∙ ap (object_of setup) from) is_uid (ap (λ (r : TransferRow). SetTransfer r) (is_told ∙ row_is)) in
-    let entries : entry_of number object uid (SetTransfer told) ∷ [] ≡ done setup S user at trnuid (ModifyTransfer id info) =
+    let entries : entry_with number object uid (SetTransfer told) ∷ [] ≡ done setup S user at trnuid (ModifyTransfer id info) =
     ap (λ (e : Entry). e ∷ []) entry ∙ sym (modify_entries setup S user at trnuid id info found.0 found.1) in
-    let next : IsNext setup S (entry_of number object uid (SetTransfer told)) = subst (IsNext setup S) (sym entry) (modify_next setup S trnuid id info found.0 sound deed found.1 found.2) in
+    let next : IsNext setup S (entry_with number object uid (SetTransfer told)) = subst (IsNext setup S) (sym entry) (modify_next setup S trnuid id info found.0 sound deed found.1 found.2) in
     record {
       next = next;
       gives = set_gives setup S told row next.lawful next.told is_told;
@@ -258,9 +252,9 @@ IsModifyEntry-of setup S user only at trnuid id info number object uid row told 
 
 -- What a cancellation enters.
 pub record IsCancelEntry (setup : Setup) (S : State) (user : UserId) (at : Moment) (trnuid : List ℕ) (id : ℕ) (number : ℕ) (object : ObjectId) (uid : List ℕ) (row : TransferRow) : Type 0 where
-  pub next : IsNext setup S (entry_of number object uid (DropTransfer id))
+  pub next : IsNext setup S (entry_with number object uid (DropTransfer id))
   pub gives : GivesRows S.entries (DropTransfer id) (Row row)
-  pub entries : entry_of number object uid (DropTransfer id) ∷ [] ≡ done setup S user at trnuid (CancelTransfer id)
+  pub entries : entry_with number object uid (DropTransfer id) ∷ [] ≡ done setup S user at trnuid (CancelTransfer id)
 
 pub cancel_there : (setup : Setup) (S : State) (user : UserId) (only : Option AcctId) (id : ℕ) → judged setup S user only (CancelTransfer id) ≡ 0 → is_some (row_of id S.entries) ≡ true
 cancel_there setup S user only id none = ap is_some (cancel_row setup S user only id none).1
@@ -276,11 +270,11 @@ IsCancelEntry-of setup S user only at trnuid id number object uid row sound none
     let found = cancel_row setup S user only id none in
     let row_is : row ≡ with_code Cancelled found.0 = some_row (row_of id S.entries) (with_code Cancelled) found.0 row found.1 is_row in
     let from : row.from ≡ found.0.from = ap (λ (r : TransferRow). r.from) row_is in
-    let entry : entry_of number object uid (DropTransfer id) ≡ next_entry S (object_of setup found.0.from) trnuid (DropTransfer id) =
+    let entry : entry_with number object uid (DropTransfer id) ≡ next_entry S (object_of setup found.0.from) trnuid (DropTransfer id) =
     entry_is _ _ _ _ _ _ _ _ is_number (is_object ∙ ap (object_of setup) from) is_uid refl in
-    let entries : entry_of number object uid (DropTransfer id) ∷ [] ≡ done setup S user at trnuid (CancelTransfer id) =
+    let entries : entry_with number object uid (DropTransfer id) ∷ [] ≡ done setup S user at trnuid (CancelTransfer id) =
     ap (λ (e : Entry). e ∷ []) entry ∙ sym (cancel_entries setup S user at trnuid id found.0 found.1) in
-    let next : IsNext setup S (entry_of number object uid (DropTransfer id)) = subst (IsNext setup S) (sym entry) (cancel_next setup S trnuid id found.0 sound found.1 found.2) in
+    let next : IsNext setup S (entry_with number object uid (DropTransfer id)) = subst (IsNext setup S) (sym entry) (cancel_next setup S trnuid id found.0 sound found.1 found.2) in
     record {
       next = next;
       gives = drop_gives S id row is_row;
@@ -289,9 +283,9 @@ IsCancelEntry-of setup S user only at trnuid id number object uid row sound none
 
 -- What a new recurring transfer enters.
 pub record IsModelEntry (setup : Setup) (S : State) (user : UserId) (at : Moment) (trnuid : List ℕ) (recur : Recur) (info : XferInfo) (number : ℕ) (object : ObjectId) (uid : List ℕ) (row told : ModelRow) : Type 0 where
-  pub next : IsNext setup S (entry_of number object uid (NewModel told))
+  pub next : IsNext setup S (entry_with number object uid (NewModel told))
   pub gives : GivesRows S.entries (NewModel told) (changes.Model row)
-  pub entries : entry_of number object uid (NewModel told) ∷ [] ≡ done setup S user at trnuid (Model recur info)
+  pub entries : entry_with number object uid (NewModel told) ∷ [] ≡ done setup S user at trnuid (Model recur info)
 
 pub model_from : (setup : Setup) (S : State) (user : UserId) (only : Option AcctId) (recur : Recur) (info : XferInfo) → judged setup S user only (Model recur info) ≡ 0 → is_some (account_of setup info.from) ≡ true
 model_from setup S user only recur info none = (model_taken setup S user only recur info none).from
@@ -299,11 +293,11 @@ model_from setup S user only recur info none = (model_taken setup S user only re
 pub IsModelEntry-of : (setup : Setup) (S : State) (user : UserId) (only : Option AcctId) (at : Moment) (trnuid : List ℕ) (recur : Recur) (info : XferInfo) (number : ℕ) (object : ObjectId) (uid : List ℕ) (row told : ModelRow) → IsSoundState setup S → IsSoundDeed (Model recur info) → judged setup S user only (Model recur info) ≡ 0 → number ≡ length S.entries + 1 → object ≡ model_object_of setup info.from → uid ≡ trnuid → row ≡ new_model number S.day recur info → told ≡ row → IsModelEntry setup S user at trnuid recur info number object uid row told
 IsModelEntry-of setup S user only at trnuid recur info number object uid row told sound deed none is_number is_object is_uid is_row is_told =
     let row_is : row ≡ new_model (length S.entries + 1) S.day recur info = is_row ∙ ap (λ (n : ℕ). new_model n S.day recur info) is_number in
-    let entry : entry_of number object uid (NewModel told) ≡ model_entry setup S trnuid recur info =
+    let entry : entry_with number object uid (NewModel told) ≡ model_entry setup S trnuid recur info =
     entry_is _ _ _ _ _ _ _ _ is_number is_object is_uid (ap (λ (r : ModelRow). NewModel r) (is_told ∙ row_is)) in
-    let entries : entry_of number object uid (NewModel told) ∷ [] ≡ done setup S user at trnuid (Model recur info) =
+    let entries : entry_with number object uid (NewModel told) ∷ [] ≡ done setup S user at trnuid (Model recur info) =
     ap (λ (e : Entry). e ∷ []) entry ∙ sym (model_entries setup S user at trnuid recur info) in
-    let next : IsNext setup S (entry_of number object uid (NewModel told)) = subst (IsNext setup S) (sym entry) (model_next setup S user only trnuid recur info sound deed none) in
+    let next : IsNext setup S (entry_with number object uid (NewModel told)) = subst (IsNext setup S) (sym entry) (model_next setup S user only trnuid recur info sound deed none) in
     record {
       next = next;
       gives = new_model_gives setup S told row sound next.lawful is_told;

@@ -18,14 +18,15 @@ use Rattle.bank_rules.specs.Standing.{IsSoundState}
 use Rattle.bank_rules.specs.Next.{IsNext}
 use Rattle.bank_rules.proofs.NextLemmas.{mail_next}
 use Rattle.bank_rules.proofs.DoneLemmas.{bank_mail_entries, mail_entries}
-use Rattle.bank_deeds.proofs.DeedAnswers.{entry_of, entry_is}
+use Rattle.bank_deeds.proofs.DeedAnswers.{entry_is}
+use Rattle.bank_deeds.specs.Entries.{entry_with}
 
-pub mail_entered : (setup : Setup) (S : State) (number : ℕ) (object : ObjectId) (trnuid : List ℕ) (row : MailRow) → IsSoundState setup S → IsMoment row.mail.created.0 → number ≡ length S.entries + 1 → IsNext setup S (entry_of number object trnuid (NewMail row))
+pub mail_entered : (setup : Setup) (S : State) (number : ℕ) (object : ObjectId) (trnuid : List ℕ) (row : MailRow) → IsSoundState setup S → IsMoment row.mail.created.0 → number ≡ length S.entries + 1 → IsNext setup S (entry_with number object trnuid (NewMail row))
 mail_entered setup S number object trnuid row sound written is =
-    subst (λ (n : ℕ). IsNext setup S (entry_of n object trnuid (NewMail row))) (sym is) (mail_next setup S object trnuid row sound written)
+    subst (λ (n : ℕ). IsNext setup S (entry_with n object trnuid (NewMail row))) (sym is) (mail_next setup S object trnuid row sound written)
 
-pub entered_is : (S : State) (number : ℕ) (object : ObjectId) (trnuid : List ℕ) (row : MailRow) → number ≡ length S.entries + 1 → entry_of number object trnuid (NewMail row) ∷ [] ≡ next_entry S object trnuid (NewMail row) ∷ []
-entered_is S number object trnuid row is = ap (λ (n : ℕ). entry_of n object trnuid (NewMail row) ∷ []) is
+pub entered_is : (S : State) (number : ℕ) (object : ObjectId) (trnuid : List ℕ) (row : MailRow) → number ≡ length S.entries + 1 → entry_with number object trnuid (NewMail row) ∷ [] ≡ next_entry S object trnuid (NewMail row) ∷ []
+entered_is S number object trnuid row is = ap (λ (n : ℕ). entry_with n object trnuid (NewMail row) ∷ []) is
 
 same_entry : (S : State) (o p : ObjectId) (t u : List ℕ) (row held : MailRow) → o ≡ p → t ≡ u → row ≡ held → next_entry S o t (NewMail row) ∷ [] ≡ next_entry S p u (NewMail held) ∷ []
 same_entry S o p t u row held object uid is =

@@ -26,8 +26,9 @@ use Rattle.bank_rules.specs.Standing.{IsSoundState}
 use Rattle.bank_rules.specs.Pending.{own_entries}
 use Rattle.bank_rules.specs.Next.{IsNext}
 use Rattle.bank_rules.proofs.DeedLemmas.{changed_model_fields, to_change, to_drop, set_entry, drop_entry, set_model, drop_model}
-use Rattle.bank_deeds.proofs.DeedAnswers.{entry_of, entry_is}
+use Rattle.bank_deeds.proofs.DeedAnswers.{entry_is}
 use Rattle.bank_deeds.proofs.Giving.{set_model_gives, drop_model_gives}
+use Rattle.bank_deeds.specs.Entries.{entry_with}
 
 some_model : (found : Option ModelRow) (change : ModelRow → ModelRow) (first row : ModelRow) → found ≡ Some first → option_map change found ≡ Some row → row ≡ change first
 some_model found change first row there is = sym (some_is (change first) row (sym (ap (option_map change) there) ∙ is))
@@ -43,21 +44,21 @@ change_from setup S user only id recur info also row none is =
 
 -- What a change of a recurring transfer enters for itself.
 pub record IsSetModelEntry (setup : Setup) (S : State) (trnuid : List ℕ) (id : ℕ) (recur : Recur) (info : XferInfo) (also : Bool) (number : ℕ) (object : ObjectId) (uid : List ℕ) (row told : ModelRow) : Type 0 where
-  pub next : IsNext setup S (entry_of number object uid (SetModel told also))
+  pub next : IsNext setup S (entry_with number object uid (SetModel told also))
   pub gives : GivesRows S.entries (SetModel told also) (changes.Model row)
-  pub entries : entry_of number object uid (SetModel told also) ∷ [] ≡ own_entries setup S trnuid (ModifyModel id recur info also)
+  pub entries : entry_with number object uid (SetModel told also) ∷ [] ≡ own_entries setup S trnuid (ModifyModel id recur info also)
 
 pub IsSetModelEntry-of : (setup : Setup) (S : State) (user : UserId) (only : Option AcctId) (trnuid : List ℕ) (id : ℕ) (recur : Recur) (info : XferInfo) (also : Bool) (number : ℕ) (object : ObjectId) (uid : List ℕ) (row told : ModelRow) → IsSoundState setup S → IsSoundDeed (ModifyModel id recur info also) → judged setup S user only (ModifyModel id recur info also) ≡ 0 → number ≡ length S.entries + 1 → object ≡ model_object_of setup row.from → uid ≡ trnuid → option_map (changed_model S.day recur info) (model_of id S.entries) ≡ Some row → told ≡ row → IsSetModelEntry setup S trnuid id recur info also number object uid row told
 IsSetModelEntry-of setup S user only trnuid id recur info also number object uid row told sound deed none is_number is_object is_uid is_row is_told =
     let to = to_change setup S user only id recur info also none in
     let row_is : row ≡ changed_model S.day recur info to.row = some_model (model_of id S.entries) (changed_model S.day recur info) to.row row to.found is_row in
     let from : row.from ≡ to.row.from = ap (λ (r : ModelRow). r.from) row_is ∙ (changed_model_fields S.day recur info to.row).1 in
-    let entry : entry_of number object uid (SetModel told also) ≡ set_entry setup S trnuid recur info also to.row =
+    let entry : entry_with number object uid (SetModel told also) ≡ set_entry setup S trnuid recur info also to.row =
     entry_is _ _ _ _ _ _ _ _ is_number (is_object ∙ ap (model_object_of setup) from) is_uid (ap (λ (r : ModelRow). SetModel r also) (is_told ∙ row_is)) in
     let own : own_entries setup S trnuid (ModifyModel id recur info also) ≡ set_entry setup S trnuid recur info also to.row ∷ [] =
     ap (λ (r : Option ModelRow). model_entries_on setup S trnuid r (λ held. SetModel (changed_model S.day recur info held) also) []) to.found in
-    let entries : entry_of number object uid (SetModel told also) ∷ [] ≡ own_entries setup S trnuid (ModifyModel id recur info also) = ap (λ (e : Entry). e ∷ []) entry ∙ sym own in
-    let next : IsNext setup S (entry_of number object uid (SetModel told also)) = subst (IsNext setup S) (sym entry) (set_model setup S trnuid id recur info also sound deed.2 to) in
+    let entries : entry_with number object uid (SetModel told also) ∷ [] ≡ own_entries setup S trnuid (ModifyModel id recur info also) = ap (λ (e : Entry). e ∷ []) entry ∙ sym own in
+    let next : IsNext setup S (entry_with number object uid (SetModel told also)) = subst (IsNext setup S) (sym entry) (set_model setup S trnuid id recur info also sound deed.2 to) in
     record {
       next = next;
       gives = set_model_gives S told row also next.lawful is_told;
@@ -74,18 +75,18 @@ drop_own setup S user only id also none =
 
 -- What a cancellation of a recurring transfer enters for itself.
 pub record IsDropModelEntry (setup : Setup) (S : State) (trnuid : List ℕ) (id : ℕ) (also : Bool) (number : ℕ) (object : ObjectId) (uid : List ℕ) : Type 0 where
-  pub next : IsNext setup S (entry_of number object uid (DropModel id also))
+  pub next : IsNext setup S (entry_with number object uid (DropModel id also))
   pub gives : GivesRows S.entries (DropModel id also) (NoModel id)
-  pub entries : entry_of number object uid (DropModel id also) ∷ [] ≡ own_entries setup S trnuid (CancelModel id also)
+  pub entries : entry_with number object uid (DropModel id also) ∷ [] ≡ own_entries setup S trnuid (CancelModel id also)
 
 pub IsDropModelEntry-of : (setup : Setup) (S : State) (user : UserId) (only : Option AcctId) (trnuid : List ℕ) (id : ℕ) (also : Bool) (number : ℕ) (object : ObjectId) (uid : List ℕ) → IsSoundState setup S → judged setup S user only (CancelModel id also) ≡ 0 → number ≡ length S.entries + 1 → option_map (λ (row : ModelRow). model_object_of setup row.from) (model_of id S.entries) ≡ Some object → uid ≡ trnuid → IsDropModelEntry setup S trnuid id also number object uid
 IsDropModelEntry-of setup S user only trnuid id also number object uid sound none is_number is_object is_uid =
     let to = to_drop setup S user only id also none in
     let object_is : object ≡ model_object_of setup to.row.from = sym (some_is (model_object_of setup to.row.from) object (sym (ap (option_map (λ (row : ModelRow). model_object_of setup row.from)) to.found) ∙ is_object)) in
-    let entry : entry_of number object uid (DropModel id also) ≡ drop_entry setup S trnuid id also to.row = entry_is _ _ _ _ _ _ _ _ is_number object_is is_uid refl in
+    let entry : entry_with number object uid (DropModel id also) ≡ drop_entry setup S trnuid id also to.row = entry_is _ _ _ _ _ _ _ _ is_number object_is is_uid refl in
     let own : own_entries setup S trnuid (CancelModel id also) ≡ drop_entry setup S trnuid id also to.row ∷ [] =
     ap (λ (r : Option ModelRow). model_entries_on setup S trnuid r (λ held. DropModel id also) []) to.found in
-    let next : IsNext setup S (entry_of number object uid (DropModel id also)) = subst (IsNext setup S) (sym entry) (drop_model setup S trnuid id also sound to) in
+    let next : IsNext setup S (entry_with number object uid (DropModel id also)) = subst (IsNext setup S) (sym entry) (drop_model setup S trnuid id also sound to) in
     record {
       next = next;
       gives = drop_model_gives S id also next.lawful;

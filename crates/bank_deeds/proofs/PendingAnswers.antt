@@ -24,12 +24,13 @@ use Rattle.bank_ledger.specs.Changes.{GivesRows}
 use Rattle.bank_rules.specs.Standing.{IsSoundState}
 use Rattle.bank_rules.specs.Pending.{rows_at, AreTerms, SuitsRow}
 use Rattle.bank_rules.specs.Next.{IsNext}
-use Rattle.bank_deeds.proofs.DeedAnswers.{entry_of, entry_is, some_row}
+use Rattle.bank_deeds.proofs.DeedAnswers.{entry_is, some_row}
 use Rattle.bank_deeds.proofs.Giving.{set_gives, drop_gives}
 use Rattle.bank_rules.proofs.NextLemmas.{row_of-named, waiting_posts, drop_next}
 use Rattle.bank_rules.proofs.SoundFound.{row_sound}
 use Rattle.bank_rules.proofs.PendingLemmas.{IsHere}
 use Rattle.bank_rules.proofs.DoneLemmas.{Suits, with_new_terms, change_next, terms_fields, dropping}
+use Rattle.bank_deeds.specs.Entries.{entry_with}
 
 -- a transfer that waits has a row
 pub record IsThere (entries : List Entry) (id : ℕ) : Type 0 where
@@ -56,9 +57,9 @@ one_behind setup S change id row found = ap (λ (r : Option TransferRow). entrie
 
 -- What the change of a transfer that waits enters.
 pub record IsTermsEntry (setup : Setup) (S : State) (info : XferInfo) (id : ℕ) (number : ℕ) (object : ObjectId) (uid : List ℕ) (row told : TransferRow) : Type 0 where
-  pub next : IsNext setup S (entry_of number object uid (SetTransfer told))
+  pub next : IsNext setup S (entry_with number object uid (SetTransfer told))
   pub gives : GivesRows S.entries (SetTransfer told) (Row row)
-  pub entries : entry_of number object uid (SetTransfer told) ∷ [] ≡ entries_behind setup (length S.entries) (with_new_terms info) (rows_at S.entries (id ∷ []))
+  pub entries : entry_with number object uid (SetTransfer told) ∷ [] ≡ entries_behind setup (length S.entries) (with_new_terms info) (rows_at S.entries (id ∷ []))
   pub nothing : posting_of number (Some told) ≡ []
 
 pub terms_from : (setup : Setup) (S : State) (info : XferInfo) (id : ℕ) (row : TransferRow) → IsSoundState setup S → waits (row_of id S.entries) ≡ true → option_map (with_terms info) (row_of id S.entries) ≡ Some row → is_some (account_of setup row.from) ≡ true
@@ -73,10 +74,10 @@ IsTermsEntry-of setup S info id number object uid row told sound wait suits apar
     let fields = terms_fields info at.row in
     let row_is : row ≡ with_terms info at.row = some_row (row_of id S.entries) (with_terms info) at.row row at.found is_row in
     let from : row.from ≡ at.row.from = ap (λ (r : TransferRow). r.from) row_is ∙ fields.2 in
-    let entry : entry_of number object uid (SetTransfer told) ≡ next_entry S (object_of setup at.row.from) (codes "0") (with_new_terms info at.row) =
+    let entry : entry_with number object uid (SetTransfer told) ≡ next_entry S (object_of setup at.row.from) (codes "0") (with_new_terms info at.row) =
     entry_is _ _ _ _ _ _ _ _ is_number (is_object ∙ ap (object_of setup) from) is_uid (ap (λ (r : TransferRow). SetTransfer r) (is_told ∙ row_is)) in
     let away : same_account info.to at.row.from ≡ false = subst (SuitsRow info) at.found apart in
-    let next : IsNext setup S (entry_of number object uid (SetTransfer told)) = subst (IsNext setup S) (sym entry) (change_next setup S info at.row suits sound (here S.entries id at) away) in
+    let next : IsNext setup S (entry_with number object uid (SetTransfer told)) = subst (IsNext setup S) (sym entry) (change_next setup S info at.row suits sound (here S.entries id at) away) in
     record {
       next = next;
       gives = set_gives setup S told row next.lawful next.told is_told;
@@ -86,9 +87,9 @@ IsTermsEntry-of setup S info id number object uid row told sound wait suits apar
 
 -- What the cancellation of a transfer that waits enters.
 pub record IsGoneEntry (setup : Setup) (S : State) (id : ℕ) (number : ℕ) (object : ObjectId) (uid : List ℕ) (row : TransferRow) : Type 0 where
-  pub next : IsNext setup S (entry_of number object uid (DropTransfer id))
+  pub next : IsNext setup S (entry_with number object uid (DropTransfer id))
   pub gives : GivesRows S.entries (DropTransfer id) (Row row)
-  pub entries : entry_of number object uid (DropTransfer id) ∷ [] ≡ entries_behind setup (length S.entries) dropping (rows_at S.entries (id ∷ []))
+  pub entries : entry_with number object uid (DropTransfer id) ∷ [] ≡ entries_behind setup (length S.entries) dropping (rows_at S.entries (id ∷ []))
 
 pub gone_from : (setup : Setup) (S : State) (id : ℕ) (row : TransferRow) → IsSoundState setup S → waits (row_of id S.entries) ≡ true → option_map (with_code Cancelled) (row_of id S.entries) ≡ Some row → is_some (account_of setup row.from) ≡ true
 gone_from setup S id row sound wait is =
@@ -102,10 +103,10 @@ IsGoneEntry-of setup S id number object uid row sound wait is_number is_object i
     let row_is : row ≡ with_code Cancelled at.row = some_row (row_of id S.entries) (with_code Cancelled) at.row row at.found is_row in
     let from : row.from ≡ at.row.from = ap (λ (r : TransferRow). r.from) row_is in
     let same : id ≡ at.row.id = sym (row_of-named id S.entries at.row at.found) in
-    let entry : entry_of number object uid (DropTransfer id) ≡ next_entry S (object_of setup at.row.from) (codes "0") (dropping at.row) =
+    let entry : entry_with number object uid (DropTransfer id) ≡ next_entry S (object_of setup at.row.from) (codes "0") (dropping at.row) =
     entry_is _ _ _ _ _ _ _ _ is_number (is_object ∙ ap (object_of setup) from) is_uid (ap (λ (n : ℕ). DropTransfer n) same) in
     let dropped = drop_next setup S (object_of setup at.row.from) (codes "0") at.row.id at.row sound (here S.entries id at).0 at.waits in
-    let next : IsNext setup S (entry_of number object uid (DropTransfer id)) = subst (IsNext setup S) (sym entry) dropped in
+    let next : IsNext setup S (entry_with number object uid (DropTransfer id)) = subst (IsNext setup S) (sym entry) dropped in
     record {
       next = next;
       gives = drop_gives S id row is_row;

@@ -31,10 +31,11 @@ use Rattle.bank_rules.specs.Standing.{IsSoundState}
 use Rattle.bank_rules.specs.Next.{IsNext}
 use Rattle.bank_rules.proofs.RowLemmas.{model_of-named}
 use Rattle.bank_ledger.specs.DraftView.{HasBothHeld}
-use Rattle.bank_deeds.proofs.DeedAnswers.{entry_of, entry_is, some_row}
+use Rattle.bank_deeds.proofs.DeedAnswers.{entry_is, some_row}
 use Rattle.bank_deeds.proofs.Giving.{set_gives, made_gives}
 use Rattle.bank_rules.proofs.NextLemmas.{waiting_posts}
 use Rattle.bank_rules.proofs.EventLemmas.{few_number, to_post, settled_fields, post_entry, post_next, post_entries, to_spawn, spawned_fields, spawn_entry, spawn_next, spawn_entries, date_known}
+use Rattle.bank_deeds.specs.Entries.{entry_with}
 
 -- ---- posting
 
@@ -72,9 +73,9 @@ post_from setup S id at row sound may is =
 
 -- What a posting enters, by the parts that are made of it.
 pub record IsPostEntry (setup : Setup) (S : State) (at : Moment) (id : ℕ) (number : ℕ) (object : ObjectId) (uid : List ℕ) (row told : TransferRow) : Type 0 where
-  pub next : IsNext setup S (entry_of number object uid (SetTransfer told))
+  pub next : IsNext setup S (entry_with number object uid (SetTransfer told))
   pub gives : GivesRows S.entries (SetTransfer told) (Row row)
-  pub entries : entry_of number object uid (SetTransfer told) ∷ [] ≡ posts setup S at (row_of id S.entries)
+  pub entries : entry_with number object uid (SetTransfer told) ∷ [] ≡ posts setup S at (row_of id S.entries)
   pub held : (accounts : List AccountView) → AreHeld accounts (named_by_row setup (row_of id S.entries)) → HasBothHeld setup accounts row
 
 pub IsPostEntry-of : (setup : Setup) (S : State) (at : Moment) (id : ℕ) (number : ℕ) (object : ObjectId) (uid : List ℕ) (row told : TransferRow) → IsWithinLimits setup → IsSoundState setup S → IsMoment at.0 → may_post setup S (row_of id S.entries) ≡ true → number ≡ length S.entries + 1 → object ≡ object_of setup row.from → uid ≡ codes "0" → option_map (settled_as setup S at) (row_of id S.entries) ≡ Some row → told ≡ row → IsPostEntry setup S at id number object uid row told
@@ -84,9 +85,9 @@ IsPostEntry-of setup S at id number object uid row told within sound moment may 
     let row_is : row ≡ settled_as setup S at to.row = some_row (row_of id S.entries) (settled_as setup S at) to.row row to.found is_row in
     let from : row.from ≡ to.row.from = ap (λ (r : TransferRow). r.from) row_is ∙ fields.2 in
     let destination : row.to ≡ to.row.to = ap (λ (r : TransferRow). r.to) row_is ∙ fields.3 in
-    let entry : entry_of number object uid (SetTransfer told) ≡ post_entry setup S at to.row =
+    let entry : entry_with number object uid (SetTransfer told) ≡ post_entry setup S at to.row =
     entry_is _ _ _ _ _ _ _ _ is_number (is_object ∙ ap (object_of setup) from) is_uid (ap (λ (r : TransferRow). SetTransfer r) (is_told ∙ row_is)) in
-    let next : IsNext setup S (entry_of number object uid (SetTransfer told)) = subst (IsNext setup S) (sym entry) (post_next setup S id at within sound moment to) in
+    let next : IsNext setup S (entry_with number object uid (SetTransfer told)) = subst (IsNext setup S) (sym entry) (post_next setup S id at within sound moment to) in
     record {
       next = next;
       gives = set_gives setup S told row next.lawful next.told is_told;
@@ -127,9 +128,9 @@ spawned_is number place (Some held) row date made is dated made_is =
 
 -- What the next transfer of a recurring one enters.
 pub record IsSpawnEntry (setup : Setup) (S : State) (id place : ℕ) (number : ℕ) (object : ObjectId) (uid : List ℕ) (row told : TransferRow) : Type 0 where
-  pub next : IsNext setup S (entry_of number object uid (NewTransfer told))
+  pub next : IsNext setup S (entry_with number object uid (NewTransfer told))
   pub gives : GivesRows S.entries (NewTransfer told) (Made row)
-  pub entries : entry_of number object uid (NewTransfer told) ∷ [] ≡ spawns setup S id place
+  pub entries : entry_with number object uid (NewTransfer told) ∷ [] ≡ spawns setup S id place
   pub nothing : posting_of number (Some told) ≡ []
 
 pub spawn_from : (setup : Setup) (S : State) (id place number : ℕ) (row : TransferRow) → IsSoundState setup S → may_spawn setup S id place ≡ true → made_row number (model_of id S.entries) (place_in S id place) ≡ Some row → is_some (account_of setup row.from) ≡ true
@@ -145,10 +146,10 @@ IsSpawnEntry-of setup S id place number object uid row told sound may is_number 
     spawned_is number place (model_of id S.entries) to.row to.date row to.found to.has_date is_row ∙ ap (λ (n : ℕ). spawned_row n to.date to.row) is_number in
     let fields = spawned_fields (length S.entries + 1) to.date to.row in
     let from : row.from ≡ to.row.from = ap (λ (r : TransferRow). r.from) row_is ∙ fields.2 in
-    let entry : entry_of number object uid (NewTransfer told) ≡ spawn_entry setup S to.date to.row =
+    let entry : entry_with number object uid (NewTransfer told) ≡ spawn_entry setup S to.date to.row =
     entry_is _ _ _ _ _ _ _ _ is_number (is_object ∙ ap (object_of setup) from) is_uid (ap (λ (r : TransferRow). NewTransfer r) (is_told ∙ row_is)) in
     let spawned = spawn_next setup S id place sound to (date_known to.row to.date place to.sound.first to.has_date) in
-    let next : IsNext setup S (entry_of number object uid (NewTransfer told)) = subst (IsNext setup S) (sym entry) spawned in
+    let next : IsNext setup S (entry_with number object uid (NewTransfer told)) = subst (IsNext setup S) (sym entry) spawned in
     record {
       next = next;
       gives = made_gives setup S told row sound next.lawful next.told is_told (ap is_some (ap (λ (r : TransferRow). model_of r.model S.entries) (is_told ∙ row_is) ∙ ap (λ (n : ℕ). model_of n S.entries) (fields.1 ∙ model_of-named id S.entries to.row to.found) ∙ to.found));

@@ -66,7 +66,7 @@ fn waiting(draft: &Draft<'_>, alloc: Global, model: u64) -> Result<Vec<u64>, Out
     Ok(ids)
 }
 
-/// Puts the id behind the others, where the transfer is one of the recurring transfer's that wait.
+/// Puts the id after the others, where the transfer is one of the recurring transfer's that wait.
 fn push_waiting(
     draft: &Draft<'_>,
     ids: &mut Vec<u64>,

@@ -24,6 +24,7 @@ use ofx_file::OfxPrinter;
 use ofx_ports::Keeper;
 use ofx_types::{Moment, OutOfMemory, RequestFile, UserId};
 use std::alloc::Global;
+use std::hash::RandomState;
 use std::marker::Model;
 
 /// A bank that answers one file after another, and does what is due.
@@ -54,8 +55,13 @@ pub enum Answered {
 }
 
 impl Desk {
-    /// The bank of that setup that stands for the records that are kept.
-    pub fn open<K: Keeper>(alloc: Global, setup: Setup, keeper: &mut K) -> Result<Desk, OpenFault>
+    /// The bank of that setup that stands for the records that are kept. Clients' names are found by hashes with these keys.
+    pub fn open<K: Keeper>(
+        alloc: Global,
+        keys: RandomState,
+        setup: Setup,
+        keeper: &mut K,
+    ) -> Result<Desk, OpenFault>
         requires within { IsWithinLimits setup }
         requires settled { K.unsettled keeper.old ≡ false }
         ensures setup { IfOk result (λ desk. desk.setup ≡ setup) }
@@ -65,7 +71,7 @@ impl Desk {
         ensures settled { K.unsettled keeper.new ≡ false }
         ensures faults { CountsFaults (K.faults keeper.old) (K.faults keeper.new) (IsErrOf result OpenFault.Read) }
     {
-        let (book, accounts) = reopen(alloc, keeper, setup, OfxPrinter)?;
+        let (book, accounts) = reopen(alloc, keys, keeper, setup, OfxPrinter)?;
         Ok(Desk {
             bank: SoloBank::new(alloc, book, accounts)?,
         })

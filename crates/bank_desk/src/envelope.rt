@@ -6,7 +6,7 @@ use ofx_types::OutOfMemory;
 use std::alloc::Global;
 
 /// What a reply is sent in, as the frame of a file. It is made before the event's record is kept, so that no memory is
-/// needed behind it.
+/// needed after it.
 pub trait Envelope: Copy {
     // the bytes that are sent for a reply
     ghost sent: { Self → List ℕ → List ℕ };

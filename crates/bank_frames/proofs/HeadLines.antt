@@ -40,7 +40,7 @@ pub head_ends_line : (n : ℕ) (rest : List ℕ) → IsLength n → EndsLine (fr
 head_ends_line n rest small =
     rw (head_regrouped n rest) (line_ended (length_line n) rest (line_is_short n small) (λ k h. no_line_feed n k small h))
 
--- the first line of a frame without its LF, and what stands behind it
+-- the first line of a frame without its LF, and what stands after it
 abbrev pub line_of : Content → List ℕ
 line_of (request file) = length_line (length file)
 line_of due_work = codes "DUE"

@@ -3,4 +3,3 @@ mod HeadLines
 pub mod Agreement
 mod Windows
 mod Coming
-mod Writing

@@ -15,7 +15,7 @@ read_on start size count old new kept =
     ∙ (ap (λ (l : List ℕ). l ++ take count (drop size (drop start new))) (front_part start size new old kept)
     ∙ ap (λ (l : List ℕ). take size (drop start old) ++ take count l) (drop-drop size start new))
 
--- what is read behind the part in use is at its end
+-- what is read after the part in use is at its end
 pub read_behind : (start end count : ℕ) (old new : List ℕ) → start ≤ end → take end new ≡ take end old → take (end + count - start) (drop start new) ≡ take (end - start) (drop start old) ++ take count (drop end new)
 read_behind start end count old new ordered kept =
     let whole : start + (end - start) ≡ end = omega arith in
@@ -29,7 +29,7 @@ used_up start end count buffer within =
     let size : end - start ≡ count + (end - (start + count)) = omega arith in
     rw size (ap (take (end - (start + count))) (sym (drop-drop count start buffer)) ∙ sym (drop-take count (end - (start + count)) (drop start buffer)))
 
--- reading behind the part in use reads more
+-- reading after the part in use reads more
 pub reads_more : (start end count : ℕ) (used moved new : List ℕ) (before after : Option (List ℕ)) →
     start ≤ end → end < length moved → length new ≡ length moved → take (end - start) (drop start moved) ≡ used → take end new ≡ take end moved → end + count ≤ length new →
     Consumes before after (take count (drop end new)) → (count ≡ 0 → 0 < length (drop end new) → IsAtEnd after) →

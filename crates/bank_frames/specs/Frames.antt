@@ -1,4 +1,4 @@
--- Frames, one after another: a request file behind a line with its length, or the line that calls for the work that is due.
+-- Frames, one after another: a request file after a line with its length, or the line that calls for the work that is due.
 use Rattle.std.specs.Prelude.{◌≡◌, ℕ, ◌≤◌, List, [], ◌∷◌, ◌++◌, length, codes}
 use Rattle.std.specs.Fmt.{decimal}
 

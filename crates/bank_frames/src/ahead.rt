@@ -54,7 +54,7 @@ fn shift(buffer: &mut [u8], start: usize, end: usize)
     buffer.copy_within(start..end, 0);
 }
 
-/// Makes room behind the bytes between two places, and answers the places where they are then.
+/// Makes room after the bytes between two places, and answers the places where they are then.
 fn make_room(buffer: &mut [u8], start: usize, end: usize) -> (usize, usize)
     requires ordered { start ≤ end }
     requires within { end ≤ length buffer.old }
@@ -70,7 +70,7 @@ fn make_room(buffer: &mut [u8], start: usize, end: usize) -> (usize, usize)
     (0, end - start)
 }
 
-/// Reads behind what is in use, and leaves that as it is.
+/// Reads after what is in use, and leaves that as it is.
 fn read_behind<S: Source>(source: &mut S, buffer: &mut [u8], end: usize) -> Result<usize, Failed>
     requires { end < length buffer.old }
     ensures kept { take end buffer.new ≡ take end buffer.old }
@@ -81,7 +81,7 @@ fn read_behind<S: Source>(source: &mut S, buffer: &mut [u8], end: usize) -> Resu
     source.read(&mut buffer[end..])
 }
 
-/// Reads behind the part that is in use. Where none is behind it, that part moves to the front first.
+/// Reads after the part that is in use. Where none is after it, that part moves to the front first.
 fn read_window<S: Source>(
     source: &mut S,
     buffer: &mut [u8],
@@ -129,7 +129,7 @@ impl Ahead {
         self.window.start += count;
     }
 
-    /// Reads more bytes behind those that are ahead, and answers how many: 0 at the end of the input.
+    /// Reads more bytes after those that are ahead, and answers how many: 0 at the end of the input.
     pub fn read_more<S: Source>(&mut self, source: &mut S) -> Result<usize, Failed>
         requires { length self.old < 524288 }
         ensures more { IfOk result (ReadsMore self.old self.new (S.left source.old) (S.left source.new)) }

@@ -69,7 +69,7 @@ fn length_in(line: &[u8]) -> Option<usize>
     }
 }
 
-/// The parts of a frame: the bytes of its first line with the LF, and the bytes of the file behind it.
+/// The parts of a frame: the bytes of its first line with the LF, and the bytes of the file after it.
 #[derive(Clone, Copy, Debug, PartialEq, Eq)]
 pub struct FrameSize {
     pub head: usize,
@@ -79,7 +79,7 @@ pub struct FrameSize {
 /// What a first line calls for.
 #[derive(Clone, Copy, Debug, PartialEq, Eq)]
 enum FirstLine {
-    /// A request file of this many bytes, which stands behind the line.
+    /// A request file of this many bytes, which stands after the line.
     File(usize),
     /// Due work.
     Due,

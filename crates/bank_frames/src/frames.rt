@@ -13,7 +13,7 @@ use ofx_ports::{Failed, Source};
 /// A frame that is ahead as a whole.
 #[derive(Clone, Copy, Debug, PartialEq, Eq)]
 pub enum Frame {
-    /// A request file behind its first line.
+    /// A request file after its first line.
     File(FrameSize),
     /// A call for due work.
     Due,

@@ -10,8 +10,8 @@ use Rattle.ofx_types.specs.declared.transfer.Change.{Change}
 use Rattle.bank_model.specs.declared.entry.Entry.{Entry}
 use Rattle.bank_model.specs.Objects.{history_of}
 use Rattle.bank_model.specs.Stores.{Row, put, take_out}
-use Rattle.bank_laws.proofs.Numbers.{history_of-append}
 use Rattle.bank_laws.proofs.Rows.{IsIn, AreAbove, AreBelow, Rise, HasIds, looked, looked_same, with_row, put_in, put_new, without_row, out_of}
+use Rattle.bank_model.proofs.Histories.{history_of-append}
 
 pub data Act : Type 0 where
   made : ℕ → Row → Act
@@ -35,7 +35,7 @@ made_id nothing = []
 abbrev pub ids_made : (Change → Act) → List Entry → List ℕ
 ids_made act entries = flat_map (λ (entry : Entry). made_id (act entry.change)) entries
 
--- the object in which an id stands, and its row, behind an entry of an object
+-- the object in which an id stands, and its row, after an entry of an object
 abbrev pub home_after : ℕ → Act → (ℕ → Option ℕ) → ℕ → Option ℕ
 home_after object (made id row) home j = cond (eqb id j) (Some object) (home j)
 home_after object (given id row) home j = home j
@@ -230,7 +230,7 @@ acted_here count object (gone id) home found ids fits has rise below there =
     out_of found id ids has ∙ ap (looked (without_row id found)) (sym (append-nil ids))
 acted_here count object nothing home found ids fits has rise below there = ap (looked found) (sym (append-nil ids))
 
--- The rows of an object behind one entry more: what its entry does to them, or what they were.
+-- The rows of an object after one entry more: what its entry does to them, or what they were.
 pub rows_more : (act : Change → Act) (object : ObjectId) (entries : List Entry) (entry : Entry) (home next_home : ℕ → Option ℕ) (found next_found : ℕ → Option Row) → Stands act entries home → HasIds found → IsStep (length entries) entry.object.0 (act entry.change) home next_home found next_found → cond (eqb entry.object.0 object.0) (acted (act entry.change) (looked found (ids_made act (history_of object entries)))) (looked found (ids_made act (history_of object entries))) ≡ looked next_found (ids_made act (history_of object (entries ++ entry ∷ [])))
 rows_more act object entries entry home next_home found next_found stands has step =
     by_object (eqb entry.object.0 object.0) refl

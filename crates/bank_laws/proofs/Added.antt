@@ -19,8 +19,6 @@ use Rattle.ofx_types.specs.declared.transfer.Family.{Family}
 use Rattle.ofx_types.specs.declared.transfer.Family.TheVariants as families
 use Rattle.ofx_types.specs.declared.sync.ObjectName.{ObjectName}
 use Rattle.ofx_types.specs.declared.sync.ObjectName.TheVariants as objects
-use Rattle.ofx_types.specs.declared.sync.SyncKind.{SyncKind}
-use Rattle.ofx_types.specs.declared.sync.SyncKind.TheVariants.{After, TokenOnly, Refresh}
 use Rattle.ofx_types.specs.declared.sync.SyncAsk.{SyncAsk}
 use Rattle.bank_model.specs.declared.entry.Entry.{Entry}
 use Rattle.bank_model.specs.declared.setup.Setup.{Setup}
@@ -31,16 +29,17 @@ use Rattle.bank_model.specs.Models.{model_of, is_model_dropped, waiting_of}
 use Rattle.bank_model.specs.Judging.{is_own_account}
 use Rattle.bank_model.specs.Deeds.{intra_of, recurring_of, letters_of, mail_object, object_of, source_balance, entries_behind, first_change, judged, done, code_of, answer_with, deed_answer}
 use Rattle.bank_model.specs.Objects.{account_about, numbered, object_named, belongs_to, history_of}
-use Rattle.bank_model.specs.Sync.{refused_with, is_newest, token_of, unless_newest, rejection, deed_answers, deeds_or_rejection}
+use Rattle.bank_model.specs.Sync.{refused_with, rejection, deed_answers, deeds_or_rejection}
 use Rattle.bank_model.specs.Sound.{IsSoundPair, IsSoundSync}
 use Rattle.bank_model.specs.Stores.{Row, changed, change_done, applied}
-use Rattle.bank_laws.proofs.Numbers.{history_of-append, history_of-none}
 use Rattle.bank_laws.proofs.Verdicts.{free_to_modify, free_to_cancel, own_transfer, free_model_to_modify, free_model_to_cancel, own_model, own_letter}
 use Rattle.bank_rules.proofs.DoneLemmas.{with_new_terms, dropping}
 use Rattle.bank_rules.proofs.DeedLemmas.{modify_entries, cancel_entries}
 use Rattle.bank_rules.proofs.StateLemmas.{IsAllowed-from_code}
 use Rattle.bank_laws.proofs.Done.{along, modify_model_entries, cancel_model_entries}
 use Rattle.bank_laws.proofs.Changes.{fold_entries, fold_entries-append, applied-append}
+use Rattle.bank_model.proofs.Rejections.{rejection_coded}
+use Rattle.bank_model.proofs.Histories.{history_of-append, history_of-none}
 
 -- The entries that are added, of which those of the object say what the replies tell.
 pub record AddsTold (family : Family) (object : ObjectId) (before after : List Entry) (replies : List DeedReply) : Type 0 where
@@ -229,18 +228,6 @@ rejected_tell family code (deed ∷ deeds) rows other =
     ap (λ b. fold (changed family) rows (cond b [] [] ++ flat_map change_done (map (refused_with family code) deeds))) (false_from_ne_true (eqb code 0) (λ same. other (eqb-true code 0 same)))
     ∙ rejected_tell family code deeds rows other
 
-unless_other : (number : ℕ) (kind : SyncKind) → IfSome (unless_newest number kind) (λ (code : ℕ). code ≢ 0)
-unless_other number (After text) = elim (is_newest number (token_of text)) as (λ b. IfSome (cond b None (Some 6502)) (λ (code : ℕ). code ≢ 0)) [
-  | true ↦ tt
-  | false ↦ (λ (e : 6502 ≡ 0). omega arith)
-]
-unless_other number TokenOnly = λ (e : 6500 ≡ 0). omega arith
-unless_other number Refresh = λ (e : 6500 ≡ 0). omega arith
-
-rejection_other : (reject : Bool) (number : ℕ) (kind : SyncKind) → IfSome (rejection reject number kind) (λ (code : ℕ). code ≢ 0)
-rejection_other true number kind = unless_other number kind
-rejection_other false number kind = tt
-
 deeds_add : (setup : Setup) (S : State) (user : UserId) (at : Moment) (ask : SyncAsk) (object : ObjectId) (code : Option ℕ) → object_named setup user ask.object ≡ Some object → IsSoundSync ask → IfSome code (λ (n : ℕ). n ≢ 0) → AddsTold (object_family ask.object) object S.entries (deeds_or_rejection setup S user at ask code).after.entries (deeds_or_rejection setup S user at ask code).replies
 unfolding deeds_or_rejection
 deeds_add setup S user at ask object None is sound other = answers_add setup S user at ask.object object ask.deeds is sound.deeds
@@ -252,4 +239,4 @@ deeds_add setup S user at ask object (Some code) is sound other = record {
 
 pub sync_adds : (setup : Setup) (S : State) (user : UserId) (at : Moment) (ask : SyncAsk) (object : ObjectId) (number : ℕ) → object_named setup user ask.object ≡ Some object → IsSoundSync ask → AddsTold (object_family ask.object) object S.entries (deeds_or_rejection setup S user at ask (rejection ask.reject number ask.kind)).after.entries (deeds_or_rejection setup S user at ask (rejection ask.reject number ask.kind)).replies
 sync_adds setup S user at ask object number is sound =
-    deeds_add setup S user at ask object (rejection ask.reject number ask.kind) is sound (rejection_other ask.reject number ask.kind)
+    deeds_add setup S user at ask object (rejection ask.reject number ask.kind) is sound (rejection_coded ask.reject number ask.kind)

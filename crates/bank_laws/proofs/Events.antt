@@ -1,4 +1,4 @@
--- A history grows in order: behind deeds, synchronisations, files and whatever the bank does by itself.
+-- A history grows in order: after deeds, synchronisations, files and whatever the bank does by itself.
 use Rattle.std.proofs.Common.{◌≡◌, ℕ, ◌+◌, ◌≤◌, Bool, true, false, cond, eqb, List, [], ◌∷◌, ◌++◌, length, length-append, Option, None, Some, refl, sym, ap, ◌∙◌, subst, append_assoc, arith}
 use Rattle.std.proofs.lemmas.Bool.{eqb-true, and_parts}
 use Rattle.std.specs.Option.{IfSome}

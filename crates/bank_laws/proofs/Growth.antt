@@ -1,4 +1,4 @@
--- The rows of transfers and of recurring transfers in a history: none at first, and behind one entry more.
+-- The rows of transfers and of recurring transfers in a history: none at first, and after one entry more.
 use Rattle.std.proofs.Common.{◌≡◌, ℕ, true, false, cond, eqb, List, [], ◌∷◌, ◌++◌, Option, None, Some, refl, ◌∙◌}
 use Rattle.ofx_types.specs.declared.transfer.Change.{Change}
 use Rattle.ofx_types.specs.declared.transfer.Change.TheVariants.{NewTransfer, SetTransfer, DropTransfer, NewModel, SetModel, DropModel, NewMail}

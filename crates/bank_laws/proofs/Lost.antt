@@ -24,10 +24,6 @@ marked : (store : Store) (token : ℕ) (rows : List Row) (lost : Bool) → (cond
 marked store token rows true = refl
 marked store token rows false = refl
 
-kept_name : (store : Store) (token : ℕ) (rows : List Row) (lost : Bool) → (cond lost (marked_lost store) (with_rows store token rows)).name ≡ store.name
-kept_name store token rows true = refl
-kept_name store token rows false = refl
-
 pub lost_after : (store : Store) (text : List ℕ) (reply : SyncReply) → (taken store (After text) reply).is_lost ≡ reply.lost
 unfolding taken
 lost_after store text reply = marked store (unwrap_or (token_of reply.token) 0) (applied (object_family store.name) store.rows reply.replies) reply.lost
@@ -39,12 +35,6 @@ lost_refresh store reply = marked store (unwrap_or (token_of reply.token) 0) (ap
 pub same_token_only : (store : Store) (reply : SyncReply) → taken store TokenOnly reply ≡ store
 unfolding taken
 same_token_only store reply = refl
-
-pub name_taken : (store : Store) (kind : SyncKind) (reply : SyncReply) → (taken store kind reply).name ≡ store.name
-unfolding taken
-name_taken store (After text) reply = kept_name store (unwrap_or (token_of reply.token) 0) (applied (object_family store.name) store.rows reply.replies) reply.lost
-name_taken store TokenOnly reply = refl
-name_taken store Refresh reply = kept_name store (unwrap_or (token_of reply.token) 0) (applied (object_family store.name) [] reply.replies) reply.lost
 
 -- ---- what the bank says
 

@@ -16,17 +16,18 @@ use Rattle.bank_model.specs.declared.event.State.{State}
 use Rattle.bank_model.specs.SetupForm.{IsWithinLimits}
 use Rattle.bank_model.specs.Objects.{object_named, newest, floor}
 use Rattle.bank_model.specs.Sound.{IsSoundSync}
-use Rattle.bank_model.specs.Stores.{Store, IsRight, newest_under, rows_under}
+use Rattle.bank_model.specs.Stores.{Store, IsRight, newest_under, rows_under, empty_store}
 use Rattle.bank_model.specs.Sync.{token_of, sync_answer}
 use Rattle.bank_laws.specs.Folding.{IsFolded}
 use Rattle.bank_laws.specs.Histories.{IsInOrder, IsLater}
-use Rattle.bank_laws.specs.Told.{empty_store, store_after, bank_after}
+use Rattle.bank_laws.specs.Told.{store_after, bank_after}
 use Rattle.bank_laws.proofs.EnteredRows.{rows_said_of}
 use Rattle.bank_laws.proofs.Events.{Grows}
-use Rattle.bank_laws.proofs.Lost.{name_taken, lost_below_floor}
+use Rattle.bank_laws.proofs.Lost.{lost_below_floor}
 use Rattle.bank_laws.proofs.Staying.{empty_right, stays_later}
 use Rattle.bank_laws.proofs.Taking.{right_by_token, right_by_refresh, text_of_token}
 use Rattle.bank_laws.proofs.Tokens.{token_read}
+use Rattle.bank_model.proofs.TakenStores.{name_taken}
 
 pub folded_from : (setup : Setup) (S : State) (user : UserId) (store : Store) (object : ObjectId) → IsInOrder setup S → object_named setup user store.name ≡ Some object → IsRight setup user store S.entries → IsFolded store object S.entries
 folded_from setup S user store object sound named (inl lost) = inl lost

@@ -13,16 +13,9 @@ use Rattle.bank_model.specs.Sync.{is_above}
 use Rattle.bank_model.specs.Stores.{Row, changed, is_up_to}
 use Rattle.bank_laws.specs.Folding.{rows_up_to}
 use Rattle.bank_laws.specs.Histories.{Follows, AllFollow}
+use Rattle.bank_model.proofs.Histories.{history_of-append}
 
 -- ---- parts of a history
-
-pub history_of-append : (object : ObjectId) (xs ys : List Entry) → history_of object (xs ++ ys) ≡ history_of object xs ++ history_of object ys
-unfolding history_of
-history_of-append object xs ys = filter-append (belongs_to object) xs ys
-
-pub history_of-none : (object : ObjectId) → history_of object [] ≡ []
-unfolding history_of
-history_of-none object = refl
 
 -- the entries of both parts follow
 pub follow_both : (setup : Setup) (before xs ys : List Entry) → AllFollow setup before xs → AllFollow setup (before ++ xs) ys → AllFollow setup before (xs ++ ys)
@@ -35,7 +28,7 @@ follow_behind setup before [] ys all = subst (λ (l : List Entry). AllFollow set
 follow_behind setup before (entry ∷ xs) ys all =
     subst (λ (l : List Entry). AllFollow setup l ys) (append_assoc before (entry ∷ []) xs) (follow_behind setup (before ++ entry ∷ []) xs ys all.1)
 
--- what holds of no entries, and behind one entry more, holds of every history that is in order
+-- what holds of no entries, and after one entry more, holds of every history that is in order
 pub by_entries : (setup : Setup) (P : List Entry → Type 0) → P [] → ((before : List Entry) (entry : Entry) → P before → Follows setup before entry → P (before ++ entry ∷ [])) → (entries : List Entry) → AllFollow setup [] entries → P entries
 by_entries setup P none more entries all = grown [] entries none all
   where

@@ -7,7 +7,7 @@ use Rattle.std.proofs.lemmas.Bool.{eqb-true, eqb-false, eq-eqb, ne_eqb, lt-ltb}
 use Rattle.std.proofs.lemmas.List.{append-nil}
 use Rattle.std.proofs.lemmas.List.Elements.{filter-append}
 use Rattle.ofx_types.specs.declared.transfer.TransferRow.{TransferRow}
-use Rattle.bank_rules.proofs.Lists.{all_append}
+use Rattle.bank_model.proofs.Lists.{all_append}
 use Rattle.bank_model.specs.Stores.{Row, transfer_row, model_row, mail_row, id_of, is_id, has_id, is_less, is_below, put, take_out, model_if_named}
 
 -- ---- ids
@@ -20,7 +20,7 @@ IsIn id (j ∷ ids) = (id ≡ j) ⊎ IsIn id ids
 abbrev pub AreAbove : ℕ → List ℕ → Type 0
 AreAbove n ids = AllByRecursion (λ (j : ℕ). n < j) ids
 
--- Each id is below those behind it.
+-- Each id is below those after it.
 abbrev pub Rise : List ℕ → Type 0
 Rise [] = Unit {0}
 Rise (j ∷ ids) = AreAbove j ids × Rise ids
@@ -36,7 +36,7 @@ above_in n id (j ∷ ids) above (inr is) = above_in n id ids above.1 is
 abbrev pub HasIds : (ℕ → Option Row) → Type 0
 HasIds found = (j : ℕ) → IfSome (found j) (λ (row : Row). id_of row ≡ Some j)
 
--- the rows of ids, one behind another
+-- the rows of ids, one after another
 abbrev pub looked : (ℕ → Option Row) → List ℕ → List Row
 looked found ids = flat_map (λ (j : ℕ). option_to_list (found j)) ids
 
@@ -62,7 +62,7 @@ looked_same found other (j ∷ ids) same =
 abbrev pub with_row : ℕ → Row → (ℕ → Option Row) → ℕ → Option Row
 with_row id row found j = cond (eqb id j) (Some row) (found j)
 
--- a row is put behind those with lesser ids
+-- a row is put after those with lesser ids
 put_past : (id j : ℕ) (row : Row) (here : Option Row) (rows : List Row) → IfSome here (λ (r : Row). id_of r ≡ Some j) → j < id → put id row (option_to_list here ++ rows) ≡ option_to_list here ++ put id row rows
 unfolding put
 put_past id j row None rows is less = refl
@@ -94,7 +94,7 @@ put_in found id row old (j ∷ ids) has rise (inr is) there =
     ∙ ap (λ l. option_to_list (found j) ++ l) (put_in found id row old ids has rise.1 is there)
     ∙ sym (ap (λ b. option_to_list (cond b (Some row) (found j)) ++ looked (with_row id row found) ids) (ne_eqb id j (λ (same : id ≡ j). omega arith)))
 
--- ---- put behind all others
+-- ---- put after all others
 
 -- each row is of an id below
 abbrev AreLess : ℕ → List Row → Type 0
@@ -193,7 +193,7 @@ put_found id (Some row) rows = put id row rows
 abbrev pub stood : (ℕ → Option Row) → List Row → List ℕ → List Row
 stood found rows ids = fold (λ (held : List Row) (j : ℕ). put_found j (found j) held) rows ids
 
--- the rows of rising ids, put one after another behind rows of lesser ids, stand as they come
+-- the rows of rising ids, put one after another after rows of lesser ids, stand as they come
 put_found_last : (id : ℕ) (here : Option Row) (rows : List Row) → AreLess id rows → put_found id here rows ≡ rows ++ option_to_list here
 put_found_last id None rows less = sym (append-nil rows)
 put_found_last id (Some row) rows less = put_last id row rows less

@@ -6,10 +6,9 @@ use Rattle.ofx_types.specs.declared.sync.ObjectName.{ObjectName}
 use Rattle.bank_model.specs.declared.entry.Entry.{Entry}
 use Rattle.bank_model.specs.declared.setup.Setup.{Setup}
 use Rattle.bank_model.specs.declared.event.State.{State}
-use Rattle.bank_model.specs.Stores.{Store}
+use Rattle.bank_model.specs.Stores.{Store, empty_store}
 use Rattle.bank_laws.specs.Folding.{IsFolded}
 use Rattle.bank_laws.specs.Histories.{AllFollow, IsInOrder, IsLater}
-use Rattle.bank_laws.specs.Told.{empty_store}
 use Rattle.bank_laws.proofs.Numbers.{newest_few, newest_grows, rows_at_first, rows_stay}
 
 pub empty_right : (setup : Setup) (S : State) (name : ObjectName) (object : ObjectId) → IsInOrder setup S → IsFolded (empty_store name) object S.entries

@@ -24,13 +24,14 @@ use Rattle.bank_model.specs.Stores.{Row, Store, is_up_to, applied, with_rows, ma
 use Rattle.bank_laws.specs.Folding.{IsFolded, rows_up_to}
 use Rattle.bank_laws.specs.Histories.{AllFollow, IsInOrder}
 use Rattle.bank_laws.specs.Told.{store_after, bank_after}
-use Rattle.bank_laws.proofs.Numbers.{history_of-append, newest_few, history_rises, split_rising, all_up_to_last}
+use Rattle.bank_laws.proofs.Numbers.{newest_few, history_rises, split_rising, all_up_to_last}
 use Rattle.bank_laws.proofs.Events.{grows_unless}
 use Rattle.bank_laws.proofs.Lost.{token_low, answer_named, lost_refresh, reply_lost, refresh_kept}
 use Rattle.bank_laws.proofs.Tokens.{token_read, newest_read}
 use Rattle.bank_laws.proofs.Changes.{fold_entries, fold_entries-append, applied_wired, applied-append, applied_entries, applied_changes}
 use Rattle.bank_laws.proofs.Added.{AddsTold, sync_adds}
 use Rattle.bank_laws.proofs.Refreshing.{standing_is_all}
+use Rattle.bank_model.proofs.Histories.{history_of-append}
 
 -- ---- what a reply brings
 
@@ -38,7 +39,7 @@ all_rows : (setup : Setup) (family : Family) (object : ObjectId) (entries : List
 unfolding rows_up_to newest
 all_rows setup family object entries all = ap (fold_entries family []) (all_up_to_last 0 (history_of object entries) (history_rises setup object [] entries all))
 
--- Where what is told of the history makes all rows of the state before, the replies make those of the state behind it.
+-- Where what is told of the history makes all rows of the state before, the replies make those of the state after it.
 brought : (setup : Setup) (S T : State) (family : Family) (object : ObjectId) (rows : List Row) (told replies : List DeedReply) → IsInOrder setup T → applied family rows told ≡ fold_entries family [] (history_of object S.entries) → AddsTold family object S.entries T.entries replies → applied family rows (map wire (told ++ replies)) ≡ rows_up_to family object (newest object T.entries) T.entries
 brought setup S T family object rows told replies sound is adds =
     applied_wired family rows (told ++ replies)

@@ -42,7 +42,7 @@ follow_new setup before (entry ∷ entries) follow = (
 abbrev AreAbove : ℕ → List TransferRow → Type 0
 AreAbove n rows = AllByRecursion (λ (row : TransferRow). n < row.id) rows
 
--- ---- one behind another
+-- ---- one after another
 
 -- A way to change transfers that wait: its entry may be said, and it leaves the rows of other transfers.
 pub record IsWay (setup : Setup) (change : TransferRow → Change) : Type 0 where
@@ -94,7 +94,7 @@ dropping_way setup = record {
   others = drops_one;
 }
 
--- ---- behind a change of their recurring transfer
+-- ---- after a change of their recurring transfer
 
 -- a change that is of no transfer
 abbrev pub LeavesRows : Change → Type 0

@@ -29,7 +29,7 @@ pub record GoesOn (setup : Setup) (before : List Entry) (object : ObjectId) (id 
   pub goes_on : is_model_dropped id before ≡ false
   pub here : object ≡ model_object_of setup row.from
 
--- What an entry of an object may say behind others. What is new has its entry's number as its id, and stands in the object of
+-- What an entry of an object may say after others. What is new has its entry's number as its id, and stands in the object of
 -- its source, which is an account of the setup. A change and a cancellation are of a transfer that waits, or of a recurring
 -- transfer that isn't cancelled, and stand where it stands. A change keeps its source, and of a transfer also the recurring
 -- transfer that made it. No entry gives a transfer a row that is cancelled. Mail may always come; that about an account stands
@@ -63,6 +63,6 @@ pub record IsInOrder (setup : Setup) (S : State) : Type 0 where
   pub few : length S.entries ≤ setup.entries
   pub follow : AllFollow setup [] S.entries
 
--- A later state has the same history, with further entries behind it.
+-- A later state has the same history, with further entries after it.
 abbrev pub IsLater : State → State → Type 0
 IsLater S T = (more : List Entry) × (T.entries ≡ S.entries ++ more)

@@ -5,7 +5,7 @@ use Rattle.ofx_types.specs.declared.transfer.Family.{Family}
 use Rattle.ofx_types.specs.declared.transfer.Family.TheVariants as families
 use Rattle.bank_model.specs.declared.setup.Setup.{Setup}
 
--- Account a has its transfers at 3a, its recurring transfers at 3a + 1 and the mail about it at 3a + 2. Behind those of all
+-- Account a has its transfers at 3a, its recurring transfers at 3a + 1 and the mail about it at 3a + 2. After those of all
 -- accounts come the users' other mails.
 abbrev pub IsPlaceOf : Setup → Family → ℕ → Type 0
 IsPlaceOf setup families.Intra place = (account : ℕ) × (account < length setup.accounts) × (place ≡ 3 * account)

@@ -1,18 +1,12 @@
 -- What comes of a store when its client takes the bank's reply to a synchronisation.
-use Rattle.std.specs.Prelude.{false, []}
 use Rattle.ofx_types.specs.Wire.{wire_sync}
 use Rattle.ofx_types.specs.declared.number.UserId.{UserId}
 use Rattle.ofx_types.specs.declared.number.Moment.{Moment}
-use Rattle.ofx_types.specs.declared.sync.ObjectName.{ObjectName}
 use Rattle.ofx_types.specs.declared.sync.SyncAsk.{SyncAsk}
 use Rattle.bank_model.specs.declared.setup.Setup.{Setup}
 use Rattle.bank_model.specs.declared.event.State.{State}
 use Rattle.bank_model.specs.Sync.{sync_answer}
 use Rattle.bank_model.specs.Stores.{Store, taken}
-
--- what a client begins with
-abbrev pub empty_store : ObjectName → Store
-empty_store name = record { name = name; token = 0; is_lost = false; rows = [] }
 
 -- The bank answers a synchronisation, and a client takes the reply as it comes over the wire.
 abbrev pub store_after : Setup → State → UserId → Moment → SyncAsk → Store → Store

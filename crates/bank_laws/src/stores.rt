@@ -19,13 +19,13 @@ ghost use Rattle.bank_model.specs.declared.setup.Setup.{Setup};
 ghost use Rattle.bank_model.specs.SetupForm.{IsWithinLimits};
 ghost use Rattle.bank_model.specs.Objects.{object_named, newest, floor};
 ghost use Rattle.bank_model.specs.Sync.{token_of, sync_answer};
-ghost use Rattle.bank_model.specs.Stores.{Store, IsRight, marked_lost, rows_entered, taken};
+ghost use Rattle.bank_model.specs.Stores.{Store, IsRight, empty_store, marked_lost, rows_entered, taken};
 ghost use Rattle.bank_model.specs.Rules.{IsLegal, state_after, ask_answers};
 ghost use Rattle.bank_model.specs.Sound.{IsSoundSync};
 ghost use Rattle.bank_laws.specs.Folding.{rows_up_to};
 ghost use Rattle.bank_laws.specs.Places.{IsPlaceOf};
 ghost use Rattle.bank_laws.specs.Histories.{IsInOrder, IsLater};
-ghost use Rattle.bank_laws.specs.Told.{empty_store, store_after, bank_after};
+ghost use Rattle.bank_laws.specs.Told.{store_after, bank_after};
 
 /// A store with the token 0 and no rows is right at any time.
 pub fn empty_stores_are_right()
@@ -67,7 +67,7 @@ pub fn stores_are_lost_where_told()
 {}
 
 /// A user's store of an object that is right and isn't marked lost, and whose client asks for what came after its token, is right
-/// behind the reply, and has the newest token unless it is marked lost. The text of its token, in decimal digits, stands for it.
+/// after the reply, and has the newest token unless it is marked lost. The text of its token, in decimal digits, stands for it.
 /// The synchronisation is sound, and names the object as the store does.
 pub fn stores_are_right_by_token()
     ensures text { (setup : Setup) (S : State) (user : UserId) (store : Store) → IsWithinLimits setup → IsInOrder setup S
@@ -84,7 +84,7 @@ pub fn stores_are_right_by_token()
         → (store_after setup S user at ask store).token ≡ newest object (bank_after setup S user at ask).entries }
 {}
 
-/// Any store of a user's object whose client asks for all is right behind the reply, has the newest token, and isn't marked lost.
+/// Any store of a user's object whose client asks for all is right after the reply, has the newest token, and isn't marked lost.
 /// The synchronisation is sound, and names the object as the store does.
 pub fn stores_are_right_by_refresh()
     ensures right { (setup : Setup) (S : State) (user : UserId) (at : Moment) (ask : SyncAsk) (object : ObjectId)
@@ -101,7 +101,7 @@ pub fn stores_are_right_by_refresh()
 {}
 
 /// Whoever synchronises an account that isn't the user's is told to be lost, and nothing happens at the bank. The store is
-/// marked lost behind the reply, with its token and its rows as they were, or stays as it is where the token alone was
+/// marked lost after the reply, with its token and its rows as they were, or stays as it is where the token alone was
 /// asked for.
 pub fn strangers_are_told_that_they_are_lost()
     ensures told { (setup : Setup) (S : State) (user : UserId) (at : Moment) (ask : SyncAsk)

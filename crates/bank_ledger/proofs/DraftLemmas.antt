@@ -1,5 +1,5 @@
 -- What an event adds: nothing yet, one entry more, one uid more.
-use Rattle.std.proofs.Common.{◌≡◌, ℕ, ◌<◌, Bool, true, false, ◌||◌, cond, eqb, ltb, List, [], ◌∷◌, ◌++◌, length, length-append, take, get_or, reverse, Option, None, Some, refl, sym, ap, ◌∙◌, subst, append_assoc, arith}
+use Rattle.std.proofs.Common.{◌≡◌, ℕ, ◌+◌, ◌<◌, Bool, true, false, ◌||◌, cond, eqb, ltb, List, [], ◌∷◌, ◌++◌, length, length-append, take, get_or, reverse, Option, None, Some, refl, sym, ap, ◌∙◌, subst, append_assoc, arith}
 use Rattle.std.proofs.lemmas.Bool.{ltb-true, ltb-false}
 use Rattle.std.proofs.lemmas.List.{append-nil, get_or_append_left, get_or_push, take-append-le, reverse-append}
 use Rattle.std.proofs.Math.Seq.{take-append_seam}
@@ -26,7 +26,8 @@ use Rattle.bank_ledger.specs.Changes.{row_given_by, has_row, has_model, cancels,
 use Rattle.bank_ledger.specs.DraftView.{AddedView, IsAdded}
 use Rattle.bank_recur.proofs.GrowthLemmas.{model_of-push, is_model_dropped-push}
 use Rattle.bank_rules.proofs.ModelChanges.{IsOfModel, model_change_rows}
-use Rattle.bank_ledger.proofs.GivenLemmas.{model_given, model_dropped, model_is, no_model, no_model_dropped, no_drop, given_drop, dropped_as, or_assoc, or_false, mail_apart, mail_no_model, mail_no_drop}
+use Rattle.bank_ledger.proofs.GivenLemmas.{model_given, model_dropped, model_is, no_model, no_model_dropped, no_drop, given_drop, dropped_as, or_assoc, mail_apart, mail_no_model, mail_no_drop}
+use Rattle.std.proofs.Math.Bool.{or-false}
 
 abbrev pub nothing_added : UserId → Moment → Day → AddedView
 nothing_added user at day = record { user = user; at = at; day = day; entries = []; row_changes = []; uids = []; balances = [] }
@@ -34,11 +35,12 @@ nothing_added user at day = record { user = user; at = at; day = day; entries = 
 pub IsAdded-none : (S : State) (user : UserId) (at : Moment) (day : Day) → IsAdded S (nothing_added user at day)
 IsAdded-none S user at day = record {
   count = refl;
+  numbered = λ k entry below. absurd (omega arith);
   given = λ k entry row_change below. absurd (omega arith);
   known = λ k row_change below. absurd (omega arith);
   rows = λ id. ap (row_of id) (append-nil S.entries);
   models = λ id. ap (model_of id) (append-nil S.entries);
-  cancelled = λ id. ap (is_model_dropped id) (append-nil S.entries) ∙ sym (or_false (is_model_dropped id S.entries));
+  cancelled = λ id. ap (is_model_dropped id) (append-nil S.entries) ∙ sym (or-false (is_model_dropped id S.entries));
 }
 
 abbrev pub with_entry : AddedView → Entry → RowChange → List Balance → AddedView
@@ -92,6 +94,21 @@ known_more entries row_changes entry row_change count knows known k f below = kn
 or_cond : (b : Bool) (row : TransferRow) (found rest : Option TransferRow) → cond b (Some row) (option_or found rest) ≡ option_or (cond b (Some row) found) rest
 or_cond true row found rest = refl
 or_cond false row found rest = refl
+
+numbered_more : (before entries : List Entry) (entry : Entry) → ((k : ℕ) (e : Entry) → k < length entries → (get_or entries k e).number ≡ length (before ++ take k entries) + 1) → entry.number ≡ length (before ++ entries) + 1 → (k : ℕ) (e : Entry) → k < length (entries ++ entry ∷ []) → (get_or (entries ++ entry ∷ []) k e).number ≡ length (before ++ take k (entries ++ entry ∷ [])) + 1
+numbered_more before entries entry numbered next k e below = number_at (ltb k (length entries)) refl
+  where
+    number_at : (b : Bool) → ltb k (length entries) ≡ b → (get_or (entries ++ entry ∷ []) k e).number ≡ length (before ++ take k (entries ++ entry ∷ [])) + 1
+    number_at true is =
+        let less : k < length entries = ltb-true k (length entries) is in
+        ap (λ (d : Entry). d.number) (get_or_append_left entries (entry ∷ []) e k less)
+        ∙ numbered k e less
+        ∙ ap (λ (l : List Entry). length (before ++ l) + 1) (sym (take-append-le k entries (entry ∷ []) (omega arith)))
+    number_at false is =
+        let last : length entries ≡ k = omega (arith, ltb-false k (length entries) is, length-append entries (entry ∷ [])) in
+        ap (λ (d : Entry). d.number) (get_or_push entries entry e k last)
+        ∙ next
+        ∙ ap (λ (l : List Entry). length (before ++ l) + 1) (sym (ap (λ (n : ℕ). take n (entries ++ entry ∷ [])) (sym last) ∙ take-append_seam entries (entry ∷ [])))
 
 -- ---- rows of transfers
 
@@ -163,15 +180,16 @@ cancelled_more : (before entries : List Entry) (row_changes : List RowChange) (e
 cancelled_more before entries row_changes entry row_change id found gives =
     ap (is_model_dropped id) (sym (append_assoc before entries (entry ∷ [])))
     ∙ is_model_dropped-push id (before ++ entries) entry
-    ∙ ap (λ (b : Bool). is_model_dropped id (before ++ entries) || b) (drops_as id (before ++ entries) entry.change row_change gives ∙ sym (or_false (cancels id row_change)))
+    ∙ ap (λ (b : Bool). is_model_dropped id (before ++ entries) || b) (drops_as id (before ++ entries) entry.change row_change gives ∙ sym (or-false (cancels id row_change)))
     ∙ ap (λ (b : Bool). b || (cancels id row_change || false)) found
     ∙ or_assoc (is_model_dropped id before) (is_cancelled_in id row_changes) (cancels id row_change || false)
     ∙ ap (λ (b : Bool). is_model_dropped id before || b) (sym (list_any-append (cancels id) row_changes (row_change ∷ [])))
 
 -- One entry more is added, with what it gives.
-pub IsAdded-entry : (S : State) (added : AddedView) (entry : Entry) (row_change : RowChange) (balances : List Balance) → IsAdded S added → GivesRows (S.entries ++ added.entries) entry.change row_change → IsKnown row_change → IsAdded S (with_entry added entry row_change balances)
-IsAdded-entry S added entry row_change balances is gives known = record {
+pub IsAdded-entry : (S : State) (added : AddedView) (entry : Entry) (row_change : RowChange) (balances : List Balance) → IsAdded S added → entry.number ≡ length (S.entries ++ added.entries) + 1 → GivesRows (S.entries ++ added.entries) entry.change row_change → IsKnown row_change → IsAdded S (with_entry added entry row_change balances)
+IsAdded-entry S added entry row_change balances is number gives known = record {
   count = omega (arith, length-append added.row_changes (row_change ∷ []), length-append added.entries (entry ∷ []), is.count);
+  numbered = numbered_more S.entries added.entries entry is.numbered number;
   given = given_more S.entries added.entries added.row_changes entry row_change is.count is.given gives;
   known = known_more added.entries added.row_changes entry row_change is.count is.known known;
   rows = λ id. rows_more S.entries added.entries added.row_changes entry row_change id (is.rows id) gives;
@@ -194,6 +212,7 @@ uid_added added uid = record {
 pub IsAdded-uid : (S : State) (added : AddedView) (uid : List ℕ) → IsAdded S added → IsAdded S (uid_added added uid)
 IsAdded-uid S added uid is = record {
   count = is.count;
+  numbered = is.numbered;
   given = is.given;
   known = is.known;
   rows = is.rows;

@@ -39,10 +39,10 @@ use Rattle.ofx_types.specs.declared.number.Moment.{Moment}
 use Rattle.ofx_types.specs.declared.number.UserId.{UserId}
 use Rattle.bank_rules.specs.Standing.{IsSoundRow, IsSoundModel, HasSoundRow, IsSoundState}
 use Rattle.bank_rules.specs.Next.{IsNext}
-use Rattle.bank_rules.proofs.AccountPlaces.{same_account-self, line_of-account}
+use Rattle.bank_rules.proofs.AccountPlaces.{line_of-account}
 use Rattle.bank_rules.proofs.LedgerSteps.{Posts, PostsNothing, balance-kept}
 use Rattle.bank_rules.proofs.StandingLemmas.{sound_more}
-use Rattle.bank_rules.proofs.MoneyLemmas.{id_is, shift, balance-moved, balance-most}
+use Rattle.bank_rules.proofs.MoneyLemmas.{shift, balance-moved, balance-most}
 use Rattle.bank_ledger.specs.declared.row_change.RowChange.{RowChange}
 use Rattle.bank_ledger.specs.declared.row_change.RowChange.TheVariants.{Row, Made, Model, NoModel, Mail}
 use Rattle.bank_ledger.specs.Balanced.{AreBalanced}
@@ -52,6 +52,7 @@ use Rattle.bank_ledger.proofs.StateParts.{uids_more}
 use Rattle.bank_ledger.proofs.GivenLemmas.{model_given, model_dropped, no_row, mail_apart}
 use Rattle.bank_ledger.proofs.PostingLemmas.{posting_is}
 use Rattle.bank_ledger.proofs.DraftLemmas.{nothing_added, with_entry, uid_added, IsAdded-none, IsAdded-entry, IsAdded-uid}
+use Rattle.bank_model.proofs.AccountNames.{same_account-self, same_number}
 
 -- ---- rows that entries give
 
@@ -236,7 +237,7 @@ pub balance_given-is : (setup : Setup) (S : State) (added : AddedView) (account 
 balance_given-is setup S added account amount given found =
     ap (λ (c : Option Cents). amount_or c (balance setup S.entries account)) (sym found) ∙ given account
 
--- ---- the draft behind it
+-- ---- the draft after it
 
 regrouped : (setup : Setup) (S : State) (added : AddedView) (entry : Entry) (used : List UsedPair) → IsSoundState setup (record { entries = (S.entries ++ added.entries) ++ entry ∷ []; used = used; kept = S.kept; day = added.day }) → IsSoundState setup (record { entries = S.entries ++ (added.entries ++ entry ∷ []); used = used; kept = S.kept; day = added.day })
 regrouped setup S added entry used sound =
@@ -253,7 +254,7 @@ IsDraft-nothing setup S held added entry row_change is few next gives nothing = 
   moment = is.moment;
   sound = sound_entered setup S added entry is.sound few next;
   balanced = is.balanced;
-  rows_added = IsAdded-entry S added entry row_change added.balances is.rows_added gives (IsKnown-next setup (with_added S added) entry row_change is.sound next gives);
+  rows_added = IsAdded-entry S added entry row_change added.balances is.rows_added next.number gives (IsKnown-next setup (with_added S added) entry row_change is.sound next gives);
   balances_given = λ account.
       is.balances_given account
       ∙ sym (balance-kept setup (S.entries ++ added.entries) entry account nothing)
@@ -283,7 +284,7 @@ AreGiven-posted setup S added entry row from to less more within posts source ta
     let second : Balance = record { account = to; amount = more } in
     let found = amount_given-push (added.balances ++ first ∷ []) second account ∙ ap (λ (c : Option Cents). cond (eqb account.0 to.0) (Some more) c) (amount_given-push added.balances first account) in
     let same_as : (other : AcctId) → eqb account.0 other.0 ≡ true → balance setup entries account ≡ balance setup entries other =
-    (λ other equal. ap (balance setup entries) (id_is account other (eqb-true account.0 other.0 equal))) in
+    (λ other equal. ap (balance setup entries) (same_number account other (eqb-true account.0 other.0 equal))) in
     let never : eqb account.0 to.0 ≡ true → eqb account.0 from.0 ≡ true → ⊥ =
     (λ into out. apart (sym (eqb-true account.0 from.0 out) ∙ eqb-true account.0 to.0 into)) in
     ap (λ (c : Option Cents). amount_or c (balance setup S.entries account)) found
@@ -302,7 +303,7 @@ IsDraft-posted setup S held added entry row from to less more is few next gives 
       moment = is.moment;
       sound = sound_entered setup S added entry is.sound few next;
       balanced = is.balanced;
-      rows_added = IsAdded-entry S added entry (Row row) _ is.rows_added gives (IsKnown-next setup (with_added S added) entry (Row row) is.sound next gives);
+      rows_added = IsAdded-entry S added entry (Row row) _ is.rows_added next.number gives (IsKnown-next setup (with_added S added) entry (Row row) is.sound next gives);
       balances_given = AreGiven-posted setup S added entry row from to less more is.within posts source target apart is_less is_more is.balances_given;
     }
 

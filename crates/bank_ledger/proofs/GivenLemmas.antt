@@ -12,10 +12,6 @@ use Rattle.bank_recur.specs.ModelsView.{GivesModel, Cancels, LeavesModels}
 use Rattle.bank_rules.proofs.ModelChanges.{IsOfModel}
 use Rattle.bank_ledger.specs.Changes.{IsMail}
 
-pub or_false : (b : Bool) → (b || false) ≡ b
-or_false true = refl
-or_false false = refl
-
 pub or_assoc : (a b c : Bool) → ((a || b) || c) ≡ (a || (b || c))
 or_assoc true b c = refl
 or_assoc false b c = refl

@@ -116,7 +116,7 @@ HoldsPostings-posted old new entries entry row holds posts here stands =
 
 -- ---- lines
 
-moved-append : (entries more : List Entry) → moved (entries ++ more) ≡ moved entries ++ moved more
+pub moved-append : (entries more : List Entry) → moved (entries ++ more) ≡ moved entries ++ moved more
 unfolding moved
 moved-append entries more = flat_map-append (λ (entry : Entry). posting_of entry.number (row_in entry.change)) entries more
 
@@ -126,7 +126,7 @@ lines-append name start end postings more =
     let listed = λ (posting : Posting). is_about name posting && is_within_period start end posting in
     ap (map (line_for name)) (filter-append listed postings more) ∙ map-append (line_for name) _ _
 
--- The lines of a draft are the bank's, and behind them those of what it moved itself.
+-- The lines of a draft are the bank's, and after them those of what it moved itself.
 pub lines_drafted : (transfers : TransfersView) (name : AcctName) (start : Moment) (end : Option Moment) (entries more : List Entry) (lines : List StatementLine) → HoldsPostings transfers more → ((posted : List Entry) → StandsFor transfers posted → lines ≡ lines_of name start end (moved posted)) → lines_of name start end (moved entries) ++ lines ≡ lines_of name start end (moved (entries ++ more))
 lines_drafted transfers name start end entries more lines holds are =
     ap (λ (l : List StatementLine). lines_of name start end (moved entries) ++ l) (are holds.posted holds.stands ∙ ap (lines_of name start end) holds.moved)

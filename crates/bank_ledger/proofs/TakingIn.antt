@@ -44,6 +44,18 @@ gives_next before entries all row_changes done rest_effects entry row_change res
     (subst (λ (f : RowChange). GivesRows (before ++ take (length done) entries) entry.change f) held
     (subst (λ (e : Entry). GivesRows (before ++ take (length done) entries) e.change (get_or row_changes (length done) row_change)) head.here gives))
 
+-- The next entry has the next number.
+pub number_next : (before entries all : List Entry) (done : List RowChange) (entry : Entry) (rest : List Entry) → ((k : ℕ) (e : Entry) → k < length entries → (get_or entries k e).number ≡ length (before ++ take k entries) + 1) → drop (length done) entries ≡ entry ∷ rest → all ≡ before ++ take (length done) entries → entry.number ≡ length all + 1
+number_next before entries all done entry rest numbered is_rest is_all =
+    let head = head_at entries (length done) entry rest is_rest in
+    ap (λ (e : Entry). e.number) (sym head.here)
+    ∙ numbered (length done) entry head.below
+    ∙ ap (λ (l : List Entry). length l + 1) (sym is_all)
+
+-- What is numbered is so wherever it is held.
+pub numbered_moved : (before entries items : List Entry) → items ≡ entries → ((k : ℕ) (e : Entry) → k < length entries → (get_or entries k e).number ≡ length (before ++ take k entries) + 1) → (k : ℕ) (e : Entry) → k < length items → (get_or items k e).number ≡ length (before ++ take k items) + 1
+numbered_moved before entries items is_entries numbered = rw is_entries numbered
+
 -- What gives does so wherever it is held.
 pub given_moved : (before ledger entries items : List Entry) (row_changes held : List RowChange) → ledger ≡ before → items ≡ entries → held ≡ row_changes → ((k : ℕ) (e : Entry) (f : RowChange) → k < length entries → GivesRows (before ++ take k entries) (get_or entries k e).change (get_or row_changes k f)) → (k : ℕ) (e : Entry) (f : RowChange) → k < length items → GivesRows (ledger ++ take k items) (get_or items k e).change (get_or held k f)
 given_moved before ledger entries items row_changes held is_before is_entries is_effects given =

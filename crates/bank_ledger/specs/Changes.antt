@@ -60,7 +60,7 @@ IsMail (SetModel row pending) = ⊥
 IsMail (DropModel id pending) = ⊥
 IsMail (NewMail row) = IsMoment row.mail.created.0
 
--- What a change behind a list of entries gives: the row of a transfer that no recurring one makes now, the row of one that
+-- What a change after a list of entries gives: the row of a transfer that no recurring one makes now, the row of one that
 -- a recurring transfer makes, the row of a recurring transfer, or its end. A mail gives none.
 abbrev pub GivesRows : List Entry → Change → RowChange → Type 0
 GivesRows entries change (Row row) = GivesRow entries change row × LeavesModels entries change

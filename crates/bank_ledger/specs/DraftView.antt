@@ -50,10 +50,12 @@ with_added S added = record {
   day = added.day;
 }
 
--- Each entry that is added gives its change of the rows. A transfer's row is the last of those added, or else the bank's; so it
+-- Each entry that is added has the next number, and gives its change of the rows. A transfer's row is the last of those added, or else the bank's; so it
 -- is with a recurring transfer, which is cancelled where the bank or what is added cancels it.
 pub record IsAdded (S : State) (added : AddedView) : Type 0 where
   pub count : length added.row_changes ≡ length added.entries
+  pub numbered : (k : ℕ) (entry : Entry) → k < length added.entries →
+      (slice_index_or added.entries k entry).number ≡ length (S.entries ++ take k added.entries) + 1
   pub given : (k : ℕ) (entry : Entry) (row_change : RowChange) → k < length added.entries →
       GivesRows (S.entries ++ take k added.entries) (slice_index_or added.entries k entry).change (slice_index_or added.row_changes k row_change)
   pub known : (k : ℕ) (row_change : RowChange) → k < length added.entries → IsKnown (slice_index_or added.row_changes k row_change)

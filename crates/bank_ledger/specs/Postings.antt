@@ -12,7 +12,7 @@ pub record HoldsPostings (transfers : TransfersView) (entries : List Entry) : Ty
   pub moved : moved posted ≡ moved entries
   pub kept : (id : ℕ) → is_dropped id posted ≡ false
 
--- Behind any entries, the transfers have taken in what one more with this number moves, whose posting is that of the row.
+-- After any entries, the transfers have taken in what one more with this number moves, whose posting is that of the row.
 abbrev pub HoldOneMore : (before after : TransfersView) (number : ℕ) (row : Option TransferRow) → Type 0
 HoldOneMore before after number row =
     (entries : List Entry) (entry : Entry) → HoldsPostings before entries → entry.number ≡ number

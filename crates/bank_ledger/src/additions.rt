@@ -330,7 +330,7 @@ pub(crate) fn is_posted(code: XferCode) -> bool
     code == XferCode::Posted
 }
 
-/// Adds an entry with what it gives, behind the postings where it posts a transfer. Where memory is refused, nothing is
+/// Adds an entry with what it gives, after the postings where it posts a transfer. Where memory is refused, nothing is
 /// added.
 fn add_entry(
     entries: &mut Vec<Entry>,
@@ -354,7 +354,7 @@ fn add_entry(
 }
 
 /// All of adding an entry for which memory may be refused: room for it and for what it gives, and, where this is a transfer
-/// that is posted, a copy of its row put behind the postings.
+/// that is posted, a copy of its row put after the postings.
 fn post_with_room(
     entries: &mut Vec<Entry>,
     row_changes: &mut Vec<RowChange>,
@@ -404,7 +404,7 @@ fn post_row(postings: &mut Transfers, number: u64, row: &TransferRow) -> Result<
     Ok(())
 }
 
-/// The lines with more of them behind.
+/// The lines with more of them after.
 fn joined(lines: Lines, more: &Lines) -> Result<Lines, OutOfMemory>
     ensures { IfOk result (λ all. all ≡ lines ++ more.now) }
 {

@@ -3,9 +3,12 @@
 
 mod making;
 
-ghost use Rattle.std.specs.Prelude.{◌≡◌, ◌+◌, ◌<◌, ◌≤◌, ◌∷◌, ◌++◌, [], false, None, ℕ, length, map, take, slice_index_or, IfOk, OnOk};
+ghost use Rattle.std.specs.Prelude.{◌≡◌, ◌+◌, ◌-◌, ◌<◌, ◌≤◌, ◌∷◌, ◌++◌, [], false, nat_lt, None, ℕ, length, map, filter, take, slice_index_or, IfOk, OnOk};
 ghost use Rattle.std.specs.Option.{option_copied, option_map, IfSome};
 ghost use Rattle.bank_model.specs.declared.entry.Entry.{Entry};
+ghost use Rattle.bank_model.specs.Objects as objects;
+ghost use Rattle.bank_model.specs.Objects.{history_of, last_number};
+ghost use Rattle.bank_model.specs.Sync.{is_above};
 ghost use Rattle.bank_model.specs.Rules as rules;
 ghost use Rattle.once_records.specs.RecordsView.{UsedOnce};
 ghost use Rattle.bank_ledger.specs.DraftView.{pair_of, with_added, IsAdded};
@@ -20,14 +23,17 @@ ghost use Rattle.bank_ledger.specs.Changes.{GivesRows, IsKnown};
 
 use crate::additions::Additions;
 use crate::row_change::RowChange;
+use bank_history::History;
 use bank_model::Entry;
 use bank_recur::Models;
 use bank_transfers::Transfers;
 use ofx_types::{
-    AcctName, Day, FileUid, Lines, ModelRow, Moment, OutOfMemory, TransferRow, TrnUid, UserId,
+    AcctName, Day, FileUid, Lines, ModelRow, Moment, ObjectId, OutOfMemory, TransferRow, TrnUid,
+    UserId,
 };
 use once_records::Records;
 use std::alloc::Global;
+use std::hash::RandomState;
 use std::marker::Model;
 
 /// 1 January 1900.
@@ -36,7 +42,7 @@ const FIRST_DAY: Day = Day(-25_567);
 /// The state of a bank. What is added to it has its room reserved before.
 #[derive(Drop)]
 pub struct Ledger {
-    entries: Vec<Entry>,
+    history: History,
     transfers: Transfers,
     models: Models,
     records: Records,
@@ -44,7 +50,6 @@ pub struct Ledger {
 }
 
 impl Model for Ledger {
-    ghost use Rattle.std.specs.Prelude.{◌-◌, vec_len, vec_capacity};
     ghost use Rattle.bank_transfers.specs.TransfersView.{StandsFor};
     ghost use Rattle.bank_recur.specs.ModelsView as recurring;
     ghost use Rattle.bank_ledger.specs.LedgerView.{LedgerView};
@@ -53,13 +58,13 @@ impl Model for Ledger {
 
     ghost view = { λ l. record {
       state = record {
-        entries = l.entries.items;
+        entries = l.history.entries;
         used = l.records.used;
         kept = l.records.kept;
         day = l.day;
       };
       room = record {
-        entries = vec_capacity l.entries - vec_len l.entries;
+        entries = l.history.room;
         transfers = l.transfers.room;
         models = l.models.room;
         pairs = l.records.pairs;
@@ -67,19 +72,19 @@ impl Model for Ledger {
       };
     } };
 
-    ghost invariant = { λ l. StandsFor l.transfers l.entries.items × recurring.StandsFor l.models l.entries.items };
+    ghost invariant = { λ l. StandsFor l.transfers l.history.entries × recurring.StandsFor l.models l.history.entries };
 }
 
 impl Ledger {
-    /// The state in which a bank opens. Takes no memory.
-    pub fn new(alloc: Global) -> Ledger
+    /// The state in which a bank opens. Takes no memory. Clients' names are found by hashes with these keys.
+    pub fn new(alloc: Global, keys: RandomState) -> Ledger
         ensures { result.state ≡ opening_state }
     {
         Ledger {
-            entries: Vec::new(alloc),
+            history: History::new(alloc),
             transfers: Transfers::new(alloc),
             models: Models::new(alloc),
-            records: Records::new(alloc),
+            records: Records::new(alloc, keys),
             day: FIRST_DAY,
         }
     }
@@ -88,14 +93,50 @@ impl Ledger {
     pub fn count(&self) -> u64
         ensures { result ≡ length self.now.state.entries }
     {
-        self.entries.len() as u64
+        self.history.count()
     }
 
     /// The history, lent.
     pub fn entries(&self) -> &[Entry]
         ensures { result.now ≡ self.now.state.entries }
     {
-        self.entries.as_slice()
+        self.history.entries()
+    }
+
+    /// The number of the last entry of an object, 0 where there is none.
+    pub fn newest(&self, object: ObjectId) -> u64
+        ensures { result ≡ objects.newest object self.now.state.entries }
+    {
+        self.history.newest(object)
+    }
+
+    /// Whether a token is below the number of the entry before the last so many of an object, which is 0 where there are
+    /// no more than these.
+    pub fn is_past(&self, object: ObjectId, token: u64, kept: usize) -> bool
+        ensures { result ≡ nat_lt token (last_number (take (length (history_of object self.now.state.entries) - kept)
+            (history_of object self.now.state.entries))) }
+    {
+        self.history.is_past(object, token, kept)
+    }
+
+    /// The entries of an object with numbers above a token, lent.
+    pub fn since(
+        &self,
+        alloc: Global,
+        object: ObjectId,
+        token: u64,
+    ) -> Result<Vec<&Entry>, OutOfMemory>
+        ensures { IfOk result (λ since. map (λ entry. entry.now) since.items
+            ≡ filter (is_above token) (history_of object self.now.state.entries)) }
+    {
+        self.history.since(alloc, object, token)
+    }
+
+    /// The entries of an object, lent.
+    pub fn history(&self, alloc: Global, object: ObjectId) -> Result<Vec<&Entry>, OutOfMemory>
+        ensures { IfOk result (λ all. map (λ entry. entry.now) all.items ≡ history_of object self.now.state.entries) }
+    {
+        self.history.all(alloc, object)
     }
 
     /// The business day.
@@ -189,7 +230,7 @@ impl Ledger {
         ensures pairs_stay { self.old.room.pairs ≤ self.new.room.pairs }
         ensures files_stay { self.old.room.files ≤ self.new.room.files }
     {
-        self.entries.reserve(entries as usize)?;
+        self.history.reserve(entries)?;
         self.transfers.reserve(entries)?;
         self.models.reserve(entries)?;
         self.records.reserve(uids, 1)
@@ -200,6 +241,7 @@ impl Ledger {
         requires entries { 0 < self.old.room.entries }
         requires transfers { 0 < self.old.room.transfers }
         requires models { 0 < self.old.room.models }
+        requires number { entry.number ≡ length self.old.state.entries + 1 }
         requires known { IsKnown row_change }
         requires gives { GivesRows self.old.state.entries entry.change row_change }
         ensures state { self.new.state ≡ record {
@@ -217,23 +259,23 @@ impl Ledger {
         match row_change {
             RowChange::Row(row) => {
                 self.transfers.put(entry.number, row);
-                self.entries.push_reserved(entry);
+                self.history.add(entry);
             }
             RowChange::Made(row) => {
                 let model = row.model;
                 self.transfers.put(entry.number, row);
                 self.models.spawned(model);
-                self.entries.push_reserved(entry);
+                self.history.add(entry);
             }
             RowChange::Model(row) => {
                 self.models.put(row);
-                self.entries.push_reserved(entry);
+                self.history.add(entry);
             }
             RowChange::NoModel(id) => {
                 self.models.cancel(id);
-                self.entries.push_reserved(entry);
+                self.history.add(entry);
             }
-            RowChange::Mail => self.entries.push_reserved(entry),
+            RowChange::Mail => self.history.add(entry),
         }
     }
 
@@ -247,7 +289,7 @@ impl Ledger {
           kept = self.old.state.kept;
           day = self.old.state.day;
         } }
-        ensures pairs { self.old.room.pairs ≡ self.new.room.pairs + 1 }
+        ensures pairs { self.old.room.pairs ≤ self.new.room.pairs + 1 }
         ensures files { self.new.room.files ≡ self.old.room.files }
     {
         self.records.use_up(user, trnuid);
@@ -259,6 +301,9 @@ impl Ledger {
         requires transfers { length entries.items ≤ self.old.room.transfers }
         requires models { length entries.items ≤ self.old.room.models }
         requires count { length row_changes.items ≡ length entries.items }
+        requires numbered { (k : ℕ) (entry : Entry) → k < length entries.items
+            → (slice_index_or entries.items k entry).number
+            ≡ length (self.old.state.entries ++ take k entries.items) + 1 }
         requires known { (k : ℕ) (row_change : RowChange) → k < length entries.items
             → IsKnown (slice_index_or row_changes.items k row_change) }
         requires given { (k : ℕ) (entry : Entry) (row_change : RowChange) → k < length entries.items

@@ -1,4 +1,4 @@
--- The mails of an object in the stead of those before, or behind all others, and one entry more.
+-- The mails of an object in the stead of those before, or after all others, and one entry more.
 use Rattle.std.proofs.Common.{◌≡◌, ℕ, ◌+◌, ◌<◌, ◌≤◌, Bool, true, false, cond, eqb, nat_lt, List, [], ◌∷◌, ◌++◌, length, get_or, set, filter, Option, None, Some, refl, sym, ap, ◌∙◌, subst, arith}
 use Rattle.std.proofs.lemmas.Bool.{eqb-true, eq-eqb, ltb-false}
 use Rattle.std.proofs.lemmas.List.Elements.{filter-append}
@@ -17,7 +17,7 @@ use Rattle.bank_model.specs.declared.entry.Entry.{Entry}
 use Rattle.bank_model.specs.Objects.{belongs_to, history_of}
 use Rattle.bank_mail.specs.MailsView.{ObjectMails, is_of, mails_found, rows_in, room_in, rows_found, room_found, mail_in, mails_of, StandsFor}
 
--- ---- the mails of an object in the stead of those before, or behind all others
+-- ---- the mails of an object in the stead of those before, or after all others
 
 -- All mails are as they were, but for those of one object.
 abbrev pub IsNow : ObjectId → ObjectMails → List ObjectMails → List ObjectMails → Type 0

@@ -6,9 +6,8 @@
 
 mod held;
 mod judging;
-mod laws;
+pub mod laws;
 mod mails;
 
 pub use judging::{judge_bank_mail, judge_mail};
-pub use laws::others_leave_mails;
 pub use mails::Mails;

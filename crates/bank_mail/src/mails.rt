@@ -71,7 +71,7 @@ impl Mails {
         }
     }
 
-    /// Takes in a mail of an object, behind its others. There is room for it, and it takes no memory.
+    /// Takes in a mail of an object, after its others. There is room for it, and it takes no memory.
     pub fn put(&mut self, object: ObjectId, row: MailRow)
         requires room { 0 < room_found object self.old }
         ensures rows { (other : ObjectId) → rows_found other self.new

@@ -1,4 +1,11 @@
+pub mod Lists
+pub mod Ink
+pub mod Logs
+pub mod Histories
+pub mod Rejections
+pub mod TakenStores
 pub mod SetupWords
+pub mod AccountNames
 pub mod SetupNumbers
 pub mod SetupLines
 pub mod SetupParts

@@ -1,5 +1,5 @@
 -- Accounts that are put in order.
-use Rattle.std.proofs.Common.{◌≡◌, ℕ, zero, suc, ◌+◌, ◌<◌, ◌≤◌, ◌⊎◌, inl, inr, Bool, true, false, cond, eqb, nat_lt, nat_le, List, [], ◌∷◌, ◌++◌, map, length, get_or, take, drop, Option, None, Some, refl, sym, ap, ◌∙◌, subst, arith, add-one, drop-cons}
+use Rattle.std.proofs.Common.{◌≡◌, ℕ, zero, suc, ◌+◌, ◌<◌, ◌≤◌, ◌⊎◌, inl, inr, Bool, true, false, cond, eqb, nat_lt, nat_le, List, [], ◌∷◌, ◌++◌, map, length, get_or, take, drop, Option, None, Some, refl, sym, ap, ◌∙◌, subst, arith}
 use Rattle.std.proofs.Math.Seq.{take-length, drop-length}
 use Rattle.std.proofs.lemmas.Bool.{eqb-true, eqb-false, eq-eqb, ne_eqb, ltb-true, lt-ltb, le-ltb, ltb-false, leb-true, leb-false}
 use Rattle.std.proofs.lemmas.List.{take-append-drop}
@@ -9,10 +9,12 @@ use Rattle.std.specs.List.{AllByRecursion, Contains, flat_map, position, positio
 use Rattle.std.specs.List.Sorted.{IsStrictlyIncreasing}
 use Rattle.ofx_types.specs.declared.number.AcctId.{AcctId}
 use Rattle.bank_model.specs.Naming.{inserted, with_any, with_all}
+use Rattle.bank_model.proofs.Lists.{rest_is}
+use Rattle.bank_model.proofs.AccountNames.{same_number}
 
 -- ---- they rise
 
--- Each number is below all those behind it.
+-- Each number is below all those after it.
 abbrev pub Rises : List AcctId → Type 0
 Rises [] = Unit {0}
 Rises (first ∷ more) = AllByRecursion (λ (other : AcctId). first.0 < other.0) more × Rises more
@@ -35,7 +37,7 @@ rises_by_index : (xs : List AcctId) → Rises xs → IsStrictlyIncreasing (map r
 rises_by_index [] rises k below = absurd (omega arith)
 rises_by_index (x ∷ xs) rises k below = rises_at x.0 (map rank xs) (above_at x.0 xs rises.0) (rises_by_index xs rises.1) k below
 
--- An account is put behind the first of others, is the first, or stands before it.
+-- An account is put after the first of others, is the first, or stands before it.
 abbrev put : Bool → Bool → AcctId → AcctId → List AcctId → List AcctId → List AcctId
 put behind is account x xs more = cond behind (x ∷ more) (cond is (x ∷ xs) (account ∷ x ∷ xs))
 
@@ -97,15 +99,9 @@ cons_cases x xs y has = by has.0 has.1 has.2
 nil_has_none : {X : Type 0} (y : X) → Contains [] y → ⊥
 nil_has_none y has = omega (arith, has.1)
 
-abbrev of_number : ℕ → AcctId
-of_number number = record { 0 = number }
-
-same_account : (a b : AcctId) → a.0 ≡ b.0 → a ≡ b
-same_account a b same = ap of_number same
-
 put_here : (behind is : Bool) (account x : AcctId) (xs more : List AcctId) → eqb x.0 account.0 ≡ is → Contains more account → Contains (put behind is account x xs more) account
 put_here true is account x xs more same has = cons_there x more account has
-put_here false true account x xs more same has = subst (Contains (x ∷ xs)) (same_account x account (eqb-true x.0 account.0 same)) (cons_here x xs)
+put_here false true account x xs more same has = subst (Contains (x ∷ xs)) (same_number x account (eqb-true x.0 account.0 same)) (cons_here x xs)
 put_here false false account x xs more same has = cons_here account (x ∷ xs)
 
 inserted_here : (account : AcctId) (xs : List AcctId) → Contains (inserted account xs) account
@@ -209,9 +205,6 @@ inserted_past account (x ∷ xs) zero below few = refl
 inserted_past account (x ∷ xs) (suc n) below few =
     rw (lt-ltb x.0 account.0 (below 0 x (omega arith)))
     (ap (λ (l : List AcctId). x ∷ l) (inserted_past account xs n (λ k d small. below (suc k) d (omega arith)) (omega arith)))
-
-rest_is : {X : Type 0} (xs : List X) (k : ℕ) (x : X) → k < length xs → x ≡ get_or xs k x → drop k xs ≡ x ∷ drop (k + 1) xs
-rest_is xs k x below is = rw (add-one, drop-cons xs k x, ← is) refl
 
 abbrev beside : AcctId → AcctId → List AcctId → List AcctId
 beside account x more = cond (eqb x.0 account.0) (x ∷ more) (account ∷ x ∷ more)

@@ -189,7 +189,7 @@ with_body_line_adds d e line g h = by_key (behind_key (codes "USER") line) refl 
         let adds = with_account_adds d e account.0 g account.2 in
         subst (λ (l : List ℕ). Adds d l e) (sym (behind_back (codes "ACCT") line account.0 account.1)) adds
 
--- behind the head each line is one of the body
+-- after the head each line is one of the body
 pub body_line : (n : ℕ) (d : Draft) (line : List ℕ) → 6 ≤ n → with_line n d line ≡ with_body_line d line
 unfolding with_line
 body_line n d line behind =

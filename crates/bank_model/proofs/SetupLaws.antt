@@ -6,6 +6,7 @@ use Rattle.std.specs.Str.{bytes_eq}
 use Rattle.std.proofs.lemmas.Bool.{not-false, ltb-false, le-ltb, leb-true, leb-false, le-leb, lt-leb, ne_eqb, or_parts, or_from}
 use Rattle.std.proofs.lemmas.List.{nil_from_length, take_all}
 use Rattle.std.proofs.lemmas.Int.{ints}
+use Rattle.ofx_types.proofs.Bytes.{bytes_eq_is}
 use Rattle.bank_model.specs.declared.setup.Setup.{Setup}
 use Rattle.bank_model.specs.declared.setup.SetupFault.{SetupFault}
 use Rattle.bank_model.specs.declared.setup.SetupFault.TheVariants as faults
@@ -14,7 +15,7 @@ use Rattle.bank_model.specs.SetupForm.{IsWord, lines_of, AreLines, KeepsLineLimi
 use Rattle.bank_model.specs.SetupFault.{lines_in, lines_within, BeginSetup, AreLinesOf, IsWrongAt, IsLackingAt, IsTooWideAt, IsSetupFault}
 use Rattle.bank_model.specs.SetupOutcome.{IsRefusalOf, NamesFaultOf, Answers}
 use Rattle.bank_model.specs.SetupReading.{◌>>=◌, unless, Gives, behind_key, is_word_form, bank_at, limit_at, number_within, with_format, with_bank, with_lead, with_window, with_entries, unread, or_fault_at, with_line, with_lines, left_in, objects_fit, IsBounded, lacks_line, judged, setup_at}
-use Rattle.bank_model.proofs.SetupWords.{bind_some, unless_some, chosen_some, some_is, bytes_eq_is, behind_back, word_parts}
+use Rattle.bank_model.proofs.SetupWords.{bind_some, unless_some, chosen_some, some_is, behind_back, word_parts}
 use Rattle.bank_model.proofs.SetupNumbers.{within_back}
 use Rattle.bank_model.proofs.SetupLines.{ok_is, taken_some, lines_back, lines_there}
 use Rattle.bank_model.proofs.SetupGrowth.{some_there, zero_word, first_line, bank_line, limit_line, Grown, with_lines_adds, begun_front, line_limits, begun_grown}
@@ -90,7 +91,7 @@ bank_back line bank h =
     let same : k.0 ≡ bank = some_is k.0 bank w.1 in
     (behind_back (codes "BANK") line k.0 k.1 ∙ ap bank_line same, subst IsWord same (word_parts k.0 (not-false _ w.0)))
 
--- the lines from the fifth on, behind four
+-- the lines from the fifth on, after four
 abbrev behind_four : List ℕ → ℕ → ℕ → List (List ℕ) → List (List ℕ)
 behind_four bank lead window lines = first_line ∷ bank_line bank ∷ limit_line (codes "LEAD") lead ∷ limit_line (codes "WINDOW") window ∷ lines
 
@@ -149,7 +150,7 @@ read_bank e (line ∷ lines) h =
     let rest : with_lines 3 (headed n.0 0 0 0) lines ≡ Ok e = ap (λ (d : Draft). with_lines 3 d lines) (some_is (headed n.0 0 0 0) one.0 n.2) ∙ one.2 in
     subst (λ (l : List ℕ). IsRead (first_line ∷ l ∷ lines) e) (sym is.0) (read_lead n.0 e lines is.1 rest)
 
--- lines that are read begin a setup, and are all of it behind its first account
+-- lines that are read begin a setup, and are all of it after its first account
 pub lines_read : (e : Draft) (lines : List (List ℕ)) → with_lines 1 unread lines ≡ Ok e → IsRead lines e
 unfolding with_lines with_line
 lines_read e [] h =

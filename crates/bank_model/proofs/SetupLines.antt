@@ -37,12 +37,12 @@ owners_last users owners names h = rw (words_last names h) (alone (owner_more us
 
 -- ---- lines
 
--- a part before an LF is a line, and what is left stands behind it
+-- a part before an LF is a line, and what is left stands after it
 ended_more : (part : List ℕ) (parts : List (List ℕ)) → 0 < length parts → (ended_lines (part ∷ parts) ≡ strip_carriage_return part ∷ ended_lines parts) × (last_part (part ∷ parts) ≡ last_part parts)
 ended_more part [] some = absurd (omega (arith, some))
 ended_more part (next ∷ parts) some = (refl, refl)
 
--- the first line, and the lines behind it
+-- the first line, and the lines after it
 pub lines_next : (bytes line rest : List ℕ) → line_at bytes ≡ Some (line, rest) → (lines_in bytes ≡ line ∷ lines_in rest) × (left_in bytes ≡ left_in rest)
 unfolding line_at lines_in left_in
 lines_next bytes line rest h =

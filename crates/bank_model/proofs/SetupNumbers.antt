@@ -9,10 +9,10 @@ use Rattle.std.proofs.lemmas.Bool.{not_from_false, and_from, cases_lt, ne_eqb, l
 use Rattle.std.proofs.lemmas.List.Recursion.{and_at}
 use Rattle.std.proofs.lemmas.Str.Parse.{IsNumeralModel, numerals_by_value, tells_all_ascii_digits, digits_value_short}
 use Rattle.std.proofs.lemmas.Str.{digit_value_digit}
-use Rattle.std.specs.Int.{IsInRange}
 use Rattle.std.proofs.lemmas.Int.Digits.{digits_value_more}
 use Rattle.std.proofs.lemmas.Str.Parse.{digits_value-take-le}
 use Rattle.std.proofs.lemmas.Fmt.{digits_decimal, digits_value-decimal, length-decimal-le, first_decimal, decimal-digits_value, decimal_nonempty, decimal_digit}
+use Rattle.ofx_types.proofs.Numbers.{digit_in}
 use Rattle.bank_model.specs.SetupReading.{unless, is_number_form, number_of, number_within}
 use Rattle.bank_model.proofs.SetupWords.{bind_some, unless_some, chosen_some, some_is, is_free}
 
@@ -34,14 +34,11 @@ are_digits ds h = sym (digits_test ds) ∙ h
 pub value_small : (ds : List ℕ) (i : ℕ) → list_all is_ascii_digit ds ≡ true → length ds ≤ 13 → digits_value 10 (take i ds) < 10 ^ 13
 value_small ds i digits few = omega (arith, digits_value-take-le 10 ds i (omega arith), digits_value_short own ds 13 (are_digits ds digits) few)
 
-range_of : (c : ℕ) → is_ascii_digit c ≡ true → IsInRange 48 57 c
-range_of c h = let parts = tells_all_ascii_digits.parts c [] (and_from _ _ h refl) in parts.0
-
 -- one digit more
 pub value_step : (ds : List ℕ) (i : ℕ) → i < length ds → list_all is_ascii_digit ds ≡ true → (digits_value 10 (take i ds) * 10 + (get_or ds i 0 - 48) ≡ digits_value 10 (take (i + 1) ds)) × (48 ≤ get_or ds i 0)
 value_step ds i lt digits =
     let digit : is_ascii_digit (get_or ds i 0) ≡ true = and_at (list_all is_ascii_digit) is_ascii_digit refl (λ _ _. refl) ds i 0 lt digits in
-    let value : digit_value (get_or ds i 0) + 48 ≡ get_or ds i 0 = digit_value_digit (get_or ds i 0) (range_of _ digit) in
+    let value : digit_value (get_or ds i 0) + 48 ≡ get_or ds i 0 = digit_value_digit (get_or ds i 0) (digit_in _ digit) in
     (omega (arith, digits_value_more 10 ds i lt, value), omega (arith, value))
 
 -- what the test of a number says

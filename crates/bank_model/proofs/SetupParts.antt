@@ -12,11 +12,12 @@ use Rattle.ofx_types.specs.declared.account.AcctKind.{AcctKind}
 use Rattle.ofx_types.specs.declared.account.AcctKind.TheVariants.{Checking, Savings, MoneyMarket, CreditLine}
 use Rattle.ofx_types.specs.declared.number.UserId.{UserId}
 use Rattle.ofx_types.specs.AccountForm.{kind_word}
+use Rattle.ofx_types.proofs.Bytes.{bytes_eq_is, bytes_eq_self}
 use Rattle.bank_model.specs.declared.setup.User.{User}
 use Rattle.bank_model.specs.declared.setup.AccountLine.{AccountLine}
 use Rattle.bank_model.specs.SetupForm.{is_word_byte, IsWord, line_of, user_line, name_of, account_line, IsAccountOf, IsUser}
 use Rattle.bank_model.specs.SetupReading.{◌>>=◌, unless, cut, is_word_form, user_at, kind_at, user_at_place, user_named, is_listed, owner_more, owners_from, words_of, owners_at, number_of, account_at}
-use Rattle.bank_model.proofs.SetupWords.{bind_some, unless_some, chosen_some, some_is, bytes_eq_is, bytes_eq_self, is_free, cut_there, cut_nowhere, cut_back, word_parts, word_passes, word_free, free_append, plain_free, words_next, words_last}
+use Rattle.bank_model.proofs.SetupWords.{bind_some, unless_some, chosen_some, some_is, is_free, cut_there, cut_nowhere, cut_back, word_parts, word_passes, word_free, free_append, plain_free, words_next, words_last}
 use Rattle.bank_model.proofs.SetupNumbers.{number_back, number_there, decimal_free}
 
 -- ---- lists of different items
@@ -209,7 +210,7 @@ by_opening bank users number kind opening_word names = number_of opening_word >>
 abbrev by_kind : List ℕ → List User → List ℕ → List ℕ → List ℕ → List ℕ → Option AccountLine
 by_kind bank users number kind_text opening_word names = unless (not (is_word_form number)) (kind_at kind_text) >>= λ kind. by_opening bank users number kind opening_word names
 
--- what stands behind `ACCT`
+-- what stands after `ACCT`
 abbrev pub account_fields : List User → AccountLine → List ℕ
 account_fields users a = a.name.number ++ 32 ∷ (kind_word a.name.kind ++ 32 ∷ (signed_decimal a.opening.0 ++ 32 ∷ line_of (map (name_of users) a.owners)))
 

@@ -7,9 +7,10 @@ use Rattle.std.proofs.lemmas.Iterator.Adapters.{position_from-zero}
 use Rattle.std.proofs.lemmas.List.{get_or_default}
 use Rattle.std.proofs.lemmas.List.Quantifiers.{position-Some}
 use Rattle.std.proofs.lemmas.List.Sums.{position_or_len_is}
+use Rattle.std.proofs.Math.Bool.{and-false}
+use Rattle.ofx_types.proofs.Bytes.{bytes_eq_is, bytes_eq_self}
 use Rattle.bank_model.specs.declared.setup.User.{User}
 use Rattle.bank_model.proofs.DirectoryLaws.{position_at, position_nowhere, position_or_len_none}
-use Rattle.bank_model.proofs.SetupWords.{bytes_eq_is, bytes_eq_self}
 
 none_parts : (b : Bool) (i : ℕ) (rest : Option ℕ) → cond b (Some i) rest ≡ None → (b ≡ false) × (rest ≡ None)
 none_parts true i rest e = absurd cc
@@ -26,10 +27,6 @@ not_true false h = refl
 
 true_is_false : true ≡ false → ⊥
 true_is_false e = absurd cc
-
-nothing_and : (b : Bool) → (b && false) ≡ false
-nothing_and true = refl
-nothing_and false = refl
 
 first_differs : {K : Type 0} (e : K → K → Bool) (x : K) (xs : List K) (j : ℕ) (d : K) → j < length xs → AllByRecursion (λ y. e x y ≡ false) xs → e x (get_or xs j d) ≡ false
 first_differs e x [] j d lt all = absurd (omega (arith, lt))
@@ -90,6 +87,6 @@ module _ (name pass : List ℕ) (users : List User) where
             | inl above ↦ refused _ (others k e lt (λ same. omega (arith, same, above)))
             | inr to ↦
                 let same : k ≡ place = omega arith in
-                rw (same, get_or_default users place e d at.0, wrong) (nothing_and _)
+                rw (same, get_or_default users place e d at.0, wrong) (and-false _)
           ]
         ]))

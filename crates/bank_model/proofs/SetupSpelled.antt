@@ -21,6 +21,7 @@ use Rattle.bank_model.proofs.SetupNumbers.{within_there, decimal_free}
 use Rattle.bank_model.proofs.SetupLines.{IsClean, ok_is, taken_some}
 use Rattle.bank_model.proofs.SetupParts.{all_at, distinct_front, user_there, user_free, account_fields, account_line_is, account_there, account_free, free_joined}
 use Rattle.bank_model.proofs.SetupGrowth.{first_line, bank_line, limit_line, body_of, sum_push, body_line}
+use Rattle.bank_model.proofs.Lists.{all_append}
 
 -- the draft of these users and these accounts
 abbrev pub built : Setup → List User → List AccountLine → Draft
@@ -138,7 +139,7 @@ all_there s is =
     ∙ users_there 6 s is [] s.users (map (account_line s.users) s.accounts) (omega arith) refl
     ∙ accounts_there (6 + length s.users) s is [] s.accounts (omega arith) refl
 
--- ---- lines behind others
+-- ---- lines after others
 
 -- what is read of lines in front of others, and then of those
 pub record IsSplit (n : ℕ) (d : Draft) (front rest : List (List ℕ)) (e : Draft) : Type 0 where
@@ -192,10 +193,6 @@ accounts_clean s is accounts (a ∷ rest) e =
       (account_free 10 s.bank s.users a (omega arith) refl account within.each is.users, account_free 13 s.bank s.users a (omega arith) refl account within.each is.users),
       accounts_clean s is (accounts ++ a ∷ []) rest (e ∙ sym (append_assoc accounts (a ∷ []) rest)),
     )
-
-all_append : {A : Type 0} (P : A → Type 0) (front rest : List A) → AllByRecursion P front → AllByRecursion P rest → AllByRecursion P (front ++ rest)
-all_append P [] rest all more = more
-all_append P (x ∷ xs) rest all more = (all.0, all_append P xs rest all.1 more)
 
 -- keys without spaces and line ends
 limit_clean : (key : List ℕ) (n : ℕ) → IsClean key → n < 10 ^ 13 → IsClean (limit_line key n)

@@ -6,9 +6,9 @@ use Rattle.std.specs.List.{position_or_len, list_all, onto_first, slice_split}
 use Rattle.std.proofs.lemmas.Bool.{eqb-true, eq-eqb, ne_eqb, lt-ltb, le-ltb, ltb-true, ltb-false, leb-true, and_parts, and_from, not-true, not_from_false}
 use Rattle.std.proofs.lemmas.List.Folds.{list_all-append}
 use Rattle.ofx_types.specs.TextRules.{is_white, trim_start, trim_end, trimmed}
+use Rattle.ofx_types.proofs.Bytes.{bytes_eq_self, bytes_eq_is}
 use Rattle.std.proofs.lemmas.List.{reverse-append, reverse-reverse, length-append, take_at, take_more, take_all, get_or_at}
 use Rattle.std.proofs.lemmas.List.Recursion.{and_at}
-use Rattle.std.proofs.lemmas.Slice.Eq.{bytes_eq-Decides}
 use Rattle.bank_model.specs.SetupForm.{is_word_byte, IsWord}
 use Rattle.bank_model.specs.SetupReading.{◌>>=◌, unless, cut, behind_key, is_word_form, line_at, words_of}
 
@@ -39,12 +39,6 @@ found x = Some x
 
 pub some_is : {A : Type 0} (x y : A) → found x ≡ found y → x ≡ y
 some_is x y e = cc
-
-pub bytes_eq_self : (bytes : List ℕ) → bytes_eq bytes bytes ≡ true
-bytes_eq_self bytes = (bytes_eq-Decides bytes bytes).1 refl
-
-pub bytes_eq_is : (a b : List ℕ) → bytes_eq a b ≡ true → a ≡ b
-bytes_eq_is a b h = (bytes_eq-Decides a b).0 h
 
 -- ---- cutting at a mark
 
@@ -157,7 +151,7 @@ words_next bytes front rest h = parts_next 32 bytes front rest h
 pub words_last : (bytes : List ℕ) → None ≡ cut 32 bytes → words_of bytes ≡ bytes ∷ []
 words_last bytes h = parts_last 32 bytes h
 
--- ---- a key, and what stands behind it
+-- ---- a key, and what stands after it
 
 pub behind_there : (key rest : List ℕ) → is_free 32 key ≡ true → behind_key key (key ++ 32 ∷ rest) ≡ Some rest
 unfolding behind_key

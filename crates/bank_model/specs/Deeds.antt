@@ -32,7 +32,7 @@ use Rattle.bank_model.specs.Once.{is_used}
 
 -- ---- what is refused
 
--- the balance of a deed's source; an account that the bank hasn't has none
+-- the balance of a deed's source; an account that the bank hasn't has 0
 abbrev pub balance_if_any : Setup → List Entry → Option AcctId → ℤ
 balance_if_any setup entries None = pos 0
 balance_if_any setup entries (Some account) = balance setup entries account
@@ -55,7 +55,8 @@ judged setup S user only (Mail mail) = mail_code mail
 
 -- ---- what is done
 
--- Account a has its transfers at 3a.
+-- Account a has its transfers at 3a, its recurring transfers at 3a + 1 and the mail about it at 3a + 2. For an account that the
+-- bank lacks 0 stands in; no entry is made for one.
 abbrev pub intra_of : Option AcctId → ObjectId
 intra_of None = record { 0 = 0 }
 intra_of (Some account) = record { 0 = 3 * account.0 }
@@ -63,7 +64,7 @@ intra_of (Some account) = record { 0 = 3 * account.0 }
 abbrev pub object_of : Setup → AcctName → ObjectId
 object_of setup source = intra_of (account_of setup source)
 
--- And its recurring transfers at 3a + 1.
+-- its recurring transfers
 abbrev pub recurring_of : Option AcctId → ObjectId
 recurring_of None = record { 0 = 0 }
 recurring_of (Some account) = record { 0 = 3 * account.0 + 1 }
@@ -71,7 +72,7 @@ recurring_of (Some account) = record { 0 = 3 * account.0 + 1 }
 abbrev pub model_object_of : Setup → AcctName → ObjectId
 model_object_of setup source = recurring_of (account_of setup source)
 
--- And the mail about it at 3a + 2.
+-- the mail about it
 abbrev pub letters_of : Option AcctId → ObjectId
 letters_of None = record { 0 = 0 }
 letters_of (Some account) = record { 0 = 3 * account.0 + 2 }
@@ -79,7 +80,7 @@ letters_of (Some account) = record { 0 = 3 * account.0 + 2 }
 abbrev pub letter_object_of : Setup → AcctName → ObjectId
 letter_object_of setup about = letters_of (account_of setup about)
 
--- Behind those of all accounts come the users' other mails.
+-- After those of all accounts come the users' other mails.
 abbrev pub mail_object : Setup → UserId → ObjectId
 mail_object setup user = record { 0 = 3 * length setup.accounts + user.0 }
 
@@ -196,7 +197,7 @@ done setup S user at trnuid (BankMail account mail) =
     next_entry S (letter_object_of setup account) trnuid (NewMail (mail_row setup user (Some account) mail)) ∷ []
 done setup S user at trnuid (Mail mail) = next_entry S (mail_object setup user) trnuid (NewMail (mail_row setup user None mail)) ∷ []
 
--- ---- the code, the answer and the state behind it
+-- ---- the code, the answer and the state after it
 
 -- The entries would be more than the bank makes in its life.
 abbrev pub is_full : Setup → ℕ → Bool

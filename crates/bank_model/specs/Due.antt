@@ -56,11 +56,12 @@ posts setup S at (Some row) =
 
 -- ---- making the next transfer
 
--- the date of its next transfer, where its series has one more
+-- A series without a count goes on.
 abbrev pub is_below_count : ℕ → Option ℕ → Bool
 is_below_count place None = true
 is_below_count place (Some count) = nat_lt place count
 
+-- the date of a place in its series, where the series has that place
 abbrev pub date_in_series : ModelRow → ℕ → Option Day
 date_in_series row place =
     if is_below_count place row.recur.count then kth_date row.first row.recur.freq place else None
@@ -69,6 +70,7 @@ date_in_series row place =
 abbrev pub last_day : Setup → Day → Day
 last_day setup day = record { 0 = day.0 +ℤ pos setup.lead }
 
+-- the date, where it is no later than a last day
 abbrev pub if_by : Day → Option Day → Option Day
 if_by last None = None
 if_by last (Some date) = if int_le date.0 last.0 then Some date else None
@@ -100,17 +102,20 @@ spawned_row id date row = record {
   stamp = record { 0 = midnight date.0 };
 }
 
+-- the entry of a transfer that a recurring transfer makes on a date; without either there is none
 abbrev pub spawns_on : Setup → State → Option ModelRow → Option Day → List Entry
 spawns_on setup S None date = []
 spawns_on setup S (Some row) None = []
 spawns_on setup S (Some row) (Some date) =
     next_entry S (object_of setup row.from) (codes "0") (NewTransfer (spawned_row (length S.entries + 1) date row)) ∷ []
 
--- The transfer that the recurring transfer of this id makes at this place of its series.
+-- the date at a place, whether the series has that place or not
 abbrev pub place_date : Option ModelRow → ℕ → Option Day
 place_date None place = None
 place_date (Some row) place = kth_date row.first row.recur.freq place
 
+-- The transfer that the recurring transfer of this id makes at this place of its series. It is said of a place at which one may
+-- be made; whether it may is `may_spawn`.
 unfoldable pub spawns : Setup → State → ℕ → ℕ → List Entry
 spawns setup S id place = spawns_on setup S (model_of id S.entries) (place_date (model_of id S.entries) place)
 
@@ -132,7 +137,7 @@ or_earlier (Some first) task = if is_before task first then Some task else Some 
 abbrev pub first_task : List Task → Option Task
 first_task tasks = fold or_earlier None tasks
 
--- the recurring transfers that make their next transfer by a last day, each with its date
+-- what is to be done on a date, where there is one
 abbrev pub task_on : ℕ → Option Day → List Task
 task_on id None = []
 task_on id (Some day) = record { day = day; id = id } ∷ []
@@ -146,12 +151,14 @@ makes last entries (SetModel row pending) = []
 makes last entries (DropModel id pending) = []
 makes last entries (NewMail row) = []
 
+-- the recurring transfers that make their next transfer by a last day, each with its date
 unfoldable pub to_make : Day → List Entry → List Task
 to_make last entries = flat_map (λ (entry : Entry). makes last entries entry.change) entries
 
--- the transfers that wait and are due, each with its due day
+-- a transfer with its due day
 abbrev pub task_of : TransferRow → Task
 task_of row = record { day = row.due; id = row.id }
 
+-- the transfers that wait and are due, each with its due day
 unfoldable pub to_post : Day → List Entry → List Task
 to_post day entries = map task_of (filter (λ (row : TransferRow). int_le row.due.0 day.0) (all_waiting entries))

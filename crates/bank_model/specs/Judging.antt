@@ -93,7 +93,7 @@ is_closed NoFunds = true
 is_closed Cancelled = false
 
 -- The refusals that a change and a cancellation share: there is no transfer with this id out of an account of the user;
--- it is cancelled; it is posted or closed without funds. Behind them come those of the deed itself.
+-- it is cancelled; it is posted or closed without funds. After them come those of the deed itself.
 abbrev pub row_code : Setup → UserId → Option AcctId → Option TransferRow → (TransferRow → List Refusal) → ℕ
 row_code setup user only None more = 2018
 row_code setup user only (Some row) more = first_of (
@@ -129,7 +129,7 @@ model_code setup user only info day = first_of (
     ∷ [])
 
 -- The refusals that its change and its cancellation share: there is no recurring transfer with this id out of an account
--- of the user; it is cancelled. Behind them come those of the deed itself.
+-- of the user; it is cancelled. After them come those of the deed itself.
 abbrev pub model_row_code : Setup → UserId → Option AcctId → Option ModelRow → Bool → (ModelRow → List Refusal) → ℕ
 model_row_code setup user only None cancelled more = 10518
 model_row_code setup user only (Some row) cancelled more = first_of (

@@ -37,7 +37,7 @@ abbrev pub or_before : Option TransferRow → Option TransferRow → Option Tran
 or_before before None = before
 or_before before (Some row) = Some row
 
--- The row that the last entry gives which gives one to the transfer of this id.
+-- The row of a transfer: the one in the last entry that gives this id a row.
 unfoldable pub last_row : ℕ → List Entry → Option TransferRow
 last_row id entries = fold (λ (row : Option TransferRow) (entry : Entry). or_before row (if_named id (row_in entry.change))) None entries
 
@@ -103,7 +103,7 @@ unfoldable pub sum_from : ℤ → AcctName → List Posting → ℤ
 sum_from opening name postings = fold (λ (sum : ℤ) (posting : Posting). sum +ℤ part name posting.row) opening postings
 
 -- The balance of an account is its opening amount, plus the amounts of the posted transfers into it, less those of the
--- posted transfers out of it.
+-- posted transfers out of it. An account that the setup lacks has 0.
 abbrev pub balance_on : List Entry → Option AccountLine → ℤ
 balance_on entries None = pos 0
 balance_on entries (Some line) = sum_from line.opening.0 line.name (moved entries)

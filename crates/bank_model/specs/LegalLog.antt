@@ -1,7 +1,7 @@
 -- Which logs a bank can have that opens in a state, and the state that each ends in.
 --
 -- A log is a list of groups. Each ends in an answer, an adopted event or a fault, and before it stand the effects of just the
--- entries that its event adds. So the endings tell the log. The last group may be cut before its ending.
+-- entries that its event adds. So the endings tell the log.
 use Rattle.std.specs.Prelude.{◌≡◌, ℕ, ◌+◌, ◌-◌, ◌^◌, ◌%◌, ◌<◌, ◌⊎◌, List, [], ◌∷◌, ◌++◌, drop, fold, map, length, All, Option, None, Some}
 use Rattle.ofx_types.specs.Calendar.{IsMoment}
 use Rattle.ofx_types.specs.declared.number.Moment.{Moment}
@@ -58,7 +58,7 @@ IsUnsettled (Fault count None) = Unit {0}
 IsUnsettled (Fault count (Some pending)) = ⊥
 
 -- After these endings the record of this event may stand though its append failed. That was in the last fault of an append,
--- behind which no event was answered or adopted: all that came since is that it couldn't be settled. The number is the
+-- after which no event was answered or adopted: all that came since is that it couldn't be settled. The number is the
 -- fault's, modulo 2^64.
 pub record IsPending (before : List LogItem) (number : ℕ) (event : Event) (at : Moment) : Type 0 where
   pub earlier : List LogItem
@@ -75,7 +75,7 @@ IsAbove count (Answer event at reply) = Unit {0}
 IsAbove count (Adopted fault event at) = Unit {0}
 IsAbove count (Fault earlier pending) = (earlier < count) ⊎ ((earlier ≡ 2 ^ 64 - 1) × (count ≡ 2 ^ 64 - 1))
 
--- What may come to its end in a state behind these endings:
+-- What may come to its end in a state after these endings:
 -- - an event that may happen is answered, by just its reply;
 -- - an event that may happen is adopted, whose record may stand since the fault of this number;
 -- - the keeper fails, and its count of faults is above those of all earlier faults.
@@ -85,7 +85,7 @@ MayEnd setup S before (Answer event at reply) = MayHappen setup S at event × (r
 MayEnd setup S before (Adopted fault event at) = MayHappen setup S at event × IsPending before fault event at
 MayEnd setup S before (Fault count pending) = All (IsAbove count) before
 
--- Each ending may come in the state and behind the endings that those before it leave.
+-- Each ending may come in the state and after the endings that those before it leave.
 abbrev pub AreLegalEndings : Setup → State → List LogItem → List LogItem → Type 0
 AreLegalEndings setup S before [] = Unit {0}
 AreLegalEndings setup S before (item ∷ more) =
@@ -93,23 +93,7 @@ AreLegalEndings setup S before (item ∷ more) =
 
 -- ---- logs
 
--- A legal log without a cut group: its endings may come one after another, and it has the groups of just these.
+-- A legal log of whole groups: its endings may come one after another, and it has the groups of just these.
 pub record IsWholeLog (setup : Setup) (S : State) (log : List LogItem) : Type 0 where
   pub may_end : AreLegalEndings setup S [] (endings log)
   pub grouped : log ≡ groups setup S (endings log)
-
--- A group that is cut is a beginning of the effects of an event that may happen.
-pub record IsCut (setup : Setup) (S : State) (cut : List LogItem) : Type 0 where
-  pub event : Event
-  pub at : Moment
-  pub may_happen : MayHappen setup S at event
-  pub missing : List LogItem
-  pub effects : effects_of setup S at event ≡ cut ++ missing
-
--- A legal log from a state: whole groups, behind which a last one may be cut.
-pub record IsLegalLog (setup : Setup) (S : State) (log : List LogItem) : Type 0 where
-  pub whole : List LogItem
-  pub cut : List LogItem
-  pub parts : log ≡ whole ++ cut
-  pub is_whole : IsWholeLog setup S whole
-  pub is_cut : (cut ≡ []) ⊎ IsCut setup (ends setup S whole) cut

@@ -16,7 +16,7 @@ is_ending (Fault count pending) = true
 abbrev pub endings : List LogItem → List LogItem
 endings log = filter is_ending log
 
--- The endings are numbered from 1 in the order of the log.
+-- The endings are numbered from 1 in the order of the log. Nobody asks for 0, which would be the first one.
 abbrev pub ending : List LogItem → ℕ → Option LogItem
 ending log number = slice_get (endings log) (number - 1)
 

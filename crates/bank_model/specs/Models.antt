@@ -31,7 +31,7 @@ abbrev pub or_model_before : Option ModelRow → Option ModelRow → Option Mode
 or_model_before before None = before
 or_model_before before (Some row) = Some row
 
--- The row that the last entry gives which gives one to the recurring transfer of this id.
+-- The row of a recurring transfer: the one in the last entry that gives this id a row.
 unfoldable pub model_of : ℕ → List Entry → Option ModelRow
 model_of id entries =
     fold (λ (row : Option ModelRow) (entry : Entry). or_model_before row (if_model_named id (model_in entry.change))) None entries
@@ -69,7 +69,7 @@ is_made_by id (SetModel row pending) = false
 is_made_by id (DropModel dropped pending) = false
 is_made_by id (NewMail row) = false
 
--- The entries behind the last one that begins it anew, the latest first.
+-- The entries after the last one that begins it anew, the latest first.
 abbrev pub since_anew : ℕ → List Entry → List Entry
 since_anew id entries = take_while (λ (entry : Entry). not (begins_anew id entry.change)) (reverse entries)
 
@@ -86,7 +86,7 @@ is_waiting Posted = false
 is_waiting NoFunds = false
 is_waiting Cancelled = false
 
--- the transfers that entries made, each with its row
+-- the row that a transfer has by these entries, where this change made it
 abbrev pub made_in : List Entry → Change → List TransferRow
 made_in entries (NewTransfer row) = option_to_list (row_of row.id entries)
 made_in entries (SetTransfer row) = []

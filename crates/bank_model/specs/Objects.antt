@@ -18,6 +18,7 @@ account_about setup user (RecIntra account) = own_account setup user account
 account_about setup user (BankMail account) = own_account setup user account
 account_about setup user Mail = None
 
+-- the object that a numbering gives an account, where there is one
 abbrev pub numbered : (Option AcctId → ObjectId) → Option AcctId → Option ObjectId
 numbered number account = option_map (λ (known : AcctId). number (Some known)) account
 

@@ -21,7 +21,7 @@ days_of_months y zero = 0
 days_of_months y (suc m) = days_of_months y m + days_of_month y (suc m)
 
 -- The day of a civil date, counted from 1 January 1970: the days of the years since 1900 and of the months before it, and
--- its days of the month, less the 25,568 up to 1 January 1970.
+-- its days of the month, less the 25,568 from 1 January 1900 to 1 January 1970, both counted.
 unfoldable pub day_on : CivilDate → ℤ
 day_on date = pos (days_of_years (date.year - 1900) + days_of_months date.year (date.month - 1) + date.day) -ℤ pos 25568
 

@@ -42,7 +42,7 @@ pub record IsWrongAt (lines : List (List ℕ)) (k : ℕ) : Type 0 where
   pub begun : BeginSetup before
   pub wrong : BeginSetup (before ++ line ∷ []) → ⊥
 
--- None of these lines is wrong, and k is the line behind them: it is missing, or no LF ends it, or it holds byte
+-- None of these lines is wrong, and k is the line after them: it is missing, or no LF ends it, or it holds byte
 -- 262,145.
 pub record IsLackingAt (bytes : List ℕ) (k : ℕ) : Type 0 where
   pub number : k ≡ length (lines_within bytes) + 1

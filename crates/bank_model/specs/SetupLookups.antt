@@ -46,7 +46,7 @@ if_owned setup user (Some account) = if is_owner setup user account then Some ac
 abbrev pub own_account : Setup → UserId → AcctName → Option AcctId
 own_account setup user name = if_owned setup user (account_of setup name)
 
--- the name of a user
+-- the name of a user, empty where there is none
 abbrev pub name_in : Option User → List ℕ
 name_in None = []
 name_in (Some user) = user.name

@@ -36,12 +36,12 @@ abbrev pub Gives : {X Y : Type 0} → (X → Y) → Result X SetupFault → Resu
 Gives view (Ok x) read = read ≡ Ok (view x)
 Gives view (Err fault) read = Names fault read
 
--- the bytes before and behind the first byte that is the mark
+-- the bytes before and after the first byte that is the mark
 unfoldable pub cut : ℕ → List ℕ → Option (List ℕ × List ℕ)
 cut mark [] = None
 cut mark (b ∷ bs) = if b == mark then Some ([], bs) else (cut mark bs >>= λ parts. Some (b ∷ parts.0, parts.1))
 
--- what stands behind the key and a space
+-- what stands after the key and a space
 unfoldable pub behind_key : List ℕ → List ℕ → Option (List ℕ)
 behind_key key line = do
   parts ← cut 32 line
@@ -67,7 +67,7 @@ number_within lowest highest word = do
   n ← number_of word
   unless (nat_lt n lowest) (unless (nat_lt highest n) (Some n))
 
--- the first line without its end, and what stands behind it
+-- the first line without its end, and what stands after it
 unfoldable pub line_at : List ℕ → Option (List ℕ × List ℕ)
 line_at bytes = do
   parts ← cut 10 bytes
@@ -145,7 +145,7 @@ with_user draft fields =
     unless (nat_lt 0 (length draft.setup.accounts)) (unless (nat_le 1000 (length draft.setup.users)) (user_at fields >>= λ user.
     unless (is_taken user.name draft.setup.users) (Some (record draft { setup = record draft.setup { users = draft.setup.users ++ user ∷ [] } }))))
 
--- an account more: behind the first user, no more than 1,000, none with a name that stands already
+-- an account more: after the first user, no more than 1,000, none with a name that stands already
 unfoldable pub with_account : Draft → List ℕ → Option Draft
 with_account draft fields =
     unless (length draft.setup.users == 0) (unless (nat_lt 1000 (length draft.setup.users)) (unless (nat_le 1000 (length draft.setup.accounts))
@@ -153,12 +153,12 @@ with_account draft fields =
     unless (is_repeated account.name draft.setup.accounts) (openings_with draft.openings account.opening >>= λ openings.
     Some (record { setup = record draft.setup { accounts = draft.setup.accounts ++ account ∷ [] }; openings = openings })))))
 
--- what stands behind `USER`, and otherwise the line
+-- what stands after `USER`, and otherwise the line
 abbrev pub with_user_or_account : Draft → Option (List ℕ) → List ℕ → Option Draft
 with_user_or_account draft (Some fields) line = with_user draft fields
 with_user_or_account draft None line = behind_key (codes "ACCT") line >>= with_account draft
 
--- a line behind the first five, which is a user or an account
+-- a line after the first five, which is a user or an account
 unfoldable pub with_body_line : Draft → List ℕ → Option Draft
 with_body_line draft line = with_user_or_account draft (behind_key (codes "USER") line) line
 
@@ -169,7 +169,7 @@ with_format draft line = if bytes_eq line (codes "OFXBANK 1") then Some draft el
 unfoldable pub with_bank : Draft → List ℕ → Option Draft
 with_bank draft line = bank_at line >>= λ bank. Some (record draft { setup = record draft.setup { bank = bank } })
 
--- the number behind the key, from the lowest to the highest
+-- the number after the key, from the lowest to the highest
 unfoldable pub limit_at : List ℕ → ℕ → ℕ → List ℕ → Option ℕ
 limit_at key lowest highest line = behind_key key line >>= number_within lowest highest
 
@@ -210,7 +210,7 @@ last_part [] = []
 last_part (part ∷ []) = part
 last_part (part ∷ next ∷ parts) = last_part (next ∷ parts)
 
--- what stands behind the last LF
+-- what stands after the last LF
 unfoldable pub left_in : List ℕ → List ℕ
 left_in bytes = last_part (slice_split (λ b. b == 10) bytes)
 
@@ -223,11 +223,11 @@ pub record IsBounded (s : Setup) : Type 0 where
 abbrev pub objects_fit : Setup → Bool
 objects_fit setup = nat_le (kept setup) 1000000
 
--- whether a line is missing behind those of the draft, isn't ended, or goes on behind the most bytes
+-- whether a line is missing after those of the draft, isn't ended, or goes on after the most bytes
 abbrev pub lacks_line : List ℕ → List ℕ → Draft → Bool
 lacks_line bytes left draft = nat_lt 262144 (length bytes) || nat_lt 0 (length left) || (length draft.setup.accounts == 0)
 
--- the setup of a draft of all lines, or a fault behind the last line or at it
+-- the setup of a draft of all lines, or a fault after the last line or at it
 abbrev pub judged : List ℕ → Result Draft ℕ → Result Setup ℕ
 judged bytes (Err k) = Err k
 judged bytes (Ok draft) =

@@ -60,13 +60,14 @@ IsSoundDeed (CancelModel id pending) = IsId id
 IsSoundDeed (BankMail account mail) = IsSoundAccount account × IsSoundMail mail
 IsSoundDeed (Mail mail) = IsSoundMail mail
 
--- Each deed of a synchronisation is of the object's family.
+-- The account of an object is within its bounds.
 abbrev pub IsSoundObject : ObjectName → Type 0
 IsSoundObject (objects.Intra account) = IsSoundAccount account
 IsSoundObject (objects.RecIntra account) = IsSoundAccount account
 IsSoundObject (objects.BankMail account) = IsSoundAccount account
 IsSoundObject objects.Mail = Unit {0}
 
+-- Each deed of a synchronisation is of the object's family.
 abbrev pub IsSoundPair : Family → List ℕ × Deed → Type 0
 IsSoundPair family deed = IsClientUid deed.0 × IsSoundDeed deed.1 × (family_of deed.1 ≡ family)
 

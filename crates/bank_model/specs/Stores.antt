@@ -77,6 +77,7 @@ model_if_named id found (transfer_row row) = if row.id == id then row.model else
 model_if_named id found (model_row row) = found
 model_if_named id found (mail_row row) = found
 
+-- the recurring transfer of the row with this id, 0 where no transfer has it
 abbrev pub model_among : ℕ → List Row → ℕ
 model_among id rows = fold (model_if_named id) 0 rows
 
@@ -112,8 +113,8 @@ rows_under (Some object) token entries = rows_entered object token entries
 
 -- ---- the changes of a reply
 
--- What a change does to the rows that a client has of an object of a family; a change of another family does nothing. A mail about an account is
--- of the mail about it, any other mail of the user's other mail.
+-- What a change does to the rows that a client has of an object of a family; a change of another family does nothing. A mail
+-- about an account is of the mail about it, any other mail of the user's other mail.
 unfoldable pub changed : Family → List Row → Change → List Row
 changed families.Intra rows (NewTransfer row) = put row.id (transfer_row row) rows
 changed families.Intra rows (SetTransfer row) = put row.id (transfer_row (with_model (model_among row.id rows) row)) rows
@@ -133,6 +134,10 @@ pub record Store : Type 0 where
   pub token : ℕ
   pub is_lost : Bool
   pub rows : List Row
+
+-- a store of which nothing is known yet
+abbrev pub empty_store : ObjectName → Store
+empty_store name = record { name = name; token = 0; is_lost = false; rows = [] }
 
 -- A user's store is right where it is marked lost, or where its token is no newer than the object of its name and it holds the rows
 -- of this object up to its token.
@@ -156,7 +161,8 @@ abbrev pub marked_lost : Store → Store
 marked_lost store = record { name = store.name; token = store.token; is_lost = true; rows = store.rows }
 
 -- A reply to a client that asks for the token alone changes nothing. One that tells it that it has lost its place marks the
--- store so. Any other brings the changes, to the rows that are there or to none where all was asked for, and a token.
+-- store so. Any other brings the changes, to the rows that are there or to none where all was asked for, and
+-- the reply's token, 0 where its text is none.
 unfoldable pub taken : Store → SyncKind → SyncReply → Store
 taken store TokenOnly reply = store
 taken store (After text) reply =

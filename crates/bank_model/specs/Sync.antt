@@ -63,8 +63,7 @@ entries_above (Some token) entries = filter (is_above token) entries
 abbrev pub told_entry : Family → Entry → DeedReply
 told_entry family entry = told_as family entry.trnuid entry.change
 
--- What stands now: the row of each transfer, recurring transfer and mail that the object's history made, in the order in
--- which it made them. Those that are cancelled are left out.
+-- A row is told as if it were new, and one that is cancelled isn't told.
 abbrev pub standing_transfer : Option TransferRow → List Change
 standing_transfer None = []
 standing_transfer (Some row) = if is_cancelled row.code then [] else NewTransfer row ∷ []
@@ -82,6 +81,8 @@ standing_in entries (SetModel row pending) = []
 standing_in entries (DropModel id pending) = []
 standing_in entries (NewMail row) = NewMail row ∷ []
 
+-- What stands now: the row of each transfer, recurring transfer and mail that the object's history made, in the order in
+-- which it made them. Those that are cancelled are left out.
 unfoldable pub standing : ObjectId → List Entry → List Change
 standing object entries = flat_map (λ (entry : Entry). standing_in entries entry.change) (history_of object entries)
 
@@ -100,12 +101,13 @@ history_told window object family entries Refresh = map (told_as family (codes "
 abbrev pub refused_with : Family → ℕ → List ℕ × Deed → DeedReply
 refused_with family code deed = record { trnuid = deed.0; family = family; code = code; change = None }
 
--- Where deeds are to be refused to a client that missed something, one that doesn't name a token gets 6500, and one that
--- doesn't name the newest gets 6502.
+-- whether a token is the newest one
 abbrev pub is_newest : ℕ → Option ℕ → Bool
 is_newest number None = false
 is_newest number (Some token) = token == number
 
+-- Where deeds are to be refused to a client that missed something, one that doesn't name a token gets 6500, and one that
+-- doesn't name the newest gets 6502.
 abbrev pub unless_newest : ℕ → SyncKind → Option ℕ
 unless_newest number (After text) = if is_newest number (token_of text) then None else Some 6502
 unless_newest number TokenOnly = Some 6500
@@ -140,7 +142,7 @@ pub record SyncAnswer : Type 0 where
   pub after : State
 
 -- Whether the client has lost its place, the history that it is told and whether its deeds are refused are judged on the state
--- before the deeds. The token that is told is the newest one behind them.
+-- before the deeds. The token that is told is the newest one after them.
 unfoldable pub sync_on : Setup → State → UserId → Moment → SyncAsk → Option ObjectId → SyncAnswer
 sync_on setup S user at ask None = record {
   reply = record {

@@ -14,7 +14,7 @@ use ofx_types::{AcctId, AcctName, Ask, ObjectId, ObjectName, RequestFile, SyncKi
 
 impl Setup {
     /// The object of that name for a user, who is one of the setup's. Of account a the transfers have the number 3a, the
-    /// recurring transfers 3a + 1 and the mail about it 3a + 2; behind those of all accounts comes each user's other mail.
+    /// recurring transfers 3a + 1 and the mail about it 3a + 2; after those of all accounts comes each user's other mail.
     /// None exactly where the name has an account that isn't the user's. Takes no memory.
     #[tactic(auto, unfolding(crate::specs::Objects::object_named))]
     pub fn object(&self, user: UserId, name: &ObjectName) -> Option<ObjectId>
@@ -83,7 +83,7 @@ impl Setup {
         }
     }
 
-    /// The object of a user's other mail, behind those of all accounts. The user is one of the setup's. Takes no memory.
+    /// The object of a user's other mail, after those of all accounts. The user is one of the setup's. Takes no memory.
     pub fn mail_object(&self, user: UserId) -> ObjectId
         requires within { IsWithinLimits self.now }
         requires known { user.0 < length self.now.users }

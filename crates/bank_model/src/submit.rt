@@ -4,15 +4,16 @@ ghost use Rattle.std.specs.Prelude.{◌≡◌};
 ghost use Rattle.bank_model.specs.declared.submit.SubmitFault.TheVariants as faults;
 
 use ofx_types::OutOfMemory;
-use std::error::Error;
-use std::fmt;
+use thiserror::Error;
 
 /// Why an event wasn't committed.
-#[derive(Clone, Copy, Debug, PartialEq, Eq)]
+#[derive(Clone, Copy, Debug, PartialEq, Eq, Error)]
 pub enum SubmitFault {
     /// A call of the keeper of the records failed, and its count of faults rose to this number.
+    #[error("the record could not be kept")]
     Keeper(u64),
     /// Memory was refused.
+    #[error("out of memory")]
     OutOfMemory,
 }
 
@@ -23,14 +24,3 @@ impl From<OutOfMemory> for SubmitFault {
         SubmitFault::OutOfMemory
     }
 }
-
-impl fmt::Display for SubmitFault {
-    fn fmt<W: fmt::Write>(&self, f: &mut fmt::Formatter<W>) -> fmt::Result {
-        match self {
-            SubmitFault::Keeper(_) => write!(f, "the record could not be kept"),
-            SubmitFault::OutOfMemory => write!(f, "out of memory"),
-        }
-    }
-}
-
-impl Error for SubmitFault {}

@@ -1,6 +1,9 @@
+pub mod InOrderLemmas
+pub mod UpcomingLemmas
 pub mod GrowthLemmas
 pub mod StandsLemmas
 pub mod SpawnLemmas
 pub mod CivilDays
 pub mod SeriesDays
 pub mod LibraryMonths
+pub mod AheadLemmas

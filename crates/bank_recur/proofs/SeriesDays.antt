@@ -103,7 +103,7 @@ twice_from_early first day k small = elim (cases_lt 0 (k % 2)) [
   | inr ge ↦ let even : k % 2 ≡ 0 = omega arith in twice_even first day k even ∙ rw (even, add-zero) refl
 ]
 
--- and where it begins in the second half they are one behind
+-- and where it begins in the second half they are one after
 twice_from_late : (first : ℤ) (day k : ℕ) → 15 < day → twice_monthly first day k ≡ half_day first (day - 15) (k + 1)
 twice_from_late first day k large = elim (cases_lt 0 (k % 2)) [
   | inl lt ↦ let odd : k % 2 ≡ 1 = omega arith in

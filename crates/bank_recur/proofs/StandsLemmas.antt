@@ -1,14 +1,16 @@
 -- Recurring transfers that stand for a list of entries, and one entry more.
-use Rattle.std.proofs.Common.{◌≡◌, ℕ, ◌+◌, ◌<◌, ◌≤◌, Bool, true, false, ◌||◌, cond, eqb, nat_lt, List, [], ◌∷◌, ◌++◌, length, get_or, set, Option, None, Some, is_some, refl, sym, ap, ◌∙◌, subst}
+use Rattle.std.proofs.Common.{◌≡◌, ℕ, ◌+◌, ◌<◌, ◌≤◌, Bool, true, false, not, ◌||◌, cond, eqb, nat_lt, map, List, [], ◌∷◌, ◌++◌, length, get_or, set, Option, None, Some, is_some, refl, sym, ap, ◌∙◌, subst}
 use Rattle.std.proofs.Math.Bool.{or-false, or-true}
 use Rattle.std.proofs.Math.Seq.{map-set_same}
 use Rattle.std.proofs.lemmas.Bool.{eqb-true, eq-eqb, ltb-false}
-use Rattle.std.proofs.lemmas.List.{append-nil, map-append}
+use Rattle.std.proofs.lemmas.List.{append-nil, map-append, length-map}
 use Rattle.std.proofs.lemmas.List.Folds.{find-append, find-set, find_past, find_at}
 use Rattle.std.proofs.lemmas.List.Quantifiers.{position-Some}
 use Rattle.std.proofs.lemmas.Option.{slice_get_past, slice_get-get_or}
 use Rattle.std.specs.Option.{option_map, option_or}
-use Rattle.std.specs.List.{AllByRecursion, IsDistinct, position, position_or_len, slice_get}
+use Rattle.std.specs.Cmp.{nat_eq_equiv}
+use Rattle.std.specs.List.{AllByRecursion, IsDistinct, list_any, position, position_or_len, slice_get}
+use Rattle.indexmap.specs.IndexSet.{insert_key}
 use Rattle.ofx_types.specs.declared.recurring.ModelRow.{ModelRow}
 use Rattle.ofx_types.specs.declared.transfer.TransferRow.{TransferRow}
 use Rattle.ofx_types.specs.declared.transfer.Change.{Change}
@@ -36,7 +38,7 @@ stands_more old new entries entry stands grows = record {
   order = grows.order ∙ ap (λ ids. ids ++ id_made entry.change) stands.order ∙ sym (ids_made-push entries entry);
 }
 
--- ---- one recurring transfer in another's stead, or behind all others
+-- ---- one recurring transfer in another's stead, or after all others
 
 -- The recurring transfers are as they were, but for the one of an id.
 abbrev pub IsNow : ℕ → Series → List Series → List Series → Type 0
@@ -82,6 +84,33 @@ is_at id at one series seen where_is looked same is element =
     first : (b : Bool) (n : ℕ) → cond b (Some n) None ≡ Some at → at ≡ n
     first true n is = cc
     first false n is = cc
+
+-- ---- the ids beside the recurring transfers
+
+prefix-map : {A B : Type 0} (f : A → B) (p : B → Bool) (xs : List A) → position_or_len p (map f xs) ≡ position_or_len (λ x. p (f x)) xs
+prefix-map f p [] = refl
+prefix-map f p (x ∷ xs) = ap (λ n. cond (not (p (f x))) (1 + n) 0) (prefix-map f p xs)
+
+-- The place of an id among them is that of its recurring transfer.
+pub place_by_id : (id : ℕ) (ids : List ℕ) (series : List Series) → ids ≡ ids_of series → position (λ k. eqb id k) ids ≡ position (is_named id) series
+place_by_id id ids series same =
+    ap (position (λ k. eqb id k)) same
+    ∙ (λ i. position (λ k. nat_eq_equiv.symm id k i) (ids_of series))
+    ∙ (λ i. cond (nat_lt (prefix-map (λ (one : Series). one.row.id) (λ k. eqb k id) series i) (length-map series (λ (one : Series). one.row.id) i)) (Some (prefix-map (λ (one : Series). one.row.id) (λ k. eqb k id) series i)) None)
+
+no_id : (id : ℕ) (series : List Series) → series_found id series ≡ None → list_any (λ k. eqb id k) (ids_of series) ≡ false
+no_id id [] none = refl
+no_id id (one ∷ series) none = (λ i. nat_eq_equiv.symm id one.row.id i || list_any (λ k. eqb id k) (ids_of series)) ∙ (elim (eqb one.row.id id) as (λ b. cond b (Some one) (series_found id series) ≡ None → (b || list_any (λ k. eqb id k) (ids_of series)) ≡ false) [
+  | true ↦ (λ none. cc)
+  | false ↦ (λ none. no_id id series none)
+]) none
+
+pub ids_inserted : (one : Series) (ids : List ℕ) (series : List Series) → series_found one.row.id series ≡ None → ids ≡ ids_of series
+    → insert_key (λ a b. eqb a b) ids one.row.id ≡ ids_of (series ++ one ∷ [])
+ids_inserted one ids series none same =
+    ap (λ (l : List ℕ). insert_key (λ a b. eqb a b) l one.row.id) same
+    ∙ ap (λ b. cond b (ids_of series) (ids_of series ++ one.row.id ∷ [])) (no_id one.row.id series none)
+    ∙ sym (map-append (λ (s : Series). s.row.id) series (one ∷ []))
 
 pub now_set : (id at : ℕ) (one new : Series) (series : List Series) → IsAt id at one series → new.row.id ≡ id → IsNow id new series (set series at new)
 now_set id at one new series is_there same other = named (eqb id other) refl

@@ -69,7 +69,7 @@ pub record StandsFor (models : ModelsView) (entries : List Entry) : Type 0 where
   pub places : (id : ℕ) → is_some (row_found id models.series) ≡ true → place_found id models.series ≡ next_place id entries
   pub order : ids_of models.series ≡ ids_made entries
 
--- The row that a change behind a list of entries gives: that of a recurring transfer whose id is new, or the one that a
+-- The row that a change after a list of entries gives: that of a recurring transfer whose id is new, or the one that a
 -- recurring transfer has from now on.
 abbrev pub GivesModel : List Entry → Change → ModelRow → Type 0
 GivesModel entries (NewTransfer given) row = ⊥

@@ -6,7 +6,7 @@ ghost use Rattle.bank_model.specs.Models.{model_in, if_model_named, or_model_bef
 ghost use Rattle.bank_recur.specs.Growth.{place_after};
 ghost use Rattle.bank_recur.specs.ModelsView.{ModelsView, StandsFor, LeavesModels};
 
-/// The row of a recurring transfer behind one entry more is the one that the entry gives to it, or else its row before.
+/// The row of a recurring transfer after one entry more is the one that the entry gives to it, or else its row before.
 pub fn model_by_one_more()
     ensures { (id : ℕ) (entries : List Entry) (entry : Entry) → model_of id (entries ++ entry ∷ [])
         ≡ or_model_before (model_of id entries) (if_model_named id (model_in entry.change)) }
@@ -18,7 +18,7 @@ pub fn model_dropped_by_one_more()
         is_model_dropped id (entries ++ entry ∷ []) ≡ (is_model_dropped id entries || drops_model id entry.change) }
 {}
 
-/// The place of a recurring transfer's next one behind one entry more follows from its place before and what the entry
+/// The place of a recurring transfer's next one after one entry more follows from its place before and what the entry
 /// says.
 pub fn place_by_one_more()
     ensures { (id : ℕ) (entries : List Entry) (entry : Entry) →

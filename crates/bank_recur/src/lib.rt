@@ -7,17 +7,15 @@
 
 mod date;
 mod judging;
-mod laws;
+pub mod laws;
 mod models;
 mod series;
 mod spawn;
+mod upcoming;
 
 pub use date::{
     civil_of_its_day, date_of, day_of_its_civil_date, series_begins, series_ends,
     series_has_few_places, series_rises,
 };
 pub use judging::{judge_model, judge_model_cancel, judge_model_modify};
-pub use laws::{
-    model_by_one_more, model_dropped_by_one_more, others_leave_models, place_by_one_more,
-};
 pub use models::Models;

@@ -1,4 +1,5 @@
-//! The rows of a bank's recurring transfers, with how many transfers each has made.
+//! The rows of a bank's recurring transfers, with how many transfers each has made, found by their ids' hashes, and their
+//! next transfers in order.
 
 ghost use Rattle.std.specs.Prelude.{◌≡◌, ◌+◌, ◌<◌, ◌≤◌, ◌∷◌, ◌++◌, [], List, ◌==◌, Some, is_some, true, OnOk};
 ghost use Rattle.std.specs.Option.{option_copied, option_map};
@@ -8,33 +9,40 @@ ghost use Rattle.bank_model.specs.declared.entry.Entry.{Entry};
 ghost use Rattle.bank_model.specs.Models.{model_of, is_model_dropped, next_place};
 ghost use Rattle.bank_model.specs.Due.{first_task, to_make, date_to_make};
 ghost use Rattle.bank_recur.specs.ModelsView.{series_found, row_found, place_found, StandsFor, GivesModel, Cancels, IsMadeBy};
-ghost use Rattle.bank_recur.specs.Spawning.{date_found, first_spawn};
+ghost use Rattle.bank_recur.specs.Spawning.{date_found};
 
 use crate::series::HeldSeries;
-use crate::spawn::{Spawn, earlier};
+use crate::upcoming::Upcoming;
+use indexmap::IndexSet;
 use ofx_types::{Day, ModelRow, OutOfMemory};
 use std::alloc::Global;
 use std::marker::Model;
 
-/// The recurring transfers of a bank, in the order in which they were made.
+/// The recurring transfers of a bank, in the order in which they were made, their ids in the same order, and the next
+/// transfers of those that make one, in the order in which they are made. There is a place for one of each.
 #[derive(Debug, Drop)]
 pub struct Models {
     series: Vec<HeldSeries>,
+    ids: IndexSet<u64>,
+    upcoming: Upcoming,
 }
 
 impl Model for Models {
-    ghost use Rattle.std.specs.Prelude.{◌-◌, ◌==◌, vec_len, vec_capacity};
-    ghost use Rattle.std.specs.List.{IsDistinct};
-    ghost use Rattle.bank_recur.specs.ModelsView.{ModelsView, IsOnce};
+    ghost use Rattle.std.specs.Prelude.{◌≡◌, ◌-◌, min, length, vec_len, vec_capacity};
+    ghost use Rattle.std.specs.HashSet.{spare};
+    ghost use Rattle.bank_recur.specs.ModelsView.{ModelsView, ids_of, IsOnce};
+    ghost use Rattle.bank_recur.specs.Ahead.{IsAhead};
 
     ghost Value = { ModelsView };
 
     ghost view = { λ m. record {
       series = m.series.items;
-      room = vec_capacity m.series - vec_len m.series;
+      room = min (min (vec_capacity m.series - vec_len m.series) (spare m.ids)) (m.upcoming.places - length m.series.items);
     } };
 
-    ghost invariant = { λ m. IsOnce m.series.items };
+    ghost invariant = { λ m. IsOnce m.series.items
+        × (m.ids.keys ≡ ids_of m.series.items)
+        × IsAhead m.series.items m.upcoming };
 }
 
 impl Models {
@@ -44,6 +52,8 @@ impl Models {
     {
         Models {
             series: Vec::new(alloc),
+            ids: IndexSet::new(alloc),
+            upcoming: Upcoming::new(alloc),
         }
     }
 
@@ -53,7 +63,7 @@ impl Models {
         ensures stood_for { (entries : List Entry) → StandsFor self.now entries
             → option_copied result ≡ model_of id entries }
     {
-        match own(&self.series, id) {
+        match self.own(id) {
             Some(one) => Some(one.row()),
             None => None,
         }
@@ -63,7 +73,7 @@ impl Models {
     pub fn cancelled(&self, id: u64) -> bool
         ensures { (entries : List Entry) → StandsFor self.now entries → result ≡ is_model_dropped id entries }
     {
-        match own(&self.series, id) {
+        match self.own(id) {
             Some(one) => one.is_cancelled(),
             None => false,
         }
@@ -76,7 +86,7 @@ impl Models {
         ensures held { result ≡ place_found id self.now.series }
         ensures stood_for { (entries : List Entry) → StandsFor self.now entries → result ≡ next_place id entries }
     {
-        match own(&self.series, id) {
+        match self.own(id) {
             Some(one) => one.place(),
             None => 0,
         }
@@ -92,10 +102,13 @@ impl Models {
         ensures room_stays { self.old.room ≤ self.new.room }
     {
         self.series.reserve(models as usize)?;
+        self.ids.reserve(models as usize)?;
+        let ahead = self.series.len() - self.upcoming.len();
+        self.upcoming.reserve(ahead + models as usize)?;
         Ok(())
     }
 
-    /// Takes in a new recurring transfer, behind all others, or the row that one has from now on, in its place; it begins
+    /// Takes in a new recurring transfer, after all others, or the row that one has from now on, in its place; it begins
     /// anew. There is room for it, and it takes no memory.
     pub fn put(&mut self, row: ModelRow)
         requires room { 0 < self.old.room }
@@ -107,9 +120,23 @@ impl Models {
         ensures place { place_found row.id self.new.series ≡ 0 }
         ensures room { self.old.room ≤ self.new.room + 1 }
     {
-        match place_of(&self.series, row.id) {
-            Some(at) => self.series[at].begin_anew(row),
-            None => self.series.push_reserved(HeldSeries::new(row)),
+        let id = row.id;
+        match self.place_of(id) {
+            Some(at) => {
+                let one = &mut self.series[at];
+                let before = one.date_ahead();
+                one.begin_anew(row);
+                let after = one.date_ahead();
+                self.upcoming.exchange(id, before, after);
+            }
+            None => {
+                let one = HeldSeries::new(row);
+                let day = one.date_ahead();
+                self.series.push_reserved(one);
+                let added: Result<_, _> = self.ids.insert(id);
+                let _new = added.unwrap();
+                self.upcoming.enter(id, day);
+            }
         }
     }
 
@@ -120,8 +147,12 @@ impl Models {
             → StandsFor self.new (entries ++ entry ∷ []) }
         ensures room { self.new.room ≡ self.old.room }
     {
-        if let Some(at) = place_of(&self.series, id) {
-            self.series[at].cancel();
+        if let Some(at) = self.place_of(id) {
+            let one = &mut self.series[at];
+            let before = one.date_ahead();
+            one.cancel();
+            let after = one.date_ahead();
+            self.upcoming.exchange(id, before, after);
         }
     }
 
@@ -134,8 +165,12 @@ impl Models {
             → StandsFor self.new (entries ++ entry ∷ []) }
         ensures room { self.new.room ≡ self.old.room }
     {
-        if let Some(at) = place_of(&self.series, id) {
-            self.series[at].step();
+        if let Some(at) = self.place_of(id) {
+            let one = &mut self.series[at];
+            let before = one.date_ahead();
+            one.step();
+            let after = one.date_ahead();
+            self.upcoming.exchange(id, before, after);
         }
     }
 
@@ -144,7 +179,7 @@ impl Models {
     pub fn date_to_make(&self, id: u64, last: Day) -> Option<Day>
         ensures { (entries : List Entry) → StandsFor self.now entries → result ≡ date_to_make last id entries }
     {
-        next_date(own(&self.series, id), last)
+        next_date(self.own(id), last)
     }
 
     /// The recurring transfer that makes its next transfer first of those that make one by a last day, with the
@@ -153,18 +188,28 @@ impl Models {
         ensures { (entries : List Entry) → StandsFor self.now entries → result
             ≡ option_map (λ task. (task.id, next_place task.id entries)) (first_task (to_make last entries)) }
     {
-        match first_of(&self.series, last) {
-            Some(spawn) => Some((spawn.id, spawn.place)),
+        match self.upcoming.first() {
+            Some(first) if first.day.0 <= last.0 => Some((first.id, self.next_k(first.id))),
+            _ => None,
+        }
+    }
+
+    /// Where the recurring transfer with this id stands.
+    fn place_of(&self, id: u64) -> Option<usize>
+        ensures { result ≡ position (λ one. one.row.id == id) self.now.series }
+    {
+        self.ids.get_index_of(&id)
+    }
+
+    /// The recurring transfer with this id.
+    fn own(&self, id: u64) -> Option<&HeldSeries>
+        ensures { option_copied result ≡ series_found id self.now.series }
+    {
+        match self.ids.get_index_of(&id) {
+            Some(at) => Some(&self.series[at]),
             None => None,
         }
     }
-}
-
-/// The recurring transfer with this id.
-fn own(series: &[HeldSeries], id: u64) -> Option<&HeldSeries>
-    ensures { option_copied result ≡ series_found id series.now }
-{
-    series.iter().find(|one| one.id() == id)
 }
 
 /// The date of the next transfer of a recurring transfer, where there is one and it makes one by a last day.
@@ -175,22 +220,4 @@ fn next_date(one: Option<&HeldSeries>, last: Day) -> Option<Day>
         Some(one) => one.date_by(last),
         None => None,
     }
-}
-
-/// Where the recurring transfer with this id stands.
-fn place_of(series: &[HeldSeries], id: u64) -> Option<usize>
-    ensures { result ≡ position (λ one. one.row.id == id) series.now }
-{
-    series.iter().position(|one| one.id() == id)
-}
-
-/// The first of all next transfers by a last day.
-fn first_of(series: &[HeldSeries], last: Day) -> Option<Spawn>
-    ensures { result ≡ first_spawn last series.now }
-{
-    let mut first = None;
-    for one in series {
-        first = earlier(first, one.spawn_by(last));
-    }
-    first
 }

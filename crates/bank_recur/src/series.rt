@@ -4,10 +4,9 @@ ghost use Rattle.std.specs.Prelude.{◌≡◌, ◌+◌, ◌<◌, true, false};
 ghost use Rattle.ofx_types.specs.Calendar.{IsDay};
 ghost use Rattle.bank_model.specs.Due.{date_in_series, is_below_count};
 ghost use Rattle.bank_recur.specs.ModelsView.{Series};
-ghost use Rattle.bank_recur.specs.Spawning.{date_by, spawn_by};
+ghost use Rattle.bank_recur.specs.Spawning.{date_ahead, date_by};
 
 use crate::date::date_of;
-use crate::spawn::Spawn;
 use ofx_types::{Day, ModelRow};
 use std::marker::Model;
 
@@ -53,13 +52,6 @@ impl HeldSeries {
         &self.row
     }
 
-    /// Its id (RECSRVRTID).
-    pub(crate) fn id(&self) -> u64
-        ensures { result ≡ self.now.row.id }
-    {
-        self.row.id
-    }
-
     /// Whether it is cancelled.
     pub(crate) fn is_cancelled(&self) -> bool
         ensures { result ≡ self.now.cancelled }
@@ -74,6 +66,13 @@ impl HeldSeries {
         self.place
     }
 
+    /// The date of its next transfer, where it makes one.
+    pub(crate) fn date_ahead(&self) -> Option<Day>
+        ensures { result ≡ date_ahead self.now }
+    {
+        if self.cancelled { None } else { self.next }
+    }
+
     /// The date of the next transfer that it makes by a last day.
     pub(crate) fn date_by(&self, last: Day) -> Option<Day>
         ensures { result ≡ date_by last self.now }
@@ -84,20 +83,6 @@ impl HeldSeries {
         match self.next {
             Some(day) if day.0 <= last.0 => Some(day),
             _ => None,
-        }
-    }
-
-    /// The next transfer that it makes by a last day.
-    pub(crate) fn spawn_by(&self, last: Day) -> Option<Spawn>
-        ensures { result ≡ spawn_by last self.now }
-    {
-        match self.date_by(last) {
-            Some(day) => Some(Spawn {
-                day,
-                id: self.row.id,
-                place: self.place,
-            }),
-            None => None,
         }
     }
 

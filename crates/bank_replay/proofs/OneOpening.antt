@@ -36,7 +36,7 @@ abbrev pub ReopeningGoesOn : Type 0
 ReopeningGoesOn = (setup : Setup) (before : State) (first second : List (List ℕ)) (after : State) →
     Reopens setup before (first ++ second) after ↔ ((between : State) × Reopens setup before first between × Reopens setup between second after)
 
--- ---- the record behind which no bank opens
+-- ---- the record after which no bank opens
 
 -- a bank in this state goes on by no records of which this is the first
 abbrev IsStuck : Setup → State → List ℕ → Type 0
@@ -74,7 +74,7 @@ places [] rec more (y ∷ before') rec' more' e = first before' cc
 places (x ∷ before) rec more [] rec' more' e = second before cc
 places (x ∷ before) rec more (y ∷ before') rec' more' e = one_behind x y before rec before' rec' (cc) (places before rec more before' rec' more' (cc))
 
--- Two records behind which no bank opens are one.
+-- Two records after which no bank opens are one.
 record IsOne (before : List (List ℕ)) (rec : List ℕ) (before' : List (List ℕ)) (rec' : List ℕ) : Type 0 where
   before_is : before ≡ before'
   rec_is : rec ≡ rec'

@@ -33,7 +33,7 @@ begins_empty (Some all) = (all, refl)
 pub none_taken : (setup : Setup) (told : Option (List (List ℕ))) → HasTaken setup told 0 opening_state
 none_taken setup told = record { records = []; begins = begins_empty told; counted = refl; reopens = refl }
 
--- the record at the place behind others is the next one
+-- the record at the place after others is the next one
 next_at : (before more : List (List ℕ)) (rec : List ℕ) → slice_get (before ++ more) (length before) ≡ Some rec → (rest : List (List ℕ)) × (more ≡ rec ∷ rest)
 next_at [] [] rec found = cc
 next_at [] (first ∷ rest) rec found = (rest, cc)
@@ -145,4 +145,11 @@ pub counts_done : {X : Type 0} (before now : ℕ) (opened : X) (other : OpenFaul
 counts_done {X = X} before now opened other low = record {
   later = low;
   cause = λ h. absurd (true≢false (ap (λ (r : Result X OpenFault). is_ok r) h));
+}
+
+-- want of memory is no fault of a read
+pub counts_refused : {X : Type 0} (before now : ℕ) → before ≤ now → CountsFaults before now (IsErrOf {T = X} (Err OutOfMemory) Read)
+counts_refused {X = X} before now low = record {
+  later = low;
+  cause = λ h. absurd (let both : failing X OutOfMemory ≡ failing X Read = h in cc);
 }

@@ -3,14 +3,11 @@
 #![tactic(auto)]
 
 mod fault;
-mod laws;
+pub mod laws;
 mod record;
 mod records;
 mod replay;
 
 pub use fault::OpenFault;
-pub use laws::{
-    causes_open_nothing, one_cause, one_opening, reopened_books_are_right, reopenings_are_runs,
-};
 pub use record::record_of;
 pub use records::reopen;

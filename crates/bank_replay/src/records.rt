@@ -21,8 +21,10 @@ use bank_solo::SoloBank;
 use event_codec::laws::reopening_goes_on;
 use ofx_ports::Keeper;
 use std::alloc::Global;
+use std::hash::RandomState;
 
 /// Opens the bank of that setup from the records that are kept: the book and its accounts stand for them.
+/// Clients' names are found by hashes with these keys.
 ///
 /// - `Read` only where the keeper's count of faults rose in this call.
 /// - `Record(n, at)`: record n, from 1, is the first that codes no event, with the place of its first fault.
@@ -30,6 +32,7 @@ use std::alloc::Global;
 /// - `OutOfMemory`.
 pub fn reopen<K: Keeper, P: Printer>(
     alloc: Global,
+    keys: RandomState,
     keeper: &mut K,
     setup: Setup,
     printer: P,
@@ -57,12 +60,13 @@ pub fn reopen<K: Keeper, P: Printer>(
     one_opening();
     one_cause();
     causes_open_nothing();
-    take_all(alloc, keeper, setup, printer)
+    take_all(alloc, keys, keeper, setup, printer)
 }
 
 /// Lets the events of all records happen, from the first one on.
 fn take_all<K: Keeper, P: Printer>(
     alloc: Global,
+    keys: RandomState,
     keeper: &mut K,
     setup: Setup,
     printer: P,
@@ -79,7 +83,7 @@ fn take_all<K: Keeper, P: Printer>(
     ensures faults { CountsFaults (K.faults keeper.old) (K.faults keeper.new) (IsErrOf result OpenFault.Read) }
 {
     reopening_goes_on();
-    let mut bank = SoloBank::begin(alloc, setup, printer)?;
+    let mut bank = SoloBank::begin(alloc, keys, setup, printer)?;
     let mut rec = Vec::new(alloc);
     for before in 0..keeper.len() {
         take_kept(alloc, keeper, &mut bank, before + 1, &mut rec)?;

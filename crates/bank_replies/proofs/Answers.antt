@@ -1,4 +1,4 @@
--- The answers to deeds are sound, and the history may be told behind them.
+-- The answers to deeds are sound, and the history may be told after them.
 use Rattle.std.proofs.Common.{◌≡◌, ◌≢◌, ℕ, ◌<◌, ◌≤◌, ◌⊎◌, inl, inr, Bool, true, false, cond, eqb, List, [], ◌∷◌, ◌++◌, length, map, Option, None, Some, refl, sym, ◌∙◌, subst, arith}
 use Rattle.std.specs.List.{AllByRecursion}
 use Rattle.std.proofs.lemmas.Bool.{eqb-true, eq-eqb}
@@ -23,7 +23,7 @@ use Rattle.bank_model.specs.Deeds.{done, code_of, added, first_change, after_dee
 use Rattle.bank_model.specs.Sync.{told_as, refused_with, deed_answers}
 use Rattle.bank_model.specs.Sound as file
 use Rattle.bank_laws.proofs.Events.{Grows, grows_deed}
-use Rattle.bank_rules.proofs.Lists.{all_append}
+use Rattle.bank_model.proofs.Lists.{all_append}
 use Rattle.bank_rules.proofs.StateLemmas.{IsAllowed-from_code}
 use Rattle.msg_parts.specs.SoundParts.{IsTextWithin, mail_family, family_of_change}
 use Rattle.msg_sync.specs.SoundSyncs.{IsSoundAnswer, IsSoundToldIn}

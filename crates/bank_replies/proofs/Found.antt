@@ -17,7 +17,7 @@ use Rattle.bank_rules.proofs.PendingLemmas.{IsHere, waiting_wait}
 use Rattle.msg_deed.specs.SoundDeeds.{IsId, IsSoundInfo, IsSoundModelRow}
 use Rattle.msg_parts.specs.SoundParts.{IsSoundMoment}
 use Rattle.bank_replies.specs.Telling.{IsToldChange, IsToldEntry}
-use Rattle.bank_rules.proofs.Lists.{all_step}
+use Rattle.bank_model.proofs.Lists.{all_step}
 
 -- A row that may be told, unless it is cancelled.
 pub record IsKnownRow (row : TransferRow) : Type 0 where

@@ -1,32 +1,9 @@
--- What passes a test stands behind what doesn't: that is seen by what each element says to the test alone.
+-- What passes a test stands after what doesn't: that is seen by what each element says to the test alone.
 use Rattle.std.proofs.Common.{◌≡◌, Bool, true, false, not, cond, List, [], ◌∷◌, ◌++◌, filter, map, refl, sym, ap, ◌∙◌}
 use Rattle.std.specs.List.{list_all}
 use Rattle.std.proofs.lemmas.Bool.{and_parts, and_from, true≢false}
 use Rattle.std.proofs.lemmas.List.Folds.{list_all-map}
-
--- what passes stands last
-abbrev pub IsLast : {X : Type 0} → (X → Bool) → List X → Type 0
-IsLast p xs = xs ≡ filter (λ x. not (p x)) xs ++ filter p xs
-
-filter_passes : {X : Type 0} (p : X → Bool) (xs : List X) → list_all p (filter p xs) ≡ true
-filter_passes p [] = refl
-filter_passes {X} p (x ∷ xs) = one (p x) refl (filter_passes p xs)
-  where
-    one : (b : Bool) → p x ≡ b → list_all p (filter p xs) ≡ true → list_all p (cond b (x ∷ filter p xs) (filter p xs)) ≡ true
-    one true here rest = and_from (p x) (list_all p (filter p xs)) here rest
-    one false here rest = rest
-
-all_kept : {X : Type 0} (p : X → Bool) (xs : List X) → list_all p xs ≡ true → filter p xs ≡ xs
-all_kept p [] all = refl
-all_kept {X} p (x ∷ xs) all =
-    let both = and_parts (p x) (list_all p xs) all in
-    ap (λ (b : Bool). cond b (x ∷ filter p xs) (filter p xs)) both.0 ∙ ap (λ (l : List X). x ∷ l) (all_kept p xs both.1)
-
-none_kept : {X : Type 0} (p : X → Bool) (xs : List X) → list_all p xs ≡ true → filter (λ x. not (p x)) xs ≡ []
-none_kept p [] all = refl
-none_kept {X} p (x ∷ xs) all =
-    let both = and_parts (p x) (list_all p xs) all in
-    ap (λ (b : Bool). cond (not b) (x ∷ filter (λ y. not (p y)) xs) (filter (λ y. not (p y)) xs)) both.0 ∙ none_kept p xs both.1
+use Rattle.bank_model.proofs.Lists.{IsLast, all_kept, none_kept, filter_passes}
 
 all_last : {X : Type 0} (p : X → Bool) (xs : List X) → list_all p xs ≡ true → IsLast p xs
 all_last {X} p xs all = sym (ap (λ (l : List X). l ++ filter p xs) (none_kept p xs all) ∙ all_kept p xs all)
@@ -34,7 +11,7 @@ all_last {X} p xs all = sym (ap (λ (l : List X). l ++ filter p xs) (none_kept p
 fails_not : (b : Bool) → not b ≡ true → b ≡ true → ⊥
 fails_not b fails passes = true≢false (sym fails ∙ ap not passes)
 
--- behind the first that passes all do
+-- after the first that passes all do
 all_behind : {X : Type 0} (p : X → Bool) (x : X) (xs front back : List X) → x ∷ xs ≡ front ++ back → list_all (λ y. not (p y)) front ≡ true → list_all p back ≡ true → p x ≡ true → list_all p xs ≡ true
 all_behind p x xs [] back is fail pass here = (and_parts (p x) (list_all p xs) (ap (list_all p) is ∙ pass)).1
 all_behind p x xs (y ∷ front) back is fail pass here =

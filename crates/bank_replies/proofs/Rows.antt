@@ -9,6 +9,7 @@ use Rattle.ofx_types.specs.declared.transfer.XferInfo.{XferInfo}
 use Rattle.ofx_types.specs.declared.transfer.TransferRow.{TransferRow}
 use Rattle.ofx_types.specs.declared.recurring.Recur.{Recur}
 use Rattle.ofx_types.specs.declared.recurring.ModelRow.{ModelRow}
+use Rattle.ofx_types.proofs.Days.{IsMoment-midnight}
 use Rattle.bank_model.specs.Models.{is_waiting}
 use Rattle.bank_model.specs.Judging.{is_due, due_day}
 use Rattle.bank_model.specs.Deeds.{new_row, changed_row, new_model, changed_model, with_terms}
@@ -17,7 +18,7 @@ use Rattle.bank_model.specs.Recurrence.{kth_date}
 use Rattle.bank_recur.proofs.SeriesDays.{few_places}
 use Rattle.msg_deed.specs.SoundDeeds.{IsId, IsSoundInfo, IsSoundRecur, IsSoundModelRow}
 use Rattle.bank_replies.specs.Telling.{IsToldRow}
-use Rattle.bank_rules.proofs.RowLemmas.{IsMoment-midnight, IsDay-due, stamp_is}
+use Rattle.bank_rules.proofs.RowLemmas.{IsDay-due, stamp_is}
 use Rattle.bank_replies.proofs.Found.{IsKnownRow}
 
 -- ---- codes

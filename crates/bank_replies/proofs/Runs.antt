@@ -21,11 +21,11 @@ use Rattle.bank_rules.specs.Runs.{Happening, after_all, AreLegal}
 use Rattle.bank_rules.proofs.StageLemmas.{kept-asks}
 use Rattle.bank_rules.proofs.StateLemmas.{IsSoundState-step}
 use Rattle.bank_rules.proofs.RunLaws.{IsSoundState-run}
-use Rattle.bank_rules.proofs.Lists.{all_append}
+use Rattle.bank_model.proofs.Lists.{all_append}
 use Rattle.ofx_file.specs.Written.{RepliesReadBack}
 use Rattle.bank_replies.specs.Telling.{IsTellable}
 use Rattle.bank_replies.specs.Replies.{new_reply, IsReply}
-use Rattle.bank_rules.proofs.Lists.{all_filter}
+use Rattle.bank_model.proofs.Lists.{all_filter}
 use Rattle.bank_replies.proofs.SoundReplies.{new_sound}
 use Rattle.bank_replies.proofs.States.{tellable_opening, tellable_step}
 

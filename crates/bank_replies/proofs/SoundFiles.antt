@@ -15,7 +15,7 @@ use Rattle.msg_statement.specs.SoundStatements.{IsSoundPeriod}
 use Rattle.msg_sync.specs.SoundSyncs.{IsSoundTransaction, IsSoundIn}
 use Rattle.msg_mail.specs.SignonsAsDocuments.{IsSoundSignon}
 use Rattle.ofx_file.specs.Written.{IsSoundAsk, IsSoundFile}
-use Rattle.bank_rules.proofs.Lists.{all_step}
+use Rattle.bank_model.proofs.Lists.{all_step}
 use Rattle.bank_replies.proofs.SoundReplies.{version_is}
 use Rattle.bank_replies.proofs.Values.{uid_within, account_sound, info_sound, mail_sound, object_sound}
 

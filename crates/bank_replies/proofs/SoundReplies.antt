@@ -35,11 +35,12 @@ use Rattle.bank_replies.specs.Telling.{IsTellable}
 use Rattle.bank_replies.specs.Replies.{new_reply}
 use Rattle.bank_replies.proofs.Values.{object_sound, zero_within}
 use Rattle.bank_replies.proofs.Words.{token_within}
-use Rattle.bank_replies.proofs.Last.{IsLast, last_alike}
+use Rattle.bank_replies.proofs.Last.{last_alike}
 use Rattle.bank_replies.proofs.Answers.{MayAsk}
 use Rattle.bank_replies.proofs.Syncs.{token_few}
 use Rattle.bank_replies.proofs.Asks.{AreSmall, asks_sound, asks_alike}
 use Rattle.bank_replies.proofs.States.{tellable_raised}
+use Rattle.bank_model.proofs.Lists.{IsLast}
 
 pub version_is : (version : ℕ) → file.IsVersion version → is_version version ≡ true
 version_is version (inl is) = ap is_version is

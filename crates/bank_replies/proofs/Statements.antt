@@ -23,7 +23,7 @@ use Rattle.msg_parts.specs.SoundParts.{IsTextWithin}
 use Rattle.msg_statement.specs.SoundStatements.{IsSoundLine, IsSoundList}
 use Rattle.ofx_file.specs.Written.{IsSoundAskReply}
 use Rattle.bank_replies.specs.Telling.{IsToldEntry, IsTellable}
-use Rattle.bank_rules.proofs.Lists.{all_filter, all_map, all_flat, all_both}
+use Rattle.bank_model.proofs.Lists.{all_filter, all_map, all_flat, all_both}
 use Rattle.bank_replies.proofs.Values.{account_sound}
 use Rattle.bank_replies.proofs.Found.{IsKnownRow, row_known}
 

@@ -34,7 +34,7 @@ use Rattle.bank_rules.specs.Stages as stages
 use Rattle.bank_rules.proofs.StageLemmas.{lasts, leads_unless, leads_ask, leads_step}
 use Rattle.bank_laws.specs.Histories.{IsInOrder}
 use Rattle.bank_laws.proofs.Events.{order_opening, grows_raised, grows_stage}
-use Rattle.bank_rules.proofs.Lists.{all_append}
+use Rattle.bank_model.proofs.Lists.{all_append}
 use Rattle.bank_laws.proofs.Places.{at_intra}
 use Rattle.bank_replies.specs.Telling.{IsToldEntry, IsTellable}
 use Rattle.bank_replies.proofs.Values.{uid_within, zero_within, bank_within}

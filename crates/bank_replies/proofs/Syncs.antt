@@ -1,4 +1,4 @@
--- The answers to synchronisations are sound, and the history may be told behind them.
+-- The answers to synchronisations are sound, and the history may be told after them.
 use Rattle.std.proofs.Common.{◌≡◌, ◌≢◌, ℕ, ◌≤◌, Bool, true, false, cond, List, [], ◌∷◌, map, codes, Option, None, Some, refl, sym, subst, arith}
 use Rattle.std.specs.List.{AllByRecursion}
 use Rattle.std.specs.Option.{IfSome}
@@ -27,13 +27,13 @@ use Rattle.bank_model.specs.Objects.{account_about, object_named, belongs_to, hi
 use Rattle.bank_model.specs.Sync.{token_of, is_lost, told_as, is_above, entries_above, told_entry, standing_transfer, standing_model, standing_in, standing, history_told, is_newest, unless_newest, rejection, deeds_or_rejection, sync_on, sync_answer}
 use Rattle.bank_model.specs.Sound as file
 use Rattle.bank_laws.specs.Places.{IsPlaceOf}
-use Rattle.bank_rules.proofs.Lists.{all_append}
+use Rattle.bank_model.proofs.Lists.{all_append}
 use Rattle.bank_laws.proofs.Numbers.{newest_few}
 use Rattle.bank_laws.proofs.Places.{one_family, named_place}
 use Rattle.msg_parts.specs.SoundParts.{IsTextWithin, family_of_change}
 use Rattle.msg_sync.specs.SoundSyncs.{IsSoundToldIn, IsSoundSyncReply}
 use Rattle.bank_replies.specs.Telling.{IsToldChange, IsToldEntry, IsTellable}
-use Rattle.bank_rules.proofs.Lists.{all_filter, all_map, all_flat}
+use Rattle.bank_model.proofs.Lists.{all_filter, all_map, all_flat}
 use Rattle.bank_replies.proofs.Values.{object_sound, zero_within}
 use Rattle.bank_replies.proofs.Words.{token_within}
 use Rattle.bank_replies.proofs.Found.{known_row, known_model}

@@ -18,7 +18,7 @@ ghost use Rattle.bank_rules.specs.Standing.{IsSoundState};
 ghost use Rattle.bank_replies.specs.Telling.{IsTellable};
 ghost use Rattle.bank_replies.specs.Replies.{new_reply, ReadsBack, IsReply};
 
-use ofx_file::replies_read_back;
+use ofx_file::laws::replies_read_back;
 
 /// A file whose name isn't kept is answered by its new reply, and this reads back. Each state that a bank comes to is sound
 /// and tellable.

@@ -9,7 +9,7 @@ ghost use Rattle.ofx_types.specs.declared.request.RequestFile.{RequestFile};
 ghost use Rattle.bank_model.specs.Sound.{IsSound};
 ghost use Rattle.msg_mail.specs.SignonsAsDocuments.{IsSoundSignon};
 
-use ofx_file::files_read_back;
+use ofx_file::laws::files_read_back;
 
 /// Each request file that may be handed to a bank, written at a moment of the years 1900 to 9999 with a user's name of 1 to
 /// 32 bytes and a password of 1 to 64, reads back as it was.

@@ -1,58 +1,20 @@
 -- An account name stands at one place among the accounts of a setup.
-use Rattle.std.proofs.Common.{◌≡◌, ℕ, zero, suc, ◌<◌, true, false, ◌&&◌, List, [], ◌∷◌, length, get_or, Option, None, Some, pos, refl, ap, ◌∙◌, arith}
+use Rattle.std.proofs.Common.{◌≡◌, ℕ, zero, suc, ◌<◌, false, List, [], ◌∷◌, length, get_or, Option, None, Some, pos, refl, ap, arith}
 use Rattle.std.specs.Prelude.{position}
 use Rattle.std.specs.List.{AllByRecursion, IsDistinct, position_or_len, slice_get}
-use Rattle.std.proofs.lemmas.Bool.{and_parts, lt-ltb}
+use Rattle.std.proofs.lemmas.Bool.{lt-ltb}
 use Rattle.std.proofs.lemmas.List.Quantifiers.{position-Some}
 use Rattle.std.proofs.lemmas.Option.{get_or_from_slice_get, slice_get-get_or}
-use Rattle.ofx_types.specs.AccountForm.{kind_word, same_account}
-use Rattle.ofx_types.specs.declared.account.AcctKind.{AcctKind}
-use Rattle.ofx_types.specs.declared.account.AcctKind.TheVariants.{Checking, Savings, MoneyMarket, CreditLine}
+use Rattle.ofx_types.specs.AccountForm.{same_account}
 use Rattle.ofx_types.specs.declared.account.AcctName.{AcctName}
 use Rattle.ofx_types.specs.declared.number.AcctId.{AcctId}
-use Rattle.std.specs.Str.{bytes_eq}
 use Rattle.std.specs.Option.{option_map}
 use Rattle.bank_model.specs.declared.setup.AccountLine.{AccountLine}
 use Rattle.bank_model.specs.declared.setup.Setup.{Setup}
 use Rattle.bank_model.specs.SetupForm.{IsWithinLimits}
 use Rattle.bank_model.specs.SetupLookups.{account_of, line_at}
-use Rattle.bank_model.proofs.SetupWords.{bytes_eq_is, bytes_eq_self, some_is}
-
--- ---- names
-
-kind_is : (k l : AcctKind) → bytes_eq (kind_word k) (kind_word l) ≡ true → k ≡ l
-kind_is Checking Checking same = refl
-kind_is Checking Savings same = cc
-kind_is Checking MoneyMarket same = cc
-kind_is Checking CreditLine same = cc
-kind_is Savings Checking same = cc
-kind_is Savings Savings same = refl
-kind_is Savings MoneyMarket same = cc
-kind_is Savings CreditLine same = cc
-kind_is MoneyMarket Checking same = cc
-kind_is MoneyMarket Savings same = cc
-kind_is MoneyMarket MoneyMarket same = refl
-kind_is MoneyMarket CreditLine same = cc
-kind_is CreditLine Checking same = cc
-kind_is CreditLine Savings same = cc
-kind_is CreditLine MoneyMarket same = cc
-kind_is CreditLine CreditLine same = refl
-
-abbrev name_with : List ℕ → List ℕ → AcctKind → AcctName
-name_with bank number kind = record { bank = bank; number = number; kind = kind }
-
--- names that are the same account's are equal
-pub same_account-is : (a b : AcctName) → same_account a b ≡ true → a ≡ b
-same_account-is a b same =
-    let front = and_parts (bytes_eq a.bank b.bank && bytes_eq a.number b.number) (bytes_eq (kind_word a.kind) (kind_word b.kind)) same in
-    let words = and_parts (bytes_eq a.bank b.bank) (bytes_eq a.number b.number) front.0 in
-    let bank : a.bank ≡ b.bank = bytes_eq_is a.bank b.bank words.0 in
-    let number : a.number ≡ b.number = bytes_eq_is a.number b.number words.1 in
-    let kind : a.kind ≡ b.kind = kind_is a.kind b.kind front.1 in
-    ap (λ (x : List ℕ). name_with x a.number a.kind) bank ∙ ap (λ (x : List ℕ). name_with b.bank x a.kind) number ∙ ap (name_with b.bank b.number) kind
-
-pub same_account-self : (a : AcctName) → same_account a a ≡ true
-same_account-self a = rw (bytes_eq_self a.bank, bytes_eq_self a.number, bytes_eq_self (kind_word a.kind)) refl
+use Rattle.bank_model.proofs.SetupWords.{some_is}
+use Rattle.bank_model.proofs.AccountNames.{same_account-self, same_account-is}
 
 -- ---- places
 

@@ -37,7 +37,6 @@ use Rattle.bank_model.specs.Sound.{IsSoundInfo, IsSoundDeed}
 use Rattle.bank_rules.specs.Standing.{IsSoundState, HasSource}
 use Rattle.bank_rules.specs.Pending.{waiting_if, pending_of, ids_of}
 use Rattle.bank_rules.specs.Next.{IsNext, AreNext}
-use Rattle.bank_rules.proofs.AccountPlaces.{same_account-is}
 use Rattle.bank_rules.proofs.Verdicts.{open_waits}
 use Rattle.bank_rules.proofs.RowLemmas.{IsSoundRow-with_terms}
 use Rattle.bank_rules.proofs.SoundFound.{row_sound}
@@ -46,6 +45,7 @@ use Rattle.bank_rules.proofs.ModelChanges.{IsOfModel, model_change_rows}
 use Rattle.bank_rules.proofs.PendingLemmas.{IsHere, IsWay, behind_next, waiting_here, waiting_own}
 use Rattle.bank_rules.proofs.StandingLemmas.{sound_more}
 use Rattle.bank_rules.proofs.DeedLemmas.{taken_entry, transfer_next, transfer_entries, modify_row, modify_entries, modify_next, cancel_row, cancel_entries, cancel_next, model_entry, model_entries, model_next, IsToChange, to_change, IsToDrop, to_drop, set_entry, drop_entry, set_model, drop_model}
+use Rattle.bank_model.proofs.AccountNames.{same_account-is}
 
 -- What a deed adds that isn't refused: its own entry, and those that follow.
 pub record IsDone (setup : Setup) (S : State) (entries : List Entry) : Type 0 where
@@ -263,7 +263,7 @@ deed_done setup S user only at trnuid (Mail mail) within sound moment deed none 
   rest_next = tt;
 }
 
--- Each may come next behind those before it.
+-- Each may come next after those before it.
 pub all_next : (setup : Setup) (S : State) (entries : List Entry) → IsDone setup S entries → AreNext setup S entries
 all_next setup S entries does = subst (AreNext setup S) (sym does.are) (does.next, does.rest_next)
 

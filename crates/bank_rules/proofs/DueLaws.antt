@@ -20,7 +20,7 @@ use Rattle.bank_model.specs.Due.{Task, has_number, last_day, is_to_post, may_pos
 use Rattle.bank_model.specs.Rules.{raised, state_after, IsLegal, post_event, spawn_or_post, due}
 use Rattle.bank_model.specs.DueRun.{after_events, AreDue, run_length, IsDueRun}
 use Rattle.bank_model.proofs.SetupWords.{some_is}
-use Rattle.bank_rules.proofs.Lists.{all_append}
+use Rattle.bank_model.proofs.Lists.{all_append}
 use Rattle.bank_rules.proofs.PendingLemmas.{IsHere, all_here}
 
 -- ---- the first of some tasks is one of them

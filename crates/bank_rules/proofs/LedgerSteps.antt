@@ -13,9 +13,10 @@ use Rattle.bank_model.specs.declared.setup.Setup.{Setup}
 use Rattle.bank_model.specs.SetupForm.{IsWithinLimits}
 use Rattle.bank_model.specs.SetupLookups.{account_of, line_at}
 use Rattle.bank_model.specs.Ledger.{Posting, row_in, posting_of, moved, part, sum_from, balance_on, balance}
-use Rattle.bank_rules.proofs.AccountPlaces.{same_account-is, account_of-line}
+use Rattle.bank_rules.proofs.AccountPlaces.{account_of-line}
 use Rattle.bank_transfers.proofs.GrowthLemmas.{moved-push}
 use Rattle.bank_model.proofs.SetupWords.{some_is}
+use Rattle.bank_model.proofs.AccountNames.{same_account-is}
 
 -- ---- an entry that posts nothing
 

@@ -1,4 +1,3 @@
-pub mod Lists
 pub mod AccountPlaces
 pub mod LedgerSteps
 pub mod SeriesLemmas

@@ -20,13 +20,11 @@ use Rattle.bank_model.proofs.SetupWords.{some_is}
 use Rattle.bank_transfers.specs.Together.{balances, IsInside}
 use Rattle.bank_transfers.proofs.TogetherLemmas.{balances_stay}
 use Rattle.bank_rules.specs.Standing.{IsSoundRow, HasSoundRow, IsSoundState}
-use Rattle.bank_rules.proofs.AccountPlaces.{same_account-is, same_account-self, account_of-line, line_of-account}
+use Rattle.bank_rules.proofs.AccountPlaces.{account_of-line, line_of-account}
 use Rattle.bank_rules.proofs.LedgerSteps.{Posts, balance-posted}
+use Rattle.bank_model.proofs.AccountNames.{same_account-is, same_account-self, same_number}
 
--- ---- the balances behind a posting
-
-pub id_is : (a b : AcctId) → a.0 ≡ b.0 → a ≡ b
-id_is a b same = ap (λ (n : ℕ). record { 0 = n }) same
+-- ---- the balances after a posting
 
 -- the account of a name is where the name stands
 same_place : (setup : Setup) (name : AcctName) (place account : AcctId) (line : AccountLine) (b : Bool) → same_account name line.name ≡ b → IsWithinLimits setup → account_of setup name ≡ Some place → line_at setup account ≡ Some line → b ≡ eqb account.0 place.0
@@ -37,7 +35,7 @@ same_place setup name place account line true same within found at =
     sym (eq-eqb account.0 place.0 (sym (ap (λ (a : AcctId). a.0) one)))
 same_place setup name place account line false same within found at =
     sym (false_from_ne_true (eqb account.0 place.0) (λ equal.
-    let one : account ≡ place = id_is account place (eqb-true account.0 place.0 equal) in
+    let one : account ≡ place = same_number account place (eqb-true account.0 place.0 equal) in
     let there = line_of-account setup name place found in
     let line_is : Some there.0 ≡ Some line = sym there.1 ∙ ap (line_at setup) (sym one) ∙ at in
     let lines : there.0 ≡ line = some_is there.0 line line_is in
@@ -49,7 +47,7 @@ same_place setup name place account line false same within found at =
 no_place : (setup : Setup) (name : AcctName) (place account : AcctId) → account_of setup name ≡ Some place → line_at setup account ≡ None → eqb account.0 place.0 ≡ false
 no_place setup name place account found none =
     false_from_ne_true (eqb account.0 place.0) (λ equal.
-    let one : account ≡ place = id_is account place (eqb-true account.0 place.0 equal) in
+    let one : account ≡ place = same_number account place (eqb-true account.0 place.0 equal) in
     let there = line_of-account setup name place found in
     let both : None ≡ Some there.0 = sym none ∙ ap (line_at setup) one ∙ there.1 in
     cc)
@@ -108,7 +106,7 @@ sum_member f positive low (suc count) start a some from below =
   where
     member_at : (f : AcctId → ℤ) → ((a : AcctId) → pos 0 ≤ℤ f a) → (low : ℕ) (start : ℤ) (a : AcctId) (ids : List AcctId) → pos 0 ≤ℤ start → (low ≢ a.0 → f a ≤ℤ fold (λ (sum : ℤ) (c : AcctId). sum +ℤ f c) (start +ℤ f (record { 0 = low })) ids) → (b : Bool) → eqb low a.0 ≡ b → f a ≤ℤ fold (λ (sum : ℤ) (c : AcctId). sum +ℤ f c) (start +ℤ f (record { 0 = low })) ids
     member_at f positive low start a ids some later true is =
-        let one : f (record { 0 = low }) ≡ f a = ap f (id_is (record { 0 = low }) a (eqb-true low a.0 is)) in
+        let one : f (record { 0 = low }) ≡ f a = ap f (same_number (record { 0 = low }) a (eqb-true low a.0 is)) in
         let least = sum_least f positive (start +ℤ f (record { 0 = low })) ids in
         omega (arith, ints)
     member_at f positive low start a ids some later false is = later (λ same. true≢false (sym (eq-eqb low a.0 same) ∙ is))

@@ -61,7 +61,7 @@ made_one before (SetModel row also) made lawful = up_one (length before) row.id 
 made_one before (DropModel id also) made lawful = up_one (length before) id (model_there (length before) id before (model_of id before) made refl lawful.0)
 made_one before (NewMail mail) made lawful = tt
 
--- an entry that lawful entries have behind some is lawful, and they are made with it
+-- an entry that lawful entries have after some is lawful, and they are made with it
 next_made : (before entries : List Entry) (entry : Entry) → AreMade (length before) before → AreLawfulAt (before ++ entry ∷ entries) → IsLawful before entry.change × AreMade (length (before ++ entry ∷ [])) (before ++ entry ∷ [])
 next_made before entries entry made lawful =
     let size : length (before ++ entry ∷ entries) ≡ length before + length (entry ∷ entries) = length-append before (entry ∷ entries) in

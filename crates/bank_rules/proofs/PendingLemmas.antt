@@ -1,4 +1,4 @@
--- The transfers that wait and go along with a deed on their recurring transfer: each is entered behind the others.
+-- The transfers that wait and go along with a deed on their recurring transfer: each is entered after the others.
 use Rattle.std.proofs.Common.{◌≡◌, ◌≢◌, ℕ, ◌+◌, ◌<◌, ◌≤◌, Bool, true, false, cond, eqb, List, [], ◌∷◌, ◌++◌, filter, length, length-append, take, get_or, codes, Option, None, Some, refl, sym, ap, ◌∙◌, subst, append_assoc, arith}
 use Rattle.std.specs.Prelude.{option_to_list}
 use Rattle.std.specs.List.{AllByRecursion, IsDistinct, flat_map}
@@ -15,7 +15,7 @@ use Rattle.bank_model.specs.Deeds.{object_of, next_entry, entries_behind}
 use Rattle.bank_model.specs.Rules.{with_entries}
 use Rattle.bank_rules.specs.Standing.{IsSoundState, IsLawful}
 use Rattle.bank_rules.specs.Next.{IsNext, AreNext}
-use Rattle.bank_rules.proofs.Lists.{all_append, all_filter}
+use Rattle.bank_model.proofs.Lists.{all_append, all_filter, all_filtered}
 use Rattle.bank_rules.proofs.NextLemmas.{row_of-named}
 use Rattle.bank_rules.proofs.StandingLemmas.{AreLawfulAt, sound_more}
 use Rattle.std.proofs.lemmas.List.{get_or_at}
@@ -28,7 +28,7 @@ IsHere entries row = (row_of row.id entries ≡ Some row) × (is_waiting row.cod
 abbrev pub HaveOwnIds : List TransferRow → Type 0
 HaveOwnIds rows = IsDistinct (λ (a b : TransferRow). eqb a.id b.id) rows
 
--- ---- one behind another
+-- ---- one after another
 
 -- A way to change transfers that wait: its entry may come next, and it leaves the rows of other transfers.
 pub record IsWay (setup : Setup) (change : TransferRow → Change) (P : TransferRow → Type 0) : Type 0 where
@@ -125,7 +125,7 @@ above : (count more : ℕ) (rows : List TransferRow) → count ≤ more → AllB
 above count more [] less all = tt
 above count more (row ∷ rows) less all = (let here = all.0 in omega arith, above count more rows less all.1)
 
--- Each id is below those behind it.
+-- Each id is below those after it.
 abbrev pub Rise : List TransferRow → Type 0
 Rise [] = Unit {0}
 Rise (row ∷ rows) = AllByRecursion (λ (other : TransferRow). row.id < other.id) rows × Rise rows
@@ -154,14 +154,11 @@ rise_all all (entry ∷ entries) count new =
     let rest = rise_all all entries (count + 1) new.1 in
     rise_more all count entry.change (made_by all entries) new.0 rest.0 rest.1
 
-filter_all : {X : Type 0} (P : X → Type 0) (p : X → Bool) (xs : List X) → AllByRecursion P xs → AllByRecursion P (filter p xs)
-filter_all P p xs all = all_filter P P p xs (λ x here is. here) all
-
 filter_rise : (p : TransferRow → Bool) (rows : List TransferRow) → Rise rows → Rise (filter p rows)
 filter_rise p [] rise = tt
 filter_rise p (row ∷ rows) rise =
     elim (p row) as (λ b. Rise (cond b (row ∷ filter p rows) (filter p rows))) [
-      | true ↦ (filter_all (λ (other : TransferRow). row.id < other.id) p rows rise.0, filter_rise p rows rise.1)
+      | true ↦ (all_filtered (λ (other : TransferRow). row.id < other.id) p rows rise.0, filter_rise p rows rise.1)
       | false ↦ filter_rise p rows rise.1
     ]
 

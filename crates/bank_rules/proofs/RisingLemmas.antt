@@ -22,7 +22,7 @@ use Rattle.bank_rules.proofs.PendingLemmas.{IsNewAt, AreNewAt, new_behind, Rise}
 
 -- ---- ids that rise
 
--- Each id is below those behind it.
+-- Each id is below those after it.
 abbrev AreRising : List ℕ → Type 0
 AreRising [] = Unit {0}
 AreRising (id ∷ ids) = AllByRecursion (λ (other : ℕ). id < other) ids × AreRising ids

@@ -17,6 +17,7 @@ use Rattle.ofx_types.specs.declared.transfer.XferInfo.{XferInfo}
 use Rattle.ofx_types.specs.declared.transfer.XferCode.TheVariants.{Cancelled}
 use Rattle.ofx_types.specs.declared.transfer.Change.{Change}
 use Rattle.ofx_types.specs.declared.transfer.Change.TheVariants.{NewTransfer, SetTransfer, DropTransfer, NewModel, SetModel, DropModel, NewMail}
+use Rattle.ofx_types.proofs.Days.{IsMoment-midnight}
 use Rattle.bank_model.specs.declared.entry.Entry.{Entry}
 use Rattle.bank_model.specs.declared.setup.Setup.{Setup}
 use Rattle.bank_model.specs.Ledger.{row_in, if_named, or_before, last_row, drops, is_dropped, with_code, row_of}
@@ -27,8 +28,8 @@ use Rattle.bank_model.specs.Deeds.{new_row, changed_row, new_model, changed_mode
 use Rattle.bank_model.specs.Due.{settled_row, spawned_row}
 use Rattle.bank_model.specs.Sound.{IsSoundInfo}
 use Rattle.bank_rules.specs.Standing.{IsSoundRow, IsSoundModel, IsOfMade, IsNumbered}
-use Rattle.bank_rules.proofs.AccountPlaces.{same_account-is}
 use Rattle.bank_rules.proofs.Verdicts.{IsTaken, IsChange, IsTakenModel, IsModelChange}
+use Rattle.bank_model.proofs.AccountNames.{same_account-is}
 
 -- ---- days and moments
 
@@ -38,9 +39,6 @@ IsDay-of_moment (negsuc at) moment = (omega (arith, ints), omega (arith, ints))
 
 pub IsDay-max : (a b : ℤ) → IsDay a → IsDay b → IsDay (int_max a b)
 IsDay-max a b first second = (omega (arith, ints, clamps), omega (arith, ints, clamps))
-
-pub IsMoment-midnight : (day : ℤ) → IsDay day → IsMoment (midnight day)
-IsMoment-midnight day is = (omega (arith, ints), omega (arith, ints))
 
 pub IsDay-due : (due : Option Day) (day : Day) → IfSome due (λ (d : Day). IsDay d.0) → IsDay day.0 → IsDay (unwrap_or due day).0
 IsDay-due None day due known = known

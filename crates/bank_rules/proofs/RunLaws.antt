@@ -9,6 +9,7 @@ use Rattle.ofx_types.specs.ReplyForm.{reply_text}
 use Rattle.ofx_types.specs.declared.number.UserId.{UserId}
 use Rattle.ofx_types.specs.declared.number.Moment.{Moment}
 use Rattle.ofx_types.specs.declared.request.RequestFile.{RequestFile}
+use Rattle.ofx_types.proofs.Bytes.{bytes_eq_is, bytes_eq_self}
 use Rattle.bank_model.specs.declared.once.KeptReply.{KeptReply}
 use Rattle.bank_model.specs.declared.setup.Setup.{Setup}
 use Rattle.bank_model.specs.declared.event.State.{State}
@@ -17,7 +18,6 @@ use Rattle.bank_model.specs.declared.event.Event.TheVariants.{File, Post, Spawn,
 use Rattle.bank_model.specs.SetupForm.{IsWithinLimits}
 use Rattle.bank_model.specs.Once.{is_named, reply_kept, released}
 use Rattle.bank_model.specs.Rules.{Outcome, opening_state, raised, ask_answers, reply_file, release, keep, kept_for, new_outcome, outcome_or_kept, file_outcome, state_after, answer_to}
-use Rattle.bank_model.proofs.SetupWords.{bytes_eq_is, bytes_eq_self}
 use Rattle.bank_transfers.proofs.TogetherLemmas.{balances_stay}
 use Rattle.bank_rules.specs.Standing.{IsSoundState}
 use Rattle.bank_rules.specs.Books.{AreBooksRight}

@@ -20,6 +20,7 @@ use Rattle.bank_recur.proofs.SeriesDays.{series_rises}
 use Rattle.bank_rules.specs.Standing.{IsLawful, IsNextOf}
 use Rattle.bank_rules.specs.Series.{date_made, dates_made, AreOwnDates}
 use Rattle.bank_rules.proofs.StandingLemmas.{AreLawfulAt}
+use Rattle.bank_model.proofs.Lists.{all_by_index}
 
 -- ---- the dates of a series
 
@@ -136,11 +137,6 @@ all_below model date n [] first is few dated = tt
 all_below model date n (other ∷ dates) first is few dated =
     (rise model other date (length dates) n first dated.0 is (omega (arith, few)), all_below model date n dates first is (omega (arith, few)) dated.1)
 
-at_index : {X : Type 0} (P : X → Type 0) (xs : List X) (k : ℕ) (d : X) → AllByRecursion P xs → k < length xs → P (get_or xs k d)
-at_index P [] k d all below = absurd (omega arith)
-at_index P (x ∷ xs) zero d all below = all.0
-at_index P (x ∷ xs) (suc k) d all below = at_index P xs k d all.1 (omega arith)
-
 less_differs : (a b : Day) → b.0 <ℤ a.0 → a ≡ b → ⊥
 less_differs a b less same =
     let days : a.0 ≡ b.0 = ap (λ (d : Day). d.0) same in
@@ -150,5 +146,5 @@ pub own_dates : (model : Option ModelRow) (dates : List Day) → HasFirst model 
 own_dates model [] first dated j k d before below = absurd (omega arith)
 own_dates model (date ∷ dates) first dated j zero d before below = absurd (omega arith)
 own_dates model (date ∷ dates) first dated zero (suc k) d before below =
-    less_differs date (get_or dates k d) (at_index (λ (other : Day). other.0 <ℤ date.0) dates k d (all_below model date (length dates) dates first dated.0 (omega arith) dated.1) (omega arith))
+    less_differs date (get_or dates k d) (all_by_index (λ (other : Day). other.0 <ℤ date.0) dates k d (all_below model date (length dates) dates first dated.0 (omega arith) dated.1) (omega arith))
 own_dates model (date ∷ dates) first dated (suc j) (suc k) d before below = own_dates model dates first dated.1 j k d (omega arith) (omega arith)

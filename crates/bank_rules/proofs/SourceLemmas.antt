@@ -17,7 +17,7 @@ use Rattle.bank_recur.proofs.GrowthLemmas.{model_of-push}
 use Rattle.bank_rules.specs.Standing.{IsOfWaiting, source_of, IsNextOf, IsLawful, HasSource, AreSources}
 use Rattle.bank_rules.proofs.RowLemmas.{AreMade, model_made, model_of-0}
 
--- ---- the recurring transfer of a row, behind one entry more
+-- ---- the recurring transfer of a row, after one entry more
 
 abbrev after_model : ℕ → Option ModelRow → Change → Option ModelRow
 after_model id found change = or_model_before found (if_model_named id (model_in change))
@@ -49,7 +49,7 @@ knows_after entries (SetModel given also) row lawful below known =
 knows_after entries (DropModel id also) row lawful below known = known
 knows_after entries (NewMail mail) row lawful below known = known
 
--- ---- a row behind one entry more
+-- ---- a row after one entry more
 
 has_after : (entries : List Entry) (entry : Entry) (row : TransferRow) → IsLawful entries entry.change → HasSource entries row → HasSource (entries ++ entry ∷ []) row
 has_after entries entry row lawful has = (

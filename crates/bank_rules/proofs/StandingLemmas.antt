@@ -28,7 +28,7 @@ use Rattle.bank_recur.proofs.GrowthLemmas.{next_place-push}
 use Rattle.bank_recur.proofs.SeriesDays.{few_places}
 use Rattle.bank_rules.proofs.SoundFound.{models_sound}
 
--- ---- numbers and what may stand behind others
+-- ---- numbers and what may stand after others
 
 abbrev AreNumbered : List Entry → Type 0
 AreNumbered entries = (k : ℕ) (d : Entry) → k < length entries → (get_or entries k d).number ≡ k + 1

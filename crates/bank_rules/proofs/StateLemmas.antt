@@ -116,7 +116,7 @@ unextended setup S T is sound once kept day = record {
 pub extends_same : (setup : Setup) (S : State) → IsSoundState setup S → ExtendsTo setup S S
 extends_same setup S sound = unextended setup S S refl sound sound.used sound.kept sound.day
 
--- What may come next behind a history doesn't depend on uids, kept replies and the day.
+-- What may come next after a history doesn't depend on uids, kept replies and the day.
 next_as : (setup : Setup) (S T : State) (entry : Entry) → T.entries ≡ S.entries → IsNext setup S entry → IsNext setup T entry
 next_as setup S T entry is next =
     subst (λ (entries : List Entry). IsNext setup (record { entries = entries; used = T.used; kept = T.kept; day = T.day }) entry) (sym is) (record {

@@ -13,9 +13,9 @@ use Rattle.bank_model.specs.Once.{is_used}
 use Rattle.bank_model.specs.Deeds.{done, code_of, used_up, answer_with, deed_answer}
 use Rattle.bank_rules.proofs.StateLemmas.{IsAllowed-from_code}
 
-used_code : (setup : Setup) (S : State) (user : UserId) (only : Option AcctId) (at : Moment) (trnuid : List ℕ) (deed : Deed) → is_used user trnuid S.used ≡ true → code_of setup S user only at trnuid deed ≡ 2019
+pub used_code-is : (setup : Setup) (S : State) (user : UserId) (only : Option AcctId) (at : Moment) (trnuid : List ℕ) (deed : Deed) → is_used user trnuid S.used ≡ true → code_of setup S user only at trnuid deed ≡ 2019
 unfolding code_of
-used_code setup S user only at trnuid deed used = rw used refl
+used_code-is setup S user only at trnuid deed used = rw used refl
 
 abbrev with_entries : State → List Entry → State
 with_entries S entries = record { entries = entries; used = S.used; kept = S.kept; day = S.day }
@@ -25,12 +25,12 @@ nothing_done setup S user at trnuid deed code used = rw used (ap (with_entries S
 
 pub used_uid-code : (setup : Setup) (S : State) (user : UserId) (only : Option AcctId) (at : Moment) (trnuid : List ℕ) (deed : Deed) → is_used user trnuid S.used ≡ true → (deed_answer setup S user only at trnuid deed).reply.code ≡ 2019
 unfolding deed_answer
-used_uid-code setup S user only at trnuid deed used = used_code setup S user only at trnuid deed used
+used_uid-code setup S user only at trnuid deed used = used_code-is setup S user only at trnuid deed used
 
 pub used_uid-state : (setup : Setup) (S : State) (user : UserId) (only : Option AcctId) (at : Moment) (trnuid : List ℕ) (deed : Deed) → is_used user trnuid S.used ≡ true → (deed_answer setup S user only at trnuid deed).after ≡ S
 unfolding deed_answer
 used_uid-state setup S user only at trnuid deed used =
-    nothing_done setup S user at trnuid deed (code_of setup S user only at trnuid deed) (used_code setup S user only at trnuid deed used)
+    nothing_done setup S user at trnuid deed (code_of setup S user only at trnuid deed) (used_code-is setup S user only at trnuid deed used)
 
 code_zero : (entries more : List Entry) (code : ℕ) (zero : Bool) → eqb code 0 ≡ zero → (entries ++ cond zero more []) ≢ entries → code ≡ 0
 code_zero entries more code true is added = eqb-true code 0 is

@@ -15,13 +15,13 @@ use Rattle.ofx_types.specs.declared.transfer.Deed.TheVariants.{Transfer, ModifyT
 use Rattle.ofx_types.specs.declared.recurring.ModelRow.{ModelRow}
 use Rattle.ofx_types.specs.declared.number.Day.{Day}
 use Rattle.ofx_types.specs.declared.request.Ask.{Ask}
+use Rattle.ofx_types.proofs.Bytes.{bytes_eq_self}
 use Rattle.bank_model.specs.declared.entry.Entry.{Entry}
 use Rattle.bank_model.specs.declared.once.UsedPair.{UsedPair}
 use Rattle.bank_model.specs.declared.setup.Setup.{Setup}
 use Rattle.bank_model.specs.declared.event.State.{State}
 use Rattle.bank_model.specs.declared.event.Event.{Event}
 use Rattle.bank_model.specs.declared.event.Event.TheVariants.{File, Post, Spawn, Letter}
-use Rattle.bank_model.proofs.SetupWords.{bytes_eq_self}
 use Rattle.bank_model.specs.Ledger.{row_of}
 use Rattle.bank_model.specs.Models.{model_of, waiting_of}
 use Rattle.bank_model.specs.Due.{posts, place_date, spawns_on, spawns}
@@ -32,7 +32,7 @@ use Rattle.bank_model.specs.Rules.{raised, ask_answer, ask_answers, state_after}
 use Rattle.bank_rules.specs.Stages.{Stage, day, deed, names, post, spawn, letter, after_stage}
 use Rattle.bank_rules.specs.Runs.{Happening}
 use Rattle.bank_rules.specs.Uids.{asker, is_used_by, AddsByUids, AllAddByUids}
-use Rattle.bank_rules.proofs.Lists.{all_append}
+use Rattle.bank_model.proofs.Lists.{all_append}
 use Rattle.bank_rules.proofs.StageLemmas.{Lasts, lasts, each_deed, each_ask, each_asks, leads_deeds, leads_ask, leads_asks, leads_file}
 use Rattle.bank_rules.proofs.StateLemmas.{unused-from_code}
 

@@ -1,4 +1,4 @@
--- The transfers of a recurring transfer that wait behind a draft: of those that waited before it, and of those that it made.
+-- The transfers of a recurring transfer that wait after a draft: of those that waited before it, and of those that it made.
 use Rattle.std.proofs.Common.{◌≡◌, ℕ, ◌+◌, ◌≤◌, Bool, true, false, ◌&&◌, cond, eqb, List, [], ◌∷◌, ◌++◌, filter, length, length-append, take, get_or, Option, None, Some, refl, sym, ap, ◌∙◌, subst, append_assoc, arith}
 use Rattle.std.specs.Prelude.{option_to_list}
 use Rattle.std.specs.List.{AllByRecursion, flat_map}
@@ -19,7 +19,7 @@ use Rattle.bank_transfers.specs.Growth.{row_after}
 use Rattle.bank_transfers.proofs.GrowthLemmas.{row_of-push}
 use Rattle.bank_rules.specs.Standing.{IsOfWaiting, IsLawful, IsNumbered, IsOfMade}
 use Rattle.bank_rules.specs.Pending.{ids_of, waits_for, id_new, ids_new}
-use Rattle.bank_rules.proofs.Lists.{all_append}
+use Rattle.bank_model.proofs.Lists.{all_append}
 use Rattle.bank_rules.proofs.NextLemmas.{row_of-named}
 use Rattle.bank_rules.proofs.StandingLemmas.{AreLawfulAt}
 use Rattle.bank_rules.proofs.OnceLemmas.{made_before}
@@ -124,7 +124,7 @@ filter_twice p q (id ∷ ids) step = twice (p id) (q id) refl refl (filter_twice
     twice false true is other rest = absurd (let here = step.0 other in cc)
     twice false false is other rest = rest
 
--- it waited before where it waits behind more entries
+-- it waited before where it waits after more entries
 abbrev HasWaited : ℕ → List Entry → List Entry → ℕ → Type 0
 HasWaited model before entries id = waits_for model (row_of id (before ++ entries)) ≡ true → waits_for model (row_of id before) ≡ true
 
@@ -142,7 +142,7 @@ all_waited model before entries [] made lawful = tt
 all_waited model before entries (entry ∷ some) made lawful =
     all_append (HasWaited model before entries) (id_new entry.change) (ids_new some) (change_waited model before entries entry.change made.0 lawful) (all_waited model before entries some made.1 lawful)
 
--- Those that wait behind a draft: of those that waited before, and of those that it made.
+-- Those that wait after a draft: of those that waited before, and of those that it made.
 pub waiting_drafted : (model : ℕ) (before entries : List Entry) → AllByRecursion (IsNumbered (length before)) before → AreLawfulAt (before ++ entries) → filter (λ (id : ℕ). waits_for model (row_of id (before ++ entries))) (ids_of (waiting_of model before)) ++ filter (λ (id : ℕ). waits_for model (row_of id (before ++ entries))) (ids_new entries) ≡ ids_of (waiting_of model (before ++ entries))
 waiting_drafted model before entries made lawful =
     let now : ℕ → Bool = λ id. waits_for model (row_of id (before ++ entries)) in

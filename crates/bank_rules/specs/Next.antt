@@ -9,7 +9,7 @@ use Rattle.bank_model.specs.Rules.{with_entries}
 use Rattle.bank_rules.specs.Standing.{HasSoundRow, HasSoundModel, IsNumbered, MayBeTold, IsLawful, IsSoundState}
 
 -- An entry may come next where it has the next number, gives sound rows alone, speaks of what an entry has made by then,
--- may be told to a client, may stand behind those before it, and leaves no balance below zero.
+-- may be told to a client, may stand after those before it, and leaves no balance below zero.
 pub record IsNext (setup : Setup) (S : State) (entry : Entry) : Type 0 where
   pub number : entry.number ≡ length S.entries + 1
   pub sound : HasSoundRow setup entry
@@ -19,12 +19,12 @@ pub record IsNext (setup : Setup) (S : State) (entry : Entry) : Type 0 where
   pub lawful : IsLawful S.entries entry.change
   pub covered : (account : AcctId) → pos 0 ≤ℤ balance setup (S.entries ++ entry ∷ []) account
 
--- Each entry may come next behind those before it.
+-- Each entry may come next after those before it.
 abbrev pub AreNext : Setup → State → List Entry → Type 0
 AreNext setup S [] = Unit {0}
 AreNext setup S (entry ∷ more) = IsNext setup S entry × AreNext setup (with_entries S (entry ∷ [])) more
 
--- A sound state whose history is another's, with entries behind it of which each may come next.
+-- A sound state whose history is another's, with entries after it of which each may come next.
 pub record ExtendsTo (setup : Setup) (S T : State) : Type 0 where
   pub added : List Entry
   pub entries : T.entries ≡ S.entries ++ added

@@ -76,12 +76,13 @@ id_new (NewMail mail) = []
 abbrev pub ids_new : List Entry → List ℕ
 ids_new entries = flat_map (λ (entry : Entry). id_new entry.change) entries
 
--- New terms suit transfers that wait: the destination is an account of the bank and not the source, and the amount is
--- positive.
+-- The new destination isn't the transfer's source.
 abbrev pub SuitsRow : XferInfo → Option TransferRow → Type 0
 SuitsRow info None = Unit {0}
 SuitsRow info (Some row) = same_account info.to row.from ≡ false
 
+-- New terms suit transfers that wait: the destination is an account of the bank and not the source, and the amount is
+-- positive.
 pub record AreTerms (setup : Setup) (entries : List Entry) (ids : List ℕ) (info : XferInfo) : Type 0 where
   pub to : is_some (account_of setup info.to) ≡ true
   pub positive : is_positive info ≡ true

@@ -66,8 +66,7 @@ IsOfMade count (NewMail row) = Unit {0}
 abbrev pub IsNumbered : ℕ → Entry → Type 0
 IsNumbered count entry = IsOfMade count entry.change
 
--- The recurring transfer that made a transfer was made by then, and has the transfer's source. A transfer that a user asked
--- for has none, 0.
+-- If a recurring transfer of that id was made, it has the transfer's source. A transfer that a user asked for has none, 0.
 abbrev pub HasSource : List Entry → TransferRow → Type 0
 HasSource entries row =
     (row.model ≤ length entries) × IfSome (model_of row.model entries) (λ (model : ModelRow). model.from ≡ row.from)
@@ -75,7 +74,7 @@ HasSource entries row =
 abbrev pub AreSources : List Entry → Type 0
 AreSources entries = (id : ℕ) → IfSome (row_of id entries) (HasSource entries)
 
--- ---- what an entry may say behind others
+-- ---- what an entry may say after others
 
 -- A row is given to a transfer that waits, and keeps its recurring transfer and its source.
 abbrev pub IsOfWaiting : TransferRow → Option TransferRow → Type 0
@@ -112,7 +111,8 @@ IsLawful before (DropModel id pending) = GoesOn before id
 IsLawful before (NewMail row) = Unit {0}
 
 -- Entry i, from 1, has the number i, and there are no more entries than the setup allows. Each speaks of what an entry has
--- made by then, may stand behind those before it, and may be told to a client. A transfer has the source of its recurring transfer. No recurring
+-- made by then, may stand after those before it, and may be told to a client. A transfer has the source of its recurring
+-- transfer. No recurring
 -- transfer has made more transfers since it last began anew than there are dates. No balance is below zero. No user has
 -- used up a uid twice, and no file of a user has two replies.
 pub record IsSoundState (setup : Setup) (S : State) : Type 0 where

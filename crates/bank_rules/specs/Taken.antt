@@ -60,7 +60,7 @@ taken_with S user trnuid family entry =
 
 -- ---- in a file's step
 
--- the state that a file's first asks leave, in which those behind them are answered
+-- the state that a file's first asks leave, in which those after them are answered
 abbrev pub reached : Setup → State → UserId → Moment → List Ask → State
 reached setup S user at before = (ask_answers setup (raised S at) user at before).after
 
@@ -70,7 +70,7 @@ Tells (replies.Statement trnuid code body) told = ⊥
 Tells (replies.One reply) told = reply ≡ told
 Tells (replies.Sync answer) told = (front : List DeedReply) × (back : List DeedReply) × (answer.replies ≡ front ++ told ∷ back)
 
--- The answer to a user's file says this of one deed, and the history that its step leaves has the entry, behind those of the
+-- The answer to a user's file says this of one deed, and the history that its step leaves has the entry, after those of the
 -- state in which the deed was answered.
 pub record TakesInStep (setup : Setup) (S : State) (at : Moment) (user : UserId) (file : RequestFile) (there : State) (told : DeedReply) (entry : Entry) : Type 0 where
   pub front : List AskReply

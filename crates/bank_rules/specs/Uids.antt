@@ -24,7 +24,7 @@ abbrev pub is_used_by : Option UserId → List ℕ → List UsedPair → Bool
 is_used_by None trnuid pairs = false
 is_used_by (Some user) trnuid pairs = is_used user trnuid pairs
 
--- Entries and pairs come behind those of before. Each new entry has the uid `0`, which marks what the bank does by itself, or
+-- Entries and pairs come after those of before. Each new entry has the uid `0`, which marks what the bank does by itself, or
 -- one that the asking user uses up with a new pair. No new pair was used up before.
 pub record AddsByUids (user : Option UserId) (S T : State) : Type 0 where
   pub added : List Entry

@@ -20,7 +20,7 @@ pub const DUE_LATER: (&str, &str) = (
 /// What stands in front of the account in the sample's request.
 pub const STATEMENT: &str = "<STMTTRNRQ>\r\n<TRNUID>s1\r\n<STMTRQ>\r\n";
 
-/// What stands behind it.
+/// What stands after it.
 pub const STATEMENT_END: &str =
     "<INCTRAN>\r\n<INCLUDE>Y\r\n</INCTRAN>\r\n</STMTRQ>\r\n</STMTTRNRQ>\r\n";
 

@@ -2,6 +2,7 @@
 #![tactic(auto)]
 
 pub mod changes;
+pub mod keys;
 pub mod sample;
 pub mod transfer;
 pub mod words;

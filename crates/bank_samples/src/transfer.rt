@@ -74,5 +74,5 @@ pub const PAID: (&str, &str) = (
     </BANKTRANLIST>",
 );
 
-/// The source's balance behind the transfer, which a statement tells twice.
+/// The source's balance after the transfer, which a statement tells twice.
 pub const SOURCE_BALANCE: (&str, &str) = ("<BALAMT>100.00", "<BALAMT>90.00");

@@ -1,13 +1,9 @@
 -- A bank that doesn't open from its records.
-use Rattle.std.proofs.Common.{◌≡◌, ℕ, List, Option, Some, Err, ◌⊎◌, inl, inr, refl, sym, ap, ◌∙◌, subst}
+use Rattle.std.proofs.Common.{◌≡◌, ℕ, List, Option, Some, Err, inl, inr, refl, ap, ◌∙◌, subst}
 use Rattle.ofx_ports.specs.Faults.{CountsFaults}
-use Rattle.ofx_types.specs.declared.told.Note.TheVariants.{Plain, Place, Record, Illegal}
+use Rattle.ofx_types.specs.declared.told.Note.TheVariants.{Record, Illegal}
 use Rattle.ofx_types.specs.declared.told.Told.{Told}
-use Rattle.bank_model.specs.Rules.{opening_state}
-use Rattle.bank_model.specs.SetupForm.{SpellsSetup}
 use Rattle.bank_model.specs.declared.setup.Setup.{Setup}
-use Rattle.bank_model.specs.declared.event.State.{State}
-use Rattle.event_codec.specs.Records.{Reopens}
 use Rattle.bank_replay.specs.Opening.{HasNoForm, IsNotLegal, HasCause}
 use Rattle.bank_replay.specs.declared.fault.OpenFault.{OpenFault}
 use Rattle.bank_replay.specs.declared.fault.OpenFault.TheVariants as opens
@@ -15,30 +11,27 @@ use Rattle.bank_session.specs.OneBank.{OneBank}
 use Rattle.bank_session.specs.RecordsRead.{opening_stop, StopsOpening}
 use Rattle.bank_session.specs.Run.{told, told_of}
 use Rattle.bank_session.specs.SetupRead.{IsSetupOf}
-use Rattle.bank_server.specs.Opening.{Outside, HasRecords, GaveUp, RefusesSetup, DoesntOpen, RefusesOpening}
-
--- no bytes spell two setups
-abbrev pub OneSetup : Type 0
-OneSetup = (bytes : List ℕ) (a b : Setup) → SpellsSetup bytes a → SpellsSetup bytes b → a ≡ b
+use Rattle.bank_server.specs.Opening.{OpeningPorts, HasRecords, IsInterrupted, RefusesSetup, DoesntOpen, RefusesOpening}
+use Rattle.bank_session.proofs.Unopened.{OneSetup}
 
 -- a setup that is found isn't refused
-found_spelled : (before after : Outside) (what : Told) (found : Setup) → IsSetupOf before.setup_left found → RefusesSetup before after what
+found_spelled : (before after : OpeningPorts) (what : Told) (found : Setup) → IsSetupOf before.setup_left found → RefusesSetup before after what
 found_spelled before after what found is text left none =
     let P : Option (List ℕ) → Type 0 = λ all. IsSetupOf all found in absurd (none found (subst P left is))
 
 -- the setup that is found is the one that is told
-same_setup : OneSetup → (before : Outside) (setup found : Setup) (records : List (List ℕ)) → HasRecords before setup records → IsSetupOf before.setup_left found → found ≡ setup
+same_setup : OneSetup → (before : OpeningPorts) (setup found : Setup) (records : List (List ℕ)) → HasRecords before setup records → IsSetupOf before.setup_left found → found ≡ setup
 same_setup one before setup found records has is =
     one has.text found setup (subst (λ (left : Option (List ℕ)). IsSetupOf left found) has.setup_is is) has.spelled
 
 -- a fact of the setup that is found and of the records is one of the setup and the records that are told
-of_told : OneSetup → (before : Outside) (setup found : Setup) (records : List (List ℕ)) (P : Setup → Option (List (List ℕ)) → Type 0) →
+of_told : OneSetup → (before : OpeningPorts) (setup found : Setup) (records : List (List ℕ)) (P : Setup → Option (List (List ℕ)) → Type 0) →
     HasRecords before setup records → IsSetupOf before.setup_left found → P found before.records → P setup (Some records)
 of_told one before setup found records P has is fact =
     subst (λ (s : Setup). P s (Some records)) (same_setup one before setup found records has is) (subst (λ (all : Option (List (List ℕ))). P found all) has.records_are fact)
 
 -- why the bank doesn't open
-why : (before after : Outside) (found : Setup) (fault : OpenFault) (what : Told) → IsSetupOf before.setup_left found → what ≡ told_of (Err (opening_stop fault))
+why : (before after : OpeningPorts) (found : Setup) (fault : OpenFault) (what : Told) → IsSetupOf before.setup_left found → what ≡ told_of (Err (opening_stop fault))
     → StopsOpening found before.records before.keeper_faults after.keeper_faults (opening_stop fault) → DoesntOpen before after what
 why before after found fault what is e cause = record {
   stop = opening_stop fault;
@@ -47,7 +40,7 @@ why before after found fault what is e cause = record {
 }
 
 -- something of the outside failed, or memory was refused
-outside_failed : (before after : Outside) (found : Setup) (what : Told) → IsSetupOf before.setup_left found → DoesntOpen before after what → GaveUp before after what → RefusesOpening before after what
+outside_failed : (before after : OpeningPorts) (found : Setup) (what : Told) → IsSetupOf before.setup_left found → DoesntOpen before after what → IsInterrupted before after what → RefusesOpening before after what
 outside_failed before after found what is ends gave = record {
   ends = ends;
   refuses_setup = found_spelled before after what found is;
@@ -56,7 +49,7 @@ outside_failed before after found what is ends gave = record {
   opens_else = λ setup records state has reopens. gave;
 }
 
-pub not_opened : OneSetup → OneBank → (before after : Outside) (found : Setup) (fault : OpenFault) (what : Told) → IsSetupOf before.setup_left found → what ≡ told_of (Err (opening_stop fault))
+pub not_opened : OneSetup → OneBank → (before after : OpeningPorts) (found : Setup) (fault : OpenFault) (what : Told) → IsSetupOf before.setup_left found → what ≡ told_of (Err (opening_stop fault))
     → HasCause found before.records fault → CountsFaults before.keeper_faults after.keeper_faults (fault ≡ opens.Read) → RefusesOpening before after what
 not_opened one opening before after found opens.Read what is e cause counts =
     outside_failed before after found what is (why before after found opens.Read what is e (counts.cause refl)) (inr (inl (e, counts.cause refl)))

@@ -45,7 +45,7 @@ map-more f (first ∷ xs) x = ap (λ ys. f first ∷ ys) (map-more f xs x)
 missed-more : (runs : List (Result ℕ DueFault)) (run : Result ℕ DueFault) → missed_in (runs ++ run ∷ []) ≡ missed_in runs + missed_in (run ∷ [])
 missed-more runs run = search (rules, length-append, filter-append)
 
--- one link more: it was given behind a due run, served, and handed back
+-- one link more: it was given after a due run, served, and handed back
 pub more : {L : Type 0} (faces : Faces L) (setup : Setup) (before now mid next : DoorView L) (shown s0 s1 s2 : Option (List Moment)) (served missed : ℕ)
     (at : Moment) (due : Result ℕ DueFault) (given back : L) (answer : Result Served ServeError)
     → SoFar faces setup before now shown s0 served missed → DoesDueAt s0 s1 at due
@@ -80,7 +80,7 @@ all_served faces setup most before now shown shown' end so all status = record {
   ends = inl (record { all = all; status = status; missed = so.missed_is; unread = refl });
 }
 
--- behind one more due run its doorway gave no link
+-- after one more due run its doorway gave no link
 pub no_door : {L : Type 0} (faces : Faces L) (setup : Setup) (most : ℕ) (before now after : DoorView L) (shown s0 s1 : Option (List Moment)) (missed : ℕ) (at : Moment) (due : Result ℕ DueFault) (end : WorkerEnd)
     → SoFar faces setup before now shown s0 end.served missed → DoesDueAt s0 s1 at due → Grows now.given after.given [] → Stays now.back after.back
     → end.missed ≡ missed + missed_in (due ∷ []) → end.served ≤ greatest most

@@ -1,7 +1,7 @@
 -- Links and doorways, as contracts see those of a worker.
 use Rattle.std.specs.Prelude.{ℕ, List, Option, None}
 use Rattle.ofx_types.specs.declared.number.Moment.{Moment}
-use Rattle.bank_connection.specs.Connection.{Around, around}
+use Rattle.bank_connection.specs.Connection.{LinkView, around}
 
 -- What is seen of a link: the bytes that it has left, its count of reads' faults, the bytes that it holds, and its count of writes'
 -- faults.
@@ -15,7 +15,7 @@ abbrev pub faces : {L : Type 0} → (L → Option (List ℕ)) → (L → ℕ) �
 faces left reads held writes = record { left = left; reads = reads; held = held; writes = writes }
 
 -- a link beside what the clock has shown
-abbrev pub around_link : {L : Type 0} → Faces L → L → Option (List Moment) → Around
+abbrev pub around_link : {L : Type 0} → Faces L → L → Option (List Moment) → LinkView
 around_link faces link shown = around (faces.left link) (faces.reads link) (faces.held link) (faces.writes link) shown None
 
 -- What is seen of a doorway: the links that it gave and took back, where they are told, and its counts of faults and of closings.

@@ -1,7 +1,7 @@
 -- Numbers of digits, read from the left.
 use Rattle.std.specs.Prelude.{◌≡◌, ℕ, ◌<◌, ◌≤◌, ◌+◌, ◌-◌, ◌*◌, List, [], ◌∷◌, length, slice_index}
 
--- the number that digits stand for behind what was read so far
+-- the number that digits stand for after what was read so far
 abbrev pub number_from : ℕ → List ℕ → ℕ
 number_from value [] = value
 number_from value (digit ∷ digits) = number_from (value * 10 + (digit - 48)) digits

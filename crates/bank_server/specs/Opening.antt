@@ -18,31 +18,31 @@ use Rattle.bank_server.specs.Words.{IsServeUsage}
 
 -- What opening finds, and what it leaves: the bytes that the setup's source has left, its count of faults, the keeper's records and
 -- its count of faults.
-pub record Outside : Type 0 where
+pub record OpeningPorts : Type 0 where
   pub setup_left : Option (List ℕ)
   pub setup_faults : ℕ
   pub records : Option (List (List ℕ))
   pub keeper_faults : ℕ
 
-abbrev pub outside : Option (List ℕ) → ℕ → Option (List (List ℕ)) → ℕ → Outside
+abbrev pub outside : Option (List ℕ) → ℕ → Option (List (List ℕ)) → ℕ → OpeningPorts
 outside left setup_faults records keeper_faults =
     record { setup_left = left; setup_faults = setup_faults; records = records; keeper_faults = keeper_faults }
 
 -- ---- why it doesn't open
 
 -- The setup isn't read, and the keeper isn't asked.
-pub record HasNoSetup (before after : Outside) (stop : Stop) : Type 0 where
+pub record HasNoSetup (before after : OpeningPorts) (stop : Stop) : Type 0 where
   pub cause : StopsSetup before.setup_left before.setup_faults after.setup_faults stop
   pub unasked : after.keeper_faults ≡ before.keeper_faults
 
 -- The setup is the one that all bytes of its source spell, and the bank doesn't open from its records.
-pub record HasNoBank (before after : Outside) (stop : Stop) : Type 0 where
+pub record HasNoBank (before after : OpeningPorts) (stop : Stop) : Type 0 where
   pub setup : Setup
   pub found : IsSetupOf before.setup_left setup
   pub cause : StopsOpening setup before.records before.keeper_faults after.keeper_faults stop
 
 -- The words have their form, and what is told is that of a stop without a setup or without a bank.
-pub record DoesntOpen (before after : Outside) (what : Told) : Type 0 where
+pub record DoesntOpen (before after : OpeningPorts) (what : Told) : Type 0 where
   pub stop : Stop
   pub told_is : what ≡ told_of (Err stop)
   pub cause : HasNoSetup before after stop ⊎ HasNoBank before after stop
@@ -50,44 +50,44 @@ pub record DoesntOpen (before after : Outside) (what : Told) : Type 0 where
 -- ---- exactly where
 
 -- A read of the setup or a call of the keeper failed, or memory was refused.
-abbrev pub GaveUp : Outside → Outside → Told → Type 0
-GaveUp before after what =
+abbrev pub IsInterrupted : OpeningPorts → OpeningPorts → Told → Type 0
+IsInterrupted before after what =
     ((what ≡ told 5 Plain) × Rose before.setup_faults after.setup_faults)
     ⊎ (((what ≡ told 8 Plain) × Rose before.keeper_faults after.keeper_faults) ⊎ (what ≡ told 7 Plain))
 
 -- Bytes that spell no setup are refused with 3, and the line of their fault is told.
-abbrev pub RefusesSetup : Outside → Outside → Told → Type 0
+abbrev pub RefusesSetup : OpeningPorts → OpeningPorts → Told → Type 0
 RefusesSetup before after what =
     (text : List ℕ) → before.setup_left ≡ Some text → ((setup : Setup) → SpellsSetup text setup → ⊥)
-    → ((line : ℕ) × IsSetupFault text line × (what ≡ told 3 (Place line))) ⊎ GaveUp before after what
+    → ((line : ℕ) × IsSetupFault text line × (what ≡ told 3 (Place line))) ⊎ IsInterrupted before after what
 
 -- The setup is spelled, and these are the records.
-pub record HasRecords (before : Outside) (setup : Setup) (records : List (List ℕ)) : Type 0 where
+pub record HasRecords (before : OpeningPorts) (setup : Setup) (records : List (List ℕ)) : Type 0 where
   pub text : List ℕ
   pub setup_is : before.setup_left ≡ Some text
   pub spelled : SpellsSetup text setup
   pub records_are : before.records ≡ Some records
 
 -- The first record that codes no event is refused with 9, and its number and the place of its fault are told.
-abbrev pub RefusesRecord : Outside → Outside → Told → Type 0
+abbrev pub RefusesRecord : OpeningPorts → OpeningPorts → Told → Type 0
 RefusesRecord before after what =
     (setup : Setup) (records : List (List ℕ)) (number place : ℕ) → HasRecords before setup records
-    → HasNoForm setup (Some records) number place → (what ≡ told 9 (Record number place)) ⊎ GaveUp before after what
+    → HasNoForm setup (Some records) number place → (what ≡ told 9 (Record number place)) ⊎ IsInterrupted before after what
 
 -- So is the first one whose event isn't legal after those before it, and its number is told.
-abbrev pub RefusesIllegal : Outside → Outside → Told → Type 0
+abbrev pub RefusesIllegal : OpeningPorts → OpeningPorts → Told → Type 0
 RefusesIllegal before after what =
     (setup : Setup) (records : List (List ℕ)) (number : ℕ) → HasRecords before setup records
-    → IsNotLegal setup (Some records) number → (what ≡ told 9 (Illegal number)) ⊎ GaveUp before after what
+    → IsNotLegal setup (Some records) number → (what ≡ told 9 (Illegal number)) ⊎ IsInterrupted before after what
 
 -- A bank that its records bring to a state is refused only where something of the outside failed or memory was refused.
-abbrev pub OpensElse : Outside → Outside → Told → Type 0
+abbrev pub OpensElse : OpeningPorts → OpeningPorts → Told → Type 0
 OpensElse before after what =
     (setup : Setup) (records : List (List ℕ)) (state : State) → HasRecords before setup records
-    → Reopens setup opening_state records state → GaveUp before after what
+    → Reopens setup opening_state records state → IsInterrupted before after what
 
 -- A refusal of words that have their form.
-pub record RefusesOpening (before after : Outside) (what : Told) : Type 0 where
+pub record RefusesOpening (before after : OpeningPorts) (what : Told) : Type 0 where
   pub ends : DoesntOpen before after what
   pub refuses_setup : RefusesSetup before after what
   pub refuses_record : RefusesRecord before after what

@@ -77,7 +77,7 @@ pub record HasServedAll (most : ℕ) (shown shown' : Option (List Moment)) (ends
   pub missed : end.missed ≡ missed_in ends
   pub unread : shown' ≡ shown
 
--- Behind one more due run its doorway was closed, or failed.
+-- After one more due run its doorway was closed, or failed.
 pub record HasNoDoor {L : Type 0} (before after : DoorView L) (shown shown' : Option (List Moment)) (ends : List (Result ℕ DueFault)) (end : WorkerEnd) : Type 0 where
   pub at : Moment
   pub due : Result ℕ DueFault

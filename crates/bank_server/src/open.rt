@@ -16,9 +16,10 @@ use bank_shared::Opened;
 use ofx_ports::{Keeper, Source};
 use ofx_types::{Text, Told};
 use std::alloc::Global;
+use std::hash::RandomState;
 
 /// Judges the words of `serve`, reads the setup whole, and opens the bank from the records that the keeper has. Each refusal hands the
-/// keeper back.
+/// keeper back. Clients' names are found by hashes with these keys.
 ///
 /// | Status | Note | Where |
 /// |---|---|---|
@@ -31,6 +32,7 @@ use std::alloc::Global;
 /// | 7 | | memory was refused |
 pub fn serve_open<A: Source, K: Keeper, P: Printer>(
     alloc: Global,
+    keys: RandomState,
     words: &[Text],
     setup: &mut A,
     keeper: K,
@@ -60,7 +62,7 @@ pub fn serve_open<A: Source, K: Keeper, P: Printer>(
         Ok(found) => found,
         Err(stop) => return Err((end_told(Err(stop)), keeper)),
     };
-    match Opened::open(alloc, keeper, found, printer) {
+    match Opened::open(alloc, keys, keeper, found, printer) {
         Ok(opened) => Ok((plan, opened)),
         Err((fault, keeper)) => Err((end_told(Err(opening_stop(fault))), keeper)),
     }

@@ -1,6 +1,6 @@
 -- What a desk answers and does, as the lines of frames.
 use Rattle.std.proofs.Common.{◌≡◌, ℕ, Bool, List, [], ◌∷◌, ◌++◌, Option, Some, ◌⊎◌, inl, inr, arith, refl, sym, ap, ◌∙◌, length-append}
-use Rattle.std.specs.Prelude.{Result, Ok, Err, OnErr}
+use Rattle.std.specs.Prelude.{Result, Err}
 use Rattle.ofx_ports.specs.Told.{Stays, Grows}
 use Rattle.ofx_types.specs.declared.number.Moment.{Moment}
 use Rattle.bank_model.specs.Rules.{due}
@@ -97,8 +97,3 @@ run_told at before after told told' count line made is = (
   record { events = made.events; is_run = made.is_run; kept = made.kept; count = is ∙ ap due_line (sym made.counted); state = made.state },
   made.grows,
 )
-
--- what is known anyway is known where the answer is a refusal
-pub where_refused : {A E P : Type 0} (result : Result A E) → P → OnErr result P
-where_refused (Ok value) p = tt
-where_refused (Err e) p = p

@@ -22,7 +22,7 @@ use Rattle.bank_session.specs.declared.stop.Stop.TheVariants as stops
 use Rattle.bank_session.specs.OneBank.{OneBank}
 use Rattle.bank_session.proofs.Unopened.{OneSetup, Unopened, unopened, unopened_setup, unopened_record, unopened_illegal, unopened_otherwise, interrupted_otherwise, opens_or_interrupted, wider, status_is, unspelled_setup, IsBankOf, record_refused, illegal_refused}
 
--- what was due isn't done, behind the clock's one answer
+-- what was due isn't done, after the clock's one answer
 pub due_undone : (setup : Setup) (start : State) (setup_left setup_left' left held : Option (List ℕ)) (setup_faults setup_faults' faults writes : ℕ) (records records' : Option (List (List ℕ))) (keeps keeps' : ℕ) (shown shown' : Option (List Moment)) (unsettled unsettled' : Bool) (moment : Moment) (undone : DeskFault) →
     Grows shown shown' (moment ∷ []) → ((kept : List (List ℕ)) × IsPrefixKept setup moment start due_work kept × Grows records records' kept) → (undone ≡ AppendFailed → Rose keeps keeps') →
     DueEnds setup start (ports_view setup_left setup_faults left faults held writes records keeps shown unsettled) (ports_view setup_left' setup_faults' left faults held writes records' keeps' shown' unsettled') (Err (stop_of undone))

@@ -119,7 +119,7 @@ stuck_split contents turns rest tail fits fits' few few' (falls_short (m ∷ ms)
 stuck_split contents turns rest tail fits fits' few few' (falls_short (m ∷ ms) same then) (inr full) stuck' =
     absurd (omega (arith, few', full, ap length same, length-append contents (m ∷ ms), contents_counted turns))
 
--- what stands behind the frames of a run that stopped at a frame
+-- what stands after the frames of a run that stopped at a frame
 more_left : (setup : Setup) (start : State) (at : Option Moment) (before after : PortsView) (place : ℕ) (stopped : StoppedAtFrame setup start at before after place) (tail : List ℕ) → prepend_known stopped.ahead after.input_left ≡ Some tail → (tail ≢ []) × (BeginsNoFrame tail ⊎ (length stopped.turns ≡ 1000000))
 more_left setup start at before after place stopped tail e =
     let P : Option (List ℕ) → Type 0 = λ coming. IfSome coming (λ rest. (rest ≢ []) × (BeginsNoFrame rest ⊎ (length stopped.turns ≡ 1000000))) in
@@ -131,7 +131,7 @@ no_more setup start at before after place contents gives stopped =
     let more = more_left setup start at before after place stopped split.0 split.1 in
     no_more_split contents stopped.turns split.0 gives.fit gives.few split.2 more.0 more.1
 
--- a run that stops at a frame does so behind the contents of the input
+-- a run that stops at a frame does so after the contents of the input
 at_place : (setup : Setup) (start : State) (at : Option Moment) (before after : PortsView) (place : ℕ) (contents : List Content) (rest : List ℕ) → Gives before contents rest → (BeginsNoFrame rest ⊎ (length contents ≡ 1000000)) → StoppedAtFrame setup start at before after place → place ≡ length (flat_map frame_of contents)
 at_place setup start at before after place contents rest gives stuck stopped =
     let split = split_taken setup start before after stopped.ahead stopped.turns stopped.state contents rest gives stopped.taken in

@@ -28,7 +28,7 @@ use Rattle.bank_session.specs.Determined.{OneDueRun, OneLine, OneOutput, OneRefu
 same_inside : {X : Type 0} {x y : X} → Some x ≡ Some y → x ≡ y
 same_inside e = cc
 
-none_or_some : {X : Type 0} {x : X} {option : Option X} → option ≡ None → option ≡ Some x → ⊥
+pub none_or_some : {X : Type 0} {x : X} {option : Option X} → option ≡ None → option ≡ Some x → ⊥
 none_or_some none some = cc
 
 -- A fact of the file that bytes spell holds of each other file that they spell.
@@ -66,7 +66,7 @@ same_event one setup bytes file file' user user' a b =
     ap (λ (u : UserId). File u file) by ∙ ap (λ (f : RequestFile). File user' f) same
 
 -- a file that is a poll is no event
-is_both : {x : Bool} → x ≡ true → x ≡ false → ⊥
+pub is_both : {x : Bool} → x ≡ true → x ≡ false → ⊥
 is_both up down = absurd (false≢true (sym down ∙ up))
 
 polled_and_event : OneFile → (bytes : List ℕ) (a b : RequestFile) → SpellsFile bytes a → SpellsFile bytes b → is_poll a ≡ true → is_poll b ≡ false → ⊥
@@ -150,7 +150,7 @@ only_where_refused setup at before bytes records after printed (inr (inl p)) = a
 only_where_refused setup at before bytes records after printed (inr (inr (inl d))) = absurd (frame_tells_nothing _ printed d.reply)
 only_where_refused setup at before bytes records after printed (inr (inr (inr b))) = (b.place, b.refused, same_digits (decimal b.place) (decimal printed) (sym b.bad))
 
--- for the bytes of a file there is one line, one list of records, and one state behind it
+-- for the bytes of a file there is one line, one list of records, and one state after it
 same_file_line : WhereAnswered → WherePolled → WhereDenied → WhereRefused → (setup : Setup) (at : Moment) (before : State) (bytes line line' : List ℕ) (records records' : List (List ℕ)) (after after' : State) →
     AnswersFile setup at before bytes line records after → AnswersFile setup at before bytes line' records' after' → (line ≡ line') × (records ≡ records') × (after ≡ after')
 same_file_line answered polled denied refused setup at before bytes line line' records records' after after' says (inl b) =

@@ -3,7 +3,6 @@ use Rattle.std.proofs.Common.{◌≡◌, ℕ, ◌≤◌, Bool, true, false, List
 use Rattle.std.specs.Prelude.{IfOk, IfErr}
 use Rattle.std.specs.Io.KnownBytes.{Keeps, IsAtEnd, prepend_known}
 use Rattle.std.proofs.KnownBytes.{Keeps-refl}
-use Rattle.std.proofs.lemmas.Bool.{false≢true}
 use Rattle.ofx_ports.specs.Faults.{Rose}
 use Rattle.ofx_ports.specs.Told.{Stays, Grows}
 use Rattle.ofx_ports.specs.Kept.{MayGrow}
@@ -34,6 +33,7 @@ use Rattle.bank_session.specs.declared.stop.Stop.TheVariants as stops
 use Rattle.bank_session.specs.OneBank.{OneBank}
 use Rattle.bank_session.proofs.ToldLemmas.{landed_or_not}
 use Rattle.bank_session.proofs.Unopened.{OneSetup, Unopened, unopened, unopened_setup, unopened_record, unopened_illegal, unopened_otherwise, interrupted_otherwise, opens_or_interrupted, or_interrupted, wider, status_is, unspelled_setup, IsBankOf, record_refused, illegal_refused, of_found}
+use Rattle.bank_session.proofs.LineLemmas.{none_or_some, is_both}
 
 -- ---- the body
 
@@ -86,7 +86,7 @@ body_refused left left' before now ahead (Err (stops.Records fault)) kept at_end
 
 -- ---- how the command ends
 
--- the letter isn't written, behind the clock's one answer
+-- the letter isn't written, after the clock's one answer
 pub letter_undone : (bank : BookView) (user : UserId) (name subject body : List ℕ) (setup_left setup_left' left left' held : Option (List ℕ)) (setup_faults setup_faults' faults faults' writes : ℕ) (records records' : Option (List (List ℕ))) (keeps keeps' : ℕ) (shown shown' : Option (List Moment)) (unsettled unsettled' : Bool) (landed : Option Bool) (moment : Moment) (undone : DeskFault) →
     user_of bank.setup name ≡ Some user → Grows shown shown' (moment ∷ []) → (undone ≡ NoMemory → Stays records records') →
     (undone ≡ AppendFailed → (rec : List ℕ) × IsLegal bank.setup bank.state moment (Letter user subject body) × Codes rec moment (Letter user subject body) × MayGrow records records' landed rec) →
@@ -211,12 +211,6 @@ body_there before setup start input body brings is = subst (λ (left : Option (L
 none_there : (before : PortsView) (setup : Setup) (start : State) (input body : List ℕ) → Brings before setup start input → IsNoBody before.input_left → IsBody input body → ⊥
 none_there before setup start input body brings none is = subst IsNoBody brings.input_is none body is
 
-none_or_some : {X : Type 0} {x : X} {option : Option X} → option ≡ None → option ≡ Some x → ⊥
-none_or_some none some = cc
-
-true_or_false : {x : Bool} → x ≡ true → x ≡ false → ⊥
-true_or_false up down = absurd (false≢true (sym down ∙ up))
-
 -- a user or nobody is found in the setup that is told, and so is the room left in the state
 nobody_told : OneSetup → OneBank → (name : List ℕ) (before : PortsView) (setup found : Setup) (start state : State) (input : List ℕ) → Brings before setup start input → IsBankOf before found state → user_of found name ≡ None → user_of setup name ≡ None
 nobody_told one opening name before setup found start state input brings bank fact =
@@ -256,7 +250,7 @@ refuses_full one opening name before after what (no_user found state own bank it
     absurd (none_or_some (nobody_told one opening name before setup found start state input brings bank nobody) named)
 refuses_full one opening name before after what (full found state own user' bank its named' last' e) setup start input body user brings is named last = inl e
 refuses_full one opening name before after what (written found state own user' bank its named' more e) setup start input body user brings is named last =
-    absurd (true_or_false (room_told one opening before setup found start state input true brings bank more) last)
+    absurd (is_both (room_told one opening before setup found start state input true brings bank more) last)
 
 writes_it : OneSetup → OneBank → (name : List ℕ) (before after : PortsView) (what : Told) → Comes name before after what → WritesIt name before after what
 writes_it one opening name before after what (without how) setup start input body user brings is named more = inr (lacks_bank one opening before after what setup start input brings how)
@@ -265,7 +259,7 @@ writes_it one opening name before after what (no_body found state bank nothing e
 writes_it one opening name before after what (no_user found state own bank its nobody e) setup start input body user brings is named more =
     absurd (none_or_some (nobody_told one opening name before setup found start state input brings bank nobody) named)
 writes_it one opening name before after what (full found state own user' bank its named' last e) setup start input body user brings is named more =
-    absurd (true_or_false more (room_told one opening before setup found start state input false brings bank last))
+    absurd (is_both more (room_told one opening before setup found start state input false brings bank last))
 writes_it one opening name before after what (written found state own user' bank its named' more' e) setup start input body user brings is named more = inl e
 
 -- what the command comes to, by its end

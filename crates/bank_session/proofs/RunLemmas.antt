@@ -3,7 +3,6 @@ use Rattle.std.proofs.Common.{◌≡◌, ◌≢◌, ℕ, ◌<◌, ◌≤◌, ◌
 use Rattle.std.specs.Io.KnownBytes.{Keeps, Consumes, IsAtEnd, prepend_known}
 use Rattle.std.proofs.KnownBytes.{Appends-nil, Appends-trans, Consumes-trans, Consumes-kept, Appends-kept, Keeps-refl}
 use Rattle.std.proofs.lemmas.List.{flat_map_more}
-use Rattle.ofx_ports.specs.Faults.{Rose}
 use Rattle.ofx_types.specs.declared.number.Moment.{Moment}
 use Rattle.bank_model.specs.declared.setup.Setup.{Setup}
 use Rattle.bank_model.specs.declared.event.State.{State}
@@ -21,6 +20,7 @@ use Rattle.bank_session.specs.declared.stop.Stop.TheVariants as stops
 use Rattle.bank_session.proofs.Standing.{Standing}
 use Rattle.bank_frames.proofs.Agreement.{head_is_short}
 use Rattle.ofx_ports.proofs.ToldLaws.{Stays-refl, Grows-trans, Grows-kept}
+use Rattle.ofx_ports.proofs.FaultLaws.{Rose-later}
 use Rattle.bank_session.proofs.ToldLemmas.{grows_nothing}
 use Rattle.bank_session.proofs.MomentLemmas.{no_moments, more_moments, kept_moments, one_more_moment}
 
@@ -31,7 +31,7 @@ found_in out = turn_view out.input_left out.input_faults out.held out.out_faults
 abbrev pub left_in : List ℕ → PortsView → TurnView
 left_in ahead out = turn_view (prepend_known ahead out.input_left) out.input_faults out.held out.out_faults out.records out.keeper_faults out.shown
 
--- a turn behind the turns so far
+-- a turn after the turns so far
 one_more : (setup : Setup) (before mid after : State) (turns : List Turn) (turn : Turn) → AreTurns setup before turns mid → Fits turn.content → AnswersFrame setup turn.at mid turn.content turn.line turn.records after → AreTurns setup before (turns ++ turn ∷ []) after
 one_more setup before mid after [] turn same fits says = (after, fits, subst (λ (s : State). AnswersFrame setup turn.at s turn.content turn.line turn.records after) same says, refl)
 one_more setup before mid after (first ∷ turns) turn (next, there, said, rest) fits says = (next, there, said, one_more setup next mid after turns turn rest fits says)
@@ -119,12 +119,7 @@ stuck : (later : Option (List ℕ)) (full : Type 0) → IfSome later IsNoFrame �
 stuck None full h = tt
 stuck (Some rest) full h = (h.0, inl h.1)
 
--- a count that rose behind a moment rose since before it
-rose_since : (before mid now : ℕ) → before ≤ mid → Rose mid now → Rose before now
-rose_since before mid now low (inl h) = inl (omega (arith, low, h))
-rose_since before mid now low (inr h) = inr h
-
--- where no frame comes it stops at the place behind the frames so far
+-- where no frame comes it stops at the place after the frames so far
 pub stopped_at_frame : (setup : Setup) (start : State) (at : Option Moment) (before after : PortsView) (count place : ℕ) (book : BookView) (now : TurnView) (ahead : List ℕ) →
     Standing setup start at (found_in before) count place book now → count ≤ 1000000 → NoTurn now (left_in ahead after) → IfSome (prepend_known ahead after.input_left) IsNoFrame → StoppedAtFrame setup start at before after place
 stopped_at_frame setup start at before after count place book now ahead standing few none no_frame = record {
@@ -176,7 +171,7 @@ stopped_in_frame setup start at before after count place book now ahead moment s
     written = Appends-trans before.held now.held after.held _ _ standing.written h.0.written;
     moments = more_moments at before.shown now.shown after.shown _ _ standing.moments moments;
   },
-  rose_since before.out_faults now.writes after.out_faults standing.writes h.1,
+  Rose-later before.out_faults now.writes after.out_faults standing.writes h.1,
 )
 stopped_in_frame setup start at before after count place book now ahead moment stops.KeeperFailed standing few moments h = (
   record {
@@ -195,7 +190,7 @@ stopped_in_frame setup start at before after count place book now ahead moment s
     written = Appends-kept before.held now.held after.held _ standing.written h.0.unwritten;
     moments = more_moments at before.shown now.shown after.shown _ _ standing.moments moments;
   },
-  rose_since before.keeper_faults now.keeps after.keeper_faults standing.keeps h.1,
+  Rose-later before.keeper_faults now.keeps after.keeper_faults standing.keeps h.1,
 )
 stopped_in_frame setup start at before after count place book now ahead moment stops.NoMemory standing few moments h = record {
   turns = standing.turns;
@@ -238,7 +233,7 @@ stopped_in_read setup start at before after count place book now ahead standing 
     written = Appends-kept before.held now.held after.held _ standing.written h.0.unwritten;
     moments = kept_moments at before.shown now.shown after.shown _ standing.moments h.0.unseen;
   },
-  rose_since before.input_faults now.reads after.input_faults standing.reads h.1.1,
+  Rose-later before.input_faults now.reads after.input_faults standing.reads h.1.1,
 )
 
 -- where a turn fails the run stops
@@ -247,12 +242,12 @@ pub stopped_in_turn : (setup : Setup) (start : State) (at : Option Moment) (befo
 stopped_in_turn setup start at before after count place book now ahead stops.ReadFailed standing few h = stopped_in_read setup start at before after count place book now ahead standing few h
 stopped_in_turn setup start at before after count place book now ahead stop standing few h = stopped_in_frame setup start at before after count place book now ahead h.moment stop standing few h.moments h.happened
 
--- bytes behind the most frames
+-- bytes after the most frames
 over : (later : Option (List ℕ)) (full : Type 0) → full → IfSome later (λ rest. rest ≢ []) → IfSome later (λ rest. (rest ≢ []) × (BeginsNoFrame rest ⊎ full))
 over None full is_full h = tt
 over (Some rest) full is_full h = (h, inr is_full)
 
--- behind the last frame that a run answers the input ends, or the run stops
+-- after the last frame that a run answers the input ends, or the run stops
 pub ended_behind : (setup : Setup) (start : State) (at : Option Moment) (before after : PortsView) (count place : ℕ) (book : BookView) (coming : Option (List ℕ)) (reads : ℕ) (ahead : List ℕ) (end : Result (Unit {0}) Stop) →
     Standing setup start at (found_in before) count place book (turn_view coming reads after.held after.out_faults after.records after.keeper_faults after.shown) → count ≡ 1000000 → EndOrStop coming place ahead after.input_left reads after.input_faults end → RunEnds at setup start before after end
 ended_behind setup start at before after count place book coming reads ahead (Ok done) standing full h = record {
@@ -287,7 +282,7 @@ ended_behind setup start at before after count place book coming reads ahead (Er
     written = standing.written;
     moments = standing.moments;
   },
-  rose_since before.input_faults reads after.input_faults standing.reads h.1,
+  Rose-later before.input_faults reads after.input_faults standing.reads h.1,
 )
 ended_behind setup start at before after count place book coming reads ahead (Err stops.NoMemory) standing full h = absurd h
 ended_behind setup start at before after count place book coming reads ahead (Err stops.WriteFailed) standing full h = absurd h

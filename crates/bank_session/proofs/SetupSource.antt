@@ -8,7 +8,7 @@ use Rattle.bank_model.specs.SetupFault.{lines_in, lines_within, BeginSetup, IsWr
 use Rattle.bank_model.specs.declared.setup.Setup.{Setup}
 use Rattle.bank_session.specs.SetupRead.{IsNoSetup}
 
--- bytes behind the most that a setup may have make no difference to its lines
+-- bytes after the most that a setup may have make no difference to its lines
 same_lines : (ahead more : List ℕ) → 262144 < length ahead → lines_within ahead ≡ lines_within (ahead ++ more)
 same_lines ahead more long = ap lines_in (sym (take-append-le 262144 ahead more (omega (arith, long))))
 

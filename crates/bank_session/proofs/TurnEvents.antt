@@ -1,5 +1,5 @@
--- The records of turns code legal events, which lead to the state behind the turns.
-use Rattle.std.proofs.Common.{◌≡◌, ◌↔◌, ℕ, Bool, ◌&&◌, List, [], ◌∷◌, ◌++◌, length, position, false, Some, inl, inr, refl, sym, subst, append-nil}
+-- The records of turns code legal events, which lead to the state after the turns.
+use Rattle.std.proofs.Common.{◌≡◌, ℕ, Bool, ◌&&◌, List, [], ◌∷◌, ◌++◌, length, position, false, Some, inl, inr, refl, sym, subst, append-nil}
 use Rattle.std.specs.Str.{bytes_eq}
 use Rattle.ofx_types.specs.declared.number.Moment.{Moment}
 use Rattle.ofx_types.specs.declared.number.UserId.{UserId}
@@ -20,14 +20,11 @@ use Rattle.bank_signon.specs.Signon.{IsSignedOn}
 use Rattle.bank_solo.proofs.Named.{found_within}
 use Rattle.bank_session.specs.BooksKept.{StoppedRunsReopen}
 use Rattle.bank_desk.proofs.DeskLemmas.{user_within}
+use Rattle.bank_replay.proofs.OneOpening.{ReopeningGoesOn}
 
 -- what is due may be done
 abbrev pub DueIsLegal : Type 0
 DueIsLegal = (setup : Setup) (S : State) (at : Moment) (event : Event) → due setup S at ≡ Some event → IsLegal setup S at event
-
--- a bank that comes by its records to a state goes on from there
-abbrev pub GoesOn : Type 0
-GoesOn = (setup : Setup) (before : State) (first second : List (List ℕ)) (after : State) → Reopens setup before (first ++ second) after ↔ ((between : State) × Reopens setup before first between × Reopens setup between second after)
 
 -- a user's file whose record is kept is legal, since a record codes sound files alone
 signed_on_legal : (setup : Setup) (S : State) (at : Moment) (bytes rec : List ℕ) (file : RequestFile) (user : UserId) → Codes rec at (File user file) → IsSignedOn setup bytes file user → is_poll file ≡ false → IsLegal setup S at (File user file)
@@ -35,14 +32,14 @@ signed_on_legal setup S at bytes rec file user codes signed event_is =
     let is_user : User → Bool = λ known. bytes_eq known.name file.user && bytes_eq known.pass file.pass in
     (user_within (position is_user setup.users) (length setup.users) user (found_within is_user setup.users) signed.signed, codes.within, event_is)
 
--- what reopens behind nothing
+-- what reopens after nothing
 behind_none : (setup : Setup) (before mid after : State) (records more : List (List ℕ)) → records ≡ [] → mid ≡ before → Reopens setup mid more after → Reopens setup before (records ++ more) after
 behind_none setup before mid after records more none same reopens =
     let P : List (List ℕ) → Type 0 = λ kept. Reopens setup before (kept ++ more) after in
     let Q : State → Type 0 = λ S. Reopens setup S more after in
     subst P (sym none) (subst Q same reopens)
 
--- what reopens behind events of one moment that are legal one after another
+-- what reopens after events of one moment that are legal one after another
 behind_one : (setup : Setup) (at : Moment) (before mid after : State) (event : Event) (records more : List (List ℕ)) → ((rec : List ℕ) → Codes rec at event → IsLegal setup before at event) → AreRecordsOf at (event ∷ []) records → mid ≡ state_after setup before at event → Reopens setup mid more after → Reopens setup before (records ++ more) after
 behind_one setup at before mid after event [] more legal kept same reopens = absurd kept
 behind_one setup at before mid after event (rec ∷ records) more legal kept same reopens =
@@ -66,7 +63,7 @@ behind_turn legal setup at before mid after (request bytes) line records more sa
 behind_turn legal setup at before mid after due_work line records more says reopens =
     behind_due legal setup at before mid after says.events records more says.is_run.are_due says.kept says.state reopens
 
--- The records of turns bring a bank from the state before them to the one behind them.
+-- The records of turns bring a bank from the state before them to the one after them.
 pub turns_reopen : DueIsLegal → (setup : Setup) (before : State) (turns : List Turn) (after : State) → AreTurns setup before turns after → Reopens setup before (records_in turns) after
 turns_reopen legal setup before [] after same = same
 turns_reopen legal setup before (turn ∷ turns) after (mid, fits, says, rest) =
@@ -91,7 +88,7 @@ due_reopens legal setup at before (event ∷ events) [] are kept = absurd kept
 due_reopens legal setup at before (event ∷ events) (rec ∷ records) are kept =
     (at, event, kept.0, legal setup before at event are.0, due_reopens legal setup at (state_after setup before at event) events records are.1 kept.1)
 
--- events that begin a frame's work lead to the state behind them
+-- events that begin a frame's work lead to the state after them
 begun_reopens : DueIsLegal → (setup : Setup) (at : Moment) (before : State) (content : Content) (events : List Event) (records : List (List ℕ)) → BeginsWork setup at before content events → AreRecordsOf at events records → Reopens setup before records (after_events setup before at events)
 begun_reopens legal setup at before (request bytes) events records (inl none) kept =
     let P : List Event → Type 0 = λ done. AreRecordsOf at done records → Reopens setup before records (after_events setup before at done) in
@@ -106,20 +103,20 @@ pub refused_in_vain : (setup : Setup) (at : Moment) (before : State) (content : 
 refused_in_vain setup at before (request bytes) records none = record { events = []; work = inl refl; kept = none }
 refused_in_vain setup at before due_work records kept = kept
 
--- The records of a frame bring a bank to the state behind it.
+-- The records of a frame bring a bank to the state after it.
 pub frame_reopens : DueIsLegal → (setup : Setup) (at : Moment) (before after : State) (content : Content) (line : List ℕ) (records : List (List ℕ)) → AnswersFrame setup at before content line records after → Reopens setup before records after
 frame_reopens legal setup at before after content line records says =
     let P : List (List ℕ) → Type 0 = λ kept. Reopens setup before kept after in
     subst P (append-nil records) (behind_turn legal setup at before after after content line records [] says refl)
 
 -- What goes on from turns goes on from the opening.
-pub goes_on_behind : DueIsLegal → GoesOn → (setup : Setup) (records kept : List (List ℕ)) (start state next : State) (turns : List Turn) → Reopens setup opening_state records start → AreTurns setup start turns state → Reopens setup state kept next → Reopens setup opening_state (records ++ (records_in turns ++ kept)) next
+pub goes_on_behind : DueIsLegal → ReopeningGoesOn → (setup : Setup) (records kept : List (List ℕ)) (start state next : State) (turns : List Turn) → Reopens setup opening_state records start → AreTurns setup start turns state → Reopens setup state kept next → Reopens setup opening_state (records ++ (records_in turns ++ kept)) next
 goes_on_behind legal goes_on setup records kept start state next turns before are behind =
     let from_start = (goes_on setup start (records_in turns) kept next).1 (state, turns_reopen legal setup start turns state are, behind) in
     (goes_on setup opening_state records (records_in turns ++ kept) next).1 (start, before, from_start)
 
 -- What is kept of a frame whose append failed goes on from the turns before it.
-pub stopped_reopens : DueIsLegal → GoesOn → StoppedRunsReopen IsPrefixKept
+pub stopped_reopens : DueIsLegal → ReopeningGoesOn → StoppedRunsReopen IsPrefixKept
 stopped_reopens legal goes_on = λ setup records kept start state turns at content before are vain.
     let behind = begun_reopens legal setup at state content vain.events kept vain.work vain.kept in
     (vain, goes_on_behind legal goes_on setup records kept start state (after_events setup state at vain.events) turns before are behind)

@@ -37,7 +37,7 @@ abbrev pub OneDueRun : Type 0
 OneDueRun = (setup : Setup) (before : State) (at : Moment) (events events' : List Event) →
     IsDueRun setup before at events → IsDueRun setup before at events' → events ≡ events'
 
--- For a frame at a moment there is one line, one list of records, and one state behind it.
+-- For a frame at a moment there is one line, one list of records, and one state after it.
 abbrev pub OneLine : Type 0
 OneLine = (setup : Setup) (at : Moment) (before : State) (content : Content) (line line' : List ℕ) (records records' : List (List ℕ)) (after after' : State) →
     AnswersFrame setup at before content line records after → AnswersFrame setup at before content line' records' after' →

@@ -88,11 +88,11 @@ pub record Gives (before : PortsView) (contents : List Content) (rest : List ℕ
   pub fit : AllByRecursion Fits contents
   pub few : length contents ≤ 1000000
 
--- Frames and nothing behind them end it with 0.
+-- Frames and nothing after them end it with 0.
 abbrev pub AnswersAll : PortsView → PortsView → Told → Type 0
 AnswersAll before after what = (contents : List Content) → Gives before contents [] → (what ≡ told 0 Plain) ⊎ IsInterrupted before after what
 
--- Bytes behind the frames that begin no frame, or anything behind the most frames, end it with 4, and their place in the
+-- Bytes after the frames that begin no frame, or anything after the most frames, end it with 4, and their place in the
 -- input is told.
 abbrev pub RefusesFrame : PortsView → PortsView → Told → Type 0
 RefusesFrame before after what =

@@ -14,7 +14,7 @@ use Rattle.bank_session.specs.declared.stop.Stop.{Stop}
 use Rattle.bank_session.specs.declared.stop.Stop.TheVariants as stops
 
 -- A run has taken these turns from a state, at most 1,000,000. Where the input is told it began with the frames of the turns,
--- and behind them came the bytes that were read ahead and those that it has left.
+-- and after them came the bytes that were read ahead and those that it has left.
 pub record Taken (setup : Setup) (start : State) (before after : PortsView) (turns : List Turn) (state : State) (ahead : List ℕ) : Type 0 where
   pub are_turns : AreTurns setup start turns state
   pub few : length turns ≤ 1000000
@@ -70,7 +70,7 @@ pub record StoppedInRead (setup : Setup) (start : State) (at : Option Moment) (b
   pub written : Appends before.held after.held (written_in turns)
   pub moments : AreMoments at before.shown after.shown (moments_in turns)
 
--- More is to come at this place of the input: bytes that begin no frame, or anything behind the most frames that a run
+-- More is to come at this place of the input: bytes that begin no frame, or anything after the most frames that a run
 -- answers.
 pub record StoppedAtFrame (setup : Setup) (start : State) (at : Option Moment) (before after : PortsView) (place : ℕ) : Type 0 where
   pub turns : List Turn
@@ -83,7 +83,7 @@ pub record StoppedAtFrame (setup : Setup) (start : State) (at : Option Moment) (
   pub written : Appends before.held after.held (written_in turns)
   pub moments : AreMoments at before.shown after.shown (moments_in turns)
 
--- A write failed. A prefix of the line of the next frame, of which all is kept, is written behind the lines of the turns.
+-- A write failed. A prefix of the line of the next frame, of which all is kept, is written after the lines of the turns.
 pub record StoppedInLine (setup : Setup) (start : State) (at : Option Moment) (before after : PortsView) : Type 0 where
   pub turns : List Turn
   pub state : State

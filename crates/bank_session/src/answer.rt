@@ -23,11 +23,13 @@ use bank_model::one_setup;
 use ofx_ports::{Clock, Keeper, Sink, Source};
 use ofx_types::{Moment, Note, Status, Text, Told};
 use std::alloc::Global;
+use std::hash::RandomState;
 
 /// Reads the setup, opens the bank from its records and answers the frames of the input, each at that moment, or else at the
 /// one that the clock shows.
 fn run<A: Source, B: Source, W: Sink, K: Keeper, C: Clock>(
     alloc: Global,
+    keys: RandomState,
     at: Option<Moment>,
     setup: &mut A,
     input: &mut B,
@@ -44,7 +46,7 @@ fn run<A: Source, B: Source, W: Sink, K: Keeper, C: Clock>(
     ensures still { IsSome at → clock.new ≡ clock.old }
 {
     let setup = read_setup(alloc, setup)?;
-    let mut desk = open_desk(alloc, setup, keeper)?;
+    let mut desk = open_desk(alloc, keys, setup, keeper)?;
     answer_input(alloc, &mut desk, at, clock, input, out, keeper)
 }
 
@@ -139,15 +141,18 @@ fn at_place(status: u8, place: u64) -> Told
 ///
 /// The words `mail`, the path of the setup, where the records are kept, the name of a user and a subject of 1 to 64 bytes ask
 /// for a letter of the bank to this user ("Customer Service and E-Mail"). The input is its body, of 1 to 10,000 bytes
-/// without the white space at its ends. The clock is read once, behind all that may refuse, and the line is `MAIL` with
+/// without the white space at its ends. The clock is read once, after all that may refuse, and the line is `MAIL` with
 /// the number of the letter's entry.
+///
+/// Clients choose their TRNUIDs and NEWFILEUIDs, so these are found by hashes with the keys of `keys`, which no client
+/// knows.
 ///
 /// | Status | Note | Where |
 /// |---|---|---|
 /// | 0 | | the input was read to its end and every frame answered, or what was due is done, or the letter is written |
 /// | 2 | | the words have another form; nothing was read |
 /// | 3 | the line of the fault, from 1 | the setup has no form or is past a limit; nothing was written |
-/// | 4 | the number of bytes of the frames answered | the input goes on with bytes that begin no frame, or behind 1,000,000 frames |
+/// | 4 | the number of bytes of the frames answered | the input goes on with bytes that begin no frame, or after 1,000,000 frames |
 /// | 4 | 0 | of `mail`: the input is no body, or has more than 262,144 bytes; nothing was written |
 /// | 5 | | a read of the setup or of the input failed; the frames before are answered |
 /// | 6 | | a write failed; a prefix of the text is written |
@@ -159,6 +164,7 @@ fn at_place(status: u8, place: u64) -> Told
 /// | 10 | full | of `mail`: no number is left for an entry; nothing was written |
 pub fn answer_told<A: Source, B: Source, W: Sink, K: Keeper, C: Clock>(
     alloc: Global,
+    keys: RandomState,
     words: &[Text],
     setup: &mut A,
     input: &mut B,
@@ -196,11 +202,11 @@ pub fn answer_told<A: Source, B: Source, W: Sink, K: Keeper, C: Clock>(
     match command_of(words) {
         None => plain(2),
         Some(Command::Answer(found)) => end_told(run(
-            alloc, found.at, setup, input, out, keeper, clock,
+            alloc, keys, found.at, setup, input, out, keeper, clock,
         )),
-        Some(Command::Due) => end_told(do_due_once(alloc, setup, out, keeper, clock)),
+        Some(Command::Due) => end_told(do_due_once(alloc, keys, setup, out, keeper, clock)),
         Some(Command::Mail) => {
-            end_told(send_letter(alloc, words, setup, input, out, keeper, clock))
+            end_told(send_letter(alloc, keys, words, setup, input, out, keeper, clock))
         }
     }
 }
@@ -208,6 +214,7 @@ pub fn answer_told<A: Source, B: Source, W: Sink, K: Keeper, C: Clock>(
 /// Does what `answer_told` does, and answers the status alone.
 pub fn answer_files<A: Source, B: Source, W: Sink, K: Keeper, C: Clock>(
     alloc: Global,
+    keys: RandomState,
     words: &[Text],
     setup: &mut A,
     input: &mut B,
@@ -233,5 +240,5 @@ pub fn answer_files<A: Source, B: Source, W: Sink, K: Keeper, C: Clock>(
     ensures settled { result.0 ≢ 8 → K.unsettled keeper.new ≡ false }
     ensures clock { (at : TheMoment) → AreWords words.now (Some at) → clock.new ≡ clock.old }
 {
-    answer_told(alloc, words, setup, input, out, keeper, clock).status
+    answer_told(alloc, keys, words, setup, input, out, keeper, clock).status
 }

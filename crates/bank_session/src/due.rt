@@ -13,11 +13,13 @@ use bank_desk::Desk;
 use bank_frames::write_whole;
 use ofx_ports::{Clock, Failed, Keeper, Sink, Source};
 use std::alloc::Global;
+use std::hash::RandomState;
 
 /// Reads the setup, opens the bank from its records, does what is due at the moment that the clock shows, and writes how much
 /// it was.
 pub fn do_due_once<A: Source, W: Sink, K: Keeper, C: Clock>(
     alloc: Global,
+    keys: RandomState,
     setup: &mut A,
     out: &mut W,
     keeper: &mut K,
@@ -32,7 +34,7 @@ pub fn do_due_once<A: Source, W: Sink, K: Keeper, C: Clock>(
     ensures later { K.faults keeper.old ≤ K.faults keeper.new }
 {
     let setup = read_setup(alloc, setup)?;
-    let mut desk = open_desk(alloc, setup, keeper)?;
+    let mut desk = open_desk(alloc, keys, setup, keeper)?;
     write_due(alloc, &mut desk, out, keeper, clock)
 }
 

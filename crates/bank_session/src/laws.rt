@@ -4,10 +4,10 @@ ghost use Rattle.bank_session.specs.Determined.{OneSplitting, OneRefusal, Refuse
 ghost use Rattle.bank_session.specs.Answers.{IsPrefixKept, IsKeptWhereRefused};
 ghost use Rattle.bank_session.specs.BooksKept.{RunsReopen, StoppedRunsReopen, UnwrittenRunsReopen, LettersReopen, RunsKeepTheBooks};
 
-use bank_replay::reopened_books_are_right;
+use bank_replay::laws::reopened_books_are_right;
 use bank_rules::laws::due::{due_work_is_legal, due_work_is_one};
 use event_codec::laws::reopening_goes_on;
-use ofx_file::{faults_spell_nothing, one_fault, one_file};
+use ofx_file::laws::{faults_spell_nothing, one_fault, one_file};
 
 /// An input is split into frames in one way: of two splittings one goes on where the other stops.
 pub fn one_splitting()
@@ -52,7 +52,7 @@ pub fn one_due_run()
     due_work_is_one();
 }
 
-/// For a frame at a moment there is one line, one list of records, and one state behind it.
+/// For a frame at a moment there is one line, one list of records, and one state after it.
 pub fn one_line()
     ensures { OneLine }
 {
@@ -68,7 +68,7 @@ pub fn one_output()
     one_line();
 }
 
-/// The records from which a bank opened and those of the turns behind it bring a bank to the state in which the turns left
+/// The records from which a bank opened and those of the turns after it bring a bank to the state in which the turns left
 /// it, so that the next run goes on from there.
 pub fn runs_reopen()
     ensures { RunsReopen }
@@ -77,7 +77,7 @@ pub fn runs_reopen()
     reopening_goes_on();
 }
 
-/// The same where a run stopped within a frame, whose records stand behind those of the turns: because an append failed,
+/// The same where a run stopped within a frame, whose records stand after those of the turns: because an append failed,
 /// whether or not its record landed; because memory was refused; or because the line couldn't be written. The next run
 /// finds none of them illegal. With no turns, and a call for due work as the frame, this is the command `due`.
 pub fn stopped_runs_reopen()
@@ -89,7 +89,7 @@ pub fn stopped_runs_reopen()
     reopening_goes_on();
 }
 
-/// The same of the command `mail`, whose record is that of no turn: the next run goes on from behind the letter, also where
+/// The same of the command `mail`, whose record is that of no turn: the next run goes on from after the letter, also where
 /// its append failed and the record landed.
 pub fn letters_reopen()
     ensures { LettersReopen }

@@ -9,7 +9,7 @@ mod addressee;
 mod answer;
 mod body;
 mod due;
-mod laws;
+pub mod laws;
 mod letters;
 mod lines;
 mod mail;
@@ -23,10 +23,6 @@ mod turn;
 mod words;
 
 pub use answer::{answer_files, answer_told, end_told};
-pub use laws::{
-    exact_lines, letters_reopen, one_due_run, one_line, one_output, one_refusal, one_signon,
-    one_splitting, runs_keep_the_books, runs_reopen, stopped_runs_reopen,
-};
 pub use opening::{one_bank, opening_stop};
 pub use ports::Ports;
 pub use setup_source::read_setup;

@@ -21,11 +21,13 @@ use bank_frames::write_whole;
 use ofx_ports::{Clock, Failed, Keeper, Sink, Source};
 use ofx_types::{Text, UserId};
 use std::alloc::Global;
+use std::hash::RandomState;
 
 /// Reads the setup, opens the bank from its records, reads the body, writes the letter that the words ask for, and tells the
 /// number of its entry.
 pub fn send_letter<A: Source, B: Source, W: Sink, K: Keeper, C: Clock>(
     alloc: Global,
+    keys: RandomState,
     words: &[Text],
     setup: &mut A,
     input: &mut B,
@@ -42,7 +44,9 @@ pub fn send_letter<A: Source, B: Source, W: Sink, K: Keeper, C: Clock>(
     ensures later { K.faults keeper.old ≤ K.faults keeper.new }
 {
     match words {
-        [_, _, _, name, subject] => { send(alloc, name, subject, setup, input, out, keeper, clock) }
+        [_, _, _, name, subject] => {
+            send(alloc, keys, name, subject, setup, input, out, keeper, clock)
+        }
         _ => Err(Stop::Usage),
     }
 }
@@ -50,6 +54,7 @@ pub fn send_letter<A: Source, B: Source, W: Sink, K: Keeper, C: Clock>(
 /// The same for a letter to the user of that name, with that subject.
 fn send<A: Source, B: Source, W: Sink, K: Keeper, C: Clock>(
     alloc: Global,
+    keys: RandomState,
     name: &Text,
     subject: &Text,
     setup: &mut A,
@@ -67,7 +72,7 @@ fn send<A: Source, B: Source, W: Sink, K: Keeper, C: Clock>(
     ensures later { K.faults keeper.old ≤ K.faults keeper.new }
 {
     let setup = read_setup(alloc, setup)?;
-    let mut desk = open_desk(alloc, setup, keeper)?;
+    let mut desk = open_desk(alloc, keys, setup, keeper)?;
     send_at(alloc, &mut desk, name, subject, input, out, keeper, clock)
 }
 

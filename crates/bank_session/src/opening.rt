@@ -11,9 +11,11 @@ ghost use Rattle.bank_session.specs.OneBank.{OneBank};
 use crate::stop::{RecordsFault, Stop};
 use bank_desk::Desk;
 use bank_model::Setup;
-use bank_replay::{OpenFault, causes_open_nothing, one_cause, one_opening};
+use bank_replay::OpenFault;
+use bank_replay::laws::{causes_open_nothing, one_cause, one_opening};
 use ofx_ports::Keeper;
 use std::alloc::Global;
+use std::hash::RandomState;
 
 /// With what a run stops whose bank doesn't open from its records.
 pub fn opening_stop(fault: OpenFault) -> Stop
@@ -28,7 +30,12 @@ pub fn opening_stop(fault: OpenFault) -> Stop
 }
 
 /// The bank of that setup that stands for the records that are kept.
-pub fn open_desk<K: Keeper>(alloc: Global, setup: Setup, keeper: &mut K) -> Result<Desk, Stop>
+pub fn open_desk<K: Keeper>(
+    alloc: Global,
+    keys: RandomState,
+    setup: Setup,
+    keeper: &mut K,
+) -> Result<Desk, Stop>
     requires within { IsWithinLimits setup }
     requires settled { K.unsettled keeper.old ≡ false }
     ensures setup { IfOk result (λ desk. desk.setup ≡ setup) }
@@ -38,7 +45,7 @@ pub fn open_desk<K: Keeper>(alloc: Global, setup: Setup, keeper: &mut K) -> Resu
     ensures settled { K.unsettled keeper.new ≡ false }
     ensures later { K.faults keeper.old ≤ K.faults keeper.new }
 {
-    match Desk::open(alloc, setup, keeper) {
+    match Desk::open(alloc, keys, setup, keeper) {
         Ok(desk) => Ok(desk),
         Err(fault) => Err(opening_stop(fault)),
     }

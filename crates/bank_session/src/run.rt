@@ -56,7 +56,7 @@ pub fn answer_frames<B: Source, W: Sink, K: Keeper, C: Clock>(
     end_of_input(place, &mut ahead, input)
 }
 
-/// The end of an input of which no more frames are answered, behind this many bytes.
+/// The end of an input of which no more frames are answered, after this many bytes.
 fn end_of_input<B: Source>(place: u64, ahead: &mut Ahead, input: &mut B) -> Result<(), Stop>
     ensures end { EndOrStop (prepend_known ahead.old (B.left input.old)) place ahead.new (B.left input.new) (B.faults input.old) (B.faults input.new) result }
     ensures reads { B.faults input.old ≤ B.faults input.new }

@@ -11,7 +11,7 @@ pub enum Stop {
     Usage,
     /// The setup has no form or is past a limit, at the line of this number, from 1.
     Setup(u64),
-    /// Behind this many bytes the input goes on with bytes that begin no frame, or with more frames than a run answers.
+    /// After this many bytes the input goes on with bytes that begin no frame, or with more frames than a run answers.
     Frame(u64),
     /// A read failed.
     ReadFailed,

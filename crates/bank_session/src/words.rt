@@ -6,7 +6,8 @@ ghost use Rattle.bank_session.specs.Words.{AreWords, AreDueWords, AskForLetter, 
 ghost use Rattle.bank_session.specs.WordsRead.{Reads, ReadsCommand, ReadsOther, IsNamedBy};
 
 use ofx_types::{Moment, Text};
-use ofx_values::{one_moment, read_moment};
+use ofx_values::laws::one_moment;
+use ofx_values::read_moment;
 
 /// The most bytes of a letter's subject.
 const MOST_SUBJECT: usize = 64;
@@ -46,7 +47,7 @@ fn at_date(date: &[u8]) -> Option<AnswerWords>
     }
 }
 
-/// The moment that the words behind the records name: `--at` and a date, or nothing.
+/// The moment that the words after the records name: `--at` and a date, or nothing.
 fn moment_option(words: &[Text]) -> Option<AnswerWords>
     ensures { Reads (IsMomentOption words.now) result }
 {

@@ -1,5 +1,5 @@
 -- Calls that settle first, put together of their parts.
-use Rattle.std.proofs.Common.{◌≡◌, ℕ, List, ◌⊎◌, inl, inr, Option, None, Some, Result, Ok, Err, IfOk, IfErr, OnOk, refl, sym, ap, ◌∙◌, subst}
+use Rattle.std.proofs.Common.{◌≡◌, ℕ, List, inr, Result, Ok, Err, IfOk, IfErr, subst}
 use Rattle.ofx_types.specs.ReplyForm.{reply_text}
 use Rattle.ofx_types.specs.declared.number.Moment.{Moment}
 use Rattle.ofx_types.specs.declared.number.UserId.{UserId}
@@ -8,10 +8,9 @@ use Rattle.bank_model.specs.declared.event.Event.{Event}
 use Rattle.bank_model.specs.declared.event.State.{State}
 use Rattle.bank_model.specs.declared.setup.Setup.{Setup}
 use Rattle.bank_model.specs.Polls.{poll_reply}
-use Rattle.bank_model.specs.Rules.{due}
 use Rattle.bank_model.specs.declared.submit.SubmitFault.{SubmitFault}
 use Rattle.bank_shared.specs.Views.{JournalView}
-use Rattle.bank_shared.specs.Calls.{Answers, FailsToCommit, Settles, FailsToSettle, AnswersNext, FailsToSubmit, FailsAtDue, FailsToAdvance}
+use Rattle.bank_shared.specs.Calls.{Answers, FailsToCommit, Settles, AnswersNext, FailsToSubmit}
 
 pub answers_next : {A : Type 0} (items : A → List ℕ) (result : Result A SubmitFault) (old between new : JournalView) (event : Event) (at : Moment) → Settles old between → IfOk result (λ (reply : A). Answers between new event at (items reply)) → IfOk result (λ (reply : A). AnswersNext old new event at (items reply))
 answers_next items (Ok reply) old between new event at settles answers = record { between = between; settles = settles; answers = answers }
@@ -20,9 +19,6 @@ answers_next items (Err fault) old between new event at settles answers = tt
 pub fails_next : {A : Type 0} (result : Result A SubmitFault) (old between new : JournalView) (event : Event) (at : Moment) → Settles old between → IfErr result (FailsToCommit between new event at) → IfErr result (FailsToSubmit old new event at)
 fails_next (Ok reply) old between new event at settles fails = tt
 fails_next (Err fault) old between new event at settles fails = inr (record { between = between; settles = settles; fails = fails })
-
-pub fails_at_due : (fault : SubmitFault) (old between new : JournalView) (event : Event) (at : Moment) → Settles old between → due between.setup between.state at ≡ Some event → FailsToCommit between new event at fault → FailsToAdvance old new at fault
-fails_at_due fault old between new event at settles is fails = inr (record { between = between; event = event; settles = settles; due_is = is; fails = fails })
 
 -- the reply to a poll is that of some state
 pub some_state : {A E : Type 0} (items : A → List ℕ) (setup own : Setup) (state : State) (user : UserId) (file : RequestFile) (at : Moment) (result : Result A E) → own ≡ setup → IfOk result (λ (reply : A). items reply ≡ reply_text (poll_reply own state user at file)) → IfOk result (λ (reply : A). (S : State) × (items reply ≡ reply_text (poll_reply setup S user at file)))

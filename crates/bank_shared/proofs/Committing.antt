@@ -9,9 +9,9 @@ use Rattle.ofx_ports.specs.Kept.{MayGrow, TellsLanding}
 use Rattle.bank_model.specs.declared.event.Event.{Event}
 use Rattle.bank_model.specs.declared.event.State.{State}
 use Rattle.bank_model.specs.declared.log.LogItem.{LogItem}
-use Rattle.bank_model.specs.declared.log.LogItem.TheVariants.{Adopted, Fault}
+use Rattle.bank_model.specs.declared.log.LogItem.TheVariants.{Adopted, Answer, Fault}
 use Rattle.bank_model.specs.declared.setup.Setup.{Setup}
-use Rattle.bank_model.specs.Rules.{named, state_after}
+use Rattle.bank_model.specs.Rules.{answer_to, named, state_after}
 use Rattle.bank_model.specs.LegalLog.{group}
 use Rattle.bank_accounts.specs.AccountView.{AccountView}
 use Rattle.bank_accounts.specs.HeldAccounts.{AreHeld}
@@ -22,7 +22,7 @@ use Rattle.bank_shared.specs.declared.step.Step.{Step}
 use Rattle.bank_shared.specs.Views.{JournalView}
 use Rattle.bank_shared.specs.Steps.{TakesLate, GivesUp, Finishes}
 use Rattle.bank_shared.specs.Kept.{pending_of, KeeperView, IsTrue}
-use Rattle.bank_shared.specs.Calls.{IsAsBefore, FailsToKeep, SettlesAny, Settles}
+use Rattle.bank_shared.specs.Calls.{Answers, IsAsBefore, FailsToKeep, SettlesAny, Settles}
 use Rattle.bank_shared.proofs.Truth.{truth_adopted, truth_dropped}
 
 -- what is seen of a journal with these parts
@@ -62,6 +62,26 @@ codes_again rec rec' at at' event event' of when is codes =
     subst (λ (r : List ℕ). Codes r at' event') (sym of)
     (subst (λ (m : Moment). Codes rec m event') (sym when)
     (subst (Codes rec at) (sym is) codes))
+
+-- ---- an event that is answered
+
+pub answers_it : (book book' book'' : ReservedBook) (log log' log'' : List LogItem) (pending : Option Step) (step : Step) (opened : Option (List (List ℕ))) (keeper keeper' : KeeperView) (event : Event) (at : Moment) (told reply rec : List ℕ) →
+    book'.setup ≡ book.setup → book'.state ≡ book.state → log' ≡ log →
+    book''.setup ≡ book'.setup → book''.state ≡ state_after book'.setup book'.state step.at step.event →
+    log'' ≡ log' ++ group book'.setup book'.state (Answer step.event step.at told) → step.event ≡ event → step.at ≡ at →
+    told ≡ answer_to book.setup book.state at event → reply ≡ told → pending ≡ None → Codes rec at event →
+    Grows keeper.records keeper'.records (rec ∷ []) → keeper.faults ≤ keeper'.faults →
+    Answers (seen book log pending opened keeper) (seen book'' log'' pending opened keeper') event at reply
+answers_it book book' book'' log log' log'' pending step opened keeper keeper' event at told reply rec own same as_was taken state grown event_is at_is told_is reply_is none codes grows later = record {
+  setup = taken ∙ own;
+  opened = refl;
+  state = cc (state, own, same, event_is, at_is);
+  reply_is = reply_is ∙ told_is;
+  log = cc (grown, as_was, own, same, event_is, at_is, reply_is);
+  pending = ap (option_map pending_of) none;
+  records = (rec, codes, grows);
+  later = later;
+}
 
 -- ---- an append that failed
 

@@ -47,7 +47,7 @@ lent_before setup setup' state state' home held other own is same balanced lent 
     (subst (λ (S : State). AreLent (accounts_in setup S) home other) (sym is)
     (subst (AreLent (accounts_in setup state) home) (sym all) lent))
 
--- the state is the one behind a step of an event, whose accounts are held
+-- the state is the one after a step of an event, whose accounts are held
 lent_behind : (setup setup' : Setup) (state state' : State) (at : Moment) (event : Event) (home : List (Option AccountView)) (held other : List AccountView) → UnnamedStay → IsWithinLimits setup → setup' ≡ setup → state' ≡ state_after setup state at event → AreHeld held (named setup state event) → HaveSameNumbers other held → AreBalanced setup' state' other → AreLent (accounts_in setup state) home held → AreLent (accounts_in setup' state') home other
 lent_behind setup setup' state state' at event home held other unnamed within own is names same balanced lent =
     let there : AreBalanced setup (state_after setup state at event) other =

@@ -1,5 +1,5 @@
 -- Logs that grow by one group.
-use Rattle.std.proofs.Common.{◌≡◌, ℕ, ◌<◌, ◌≤◌, ◌⊎◌, inl, inr, ◌+◌, ◌-◌, ◌^◌, ◌%◌, List, [], ◌∷◌, ◌++◌, length, map, drop, fold, Bool, true, false, Option, None, Some, refl, sym, ap, ◌∙◌, subst, arith, append_assoc}
+use Rattle.std.proofs.Common.{◌≡◌, ℕ, ◌<◌, ◌≤◌, ◌⊎◌, inl, inr, ◌+◌, ◌-◌, ◌^◌, ◌%◌, List, [], ◌∷◌, ◌++◌, length, map, drop, fold, true, false, None, Some, refl, sym, ap, ◌∙◌, subst, arith, append_assoc}
 use Rattle.std.specs.List.{All, flat_map}
 use Rattle.std.proofs.Math.Seq.{drop-append_seam}
 use Rattle.std.proofs.lemmas.Bool.{false≢true, cases_lt}
@@ -19,12 +19,9 @@ use Rattle.bank_model.specs.Rules.{state_after}
 use Rattle.bank_model.specs.Log.{is_ending, endings, entry_of, entries_in}
 use Rattle.bank_model.specs.LegalLog.{effects_of, group, after_ending, groups, ends, IsUnsettled, IsPending, IsAbove, MayEnd, AreLegalEndings, IsWholeLog}
 use Rattle.bank_shared.specs.Kept.{CodeEndings, IsUpTo}
+use Rattle.bank_model.proofs.Logs.{endings_of_effects}
 
 -- ---- endings
-
-pub endings_of_effects : (entries : List Entry) → endings (map Effect entries) ≡ []
-endings_of_effects [] = refl
-endings_of_effects (entry ∷ more) = endings_of_effects more
 
 endings_behind : (entries : List LogItem) (item : LogItem) → endings entries ≡ [] → is_ending item ≡ true → endings (entries ++ item ∷ []) ≡ item ∷ []
 endings_behind entries item none is =

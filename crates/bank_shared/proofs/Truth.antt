@@ -1,4 +1,4 @@
--- What a journal keeps, behind each thing that happens to it.
+-- What a journal keeps, after each thing that happens to it.
 use Rattle.std.proofs.Common.{◌≡◌, ℕ, ◌<◌, ◌≤◌, ◌⊎◌, inl, inr, ◌+◌, ◌^◌, ◌%◌, List, [], ◌∷◌, ◌++◌, length, Bool, true, false, Option, None, Some, refl, sym, ap, ◌∙◌, subst, arith, append_assoc}
 use Rattle.std.specs.List.{All}
 use Rattle.std.specs.Option.{IfSome, IsSomeAnd, option_map}
@@ -51,7 +51,7 @@ where_opened (Some first) P Q step is = step first is
 
 -- ---- the records
 
--- a record of the event that is answered stands behind the others
+-- a record of the event that is answered stands after the others
 kept_more : (setup : Setup) (opening : State) (first : List (List ℕ)) (log log' : List LogItem) (item : LogItem) (landed landed' : Option Bool) (rec : List ℕ) (rs : List (List ℕ)) → endings log' ≡ endings log ++ item ∷ [] → CodeEndings (item ∷ []) (rec ∷ []) → AreKept setup opening first log landed None rs → AreKept setup opening first log' landed' None (rs ++ rec ∷ [])
 kept_more setup opening first log log' item landed landed' rec rs is codes kept = record {
   opened = kept.opened;

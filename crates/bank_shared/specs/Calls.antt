@@ -98,13 +98,13 @@ FailsToSettle old new OutOfMemory = IsAsBefore old new
 
 -- ---- calls that first settle what is pending
 
--- The event is answered in the state behind the settling.
+-- The event is answered in the state after the settling.
 pub record AnswersNext (old new : JournalView) (event : Event) (at : Moment) (reply : List ℕ) : Type 0 where
   pub between : JournalView
   pub settles : Settles old between
   pub answers : Answers between new event at reply
 
--- It couldn't be settled, or the event couldn't be committed behind the settling.
+-- It couldn't be settled, or the event couldn't be committed after the settling.
 pub record FailsBehind (old new : JournalView) (event : Event) (at : Moment) (fault : SubmitFault) : Type 0 where
   pub between : JournalView
   pub settles : Settles old between
@@ -113,7 +113,7 @@ pub record FailsBehind (old new : JournalView) (event : Event) (at : Moment) (fa
 abbrev pub FailsToSubmit : JournalView → JournalView → Event → Moment → SubmitFault → Type 0
 FailsToSubmit old new event at fault = FailsToSettle old new fault ⊎ FailsBehind old new event at fault
 
--- The event was due in the state behind the settling, and has happened.
+-- The event was due in the state after the settling, and has happened.
 pub record DoesDue (old new : JournalView) (event : Event) (at : Moment) : Type 0 where
   pub between : JournalView
   pub reply : List ℕ

@@ -172,7 +172,7 @@ impl<N: BankName, K: Keeper, P: Printer> Journal<N, K, P> {
     /// Makes an event happen at that moment, keeps its record, and gives its reply. The accounts that it names are held, and
     /// nothing is pending.
     ///
-    /// All memory is taken before the record is appended, and the book takes the step behind it.
+    /// All memory is taken before the record is appended, and the book takes the step after it.
     ///
     /// - `Keeper(n)`: the append failed, and the keeper's count of faults rose to n in this call. The event is pending.
     /// - `OutOfMemory`: nothing has happened.

@@ -21,6 +21,7 @@ use bank_replay::{OpenFault, reopen};
 use ofx_ports::Keeper;
 use ofx_types::{Duplicate, OutOfMemory};
 use std::alloc::Global;
+use std::hash::RandomState;
 use std::marker::Model;
 use std::snapshot::Snapshot;
 
@@ -65,6 +66,7 @@ impl<K: Keeper, P: Printer> Model for Opened<K, P> {
 
 impl<K: Keeper, P: Printer> Opened<K, P> {
     /// Opens the bank of that setup from the records that are kept. Each refusal hands the keeper back.
+    /// Clients' names are found by hashes with these keys.
     ///
     /// - `Read` only where the keeper's count of faults rose in this call.
     /// - `Record(n, at)`: record n, from 1, is the first that codes no event, with the place of its first fault.
@@ -72,6 +74,7 @@ impl<K: Keeper, P: Printer> Opened<K, P> {
     /// - `OutOfMemory`.
     pub fn open(
         alloc: Global,
+        keys: RandomState,
         keeper: K,
         setup: Setup,
         printer: P,
@@ -102,7 +105,7 @@ impl<K: Keeper, P: Printer> Opened<K, P> {
         let Ok(own) = setup.copy() else {
             return Err((OpenFault::OutOfMemory, keeper));
         };
-        match reopen(alloc, &mut keeper, setup, printer) {
+        match reopen(alloc, keys, &mut keeper, setup, printer) {
             Err(fault) => Err((fault, keeper)),
             Ok((book, accounts)) => match at_home(alloc, &book, &accounts) {
                 Err(OutOfMemory) => Err((OpenFault::OutOfMemory, keeper)),

@@ -16,7 +16,7 @@ use crate::lending::{lend, lend_for_pending};
 use crate::name::BankName;
 use bank_accounts::{Account, Held, Home};
 use bank_model::{Event, Printer, Setup, SubmitFault};
-use bank_solo::unnamed_accounts_stay;
+use bank_solo::laws::unnamed_accounts_stay;
 use ofx_ports::Keeper;
 use ofx_types::{Duplicate, Moment, OutOfMemory, RequestFile, UserId};
 use std::alloc::Global;

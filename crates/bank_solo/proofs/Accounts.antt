@@ -14,15 +14,23 @@ use Rattle.bank_model.specs.declared.event.State.{State}
 use Rattle.bank_model.specs.declared.event.Event.{Event}
 use Rattle.bank_model.specs.SetupForm.{IsWithinLimits}
 use Rattle.bank_model.specs.Ledger.{balance}
-use Rattle.bank_model.specs.Rules.{named, state_after}
+use Rattle.bank_model.specs.Rules.{named, opening_state, state_after}
 use Rattle.bank_accounts.specs.AccountView.{AccountView}
 use Rattle.bank_accounts.specs.HeldAccounts.{IsHeld, AreHeld, AreNamed, HaveSameNumbers}
 use Rattle.bank_accounts.specs.AtHome.{at_home, AreAllHome, AreNumbered, IsLentOrHome, AreLent}
 use Rattle.bank_accounts.proofs.HomeLemmas.{lent_none, lent_all_back}
 use Rattle.bank_ledger.specs.Balanced.{AreBalanced}
+use Rattle.bank_core.specs.Opened.{AreOpened}
 use Rattle.bank_solo.specs.Solo.{AreAccountsIn, account_in, accounts_in}
 use Rattle.bank_solo.specs.Unnamed.{UnnamedStay}
 use Rattle.bank_solo.proofs.Named.{named_within}
+
+-- ---- the accounts with which a bank opens
+
+pub opened_in : (setup begun : Setup) (state : State) (accounts : List AccountView) → begun ≡ setup → state ≡ opening_state → AreOpened setup accounts → AreAccountsIn begun state accounts
+opened_in setup begun state accounts same opens opened =
+    subst (λ (s : Setup). AreAccountsIn s state accounts) (sym same) (
+    subst (λ (S : State). AreAccountsIn setup S accounts) (sym opens) (record { count = opened.count; numbered = opened.numbered; balanced = opened.balanced }))
 
 -- ---- the accounts of a state, each at its place
 
@@ -113,9 +121,9 @@ named_known setup state event numbers count size only =
     (λ number there. omega (arith, size, All-contains (λ (entry : Option AcctId). IfSome entry (λ (n : AcctId). n.0 < length setup.accounts)) (named setup state event) (Some number) (named_within setup state event) ((only number).0 there)))
     numbers (All-contains_itself numbers)
 
--- ---- behind a step
+-- ---- after a step
 
--- Those that are held have their balances behind it, and the others keep theirs.
+-- Those that are held have their balances after it, and the others keep theirs.
 pub still_lent : (setup : Setup) (state : State) (at : Moment) (event : Event) (home : List (Option AccountView)) (held other : List AccountView) → UnnamedStay → IsWithinLimits setup → AreLent (accounts_in setup state) home held → AreHeld held (named setup state event) → HaveSameNumbers other held → AreBalanced setup (state_after setup state at event) other → AreLent (accounts_in setup (state_after setup state at event)) home other
 still_lent setup state at event home held other unnamed within lent names same balanced = record {
   count = lent.count ∙ length_in setup state ∙ sym (length_in setup after);

@@ -4,7 +4,6 @@ use Rattle.std.proofs.lemmas.Int.{ints}
 use Rattle.std.proofs.lemmas.List.{append_assoc, append-nil}
 use Rattle.std.proofs.lemmas.List.Sums.{fold-append}
 use Rattle.std.proofs.lemmas.List.Elements.{All-filter, filter_passes, recursion_from_All}
-use Rattle.std.proofs.lemmas.Grind.{flat_map-append}
 use Rattle.std.specs.List.{AllByRecursion, Contains, flat_map}
 use Rattle.ofx_types.specs.AccountForm.{same_account}
 use Rattle.ofx_types.specs.declared.account.AcctName.{AcctName}
@@ -41,13 +40,12 @@ use Rattle.bank_model.specs.Due.{settled_row, posts, spawned_row, spawns_on, spa
 use Rattle.bank_model.specs.Objects.{account_about, object_named, newest}
 use Rattle.bank_model.specs.Sync.{rejection, deed_answers, deeds_or_rejection, sync_on, sync_answer}
 use Rattle.bank_model.specs.Rules.{raised, ask_answer, ask_answers, kept_for, outcome_or_kept, new_outcome, file_outcome, state_after, named_by_deed, named_by_pair, named_by_object, named_by, named_by_row, named}
-use Rattle.bank_rules.proofs.AccountPlaces.{same_account-is, account_of-line}
+use Rattle.bank_rules.proofs.AccountPlaces.{account_of-line}
+use Rattle.bank_model.proofs.Lists.{all_append}
+use Rattle.bank_model.proofs.AccountNames.{same_account-is}
+use Rattle.bank_ledger.proofs.PostingLemmas.{moved-append}
 
 -- ---- lists
-
-all_append : {X : Type 0} (P : X → Type 0) (xs ys : List X) → AllByRecursion P xs → AllByRecursion P ys → AllByRecursion P (xs ++ ys)
-all_append P [] ys first second = second
-all_append P (x ∷ xs) ys first second = (first.0, all_append P xs ys first.1 second)
 
 all_left : {X : Type 0} (P : X → Type 0) (xs ys : List X) → AllByRecursion P (xs ++ ys) → AllByRecursion P xs
 all_left P [] ys all = tt
@@ -116,10 +114,6 @@ same_sum name sum (posting ∷ postings) none =
 sum-append : (name : AcctName) (sum : ℤ) (postings more : List Posting) → sum_from sum name (postings ++ more) ≡ sum_from (sum_from sum name postings) name more
 unfolding sum_from
 sum-append name sum postings more = fold-append (λ (s : ℤ) (posting : Posting). s +ℤ part name posting.row) sum postings more
-
-moved-append : (entries more : List Entry) → moved (entries ++ more) ≡ moved entries ++ moved more
-unfolding moved
-moved-append entries more = flat_map-append (λ (entry : Entry). posting_of entry.number (row_in entry.change)) entries more
 
 balance_left : (setup : Setup) (account : AcctId) (entries more : List Entry) (line : Option AccountLine) → IsWithinLimits setup → line_at setup account ≡ line → AllByRecursion (Leaves setup account) more → balance_on (entries ++ more) line ≡ balance_on entries line
 balance_left setup account entries more None within at leave = refl

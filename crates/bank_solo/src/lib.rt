@@ -1,9 +1,8 @@
 //! A bank for one caller: its book and all of its accounts. For an event the accounts that it names are lent to the book, and
-//! no others; behind its step, or where it is given up, all are at home again.
+//! no others; after its step, or where it is given up, all are at home again.
 #![tactic(auto)]
 
-mod laws;
+pub mod laws;
 mod solo;
 
-pub use laws::unnamed_accounts_stay;
 pub use solo::SoloBank;

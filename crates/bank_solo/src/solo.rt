@@ -15,6 +15,7 @@ use bank_core::{Book, Prepared};
 use bank_model::{Event, Printer, Setup};
 use ofx_types::{AcctId, Moment, OutOfMemory};
 use std::alloc::Global;
+use std::hash::RandomState;
 use std::marker::Model;
 
 /// A bank for one caller.
@@ -38,14 +39,19 @@ impl<P: Printer> Model for SoloBank<P> {
 }
 
 impl<P: Printer> SoloBank<P> {
-    /// A bank of that setup that opens.
-    pub fn begin(alloc: Global, setup: Setup, printer: P) -> Result<SoloBank<P>, OutOfMemory>
+    /// A bank of that setup that opens. Clients' names are found by hashes with these keys.
+    pub fn begin(
+        alloc: Global,
+        keys: RandomState,
+        setup: Setup,
+        printer: P,
+    ) -> Result<SoloBank<P>, OutOfMemory>
         requires { IsWithinLimits setup }
         ensures setup { IfOk result (λ bank. bank.setup ≡ setup) }
         ensures state { IfOk result (λ bank. bank.state ≡ opening_state) }
         ensures home { IfOk result (λ bank. bank.held ≡ []) }
     {
-        let (book, accounts) = Book::begin(alloc, setup, printer)?;
+        let (book, accounts) = Book::begin(alloc, keys, setup, printer)?;
         SoloBank::new(alloc, book, accounts)
     }
 

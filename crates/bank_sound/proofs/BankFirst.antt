@@ -1,40 +1,12 @@
--- What passes a test stands behind what doesn't, where all behind the first that passes do.
+-- What passes a test stands after what doesn't, where all after the first that passes do.
 use Rattle.std.proofs.Common.{◌≡◌, ℕ, zero, suc, ◌+◌, ◌-◌, ◌≤◌, Bool, true, false, not, ◌&&◌, cond, nat_lt, List, [], ◌∷◌, ◌++◌, take, drop, filter, length, length-drop, Option, None, Some, refl, sym, ap, ◌∙◌, arith}
 use Rattle.std.proofs.lemmas.Bool.{ltb-false}
 use Rattle.std.proofs.lemmas.List.{take_all}
 use Rattle.std.specs.List.{list_all, position, position_or_len}
-
--- what passes stands last
-abbrev pub IsLast : {X : Type 0} → (X → Bool) → List X → Type 0
-IsLast p xs = xs ≡ filter (λ x. not (p x)) xs ++ filter p xs
+use Rattle.bank_model.proofs.Lists.{IsLast, all_kept, none_kept, filter_passes}
 
 drop_one : {X : Type 0} (n : ℕ) (x : X) (xs : List X) → drop (1 + n) (x ∷ xs) ≡ drop n xs
 drop_one n x xs = let e : 1 + n ≡ suc n = omega arith in ap (λ (k : ℕ). drop k (x ∷ xs)) e
-
-all_passes : {X : Type 0} (p : X → Bool) (xs : List X) → list_all p xs ≡ true → filter p xs ≡ xs
-all_passes p [] all = refl
-all_passes {X} p (x ∷ xs) all = one (p x) refl all (all_passes p xs)
-  where
-    one : (b : Bool) → p x ≡ b → (b && list_all p xs) ≡ true → (list_all p xs ≡ true → filter p xs ≡ xs) → cond b (x ∷ filter p xs) (filter p xs) ≡ x ∷ xs
-    one true here rest more = ap (λ (l : List X). x ∷ l) (more rest)
-    one false here rest more = cc
-
-none_fails : {X : Type 0} (p : X → Bool) (xs : List X) → list_all p xs ≡ true → filter (λ x. not (p x)) xs ≡ []
-none_fails p [] all = refl
-none_fails {X} p (x ∷ xs) all = one (p x) refl all (none_fails p xs)
-  where
-    one : (b : Bool) → p x ≡ b → (b && list_all p xs) ≡ true → (list_all p xs ≡ true → filter (λ y. not (p y)) xs ≡ []) → cond (not b) (x ∷ filter (λ y. not (p y)) xs) (filter (λ y. not (p y)) xs) ≡ []
-    one true here rest more = more rest
-    one false here rest more = cc
-
--- what a filter keeps passes
-passes_all : {X : Type 0} (p : X → Bool) (xs : List X) → list_all p (filter p xs) ≡ true
-passes_all p [] = refl
-passes_all {X} p (x ∷ xs) = one (p x) refl (passes_all p xs)
-  where
-    one : (b : Bool) → p x ≡ b → list_all p (filter p xs) ≡ true → list_all p (cond b (x ∷ filter p xs) (filter p xs)) ≡ true
-    one true here more = ap (λ (b : Bool). b && list_all p (filter p xs)) here ∙ more
-    one false here more = more
 
 head_fails : {X : Type 0} (p : X → Bool) (xs : List X) (x : X) (front : List X) → filter (λ y. not (p y)) xs ≡ x ∷ front → p x ≡ false
 head_fails p [] x front is = cc
@@ -45,7 +17,7 @@ head_fails {X} p (y ∷ ys) x front is = one (p y) refl is (head_fails p ys x fr
     one false here rest more = let same : x ≡ y = cc in ap p same ∙ here
 
 behind_first : {X : Type 0} (p : X → Bool) (x : X) (xs front : List X) → p x ≡ true → filter (λ y. not (p y)) xs ≡ front → x ∷ xs ≡ front ++ (x ∷ filter p xs) → list_all p xs ≡ true
-behind_first p x xs [] here none is = let rest : xs ≡ filter p xs = cc in ap (list_all p) rest ∙ passes_all p xs
+behind_first p x xs [] here none is = let rest : xs ≡ filter p xs = cc in ap (list_all p) rest ∙ filter_passes p xs
 behind_first p x xs (y ∷ front) here some is =
     let same : y ≡ x = cc in
     let fails : p y ≡ false = head_fails p xs y front some in
@@ -59,7 +31,7 @@ to_last {X} p (x ∷ xs) all = one (p x) refl all (to_last p xs)
     one : (b : Bool) → p x ≡ b → list_all p (drop (cond (not b) (1 + position_or_len p xs) 0) (x ∷ xs)) ≡ true → (list_all p (drop (position_or_len p xs) xs) ≡ true → IsLast p xs) → x ∷ xs ≡ cond (not b) (x ∷ filter (λ y. not (p y)) xs) (filter (λ y. not (p y)) xs) ++ cond b (x ∷ filter p xs) (filter p xs)
     one true here all_pass more =
         let rest : list_all p xs ≡ true = sym (ap (λ (b : Bool). b && list_all p xs) here) ∙ all_pass in
-        sym (ap (λ (l : List X). l ++ (x ∷ filter p xs)) (none_fails p xs rest) ∙ ap (λ (l : List X). x ∷ l) (all_passes p xs rest))
+        sym (ap (λ (l : List X). l ++ (x ∷ filter p xs)) (none_kept p xs rest) ∙ ap (λ (l : List X). x ∷ l) (all_kept p xs rest))
     one false here all_pass more = ap (λ (l : List X). x ∷ l) (more (ap (list_all p) (sym (drop_one (position_or_len p xs) x xs)) ∙ all_pass))
 
 pub from_last : {X : Type 0} (p : X → Bool) (xs : List X) → IsLast p xs → list_all p (drop (position_or_len p xs) xs) ≡ true

@@ -1,2 +1,1 @@
 pub mod BankFirst
-pub mod Each

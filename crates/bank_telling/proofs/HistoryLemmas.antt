@@ -1,8 +1,7 @@
--- The history of an object, one entry more and one part behind another.
-use Rattle.std.proofs.Common.{◌≡◌, ℕ, ◌+◌, ◌-◌, ◌<◌, ◌≤◌, Bool, true, false, cond, eqb, nat_lt, List, [], ◌∷◌, ◌++◌, length, length-append, map, filter, take, drop, get_or, codes, refl, sym, ap, ◌∙◌, append_assoc, arith}
+-- The history of an object, one entry more and one part after another.
+use Rattle.std.proofs.Common.{◌≡◌, ℕ, ◌+◌, ◌-◌, ◌<◌, ◌≤◌, List, [], ◌∷◌, ◌++◌, length, length-append, map, filter, take, drop, get_or, codes, Bor, refl, sym, ap, ◌∙◌, append_assoc, arith}
 use Rattle.std.proofs.Math.Seq.{take-append_seam, take-append-add}
 use Rattle.std.proofs.lemmas.List.Elements.{filter-append}
-use Rattle.std.proofs.lemmas.Bool.{ltb-true, ltb-false}
 use Rattle.std.proofs.lemmas.Grind.{flat_map-append}
 use Rattle.std.proofs.lemmas.List.{append-nil, map-append, take_more, take_all, take-append-le, take-append-drop}
 use Rattle.std.proofs.lemmas.List.Sums.{fold-append}
@@ -11,29 +10,11 @@ use Rattle.ofx_types.specs.declared.number.ObjectId.{ObjectId}
 use Rattle.ofx_types.specs.declared.transfer.DeedReply.{DeedReply}
 use Rattle.ofx_types.specs.declared.transfer.Family.{Family}
 use Rattle.bank_model.specs.declared.entry.Entry.{Entry}
-use Rattle.bank_model.specs.Objects.{belongs_to, history_of, newest, floor, last_number_from}
+use Rattle.bank_model.specs.Objects.{belongs_to, history_of, newest, floor, last_number, last_number_from}
 use Rattle.bank_model.specs.Sync.{told_as, told_entry, is_above, standing_in}
+use Rattle.bank_model.proofs.Histories.{history_of-append, history_of-none}
 
-pub history_of-append : (object : ObjectId) (xs ys : List Entry) → history_of object (xs ++ ys) ≡ history_of object xs ++ history_of object ys
-unfolding history_of
-history_of-append object xs ys = filter-append (belongs_to object) xs ys
-
-pub history_of-none : (object : ObjectId) → history_of object [] ≡ []
-unfolding history_of
-history_of-none object = refl
-
-short_if : (n : ℕ) (b : Bool) (x : Entry) (xs : List Entry) → length xs ≤ n → length (cond b (x ∷ xs) xs) ≤ n + 1
-short_if n true x xs less = omega arith
-short_if n false x xs less = omega arith
-
-pub history_of-short : (object : ObjectId) (entries : List Entry) → length (history_of object entries) ≤ length entries
-unfolding history_of
-history_of-short object [] = omega arith
-history_of-short object (entry ∷ entries) =
-    let less = short_if (length entries) (eqb entry.object.0 object.0) entry (filter (belongs_to object) entries) (history_of-short object entries) in
-    omega arith
-
--- ---- a loop over a list that takes one part behind another
+-- ---- a loop over a list that takes one part after another
 
 -- one item more
 pub entries_more : {Y : Type 0} (entries : List Y) (k : ℕ) (entry : Y) → k < length entries → entry ≡ get_or entries k entry → take (k + 1) entries ≡ take k entries ++ entry ∷ []
@@ -103,60 +84,50 @@ taken_stopped object entries k most left before number none counted so_far =
     ∙ ap (λ (n : ℕ). take n (history_of object (take k entries) ++ history_of object (drop k entries))) size
     ∙ take-append_seam (history_of object (take k entries)) (history_of object (drop k entries))))
 
--- ---- the entries that a bank had, and those of a draft behind them
+-- ---- the entries that a bank had, and those of a draft after them
 
-pub newest-behind : (object : ObjectId) (before entries : List Entry) (number : ℕ) → number ≡ last_number_from 0 (history_of object before) → last_number_from number (history_of object entries) ≡ newest object (before ++ entries)
+pub newest-behind : (object : ObjectId) (before entries : List Entry) (number : ℕ) → number ≡ newest object before → last_number_from number (history_of object entries) ≡ newest object (before ++ entries)
 unfolding newest
 newest-behind object before entries number is =
     ap (λ (n : ℕ). last_number_from n (history_of object entries)) is
     ∙ sym (ap (last_number_from 0) (history_of-append object before entries) ∙ last_number_from-append 0 (history_of object before) (history_of object entries))
 
-split_take : (n : ℕ) (xs ys : List Entry) → take n (xs ++ ys) ≡ take n xs ++ take (n - length xs) ys
-split_take n xs ys = (elim (nat_lt (length xs) n) as (λ b. nat_lt (length xs) n ≡ b → take n (xs ++ ys) ≡ take n xs ++ take (n - length xs) ys) [
-  | true ↦ (λ e. beyond (ltb-true (length xs) n e))
-  | false ↦ (λ e. within (ltb-false (length xs) n e))
-]) refl
-  where
-    beyond : length xs < n → take n (xs ++ ys) ≡ take n xs ++ take (n - length xs) ys
-    beyond more =
-        let whole : n ≡ length xs + (n - length xs) = omega arith in
-        ap (λ (k : ℕ). take k (xs ++ ys)) whole
-        ∙ take-append-add xs ys (n - length xs)
-        ∙ ap (λ l. l ++ take (n - length xs) ys) (sym (take_all n xs (omega arith)))
-
-    within : n ≤ length xs → take n (xs ++ ys) ≡ take n xs ++ take (n - length xs) ys
-    within less =
-        let none : n - length xs ≡ 0 = omega arith in
-        take-append-le n xs ys less
-        ∙ sym (ap (λ (k : ℕ). take n xs ++ take k ys) none ∙ append-nil (take n xs))
-
-pub floor-behind : (window : ℕ) (object : ObjectId) (before entries : List Entry) (past rest number : ℕ) → past ≡ (length (history_of object before) + length (history_of object entries)) - window → rest ≡ past - length (history_of object before) → number ≡ last_number_from 0 (take past (history_of object before)) → last_number_from number (take rest (history_of object entries)) ≡ floor window object (before ++ entries)
+-- Where a draft has no more entries of the object than are told, the floor is among those that the bank had.
+pub floor-before : (window : ℕ) (object : ObjectId) (before entries : List Entry) (behind : ℕ) → behind ≡ length (history_of object entries) → behind ≤ window → last_number (take (length (history_of object before) - (window - behind)) (history_of object before)) ≡ floor window object (before ++ entries)
 unfolding floor
-floor-behind window object before entries past rest number is_past is_rest is =
+floor-before window object before entries behind is few =
     let H = history_of object before in
     let D = history_of object entries in
-    let size : length (history_of object (before ++ entries)) - window ≡ past =
-    ap (λ l. length l - window) (history_of-append object before entries) ∙ ap (λ (n : ℕ). n - window) (length-append H D) ∙ sym is_past in
-    ap (λ (n : ℕ). last_number_from n (take rest D)) is
-    ∙ sym (last_number_from-append 0 (take past H) (take rest D))
-    ∙ ap (λ (k : ℕ). last_number_from 0 (take past H ++ take k D)) is_rest
-    ∙ ap (last_number_from 0) (sym (split_take past H D))
-    ∙ sym (ap (λ (n : ℕ). last_number_from 0 (take n (history_of object (before ++ entries)))) size ∙ ap (λ l. last_number_from 0 (take past l)) (history_of-append object before entries))
+    let size = length-append H D in
+    let past : length (H ++ D) - window ≡ length H - (window - behind) = omega (arith, size, is, few) in
+    sym (
+    ap (λ l. last_number (take (length l - window) l)) (history_of-append object before entries)
+    ∙ ap (λ (n : ℕ). last_number (take n (H ++ D))) past
+    ∙ ap last_number (take-append-le (length H - (window - behind)) H D (omega arith)))
 
--- two counts together are no more than the entries
-pub counts_fit : (object : ObjectId) (before entries old added : List Entry) (first last most : ℕ) → old ≡ before → added ≡ entries → first ≡ length (history_of object old) → last ≡ length (history_of object added) → length (before ++ entries) ≤ most → first + last ≤ most
-counts_fit object before entries old added first last most is_old is_added is_first is_last few =
-    let whole = length-append before entries in
-    let short = history_of-short object old in
-    let shorter = history_of-short object added in
-    let same = ap length is_old in
-    let same_added = ap length is_added in
-    omega arith
+-- Where it has more, the floor is one of them.
+pub floor-behind : (window : ℕ) (object : ObjectId) (before entries : List Entry) (behind number : ℕ) → behind ≡ length (history_of object entries) → window < behind → number ≡ newest object before → last_number_from number (take (behind - window) (history_of object entries)) ≡ floor window object (before ++ entries)
+unfolding floor newest
+floor-behind window object before entries behind number is_behind many is =
+    let H = history_of object before in
+    let D = history_of object entries in
+    let size = length-append H D in
+    let past : length (H ++ D) - window ≡ length H + (behind - window) = omega (arith, size, is_behind, many) in
+    ap (λ (n : ℕ). last_number_from n (take (behind - window) D)) is
+    ∙ sym (
+    ap (λ l. last_number (take (length l - window) l)) (history_of-append object before entries)
+    ∙ ap (λ (n : ℕ). last_number (take n (H ++ D))) past
+    ∙ ap last_number (take-append-add H D (behind - window))
+    ∙ last_number_from-append 0 H (take (behind - window) D))
 
 -- ---- what is told of them
 
 abbrev pub told_above : Family → ℕ → ObjectId → List Entry → List DeedReply
 told_above family token object entries = map (told_entry family) (filter (is_above token) (history_of object entries))
+
+-- entries that are lent
+abbrev pub lent : List (Bor Entry) → List Entry
+lent entries = map (λ (entry : Bor Entry). entry.now) entries
 
 pub told_above-append : (family : Family) (token : ℕ) (object : ObjectId) (xs ys : List Entry) → told_above family token object (xs ++ ys) ≡ told_above family token object xs ++ told_above family token object ys
 told_above-append family token object xs ys =
@@ -179,7 +150,7 @@ told_standing-append family all object xs ys =
 pub told_standing-none : (family : Family) (all : List Entry) (object : ObjectId) → told_standing family all object [] ≡ []
 told_standing-none family all object = ap (λ l. map (told_as family (codes "0")) (flat_map (λ (entry : Entry). standing_in all entry.change) l)) (history_of-none object)
 
--- both parts one behind the other
+-- both parts one after the other
 pub both_parts : {X : Type 0} (part : List Entry → List X) (before entries : List Entry) (start first last : List X) → ((xs ys : List Entry) → part (xs ++ ys) ≡ part xs ++ part ys) → start ≡ [] → first ≡ start ++ part before → last ≡ first ++ part entries → last ≡ part (before ++ entries)
 both_parts part before entries start first last grows none is_first is_last =
     is_last

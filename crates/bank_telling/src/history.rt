@@ -1,7 +1,7 @@
 //! The history of an object as a client is told it: its newest token, how far back it goes, and what it says (OFX 1.6,
 //! "Data Synchronization").
 
-ghost use Rattle.std.specs.Prelude.{◌≡◌, ◌≤◌, ◌∷◌, ◌++◌, [], Some, codes, length, map, filter, take, IfOk, OnOk};
+ghost use Rattle.std.specs.Prelude.{◌≡◌, ◌≤◌, ◌∷◌, ◌++◌, [], nat_lt, Some, codes, length, map, filter, take, IfOk, OnOk};
 ghost use Rattle.std.specs.List.{flat_map};
 ghost use Rattle.std.specs.Option.{option_copied};
 ghost use Rattle.ofx_types.specs.SyncForm.{object_family};
@@ -26,7 +26,7 @@ use std::alloc::Global;
 pub fn newest(draft: &Draft<'_>, object: ObjectId) -> u64
     ensures { result ≡ objects.newest object (drafted draft.now).entries }
 {
-    let before = last_number(draft.entries_before(), object, 0);
+    let before = draft.ledger().newest(object);
     last_number(draft.entries(), object, before)
 }
 
@@ -46,22 +46,25 @@ fn is_lost_at(draft: &Draft<'_>, object: ObjectId, token: Option<u64>) -> bool
     ensures { result ≡ rules.is_lost_at draft.now.setup.window object (drafted draft.now).entries token }
 {
     match token {
-        Some(token) => { newest(draft, object) < token || token < floor(draft, object) }
+        Some(token) => newest(draft, object) < token || is_past(draft, object, token),
         None => true,
     }
 }
 
-/// The number of the entry before the last ones that are told, 0 where there are no more than these.
-fn floor(draft: &Draft<'_>, object: ObjectId) -> u64
-    ensures { result ≡ objects.floor draft.now.setup.window object (drafted draft.now).entries }
+/// Whether a token is below the floor: the number of the entry before the last ones that are told, 0 where there are no
+/// more than these.
+fn is_past(draft: &Draft<'_>, object: ObjectId, token: u64) -> bool
+    ensures { result ≡ nat_lt token (objects.floor draft.now.setup.window object (drafted draft.now).entries) }
 {
-    let setup = draft.setup();
-    let before = count_of(draft.entries_before(), object);
+    let window = draft.setup().window as usize;
+    let ledger = draft.ledger();
     let behind = count_of(draft.entries(), object);
-    let past = (before + behind).saturating_sub(setup.window as usize);
-    let number = number_at(draft.entries_before(), object, past, 0);
-    let rest = past.saturating_sub(before);
-    number_at(draft.entries(), object, rest, number)
+    if behind <= window {
+        return ledger.is_past(object, token, window - behind);
+    }
+    let before = ledger.newest(object);
+    let number = number_at(draft.entries(), object, behind - window, before);
+    token < number
 }
 
 /// What a client is told of the history that asks so.
@@ -102,7 +105,8 @@ fn above(
     let mut told = Vec::new(alloc);
     match token {
         Some(token) => {
-            tell_above(&mut told, draft.entries_before(), object, family, token)?;
+            let before = draft.ledger().since(alloc, object, token)?;
+            tell_entries(&mut told, &before, family)?;
             tell_above(&mut told, draft.entries(), object, family, token)?;
             Ok(told)
         }
@@ -121,9 +125,26 @@ fn standing(
         (rules.standing object (drafted draft.now).entries)) }
 {
     let mut told = Vec::new(alloc);
-    tell_standing(draft, &mut told, draft.entries_before(), object, family)?;
+    let before = draft.ledger().history(alloc, object)?;
+    tell_all_made(draft, &mut told, &before, family)?;
     tell_standing(draft, &mut told, draft.entries(), object, family)?;
     Ok(told)
+}
+
+/// Tells what stands now of what some entries made.
+fn tell_all_made(
+    draft: &Draft<'_>,
+    told: &mut Vec<DeedReply>,
+    entries: &[&Entry],
+    family: Family,
+) -> Result<(), OutOfMemory>
+    ensures { OnOk result (told.new.items ≡ told.old.items ++ map (told_as family (codes "0"))
+        (flat_map (λ entry. standing_in (drafted draft.now).entries entry.change) (map (λ entry. entry.now) entries.now))) }
+{
+    for entry in entries {
+        tell_change(draft, told, &entry.change, family)?;
+    }
+    Ok(())
 }
 
 /// Tells what stands now of what some entries of an object made.
@@ -271,6 +292,30 @@ fn tell_now(told: &mut Vec<DeedReply>, change: Change, family: Family) -> Result
     tell(told, uid, change, family)
 }
 
+/// Tells entries, each with its own uid.
+fn tell_entries(
+    told: &mut Vec<DeedReply>,
+    entries: &[&Entry],
+    family: Family,
+) -> Result<(), OutOfMemory>
+    ensures { OnOk result (told.new.items
+        ≡ told.old.items ++ map (told_entry family) (map (λ entry. entry.now) entries.now)) }
+{
+    for entry in entries {
+        tell_own(told, entry, family)?;
+    }
+    Ok(())
+}
+
+/// Tells an entry with its own uid.
+fn tell_own(told: &mut Vec<DeedReply>, entry: &Entry, family: Family) -> Result<(), OutOfMemory>
+    ensures { OnOk result (told.new.items ≡ told.old.items ++ told_entry family entry.now ∷ []) }
+{
+    let uid = entry.trnuid.copy()?;
+    let change = entry.change.copy()?;
+    tell(told, uid, change, family)
+}
+
 /// Tells the entries of an object above a token.
 fn tell_above(
     told: &mut Vec<DeedReply>,
@@ -301,9 +346,7 @@ fn tell_entry(
         (filter (is_above token) (history_of object (entry.now ∷ [])))) }
 {
     if entry.object.0 == object.0 && token < entry.number {
-        let uid = entry.trnuid.copy()?;
-        let change = entry.change.copy()?;
-        return tell(told, uid, change, family);
+        return tell_own(told, entry, family);
     }
     Ok(())
 }
@@ -327,7 +370,7 @@ fn tell(
 }
 
 /// The number of the last entry of an object, and the number before where there is none.
-pub fn last_number(entries: &[Entry], object: ObjectId, before: u64) -> u64
+fn last_number(entries: &[Entry], object: ObjectId, before: u64) -> u64
     ensures { result ≡ last_number_from before (history_of object entries.now) }
 {
     let mut number = before;

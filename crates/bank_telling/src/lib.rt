@@ -5,6 +5,6 @@ mod history;
 mod statement;
 mod tokens;
 
-pub use history::{is_lost, last_number, newest, told_history};
+pub use history::{is_lost, newest, told_history};
 pub use statement::statement_of;
 pub use tokens::{number_text, token_of};

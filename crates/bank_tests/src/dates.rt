@@ -10,7 +10,7 @@ use std::process::Abort;
 use std::test::Fail;
 
 /// The first 50 dates from 31 January 2024 on, for each frequency.
-const SERIES: [(Freq, [i32; 50]); 9] = [
+const SERIES: &[(Freq, [i32; 50])] = &[
     (Freq::Weekly, WEEKLY),
     (Freq::Biweekly, BIWEEKLY),
     (Freq::TwiceMonthly, TWICE_MONTHLY),
@@ -114,7 +114,7 @@ fn day(number: i32) -> Result<Day, Fail>
 }
 
 /// First days, frequencies, and the first dates.
-const FIRST_DATES: [(i32, Freq, &[i32]); 6] = [
+const FIRST_DATES: &[(i32, Freq, &[i32])] = &[
     // 31 January, 29 February, 31 March and 30 April 2024
     (19_753, Freq::Monthly, &[19_753, 19_782, 19_813, 19_843]),
     // 29 February 2024, 28 February of the three years that follow, 29 February 2028
@@ -143,17 +143,19 @@ const FIRST_DATES: [(i32, Freq, &[i32]); 6] = [
 
 #[test]
 fn a_series_begins_with_its_dates(rt: HostRuntime) -> Result<(), Fail> {
-    for (freq, days) in SERIES {
+    for case in SERIES.iter() {
+        let (freq, days) = *case;
         begins(&rt, TODAY, freq, &days);
     }
-    for (first, freq, days) in FIRST_DATES {
+    for case in FIRST_DATES.iter() {
+        let (first, freq, days) = *case;
         begins(&rt, day(first)?, freq, days);
     }
     Ok(())
 }
 
 /// First days, frequencies and places that lie after the year 9999.
-const PAST_THE_END: [(i32, Freq, u32); 6] = [
+const PAST_THE_END: &[(i32, Freq, u32)] = &[
     (2_932_889, Freq::Weekly, 2),
     (2_932_865, Freq::Monthly, 2),
     // the second date of 16 December 9999 would be 1 January 10000
@@ -166,7 +168,8 @@ const PAST_THE_END: [(i32, Freq, u32); 6] = [
 
 #[test]
 fn a_series_ends_with_the_year_9999(rt: HostRuntime) -> Result<(), Fail> {
-    for (first, freq, place) in PAST_THE_END {
+    for case in PAST_THE_END.iter() {
+        let (first, freq, place) = *case;
         assert_eq!(rt; date_of(day(first)?, freq, place), None);
     }
     Ok(())

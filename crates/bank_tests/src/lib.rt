@@ -6,6 +6,8 @@
 #[cfg(test)]
 mod accounts;
 #[cfg(test)]
+mod alike;
+#[cfg(test)]
 mod dates;
 #[cfg(test)]
 mod mails;

@@ -3,6 +3,7 @@
 use crate::sample::{ALICE, BOB};
 use ofx_types::{FileUid, TrnUid};
 use once_records::{Records, Uids};
+use std::hash::RandomState;
 use std::test::Fail;
 
 fn trnuid(bytes: &[u8]) -> Result<TrnUid, Fail> {
@@ -15,7 +16,7 @@ fn file(bytes: &[u8]) -> Result<FileUid, Fail> {
 
 #[test]
 fn a_uid_is_used_up_for_one_user(rt: HostRuntime) -> Result<(), Fail> {
-    let mut records = Records::new(rt.alloc());
+    let mut records = Records::new(rt.alloc(), RandomState::new(&rt)?);
     records.known();
     records.reserve(2, 0)?;
     assert!(rt; !records.used(ALICE, &trnuid(b"t1")?));
@@ -34,7 +35,7 @@ fn a_uid_is_used_up_for_one_user(rt: HostRuntime) -> Result<(), Fail> {
 #[test]
 fn a_reply_is_kept_until_its_file_is_released(rt: HostRuntime) -> Result<(), Fail> {
     let alloc = rt.alloc();
-    let mut records = Records::new(alloc);
+    let mut records = Records::new(alloc, RandomState::new(&rt)?);
     records.reserve(0, 2)?;
     let name = file(b"f1")?;
     assert!(rt; records.kept(ALICE, &name).is_none());

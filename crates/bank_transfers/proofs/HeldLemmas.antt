@@ -1,21 +1,24 @@
 -- The rows as they are held: which is found, and which wait, when a row is put.
-use Rattle.std.proofs.Common.{◌≡◌, ℕ, suc, ◌+◌, Bool, true, false, not, cond, eqb, nat_lt, List, [], ◌∷◌, ◌++◌, length, map, filter, reverse, set, Option, None, Some, refl, sym, ap, ◌∙◌, subst, arith}
-use Rattle.std.proofs.lemmas.Bool.{eqb-true, eq-eqb, lt-ltb}
+use Rattle.std.proofs.Common.{◌≡◌, ℕ, ◌<◌, Bool, true, false, not, cond, eqb, List, [], ◌∷◌, ◌++◌, map, filter, reverse, Option, None, Some, refl, sym, ap, ◌∙◌, subst}
+use Rattle.std.proofs.lemmas.Bool.{eqb-true, eq-eqb}
 use Rattle.std.proofs.lemmas.List.Elements.{filter-append, recursion_from_All}
 use Rattle.std.proofs.lemmas.List.{reverse-append}
 use Rattle.std.proofs.lemmas.List.Folds.{find-append}
 use Rattle.std.proofs.lemmas.Map.Keys.{IsDistinct-head, IsDistinct-tail, IsDistinct-cons}
 use Rattle.std.specs.Option.{option_map, option_or}
-use Rattle.std.specs.List.{All, AllByRecursion, find, position, position_or_len}
+use Rattle.std.specs.List.{All, AllByRecursion, find}
+use Rattle.std.specs.Map.{lookup, remove_entry, values_of}
+use Rattle.indexmap.specs.IndexMap.{insert_entry}
 use Rattle.ofx_types.specs.declared.transfer.TransferRow.{TransferRow}
 use Rattle.ofx_types.specs.declared.transfer.XferCode.{XferCode}
 use Rattle.ofx_types.specs.declared.transfer.XferCode.TheVariants.{Waiting, Posted, NoFunds, Cancelled}
-use Rattle.bank_model.specs.Ledger.{is_posted}
+use Rattle.bank_model.specs.Ledger.{Posting, is_posted}
 use Rattle.bank_model.specs.Models.{is_waiting}
-use Rattle.bank_transfers.specs.declared.posted.PostedRow.{PostedRow}
-use Rattle.bank_transfers.specs.Held.{rows_held, waiting_in, row_put, HaveOwnIds, IsPostedRow}
-use Rattle.bank_transfers.specs.TransfersView.{row_found, waits}
+use Rattle.bank_transfers.specs.Held.{settled_rows, waiting_in, row_put, IsClosed, HaveOwnIds, AreKeyed}
+use Rattle.bank_transfers.specs.PostingsView.{IsPosted}
+use Rattle.bank_transfers.specs.TransfersView.{row_found, waits, RiseById}
 use Rattle.bank_transfers.proofs.WaitingLemmas.{same_flips, swapped}
+use Rattle.bank_transfers.proofs.RisingLemmas.{less_apart}
 
 -- ---- a row found
 
@@ -28,10 +31,12 @@ find-map {A} f p (x ∷ xs) =
       | false ↦ rest
     ]
 
-pub found_held : (id : ℕ) (rows : List TransferRow) (postings : List PostedRow) → row_found id (rows_held rows postings) ≡ option_or (row_found id rows) (option_map (λ (posted : PostedRow). posted.row) (find (λ (posted : PostedRow). eqb posted.row.id id) (reverse postings)))
-found_held id rows postings =
-    find-append (λ (row : TransferRow). eqb row.id id) rows (map (λ (posted : PostedRow). posted.row) (reverse postings))
-    ∙ ap (option_or (row_found id rows)) (find-map (λ (posted : PostedRow). posted.row) (λ (row : TransferRow). eqb row.id id) (reverse postings))
+-- a row is found among the first rows, or else among the rest
+pub found_either : (id : ℕ) (rows rest : List TransferRow) → row_found id (rows ++ rest) ≡ option_or (row_found id rows) (row_found id rest)
+found_either id rows rest = find-append (λ (row : TransferRow). eqb row.id id) rows rest
+
+pub found_posted : (id : ℕ) (postings : List Posting) → row_found id (map (λ (posted : Posting). posted.row) (reverse postings)) ≡ option_map (λ (posted : Posting). posted.row) (find (λ (posted : Posting). eqb posted.row.id id) (reverse postings))
+found_posted id postings = find-map (λ (posted : Posting). posted.row) (λ (row : TransferRow). eqb row.id id) (reverse postings)
 
 -- the rows without those of an id
 abbrev pub others : ℕ → List TransferRow → List TransferRow
@@ -50,14 +55,15 @@ passed false d o row found never = refl
 apart : (o row id : ℕ) → eqb o row ≡ false → eqb row id ≡ true → eqb o id ≡ true → ⊥
 apart o row id e named other = let t : eqb o row ≡ true = eq-eqb o row (eqb-true o id other ∙ sym (eqb-true row id named)) in cc
 
--- what is found of one row more, whose id's others are taken out
-pub found_after : (id : ℕ) (row : TransferRow) (rows more : List TransferRow) → row_found id (others row.id rows ++ row ∷ more) ≡ cond (eqb row.id id) (Some row) (row_found id (rows ++ more))
-found_after id row [] more = refl
-found_after id row (o ∷ os) more =
-    let rest = found_after id row os more in
-    (elim (eqb o.id row.id) as (λ same. eqb o.id row.id ≡ same → row_found id (cond (not same) (o ∷ others row.id os) (others row.id os) ++ row ∷ more) ≡ cond (eqb row.id id) (Some row) (cond (eqb o.id id) (Some o) (row_found id (os ++ more)))) [
-      | true ↦ (λ e. rest ∙ taken (eqb row.id id) (eqb o.id id) o row (row_found id (os ++ more)) (ap (λ n. eqb n id) (sym (eqb-true o.id row.id e))))
-      | false ↦ (λ e. ap (cond (eqb o.id id) (Some o)) rest ∙ passed (eqb row.id id) (eqb o.id id) o row (row_found id (os ++ more)) (apart o.id row.id id e))
+-- what is found where an id's rows are taken out of the first ones, and the row is found among the rest
+pub found_out : (id : ℕ) (row : TransferRow) (rows more rest : List TransferRow) → row_found id more ≡ cond (eqb row.id id) (Some row) (row_found id rest)
+    → row_found id (others row.id rows ++ more) ≡ cond (eqb row.id id) (Some row) (row_found id (rows ++ rest))
+found_out id row [] more rest found = found
+found_out id row (o ∷ os) more rest found =
+    let after = found_out id row os more rest found in
+    (elim (eqb o.id row.id) as (λ same. eqb o.id row.id ≡ same → row_found id (cond (not same) (o ∷ others row.id os) (others row.id os) ++ more) ≡ cond (eqb row.id id) (Some row) (cond (eqb o.id id) (Some o) (row_found id (os ++ rest)))) [
+      | true ↦ (λ e. after ∙ taken (eqb row.id id) (eqb o.id id) o row (row_found id (os ++ rest)) (ap (λ n. eqb n id) (sym (eqb-true o.id row.id e))))
+      | false ↦ (λ e. ap (cond (eqb o.id id) (Some o)) after ∙ passed (eqb row.id id) (eqb o.id id) o row (row_found id (os ++ rest)) (apart o.id row.id id e))
     ]) refl
 
 -- what is found of the rows with one put
@@ -70,42 +76,9 @@ found_put id row (o ∷ os) more =
       | false ↦ (λ e. ap (cond (eqb o.id id) (Some o)) rest ∙ passed (eqb row.id id) (eqb o.id id) o row (row_found id (os ++ more)) (apart o.id row.id id e))
     ]) refl
 
--- ---- a row put at its place
-
-position-cons : {A : Type 0} (p : A → Bool) (x : A) (xs : List A) → position p (x ∷ xs) ≡ cond (p x) (Some 0) (option_map suc (position p xs))
-position-cons {A} p x xs =
-    elim (p x) as (λ b. cond (nat_lt (cond (not b) (1 + position_or_len p xs) 0) (suc (length xs))) (Some (cond (not b) (1 + position_or_len p xs) 0)) None ≡ cond b (Some 0) (option_map suc (position p xs))) [
-      | true ↦ ap (λ b. cond b (Some 0) None) (lt-ltb 0 (suc (length xs)) (omega arith))
-      | false ↦ ap (λ b. cond b (Some (1 + position_or_len p xs)) None) (one_less (position_or_len p xs) (length xs)) ∙ later (nat_lt (position_or_len p xs) (length xs)) (position_or_len p xs)
-    ]
-  where
-    one_less : (m n : ℕ) → nat_lt (1 + m) (suc n) ≡ nat_lt m n
-    one_less m n = grind arith
-
-    later : (b : Bool) (n : ℕ) → cond b (Some (1 + n)) None ≡ option_map suc (cond b (Some n) None)
-    later true n = ap (λ k. Some k) (omega arith)
-    later false n = refl
-
-abbrev pub put_at : Option ℕ → TransferRow → List TransferRow → List TransferRow
-put_at None row rows = rows ++ row ∷ []
-put_at (Some place) row rows = set rows place row
-
-pub put_there : (row : TransferRow) (rows : List TransferRow) → put_at (position (λ (held : TransferRow). eqb held.id row.id) rows) row rows ≡ row_put row rows
-put_there row [] = refl
-put_there row (held ∷ rows) =
-    ap (λ (place : Option ℕ). put_at place row (held ∷ rows)) (position-cons (λ (r : TransferRow). eqb r.id row.id) held rows)
-    ∙ elim (eqb held.id row.id) as (λ same. put_at (cond same (Some 0) (option_map suc (position (λ (r : TransferRow). eqb r.id row.id) rows))) row (held ∷ rows) ≡ cond same (row ∷ rows) (held ∷ row_put row rows)) [
-      | true ↦ refl
-      | false ↦ behind (position (λ (r : TransferRow). eqb r.id row.id) rows) ∙ ap (λ l. held ∷ l) (put_there row rows)
-    ]
-  where
-    behind : (place : Option ℕ) → put_at (option_map suc place) row (held ∷ rows) ≡ held ∷ put_at place row rows
-    behind None = refl
-    behind (Some place) = refl
-
 -- ---- each id once
 
-put_all : (P : TransferRow → Type 0) (row : TransferRow) (rows : List TransferRow) → AllByRecursion P rows → P row → AllByRecursion P (row_put row rows)
+pub put_all : (P : TransferRow → Type 0) (row : TransferRow) (rows : List TransferRow) → AllByRecursion P rows → P row → AllByRecursion P (row_put row rows)
 put_all P row [] all one = (one, tt)
 put_all P row (held ∷ rows) all one =
     elim (eqb held.id row.id) as (λ same. AllByRecursion P (cond same (row ∷ rows) (held ∷ row_put row rows))) [
@@ -113,7 +86,7 @@ put_all P row (held ∷ rows) all one =
       | false ↦ (all.0, put_all P row rows all.1 one)
     ]
 
-others_all : (P : TransferRow → Type 0) (id : ℕ) (rows : List TransferRow) → AllByRecursion P rows → AllByRecursion P (others id rows)
+pub others_all : (P : TransferRow → Type 0) (id : ℕ) (rows : List TransferRow) → AllByRecursion P rows → AllByRecursion P (others id rows)
 others_all P id [] all = tt
 others_all P id (held ∷ rows) all =
     elim (eqb held.id id) as (λ same. AllByRecursion P (cond (not same) (held ∷ others id rows) (others id rows))) [
@@ -145,73 +118,108 @@ own_others id (held ∷ rows) own =
 
 -- ---- those that wait
 
-swapped_none : (row : TransferRow) (rows : List TransferRow) → AllByRecursion (λ (o : TransferRow). eqb row.id o.id ≡ false) rows → swapped row (waiting_in rows) ≡ waiting_in rows
-swapped_none row [] all = refl
-swapped_none row (held ∷ rows) all =
-    let rest = swapped_none row rows all.1 in
-    elim (is_waiting held.code) as (λ w. swapped row (cond w (held ∷ waiting_in rows) (waiting_in rows)) ≡ cond w (held ∷ waiting_in rows) (waiting_in rows)) [
-      | true ↦ ap (λ b. cond b (waiting_in (row ∷ [])) (held ∷ []) ++ swapped row (waiting_in rows)) (same_flips held.id row.id ∙ all.0) ∙ ap (λ l. held ∷ l) rest
-      | false ↦ rest
-    ]
-
 closed_in : (row : TransferRow) → is_waiting row.code ≡ false → waiting_in (row ∷ []) ≡ []
 closed_in row closed = ap (λ b. cond b (row ∷ []) []) closed
 
-not_waiting : (b : Bool) → (b ≡ true → false ≡ true) → b ≡ false
-not_waiting true never = sym (never refl)
-not_waiting false never = refl
+waits_in : (row : TransferRow) → is_waiting row.code ≡ true → waiting_in (row ∷ []) ≡ row ∷ []
+waits_in row waiting = ap (λ b. cond b (row ∷ []) []) waiting
 
--- a row in the place of another with its id, of which there are no more
-in_place : (row held : TransferRow) (rows : List TransferRow) → eqb held.id row.id ≡ true → AllByRecursion (λ (o : TransferRow). eqb held.id o.id ≡ false) rows → (is_waiting row.code ≡ true → is_waiting held.code ≡ true) → waiting_in (row ∷ rows) ≡ swapped row (waiting_in (held ∷ rows))
-in_place row held rows same apart was =
-    let none = swapped_none row rows (subst (λ n. AllByRecursion (λ (o : TransferRow). eqb n o.id ≡ false) rows) (eqb-true held.id row.id same) apart) in
-    filter-append (λ (r : TransferRow). is_waiting r.code) (row ∷ []) rows
-    ∙ (elim (is_waiting held.code) as (λ w. (is_waiting row.code ≡ true → w ≡ true) → waiting_in (row ∷ []) ++ waiting_in rows ≡ swapped row (cond w (held ∷ waiting_in rows) (waiting_in rows))) [
-      | true ↦ (λ any. sym (ap (λ b. cond b (waiting_in (row ∷ [])) (held ∷ []) ++ swapped row (waiting_in rows)) same ∙ ap (λ l. waiting_in (row ∷ []) ++ l) none))
-      | false ↦ (λ never. ap (λ l. l ++ waiting_in rows) (closed_in row (not_waiting (is_waiting row.code) never)) ∙ sym none)
-    ]) was
+-- another row in the place of one with its id, or where there is none
+apart_from : (row held : TransferRow) (id : ℕ) → eqb row.id id ≡ false → eqb held.id row.id ≡ true → eqb held.id id ≡ false
+apart_from row held id apart same = ap (λ n. eqb n id) (eqb-true held.id row.id same) ∙ apart
 
-kept_place : (row held : TransferRow) (rows after : List TransferRow) → eqb held.id row.id ≡ false → waiting_in after ≡ swapped row (waiting_in rows) → waiting_in (held ∷ after) ≡ swapped row (waiting_in (held ∷ rows))
-kept_place row held rows after apart rest =
-    elim (is_waiting held.code) as (λ w. cond w (held ∷ waiting_in after) (waiting_in after) ≡ swapped row (cond w (held ∷ waiting_in rows) (waiting_in rows))) [
-      | true ↦ ap (λ l. held ∷ l) rest ∙ sym (ap (λ b. cond b (waiting_in (row ∷ [])) (held ∷ []) ++ swapped row (waiting_in rows)) apart)
-      | false ↦ rest
-    ]
+-- a row in the place of others changes no row of another id
+other_found : (id : ℕ) (row : TransferRow) (rows : List TransferRow) → eqb row.id id ≡ false → row_found id (swapped row rows) ≡ row_found id rows
+other_found id row [] apart = refl
+other_found id row (held ∷ rows) apart =
+    (elim (eqb held.id row.id) as (λ b. eqb held.id row.id ≡ b → row_found id (cond b (waiting_in (row ∷ [])) (held ∷ []) ++ swapped row rows) ≡ cond (eqb held.id id) (Some held) (row_found id rows)) [
+      | true ↦ (λ same. one (is_waiting row.code) ∙ other_found id row rows apart ∙ sym (ap (λ b. cond b (Some held) (row_found id rows)) (apart_from row held id apart same)))
+      | false ↦ (λ other. ap (cond (eqb held.id id) (Some held)) (other_found id row rows apart))
+    ]) refl
+  where
+    one : (b : Bool) → row_found id (cond b (row ∷ []) [] ++ swapped row rows) ≡ row_found id (swapped row rows)
+    one true = ap (λ b. cond b (Some row) (row_found id (swapped row rows))) apart
+    one false = refl
 
--- a row put among others, where its transfer waits before or it doesn't wait itself
-pub waiting_put : (row : TransferRow) (rows : List TransferRow) → HaveOwnIds rows → (is_waiting row.code ≡ true → waits (row_found row.id rows) ≡ true) → waiting_in (row_put row rows) ≡ swapped row (waiting_in rows)
-waiting_put row [] own was = closed_in row (not_waiting (is_waiting row.code) was)
-waiting_put row (held ∷ rows) own was =
-    (elim (eqb held.id row.id) as (λ same. eqb held.id row.id ≡ same → (is_waiting row.code ≡ true → waits (cond same (Some held) (row_found row.id rows)) ≡ true) → waiting_in (cond same (row ∷ rows) (held ∷ row_put row rows)) ≡ swapped row (waiting_in (held ∷ rows))) [
-      | true ↦ (λ e here. in_place row held rows e (IsDistinct-head same_id held rows own) here)
-      | false ↦ (λ e there. kept_place row held rows (row_put row rows) e (waiting_put row rows (IsDistinct-tail same_id held rows own) there))
-    ]) refl was
+waiting_found : (row : TransferRow) (rows : List TransferRow) → is_waiting row.code ≡ true → waits (row_found row.id rows) ≡ true → row_found row.id (swapped row rows) ≡ Some row
+waiting_found row [] waiting there = cc
+waiting_found row (held ∷ rows) waiting there =
+    (elim (eqb held.id row.id) as (λ b. eqb held.id row.id ≡ b → waits (cond b (Some held) (row_found row.id rows)) ≡ true → row_found row.id (cond b (waiting_in (row ∷ [])) (held ∷ []) ++ swapped row rows) ≡ Some row) [
+      | true ↦ (λ same any. ap (λ (l : List TransferRow). row_found row.id (l ++ swapped row rows)) (waits_in row waiting) ∙ ap (λ b. cond b (Some row) (row_found row.id (swapped row rows))) (eq-eqb row.id row.id refl))
+      | false ↦ (λ other rest. ap (λ b. cond b (Some held) (row_found row.id (swapped row rows))) other ∙ waiting_found row rows waiting rest)
+    ]) refl there
 
--- the others, where the row doesn't wait
-pub waiting_others : (row : TransferRow) (rows : List TransferRow) → is_waiting row.code ≡ false → waiting_in (others row.id rows) ≡ swapped row (waiting_in rows)
-waiting_others row [] closed = refl
-waiting_others row (held ∷ rows) closed =
-    let rest = waiting_others row rows closed in
-    (elim (eqb held.id row.id) as (λ same. eqb held.id row.id ≡ same → waiting_in (cond (not same) (held ∷ others row.id rows) (others row.id rows)) ≡ swapped row (waiting_in (held ∷ rows))) [
-      | true ↦ (λ e. rest ∙ elim (is_waiting held.code) as (λ w. swapped row (waiting_in rows) ≡ swapped row (cond w (held ∷ waiting_in rows) (waiting_in rows))) [
-        | true ↦ sym (ap (λ b. cond b (waiting_in (row ∷ [])) (held ∷ []) ++ swapped row (waiting_in rows)) e ∙ ap (λ l. l ++ swapped row (waiting_in rows)) (closed_in row closed))
-        | false ↦ refl
-      ])
-      | false ↦ (λ e. kept_place row held rows (others row.id rows) e rest)
+none_found : (row : TransferRow) (rows : List TransferRow) → is_waiting row.code ≡ false → row_found row.id (swapped row rows) ≡ None
+none_found row [] closed = refl
+none_found row (held ∷ rows) closed =
+    (elim (eqb held.id row.id) as (λ b. eqb held.id row.id ≡ b → row_found row.id (cond b (waiting_in (row ∷ [])) (held ∷ []) ++ swapped row rows) ≡ None) [
+      | true ↦ (λ same. ap (λ (l : List TransferRow). row_found row.id (l ++ swapped row rows)) (closed_in row closed) ∙ none_found row rows closed)
+      | false ↦ (λ other. ap (λ b. cond b (Some held) (row_found row.id (swapped row rows))) other ∙ none_found row rows closed)
     ]) refl
 
--- a row put at the end
-pub waiting_added : (row : TransferRow) (rows : List TransferRow) → row_found row.id rows ≡ None → is_waiting row.code ≡ true → waiting_in (row_put row rows) ≡ waiting_in rows ++ row ∷ []
-waiting_added row [] none waiting = ap (λ b. cond b (row ∷ []) []) waiting
-waiting_added row (held ∷ rows) none waiting =
-    (elim (eqb held.id row.id) as (λ same. cond same (Some held) (row_found row.id rows) ≡ None → waiting_in (cond same (row ∷ rows) (held ∷ row_put row rows)) ≡ waiting_in (held ∷ rows) ++ row ∷ []) [
-      | true ↦ (λ here. cc)
-      | false ↦ (λ there. behind (is_waiting held.code) (waiting_added row rows there waiting))
-    ]) none
+found_by : (id : ℕ) (row : TransferRow) (first : Option TransferRow) (rows after : List TransferRow) → row_found row.id after ≡ first → (eqb row.id id ≡ false → row_found id after ≡ row_found id rows) → row_found id after ≡ cond (eqb row.id id) first (row_found id rows)
+found_by id row first rows after own other =
+    (elim (eqb row.id id) as (λ b. eqb row.id id ≡ b → row_found id after ≡ cond b first (row_found id rows)) [
+      | true ↦ (λ same. ap (λ n. row_found n after) (sym (eqb-true row.id id same)) ∙ own)
+      | false ↦ other
+    ]) refl
+
+-- what is found where a row that waits comes in the place of one, or one that doesn't takes its place away
+pub waiting_swapped : (id : ℕ) (row : TransferRow) (rows : List TransferRow) → is_waiting row.code ≡ true → waits (row_found row.id rows) ≡ true → row_found id (swapped row rows) ≡ cond (eqb row.id id) (Some row) (row_found id rows)
+waiting_swapped id row rows waiting there = found_by id row (Some row) rows (swapped row rows) (waiting_found row rows waiting there) (other_found id row rows)
+
+pub closed_swapped : (id : ℕ) (row : TransferRow) (rows : List TransferRow) → is_waiting row.code ≡ false → row_found id (swapped row rows) ≡ cond (eqb row.id id) None (row_found id rows)
+closed_swapped id row rows closed = found_by id row None rows (swapped row rows) (none_found row rows closed) (other_found id row rows)
+
+below_none : (id : ℕ) (rows : List TransferRow) → AllByRecursion (λ (held : TransferRow). held.id < id) rows → row_found id rows ≡ None
+below_none id [] below = refl
+below_none id (held ∷ rows) below = ap (λ b. cond b (Some held) (row_found id rows)) (less_apart held.id id below.0) ∙ below_none id rows below.1
+
+or_none : (found : Option TransferRow) → option_or found None ≡ found
+or_none None = refl
+or_none (Some row) = refl
+
+pub last_found : (id : ℕ) (row : TransferRow) (rows : List TransferRow) → AllByRecursion (λ (held : TransferRow). held.id < row.id) rows → row_found id (rows ++ row ∷ []) ≡ cond (eqb row.id id) (Some row) (row_found id rows)
+last_found id row rows below =
+    found_by id row (Some row) rows (rows ++ row ∷ [])
+    (found_either row.id rows (row ∷ []) ∙ ap (λ found. option_or found (row_found row.id (row ∷ []))) (below_none row.id rows below) ∙ ap (λ b. cond b (Some row) None) (eq-eqb row.id row.id refl))
+    (λ apart. found_either id rows (row ∷ []) ∙ ap (λ b. option_or (row_found id rows) (cond b (Some row) None)) apart ∙ or_none (row_found id rows))
+
+-- ---- their ids rise
+
+swapped_above : (n : ℕ) (row : TransferRow) (rows : List TransferRow) → AllByRecursion (λ (held : TransferRow). n < held.id) rows → AllByRecursion (λ (held : TransferRow). n < held.id) (swapped row rows)
+swapped_above n row [] above = tt
+swapped_above n row (held ∷ rows) above =
+    let rest = swapped_above n row rows above.1 in
+    (elim (eqb held.id row.id) as (λ b. eqb held.id row.id ≡ b → AllByRecursion (λ (r : TransferRow). n < r.id) (cond b (waiting_in (row ∷ [])) (held ∷ []) ++ swapped row rows)) [
+      | true ↦ (λ same. one (is_waiting row.code) rest (subst (λ m. n < m) (eqb-true held.id row.id same) above.0))
+      | false ↦ (λ other. (above.0, rest))
+    ]) refl
   where
-    behind : (w : Bool) → waiting_in (row_put row rows) ≡ waiting_in rows ++ row ∷ [] → cond w (held ∷ waiting_in (row_put row rows)) (waiting_in (row_put row rows)) ≡ cond w (held ∷ waiting_in rows) (waiting_in rows) ++ row ∷ []
-    behind true rest = ap (λ l. held ∷ l) rest
-    behind false rest = rest
+    one : (b : Bool) → AllByRecursion (λ (r : TransferRow). n < r.id) (swapped row rows) → n < row.id → AllByRecursion (λ (r : TransferRow). n < r.id) (cond b (row ∷ []) [] ++ swapped row rows)
+    one true rest less = (less, rest)
+    one false rest less = rest
+
+pub swapped_rises : (row : TransferRow) (rows : List TransferRow) → RiseById rows → RiseById (swapped row rows)
+swapped_rises row [] rise = tt
+swapped_rises row (held ∷ rows) rise =
+    let rest = swapped_rises row rows rise.1 in
+    (elim (eqb held.id row.id) as (λ b. eqb held.id row.id ≡ b → RiseById (cond b (waiting_in (row ∷ [])) (held ∷ []) ++ swapped row rows)) [
+      | true ↦ (λ same. one (is_waiting row.code) rest (subst (λ n. AllByRecursion (λ (r : TransferRow). n < r.id) rows) (eqb-true held.id row.id same) rise.0))
+      | false ↦ (λ other. (swapped_above held.id row rows rise.0, rest))
+    ]) refl
+  where
+    one : (b : Bool) → RiseById (swapped row rows) → AllByRecursion (λ (r : TransferRow). row.id < r.id) rows → RiseById (cond b (row ∷ []) [] ++ swapped row rows)
+    one true rest above = (swapped_above row.id row rows above, rest)
+    one false rest above = rest
+
+last_above : (n : ℕ) (row : TransferRow) (rows : List TransferRow) → AllByRecursion (λ (held : TransferRow). n < held.id) rows → n < row.id → AllByRecursion (λ (held : TransferRow). n < held.id) (rows ++ row ∷ [])
+last_above n row [] above less = (less, tt)
+last_above n row (held ∷ rows) above less = (above.0, last_above n row rows above.1 less)
+
+pub last_rises : (row : TransferRow) (rows : List TransferRow) → RiseById rows → AllByRecursion (λ (held : TransferRow). held.id < row.id) rows → RiseById (rows ++ row ∷ [])
+last_rises row [] rise below = (tt, tt)
+last_rises row (held ∷ rows) rise below = (last_above held.id row rows rise.0 below.0, last_rises row rows rise.1 below.1)
 
 -- ---- a row found that waits lies by itself
 
@@ -221,32 +229,88 @@ posted_closed Posted posted = refl
 posted_closed NoFunds posted = cc
 posted_closed Cancelled posted = cc
 
-none_waits : (id : ℕ) (postings : List PostedRow) → AllByRecursion IsPostedRow postings → waits (option_map (λ (posted : PostedRow). posted.row) (find (λ (posted : PostedRow). eqb posted.row.id id) (reverse postings))) ≡ false
+none_waits : (id : ℕ) (postings : List Posting) → AllByRecursion IsPosted postings → waits (option_map (λ (posted : Posting). posted.row) (find (λ (posted : Posting). eqb posted.row.id id) (reverse postings))) ≡ false
 none_waits id [] all = refl
 none_waits id (posted ∷ postings) all =
-    let named = λ (p : PostedRow). eqb p.row.id id in
-    ap (λ (found : Option PostedRow). waits (option_map (λ (p : PostedRow). p.row) found)) (ap (find named) (reverse-append (posted ∷ []) postings) ∙ find-append named (reverse postings) (posted ∷ []))
+    let named = λ (p : Posting). eqb p.row.id id in
+    ap (λ (found : Option Posting). waits (option_map (λ (p : Posting). p.row) found)) (ap (find named) (reverse-append (posted ∷ []) postings) ∙ find-append named (reverse postings) (posted ∷ []))
     ∙ either (find named (reverse postings)) (find named (posted ∷ [])) (none_waits id postings all.1)
-    (elim (eqb posted.row.id id) as (λ b. waits (option_map (λ (p : PostedRow). p.row) (cond b (Some posted) None)) ≡ false) [
+    (elim (eqb posted.row.id id) as (λ b. waits (option_map (λ (p : Posting). p.row) (cond b (Some posted) None)) ≡ false) [
       | true ↦ posted_closed posted.row.code all.0.1
       | false ↦ refl
     ])
   where
-    either : (first last : Option PostedRow) → waits (option_map (λ (p : PostedRow). p.row) first) ≡ false → waits (option_map (λ (p : PostedRow). p.row) last) ≡ false → waits (option_map (λ (p : PostedRow). p.row) (option_or first last)) ≡ false
+    either : (first last : Option Posting) → waits (option_map (λ (p : Posting). p.row) first) ≡ false → waits (option_map (λ (p : Posting). p.row) last) ≡ false → waits (option_map (λ (p : Posting). p.row) (option_or first last)) ≡ false
     either None last closed other = other
     either (Some row) last closed other = closed
 
-waits_first : (found other : Option TransferRow) → waits other ≡ false → waits (option_or found other) ≡ true → waits found ≡ true
+closed_waits : (id : ℕ) (closed : List TransferRow) → AllByRecursion IsClosed closed → waits (row_found id closed) ≡ false
+closed_waits id [] all = refl
+closed_waits id (row ∷ closed) all =
+    elim (eqb row.id id) as (λ b. waits (cond b (Some row) (row_found id closed)) ≡ false) [
+      | true ↦ all.0
+      | false ↦ closed_waits id closed all.1
+    ]
+
+-- No row of a transfer that doesn't wait any more waits.
+pub settled_waits : (id : ℕ) (closed : List TransferRow) (postings : List Posting) → AllByRecursion IsClosed closed → All IsPosted postings → waits (row_found id (settled_rows closed postings)) ≡ false
+settled_waits id closed postings closed_all posted_all =
+    ap waits (found_either id closed (map (λ (posted : Posting). posted.row) (reverse postings)))
+    ∙ either (row_found id closed) (row_found id (map (λ (posted : Posting). posted.row) (reverse postings))) (closed_waits id closed closed_all)
+    (ap waits (found_posted id postings) ∙ none_waits id postings (recursion_from_All IsPosted postings posted_all))
+  where
+    either : (first last : Option TransferRow) → waits first ≡ false → waits last ≡ false → waits (option_or first last) ≡ false
+    either None last closed other = other
+    either (Some row) last closed other = closed
+
+-- A row found that waits is one of those that wait, where the other doesn't.
+pub waits_first : (found other : Option TransferRow) → waits other ≡ false → waits (option_or found other) ≡ true → waits found ≡ true
 waits_first None other closed waiting = let no : true ≡ false = sym waiting ∙ closed in cc
 waits_first (Some row) other closed waiting = waiting
 
-pub own_waits : (id : ℕ) (rows : List TransferRow) (postings : List PostedRow) → All IsPostedRow postings → waits (row_found id (rows_held rows postings)) ≡ true → waits (row_found id rows) ≡ true
-own_waits id rows postings all waiting =
-    waits_first (row_found id rows) _ (none_waits id postings (recursion_from_All IsPostedRow postings all)) (ap waits (sym (found_held id rows postings)) ∙ waiting)
+-- ---- rows under their ids
 
-pub own_none : (id : ℕ) (rows : List TransferRow) (postings : List PostedRow) → row_found id (rows_held rows postings) ≡ None → row_found id rows ≡ None
-own_none id rows postings none = first_none (row_found id rows) _ (sym (found_held id rows postings) ∙ none)
-  where
-    first_none : (found other : Option TransferRow) → option_or found other ≡ None → found ≡ None
-    first_none None other is = refl
-    first_none (Some row) other is = cc
+pub keyed_found : (id : ℕ) (entries : List (ℕ × TransferRow)) → AreKeyed entries → lookup (λ k. eqb id k) entries ≡ row_found id (values_of entries)
+keyed_found id [] keyed = refl
+keyed_found id (entry ∷ entries) keyed =
+    (λ i. cond (eqb id (keyed.0 i)) (Some entry.1) (lookup (λ k. eqb id k) entries))
+    ∙ (λ i. cond (same_flips id entry.1.id i) (Some entry.1) (keyed_found id entries keyed.1 i))
+
+pub keyed_put : (row : TransferRow) (entries : List (ℕ × TransferRow)) → AreKeyed entries → values_of (insert_entry (λ a b. eqb a b) entries row.id row) ≡ row_put row (values_of entries)
+keyed_put row [] keyed = refl
+keyed_put row (entry ∷ entries) keyed =
+    ap (λ b. values_of (cond b ((entry.0, row) ∷ entries) (entry ∷ insert_entry (λ a b. eqb a b) entries row.id row))) (ap (eqb row.id) keyed.0 ∙ same_flips row.id entry.1.id)
+    ∙ elim (eqb entry.1.id row.id) as (λ b. values_of (cond b ((entry.0, row) ∷ entries) (entry ∷ insert_entry (λ a b. eqb a b) entries row.id row)) ≡ cond b (row ∷ values_of entries) (entry.1 ∷ row_put row (values_of entries))) [
+      | true ↦ refl
+      | false ↦ ap (λ l. entry.1 ∷ l) (keyed_put row entries keyed.1)
+    ]
+
+pub put_keyed : (row : TransferRow) (entries : List (ℕ × TransferRow)) → AreKeyed entries → AreKeyed (insert_entry (λ a b. eqb a b) entries row.id row)
+put_keyed row [] keyed = (refl, tt)
+put_keyed row (entry ∷ entries) keyed =
+    (elim (eqb row.id entry.0) as (λ b. eqb row.id entry.0 ≡ b → AreKeyed (cond b ((entry.0, row) ∷ entries) (entry ∷ insert_entry (λ a b. eqb a b) entries row.id row))) [
+      | true ↦ (λ is. (sym (eqb-true row.id entry.0 is), keyed.1))
+      | false ↦ (λ is. (keyed.0, put_keyed row entries keyed.1))
+    ]) refl
+
+no_others : (id : ℕ) (rows : List TransferRow) → AllByRecursion (λ (o : TransferRow). eqb id o.id ≡ false) rows → others id rows ≡ rows
+no_others id [] apart = refl
+no_others id (row ∷ rows) apart =
+    ap (λ b. cond (not b) (row ∷ others id rows) (others id rows)) (same_flips row.id id ∙ apart.0) ∙ ap (λ l. row ∷ l) (no_others id rows apart.1)
+
+pub keyed_out : (id : ℕ) (entries : List (ℕ × TransferRow)) → AreKeyed entries → HaveOwnIds (values_of entries) → values_of (remove_entry (λ k. eqb id k) entries) ≡ others id (values_of entries)
+keyed_out id [] keyed own = refl
+keyed_out id (entry ∷ entries) keyed own =
+    ap (λ b. values_of (cond b entries (entry ∷ remove_entry (λ k. eqb id k) entries))) (ap (eqb id) keyed.0 ∙ same_flips id entry.1.id)
+    ∙ (elim (eqb entry.1.id id) as (λ b. eqb entry.1.id id ≡ b → values_of (cond b entries (entry ∷ remove_entry (λ k. eqb id k) entries)) ≡ cond (not b) (entry.1 ∷ others id (values_of entries)) (others id (values_of entries))) [
+      | true ↦ (λ is. sym (no_others id (values_of entries) (subst (λ n. AllByRecursion (λ (o : TransferRow). eqb n o.id ≡ false) (values_of entries)) (eqb-true entry.1.id id is) (IsDistinct-head same_id entry.1 (values_of entries) own))))
+      | false ↦ (λ is. ap (λ l. entry.1 ∷ l) (keyed_out id entries keyed.1 (IsDistinct-tail same_id entry.1 (values_of entries) own)))
+    ]) refl
+
+pub out_keyed : (id : ℕ) (entries : List (ℕ × TransferRow)) → AreKeyed entries → AreKeyed (remove_entry (λ k. eqb id k) entries)
+out_keyed id [] keyed = tt
+out_keyed id (entry ∷ entries) keyed =
+    elim (eqb id entry.0) as (λ b. AreKeyed (cond b entries (entry ∷ remove_entry (λ k. eqb id k) entries))) [
+      | true ↦ keyed.1
+      | false ↦ (keyed.0, out_keyed id entries keyed.1)
+    ]

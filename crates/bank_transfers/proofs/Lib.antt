@@ -4,4 +4,9 @@ pub mod HeldLemmas
 pub mod StandsLemmas
 pub mod OnceLemmas
 pub mod LineLemmas
+pub mod OrderLemmas
+pub mod ListedLemmas
+pub mod RisingLemmas
+pub mod MadeLemmas
+pub mod DueLemmas
 pub mod TogetherLemmas

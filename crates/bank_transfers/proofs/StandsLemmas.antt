@@ -1,23 +1,22 @@
 -- The transfers stand for their entries, and for one entry more.
 use Rattle.std.proofs.Common.{◌≡◌, ℕ, Bool, true, false, cond, eqb, List, [], ◌∷◌, ◌++◌, map, reverse, Option, None, Some, refl, sym, ap, ◌∙◌, subst, inl, inr}
 use Rattle.std.proofs.lemmas.Bool.{eqb-true}
-use Rattle.std.proofs.lemmas.List.{append-nil, reverse-append, map-append}
+use Rattle.std.proofs.lemmas.List.{append-nil, reverse-append}
 use Rattle.std.specs.Option.{option_map, option_or}
-use Rattle.std.specs.List.{All, find}
-use Rattle.ofx_types.specs.declared.transfer.XferCode.TheVariants.{Cancelled}
+use Rattle.ofx_types.specs.declared.transfer.XferCode.{XferCode}
+use Rattle.ofx_types.specs.declared.transfer.XferCode.TheVariants.{Waiting, Posted, NoFunds, Cancelled}
 use Rattle.ofx_types.specs.declared.transfer.TransferRow.{TransferRow}
 use Rattle.ofx_types.specs.declared.transfer.Change.{Change}
 use Rattle.ofx_types.specs.declared.transfer.Change.TheVariants.{NewTransfer, SetTransfer, DropTransfer, NewModel, SetModel, DropModel, NewMail}
 use Rattle.bank_model.specs.declared.entry.Entry.{Entry}
-use Rattle.bank_model.specs.Ledger.{row_in, drops, is_dropped, with_code, row_of, is_posted, posting_of, moved}
+use Rattle.bank_model.specs.Ledger.{row_in, drops, is_dropped, with_code, row_of, is_posted, posting_of, moved, Posting}
 use Rattle.bank_model.specs.Models.{is_waiting, all_waiting}
-use Rattle.bank_transfers.specs.declared.posted.PostedRow.{PostedRow}
 use Rattle.bank_transfers.specs.Growth.{row_given, row_after}
-use Rattle.bank_transfers.specs.Held.{posting_held, rows_held, waiting_in, row_put, HaveOwnIds, IsPostedRow}
-use Rattle.bank_transfers.specs.TransfersView.{TransfersView, row_found, StandsFor, IsSet, waits, GivesRow}
+use Rattle.bank_transfers.specs.Held.{settled_rows, row_put}
+use Rattle.bank_transfers.specs.TransfersView.{TransfersView, row_found, row_at, row_held, RiseById, StandsFor, IsSet, waits, GivesRow}
 use Rattle.bank_transfers.proofs.GrowthLemmas.{moved-push, row_of-push, HasId, row_of-id}
-use Rattle.bank_transfers.proofs.WaitingLemmas.{swapped, WaitsAfter, waits_after, waiting_stays}
-use Rattle.bank_transfers.proofs.HeldLemmas.{found_held, others, found_after, found_put, waiting_put, waiting_others, waiting_added, posted_closed, own_waits, own_none}
+use Rattle.bank_transfers.proofs.WaitingLemmas.{WaitsAfter, waits_after, waiting_stays}
+use Rattle.bank_transfers.proofs.HeldLemmas.{others, found_out, found_put, waiting_swapped, closed_swapped, last_found, swapped_rises, last_rises, waits_first}
 
 -- ---- what an entry gives
 
@@ -67,55 +66,96 @@ given_posting number entries (NewMail mail) row gives = absurd gives
 
 -- ---- standing for one entry more
 
--- the row that each transfer has behind the entry
+-- the row that each transfer has after the entry
 rows_after : (entries : List Entry) (entry : Entry) (row : TransferRow) → GivesRow entries entry.change row → (id : ℕ) → row_of id (entries ++ entry ∷ []) ≡ cond (eqb row.id id) (Some row) (row_of id entries)
 rows_after entries entry row gives id = row_of-push id entries entry ∙ sym (given_row id entries entry.change row gives)
 
-stands_after : (old new : TransfersView) (entries : List Entry) (entry : Entry) (row : TransferRow) → StandsFor old entries → GivesRow entries entry.change row → ((id : ℕ) → row_found id new.rows ≡ cond (eqb row.id id) (Some row) (row_found id old.rows)) → new.waiting ≡ all_waiting (entries ++ entry ∷ []) → new.postings ≡ old.postings ++ posting_of entry.number (Some row) → StandsFor new (entries ++ entry ∷ [])
-stands_after old new entries entry row stands gives rows waiting postings = record {
+stands_after : (old new : TransfersView) (entries : List Entry) (entry : Entry) (row : TransferRow) → StandsFor old entries → GivesRow entries entry.change row → ((id : ℕ) → row_held new id ≡ cond (eqb row.id id) (Some row) (row_held old id)) → ((id : ℕ) → row_at new.waiting id ≡ row_found id (all_waiting (entries ++ entry ∷ []))) → RiseById (all_waiting (entries ++ entry ∷ [])) → new.postings ≡ old.postings ++ posting_of entry.number (Some row) → StandsFor new (entries ++ entry ∷ [])
+stands_after old new entries entry row stands gives rows waiting rise postings = record {
   rows = λ id. rows id ∙ ap (cond (eqb row.id id) (Some row)) (stands.rows id) ∙ sym (rows_after entries entry row gives id);
   waiting = waiting;
+  rise = rise;
   postings = postings ∙ ap (λ ps. ps ++ posting_of entry.number (Some row)) stands.postings ∙ ap (λ ps. moved entries ++ ps) (given_posting entry.number entries entry.change row gives) ∙ sym (moved-push entries entry);
 }
 
-abbrev pub view_held : List TransferRow → List PostedRow → ℕ → TransfersView
-view_held rows postings room = record { rows = rows_held rows postings; waiting = waiting_in rows; postings = map posting_held postings; room = room }
+waiting_unposted : (code : XferCode) → is_waiting code ≡ true → is_posted code ≡ false
+waiting_unposted Waiting waiting = refl
+waiting_unposted Posted waiting = cc
+waiting_unposted NoFunds waiting = cc
+waiting_unposted Cancelled waiting = cc
 
-posting_if : (number : ℕ) (row : TransferRow) (posted : Bool) → is_posted row.code ≡ posted → posting_of number (Some row) ≡ cond posted (record { number = number; row = row } ∷ []) []
-posting_if number row posted e = ap (λ b. cond b (record { number = number; row = row } ∷ []) []) e
+held_first : (b : Bool) (row : TransferRow) (own rest : Option TransferRow) → option_or (cond b (Some row) own) rest ≡ cond b (Some row) (option_or own rest)
+held_first true row own rest = refl
+held_first false row own rest = refl
 
--- a row that isn't posted stands by itself
-pub stands_unposted : (rows : List TransferRow) (postings : List PostedRow) (room left : ℕ) (row : TransferRow) (entries : List Entry) (entry : Entry) → HaveOwnIds rows → All IsPostedRow postings → is_posted row.code ≡ false → StandsFor (view_held rows postings room) entries → GivesRow entries entry.change row → StandsFor (view_held (row_put row rows) postings left) (entries ++ entry ∷ [])
-stands_unposted rows postings room left row entries entry own all unposted stands gives =
-    stands_after (view_held rows postings room) (view_held (row_put row rows) postings left) entries entry row stands gives
-    (λ id. found_put id row rows (map (λ (posted : PostedRow). posted.row) (reverse postings)))
-    (waits_then (waits_after entries entry row (rows_after entries entry row gives) gives))
-    (sym (ap (λ ps. map posting_held postings ++ ps) (posting_if entry.number row false unposted) ∙ append-nil (map posting_held postings)))
+held_last : (b : Bool) (row : TransferRow) (own rest : Option TransferRow) → option_or (cond b None own) (cond b (Some row) rest) ≡ cond b (Some row) (option_or own rest)
+held_last true row own rest = refl
+held_last false row own rest = refl
+
+-- a row that waits stands with those that wait
+pub stands_waiting : (old new : TransfersView) (row : TransferRow) (entries : List Entry) (entry : Entry) → (waits (row_found row.id old.settled) ≡ false) → is_waiting row.code ≡ true → ((id : ℕ) → row_at new.waiting id ≡ cond (eqb row.id id) (Some row) (row_at old.waiting id)) → new.settled ≡ old.settled → new.postings ≡ old.postings
+    → StandsFor old entries → GivesRow entries entry.change row → StandsFor new (entries ++ entry ∷ [])
+stands_waiting old new row entries entry closed waiting put settled postings stands gives =
+    let after = waits_then (waits_after entries entry row (rows_after entries entry row gives) gives) in
+    stands_after old new entries entry row stands gives
+    (λ id. (λ i. option_or (put id i) (row_found id (settled i))) ∙ held_first (eqb row.id id) row (row_at old.waiting id) (row_found id old.settled))
+    (λ id. put id ∙ ap (cond (eqb row.id id) (Some row)) (stands.waiting id) ∙ sym (after.0 id))
+    after.1
+    (postings ∙ sym (ap (λ b. old.postings ++ cond b (record { number = entry.number; row = row } ∷ []) []) (waiting_unposted row.code waiting) ∙ append-nil old.postings))
   where
-    waits_then : WaitsAfter (all_waiting entries) (all_waiting (entries ++ entry ∷ [])) row (row_of row.id entries) → waiting_in (row_put row rows) ≡ all_waiting (entries ++ entry ∷ [])
+    waits_then : WaitsAfter (all_waiting entries) (all_waiting (entries ++ entry ∷ [])) row (row_of row.id entries) → ((id : ℕ) → row_found id (all_waiting (entries ++ entry ∷ [])) ≡ cond (eqb row.id id) (Some row) (row_found id (all_waiting entries))) × RiseById (all_waiting (entries ++ entry ∷ []))
     waits_then (inl replaced) =
-        waiting_put row rows own (λ waiting. own_waits row.id rows postings all (ap waits (stands.rows row.id) ∙ replaced.0 waiting))
-        ∙ ap (swapped row) stands.waiting ∙ sym replaced.1
-    waits_then (inr added) =
-        waiting_added row rows (own_none row.id rows postings (stands.rows row.id ∙ added.0)) added.1
-        ∙ ap (λ l. l ++ row ∷ []) stands.waiting ∙ sym added.2
+        let there = ap waits (sym (stands.waiting row.id)) ∙ waits_first (row_at old.waiting row.id) (row_found row.id old.settled) closed (ap waits (stands.rows row.id) ∙ replaced.0 waiting) in (
+          λ id. ap (row_found id) replaced.1 ∙ waiting_swapped id row (all_waiting entries) waiting there,
+          subst RiseById (sym replaced.1) (swapped_rises row (all_waiting entries) stands.rise),
+        )
+    waits_then (inr added) = (
+      λ id. ap (row_found id) added.2 ∙ last_found id row (all_waiting entries) added.3,
+      subst RiseById (sym added.2) (last_rises row (all_waiting entries) stands.rise added.3),
+    )
 
--- a row that is posted stands with its posting
-pub stands_posted : (rows : List TransferRow) (postings : List PostedRow) (room left : ℕ) (row : TransferRow) (entries : List Entry) (entry : Entry) → is_posted row.code ≡ true → StandsFor (view_held rows postings room) entries → GivesRow entries entry.change row → StandsFor (view_held (others row.id rows) (postings ++ record { number = entry.number; row = row } ∷ []) left) (entries ++ entry ∷ [])
-stands_posted rows postings room left row entries entry posted stands gives =
-    let more = map (λ (p : PostedRow). p.row) (reverse postings) in
-    let last : PostedRow = record { number = entry.number; row = row } in
-    stands_after (view_held rows postings room) (view_held (others row.id rows) (postings ++ last ∷ []) left) entries entry row stands gives
-    (λ id. ap (λ ps. row_found id (others row.id rows ++ map (λ (p : PostedRow). p.row) ps)) (reverse-append postings (last ∷ [])) ∙ found_after id row rows more)
-    (waits_then (waits_after entries entry row (rows_after entries entry row gives) gives))
-    (map-append posting_held postings (last ∷ []) ∙ sym (ap (λ ps. map posting_held postings ++ ps) (posting_if entry.number row true posted)))
+-- a row that doesn't wait stands with the settled ones
+pub stands_settled : (old new : TransfersView) (row : TransferRow) (entries : List Entry) (entry : Entry) → is_waiting row.code ≡ false → ((id : ℕ) → row_at new.waiting id ≡ cond (eqb row.id id) None (row_at old.waiting id))
+    → ((id : ℕ) → row_found id new.settled ≡ cond (eqb row.id id) (Some row) (row_found id old.settled)) → new.postings ≡ old.postings ++ posting_of entry.number (Some row)
+    → StandsFor old entries → GivesRow entries entry.change row → StandsFor new (entries ++ entry ∷ [])
+stands_settled old new row entries entry closed out settled postings stands gives =
+    let after = waits_then (waits_after entries entry row (rows_after entries entry row gives) gives) in
+    stands_after old new entries entry row stands gives
+    (λ id. (λ i. option_or (out id i) (settled id i)) ∙ held_last (eqb row.id id) row (row_at old.waiting id) (row_found id old.settled))
+    (λ id. out id ∙ ap (cond (eqb row.id id) None) (stands.waiting id) ∙ sym (after.0 id))
+    after.1
+    postings
   where
-    closed : is_waiting row.code ≡ false
-    closed = posted_closed row.code posted
-
-    waits_then : WaitsAfter (all_waiting entries) (all_waiting (entries ++ entry ∷ [])) row (row_of row.id entries) → waiting_in (others row.id rows) ≡ all_waiting (entries ++ entry ∷ [])
-    waits_then (inl replaced) = waiting_others row rows closed ∙ ap (swapped row) stands.waiting ∙ sym replaced.1
+    waits_then : WaitsAfter (all_waiting entries) (all_waiting (entries ++ entry ∷ [])) row (row_of row.id entries) → ((id : ℕ) → row_found id (all_waiting (entries ++ entry ∷ [])) ≡ cond (eqb row.id id) None (row_found id (all_waiting entries))) × RiseById (all_waiting (entries ++ entry ∷ []))
+    waits_then (inl replaced) = (
+      λ id. ap (row_found id) replaced.1 ∙ closed_swapped id row (all_waiting entries) closed,
+      subst RiseById (sym replaced.1) (swapped_rises row (all_waiting entries) stands.rise),
+    )
     waits_then (inr added) = let no : true ≡ false = sym added.1 ∙ closed in cc
+
+-- the same rows under their ids stand for the same entries
+pub stands_same : (old new : TransfersView) (entries : List Entry) → ((id : ℕ) → row_at new.waiting id ≡ row_at old.waiting id) → new.settled ≡ old.settled → new.postings ≡ old.postings → StandsFor old entries → StandsFor new entries
+stands_same old new entries waiting settled postings stands = record {
+  rows = λ id. (λ i. option_or (waiting id i) (row_found id (settled i))) ∙ stands.rows id;
+  waiting = λ id. waiting id ∙ stands.waiting id;
+  rise = stands.rise;
+  postings = postings ∙ stands.postings;
+}
+
+-- what is found of the rest where a row is put among the closed ones
+pub settled_closed : (row : TransferRow) (closed : List TransferRow) (postings : List Posting) (id : ℕ) → row_found id (settled_rows (row_put row closed) postings) ≡ cond (eqb row.id id) (Some row) (row_found id (settled_rows closed postings))
+settled_closed row closed postings id = found_put id row closed (map (λ (p : Posting). p.row) (reverse postings))
+
+-- and where it comes with a posting
+pub settled_posted : (number : ℕ) (row : TransferRow) (closed : List TransferRow) (postings : List Posting) (id : ℕ)
+    → row_found id (settled_rows (others row.id closed) (postings ++ record { number = number; row = row } ∷ [])) ≡ cond (eqb row.id id) (Some row) (row_found id (settled_rows closed postings))
+settled_posted number row closed postings id =
+    let last : Posting = record { number = number; row = row } in
+    ap (λ ps. row_found id (others row.id closed ++ map (λ (p : Posting). p.row) ps)) (reverse-append postings (last ∷ []))
+    ∙ found_out id row closed (row ∷ map (λ (p : Posting). p.row) (reverse postings)) (map (λ (p : Posting). p.row) (reverse postings)) refl
+
+pub posting_if : (number : ℕ) (row : TransferRow) (posted : Bool) → is_posted row.code ≡ posted → posting_of number (Some row) ≡ cond posted (record { number = number; row = row } ∷ []) []
+posting_if number row posted e = ap (λ b. cond b (record { number = number; row = row } ∷ []) []) e
 
 -- An entry that gives no transfer a row and drops none changes nothing.
 pub stands_still : (transfers : TransfersView) (entries : List Entry) (entry : Entry) → StandsFor transfers entries → row_in entry.change ≡ None → ((id : ℕ) → drops id entry.change ≡ false) → StandsFor transfers (entries ++ entry ∷ [])
@@ -123,7 +163,8 @@ stands_still transfers entries entry stands none kept =
     let same = λ (id : ℕ). row_of-push id entries entry ∙ unchanged id (is_dropped id entries) (row_of id entries) entry.change none (kept id) in
     record {
       rows = λ id. stands.rows id ∙ sym (same id);
-      waiting = stands.waiting ∙ sym (waiting_stays entries entry same none);
+      waiting = λ id. stands.waiting id ∙ ap (row_found id) (sym (waiting_stays entries entry same none));
+      rise = subst RiseById (sym (waiting_stays entries entry same none)) stands.rise;
       postings = stands.postings ∙ sym (moved-push entries entry ∙ ap (λ (row : Option TransferRow). moved entries ++ posting_of entry.number row) none ∙ append-nil (moved entries));
     }
   where
@@ -135,18 +176,3 @@ stands_still transfers entries entry stands none kept =
     unchanged id dropped before (SetModel row pending) none kept = refl
     unchanged id dropped before (DropModel gone pending) none kept = refl
     unchanged id dropped before (NewMail mail) none kept = refl
-
--- ---- what is found in transfers that stand for entries
-
-pub own_found : (rows : List TransferRow) (postings : List PostedRow) (room id : ℕ) (entries : List Entry) (row : TransferRow) → StandsFor (view_held rows postings room) entries → Some row ≡ row_found id rows → Some row ≡ row_of id entries
-own_found rows postings room id entries row stands own =
-    ap (λ found. option_or found (option_map (λ (p : PostedRow). p.row) (find (λ (p : PostedRow). eqb p.row.id id) (reverse postings)))) own
-    ∙ sym (found_held id rows postings)
-    ∙ stands.rows id
-
-pub posted_found : (rows : List TransferRow) (postings : List PostedRow) (room id : ℕ) (entries : List Entry) (found : Option TransferRow) → StandsFor (view_held rows postings room) entries → None ≡ row_found id rows → found ≡ option_map (λ (p : PostedRow). p.row) (find (λ (p : PostedRow). eqb p.row.id id) (reverse postings)) → found ≡ row_of id entries
-posted_found rows postings room id entries found stands none posted =
-    posted
-    ∙ ap (λ own. option_or own (option_map (λ (p : PostedRow). p.row) (find (λ (p : PostedRow). eqb p.row.id id) (reverse postings)))) none
-    ∙ sym (found_held id rows postings)
-    ∙ stands.rows id

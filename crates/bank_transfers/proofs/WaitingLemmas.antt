@@ -1,5 +1,5 @@
 -- One entry more: which transfers wait.
-use Rattle.std.proofs.Common.{◌≡◌, ℕ, Bool, true, false, cond, eqb, List, [], ◌∷◌, ◌++◌, Option, None, Some, option_to_list, refl, sym, ap, ◌∙◌, subst, arith, inl, inr, ◌⊎◌}
+use Rattle.std.proofs.Common.{◌≡◌, ℕ, ◌<◌, Bool, true, false, cond, eqb, List, [], ◌∷◌, ◌++◌, Option, None, Some, option_to_list, refl, sym, ap, ◌∙◌, subst, arith, inl, inr, ◌⊎◌}
 use Rattle.std.proofs.lemmas.Bool.{eqb-true, eq-eqb}
 use Rattle.std.proofs.lemmas.List.{append-nil}
 use Rattle.std.proofs.lemmas.List.Elements.{filter-append}
@@ -14,7 +14,7 @@ use Rattle.bank_model.specs.declared.entry.Entry.{Entry}
 use Rattle.bank_model.specs.Ledger.{row_in, if_named, with_code, row_of}
 use Rattle.bank_model.specs.Models.{is_waiting, made_in, all_waiting}
 use Rattle.bank_transfers.specs.Held.{waiting_in}
-use Rattle.bank_transfers.specs.TransfersView.{waits, GivesRow}
+use Rattle.bank_transfers.specs.TransfersView.{waits, IsMadeBelow, IsNewId, GivesRow}
 use Rattle.bank_transfers.proofs.GrowthLemmas.{HasId, row_of-id, row_of-none}
 
 pub same_flips : (a b : ℕ) → eqb a b ≡ eqb b a
@@ -110,11 +110,40 @@ waiting-push all entries entry =
     ap waiting_in (flat_map-append made entries (entry ∷ []) ∙ ap (λ l. flat_map made entries ++ l) (append-nil (made entry)))
     ∙ filter-append (λ (r : TransferRow). is_waiting r.code) (flat_map made entries) (made entry)
 
--- ---- what waits behind one entry more
+-- ---- the ids of those that wait
 
--- The row comes in the place of the one before, or is that of a new transfer that waits.
+found_below : (n id : ℕ) (found : Option TransferRow) → HasId id found → id < n → AllByRecursion (λ (row : TransferRow). row.id < n) (waiting_in (option_to_list found))
+found_below n id None has below = tt
+found_below n id (Some row) has below =
+    elim (is_waiting row.code) as (λ b. AllByRecursion (λ (r : TransferRow). r.id < n) (one_or_none b row)) [
+      | true ↦ (subst (λ j. j < n) (sym has) below, tt)
+      | false ↦ tt
+    ]
+
+both_below : (n : ℕ) (rows more : List TransferRow) → AllByRecursion (λ (row : TransferRow). row.id < n) rows → AllByRecursion (λ (row : TransferRow). row.id < n) more → AllByRecursion (λ (row : TransferRow). row.id < n) (rows ++ more)
+both_below n [] more below also = also
+both_below n (row ∷ rows) more below also = (below.0, both_below n rows more below.1 also)
+
+one_below : (all : List Entry) (n : ℕ) (change : Change) → IsMadeBelow n change → AllByRecursion (λ (row : TransferRow). row.id < n) (waiting_in (made_in all change))
+one_below all n (NewTransfer row) below = found_below n row.id (row_of row.id all) (row_of-id row.id all) below
+one_below all n (SetTransfer row) below = tt
+one_below all n (DropTransfer id) below = tt
+one_below all n (NewModel row) below = tt
+one_below all n (SetModel row pending) below = tt
+one_below all n (DropModel id pending) below = tt
+one_below all n (NewMail mail) below = tt
+
+made_below : (all entries : List Entry) (n : ℕ) → AllByRecursion (λ (entry : Entry). IsMadeBelow n entry.change) entries → AllByRecursion (λ (row : TransferRow). row.id < n) (waiting_made all entries)
+made_below all [] n below = tt
+made_below all (entry ∷ entries) n below =
+    subst (AllByRecursion (λ (row : TransferRow). row.id < n)) (sym (filter-append (λ (r : TransferRow). is_waiting r.code) (made_in all entry.change) (flat_map (λ (e : Entry). made_in all e.change) entries)))
+    (both_below n (waiting_in (made_in all entry.change)) (waiting_made all entries) (one_below all n entry.change below.0) (made_below all entries n below.1))
+
+-- ---- what waits after one entry more
+
+-- The row comes in the place of the one before, or is that of a new transfer that waits, whose id is above all.
 abbrev pub WaitsAfter : List TransferRow → List TransferRow → TransferRow → Option TransferRow → Type 0
-WaitsAfter before after row found = ((is_waiting row.code ≡ true → waits found ≡ true) × (after ≡ swapped row before)) ⊎ ((found ≡ None) × (is_waiting row.code ≡ true) × (after ≡ before ++ row ∷ []))
+WaitsAfter before after row found = ((is_waiting row.code ≡ true → waits found ≡ true) × (after ≡ swapped row before)) ⊎ ((found ≡ None) × (is_waiting row.code ≡ true) × (after ≡ before ++ row ∷ []) × AllByRecursion (λ (held : TransferRow). held.id < row.id) before)
 
 replaced : (entries more : List Entry) (change : Change) (row : TransferRow) → ((id : ℕ) → row_of id more ≡ cond (eqb row.id id) (Some row) (row_of id entries)) → waiting_in (made_in more change) ≡ [] → (is_waiting row.code ≡ true → waits (row_of row.id entries) ≡ true) → WaitsAfter (waiting_made entries entries) (waiting_made more entries ++ waiting_in (made_in more change)) row (row_of row.id entries)
 replaced entries more change row rows last was = inl (
@@ -140,9 +169,9 @@ new_last entries more row rows closed =
     ap (λ (r : Option TransferRow). waiting_in (option_to_list r)) (rows row.id ∙ ap (λ b. cond b (Some row) (row_of row.id entries)) (eq-eqb row.id row.id refl))
     ∙ ap (λ b. one_or_none b row) closed
 
-new_waits : (entries more : List Entry) (row : TransferRow) → ((id : ℕ) → row_of id more ≡ cond (eqb row.id id) (Some row) (row_of id entries)) → (is_waiting row.code ≡ true → row_of row.id entries ≡ None) → WaitsAfter (waiting_made entries entries) (waiting_made more entries ++ waiting_in (made_in more (NewTransfer row))) row (row_of row.id entries)
+new_waits : (entries more : List Entry) (row : TransferRow) → ((id : ℕ) → row_of id more ≡ cond (eqb row.id id) (Some row) (row_of id entries)) → (is_waiting row.code ≡ true → IsNewId entries row.id) → WaitsAfter (waiting_made entries entries) (waiting_made more entries ++ waiting_in (made_in more (NewTransfer row))) row (row_of row.id entries)
 new_waits entries more row rows new = (elim (is_waiting row.code) as (λ b. is_waiting row.code ≡ b → WaitsAfter (waiting_made entries entries) (waiting_made more entries ++ waiting_in (made_in more (NewTransfer row))) row (row_of row.id entries)) [
-  | true ↦ (λ waiting. inr (new waiting, waiting, added entries more row rows waiting (new waiting)))
+  | true ↦ (λ waiting. inr ((new waiting).0, waiting, added entries more row rows waiting (new waiting).0, made_below entries entries row.id (new waiting).1))
   | false ↦ (λ closed. replaced entries more (NewTransfer row) row rows (new_last entries more row rows closed) (λ waiting. let no : true ≡ false = sym waiting ∙ closed in cc))
 ]) refl
 

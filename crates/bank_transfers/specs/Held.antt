@@ -1,18 +1,19 @@
--- How the rows of a bank's transfers are held: those of posted transfers with their postings, all others by themselves.
-use Rattle.std.specs.List.{IsDistinct}
-use Rattle.std.specs.Prelude.{◌≡◌, true, ◌==◌, if◌then◌else◌, List, [], ◌∷◌, ◌++◌, map, filter, reverse}
+-- How the rows of a bank's transfers are held: those of transfers that wait, those that are closed or cancelled, and those of
+-- posted transfers with their postings.
+use Rattle.std.specs.List.{AllByRecursion, IsDistinct}
+use Rattle.std.specs.Prelude.{◌≡◌, ℕ, false, ◌==◌, if◌then◌else◌, List, [], ◌∷◌, ◌++◌, map, filter, reverse}
 use Rattle.ofx_types.specs.declared.transfer.TransferRow.{TransferRow}
-use Rattle.bank_model.specs.Ledger.{Posting, is_posted}
+use Rattle.bank_model.specs.Ledger.{Posting}
 use Rattle.bank_model.specs.Models.{is_waiting}
-use Rattle.bank_transfers.specs.declared.posted.PostedRow.{PostedRow}
-use Rattle.bank_transfers.specs.TransfersView.{IsWithinAmounts}
 
-abbrev pub posting_held : PostedRow → Posting
-posting_held posted = record { number = posted.number; row = posted.row }
+-- The rows of transfers that don't wait any more: those that aren't posted come first, and the last of a transfer's postings
+-- before those before it.
+abbrev pub settled_rows : List TransferRow → List Posting → List TransferRow
+settled_rows closed postings = closed ++ map (λ (posted : Posting). posted.row) (reverse postings)
 
--- A row by itself comes first, and the last of a transfer's postings before those before it.
-abbrev pub rows_held : List TransferRow → List PostedRow → List TransferRow
-rows_held rows postings = rows ++ map (λ (posted : PostedRow). posted.row) (reverse postings)
+-- A row is one of a transfer that doesn't wait.
+abbrev pub IsClosed : TransferRow → Type 0
+IsClosed row = is_waiting row.code ≡ false
 
 -- the rows of the transfers that wait
 abbrev pub waiting_in : List TransferRow → List TransferRow
@@ -27,6 +28,11 @@ abbrev pub row_put : TransferRow → List TransferRow → List TransferRow
 row_put row [] = row ∷ []
 row_put row (held ∷ more) = if held.id == row.id then row ∷ more else held ∷ row_put row more
 
--- A row that lies with its posting is posted, and its amount is within the bounds.
-abbrev pub IsPostedRow : PostedRow → Type 0
-IsPostedRow posted = IsWithinAmounts posted.row × (is_posted posted.row.code ≡ true)
+-- Each row stands under its id.
+abbrev pub AreKeyed : List (ℕ × TransferRow) → Type 0
+AreKeyed entries = AllByRecursion (λ (entry : ℕ × TransferRow). entry.0 ≡ entry.1.id) entries
+
+-- Rows in the order in which they were made, and for how many more there is room.
+pub record RowsView : Type 0 where
+  pub rows : List TransferRow
+  pub room : ℕ

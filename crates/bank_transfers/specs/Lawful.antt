@@ -1,4 +1,4 @@
--- Entries that a bank may add, one behind another.
+-- Entries that a bank may add, one after another.
 use Rattle.std.specs.Prelude.{◌≡◌, true, ◌==◌, List, [], ◌∷◌, ◌++◌, None}
 use Rattle.std.specs.List.{IsDistinct}
 use Rattle.ofx_types.specs.declared.transfer.Change.{Change}
@@ -17,7 +17,7 @@ IsLawful entries (SetModel row pending) = Unit {0}
 IsLawful entries (DropModel id pending) = Unit {0}
 IsLawful entries (NewMail mail) = Unit {0}
 
--- Each entry is lawful behind those before it.
+-- Each entry is lawful after those before it.
 abbrev pub AreLawfulBehind : List Entry → List Entry → Type 0
 AreLawfulBehind before [] = Unit {0}
 AreLawfulBehind before (entry ∷ more) = IsLawful before entry.change × AreLawfulBehind (before ++ entry ∷ []) more

@@ -1,6 +1,10 @@
-pub mod TransfersView
-pub mod Held
+pub mod Chain
 pub mod Growth
+pub mod Held
 pub mod Lawful
+pub mod Lines
+pub mod Order
+pub mod PostingsView
 pub mod Together
-pub mod Tasks
+pub mod TransfersView
+pub mod Waiting

@@ -11,7 +11,7 @@ ghost use Rattle.bank_transfers.specs.Lawful.{IsLawful, AreLawful, PostsOnce};
 ghost use Rattle.bank_transfers.specs.Together.{IsInside, balances};
 ghost use Rattle.bank_transfers.specs.TransfersView.{TransfersView, StandsFor};
 
-/// One entry more moves what it posts, behind all that was moved.
+/// One entry more moves what it posts, after all that was moved.
 pub fn moved_by_one_more()
     ensures { (entries : List Entry) (entry : Entry) →
         moved (entries ++ entry ∷ []) ≡ moved entries ++ posting_of entry.number (row_in entry.change) }
@@ -23,7 +23,7 @@ pub fn dropped_by_one_more()
         is_dropped id (entries ++ entry ∷ []) ≡ (is_dropped id entries || drops id entry.change) }
 {}
 
-/// The row of a transfer behind one entry more follows from its row before and what the entry says.
+/// The row of a transfer after one entry more follows from its row before and what the entry says.
 pub fn row_by_one_more()
     ensures { (id : ℕ) (entries : List Entry) (entry : Entry) → row_of id (entries ++ entry ∷ [])
         ≡ row_after id (is_dropped id entries) (row_of id entries) entry.change }
@@ -44,7 +44,7 @@ pub fn models_leave_transfers()
         → StandsFor transfers (entries ++ entry ∷ []) }
 {}
 
-/// Lawful entries stay so with one more that is lawful behind them.
+/// Lawful entries stay so with one more that is lawful after them.
 pub fn lawful_by_one_more()
     ensures { (entries : List Entry) (entry : Entry) → AreLawful entries → IsLawful entries entry.change
         → AreLawful (entries ++ entry ∷ []) }

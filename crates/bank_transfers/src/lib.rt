@@ -6,14 +6,14 @@
 #![tactic(auto)]
 
 mod judging;
-mod laws;
+mod key;
+pub mod laws;
+mod order;
 mod posted;
+mod postings;
+mod rows;
 mod transfers;
 mod waiting;
 
 pub use judging::{judge_cancel, judge_modify, judge_transfer};
-pub use laws::{
-    dropped_by_one_more, lawful_by_one_more, models_leave_transfers, money_stays,
-    moved_by_one_more, row_by_one_more, transfers_post_once,
-};
 pub use transfers::Transfers;

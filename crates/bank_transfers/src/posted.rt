@@ -1,47 +1,15 @@
-//! A posted transfer, and what a statement tells of it.
+//! What a statement tells of the row of a posted transfer.
 
 ghost use Rattle.std.specs.Prelude.{◌≡◌, ◌≤◌, ◌&&◌, true, if◌then◌else◌, pos, ◌-ℤ◌, int_le, unsigned_abs};
 ghost use Rattle.ofx_types.specs.AccountForm.{same_account};
 ghost use Rattle.bank_model.specs.Ledger as ledger;
-ghost use Rattle.bank_model.specs.Ledger.{is_within_period, is_before_end, line_for};
-ghost use Rattle.bank_transfers.specs.Held.{posting_held};
+ghost use Rattle.bank_model.specs.Ledger.{is_before_end};
 ghost use Rattle.bank_transfers.specs.TransfersView.{IsWithinAmounts};
 
-use ofx_types::{AcctName, Cents, Moment, StatementLine, TransferRow};
-
-/// A posted transfer: the number of the entry that posted it (FITID), and its row.
-#[derive(Debug, Drop)]
-pub(crate) struct PostedRow {
-    pub(crate) number: u64,
-    pub(crate) row: TransferRow,
-}
-
-impl PostedRow {
-    /// Whether it went out of the account or into it, at a moment of the period. A period has its first moment and not
-    /// its last; without a last it goes on.
-    pub(crate) fn is_listed(&self, name: &AcctName, period: (Moment, Option<Moment>)) -> bool
-        ensures { result
-            ≡ (ledger.is_about name.now (posting_held self.now)
-            && is_within_period period.0 period.1 (posting_held self.now)) }
-    {
-        is_about(&self.row, name) && is_within(self.row.stamp, period)
-    }
-
-    /// What a statement of the account tells of it.
-    pub(crate) fn line(&self, name: &AcctName) -> StatementLine
-        requires { IsWithinAmounts self.now.row }
-        ensures { result ≡ line_for name.now (posting_held self.now) }
-    {
-        StatementLine {
-            number: self.number,
-            posted: self.row.stamp,
-            amount: part(&self.row, name),
-        }
-    }
-}
+use ofx_types::{AcctName, Cents, Moment, TransferRow};
 
 /// Whether the transfer goes out of the account or into it.
-fn is_about(row: &TransferRow, name: &AcctName) -> bool
+pub(crate) fn is_about(row: &TransferRow, name: &AcctName) -> bool
     ensures { result ≡ (if same_account row.now.from name.now then true else same_account row.now.to name.now) }
 {
     is_same(&row.from, name) || is_same(&row.to, name)
@@ -54,7 +22,7 @@ fn is_same(account: &AcctName, name: &AcctName) -> bool
 }
 
 /// Whether the moment is in the period.
-fn is_within(at: Moment, period: (Moment, Option<Moment>)) -> bool
+pub(crate) fn is_within(at: Moment, period: (Moment, Option<Moment>)) -> bool
     ensures { result ≡ (int_le period.0.0 at.0 && is_before_end period.1 at.0) }
 {
     period.0.0 <= at.0 && is_before(at, period.1)
@@ -71,7 +39,7 @@ fn is_before(at: Moment, end: Option<Moment>) -> bool
 }
 
 /// What the transfer brings to the account, less what it takes from it.
-fn part(row: &TransferRow, name: &AcctName) -> Cents
+pub(crate) fn part(row: &TransferRow, name: &AcctName) -> Cents
     requires { IsWithinAmounts row.now }
     ensures { result ≡ record { 0 = ledger.part name.now row.now } }
 {

@@ -1,49 +1,54 @@
-//! The rows of a bank's transfers and the posted transfers, as plain lists.
+//! The rows of a bank's transfers and the posted transfers.
 
-ghost use Rattle.std.specs.Prelude.{◌≡◌, ◌+◌, ◌<◌, ◌≤◌, ◌∷◌, ◌++◌, [], List, not, ◌==◌, filter, map, reverse, IfOk, OnOk, vec_len, vec_capacity};
+ghost use Rattle.std.specs.Prelude.{◌≡◌, ◌+◌, ◌<◌, ◌≤◌, ◌==◌, ◌∷◌, ◌++◌, [], ℕ, List, Some, if◌then◌else◌, map, IfOk, OnOk};
+ghost use Rattle.std.specs.List.{All, AllByRecursion};
 ghost use Rattle.std.specs.Option.{option_copied, option_map};
-ghost use Rattle.std.specs.List.{find, position};
 ghost use Rattle.bank_model.specs.declared.entry.Entry.{Entry};
 ghost use Rattle.bank_model.specs.Ledger as ledger;
 ghost use Rattle.bank_model.specs.Ledger.{row_of, moved, lines_of};
+ghost use Rattle.bank_model.specs.Models as models;
 ghost use Rattle.bank_model.specs.Models.{waiting_of};
 ghost use Rattle.bank_model.specs.Due.{first_task, to_post};
 ghost use Rattle.ofx_types.specs.declared.transfer.TransferRow.{TransferRow};
-ghost use Rattle.bank_transfers.specs.Held.{row_put};
-ghost use Rattle.bank_transfers.specs.TransfersView.{row_found, StandsFor, GivesRow, IsWithinAmounts};
+ghost use Rattle.bank_transfers.specs.Held.{settled_rows, IsClosed};
+ghost use Rattle.bank_transfers.specs.PostingsView.{IsPosted};
+ghost use Rattle.bank_transfers.specs.TransfersView.{row_found, row_at, row_held, StandsFor, GivesRow, IsWithinAmounts};
 
-use crate::posted::PostedRow;
-use crate::waiting::{DueTask, earlier, is_to_post, is_waiting_of};
-use ofx_types::{AcctName, Day, Lines, Moment, OutOfMemory, Sequence, TransferRow, XferCode};
+use crate::postings::Postings;
+use crate::rows::Rows;
+use crate::waiting::Waiting;
+use ofx_types::{AcctName, Day, Lines, Moment, OutOfMemory, TransferRow, XferCode};
 use std::alloc::Global;
 use std::marker::Model;
 
-/// The transfers of a bank: the row of each, and the posted ones in the order of posting.
+/// The transfers of a bank: the rows of those that wait, those of transfers that are closed or cancelled, and the posted ones in
+/// the order of posting.
 ///
-/// A posted row lies with its posting and every other row by itself, so that putting a row never copies one. A row by
-/// itself stays in its place when it is changed, so those that wait lie in the order in which they were made.
+/// A posted row lies with its posting and every other row in one of the tables, so that putting a row never copies one.
 #[derive(Debug, Drop)]
 pub struct Transfers {
-    rows: Vec<TransferRow>,
-    postings: Vec<PostedRow>,
+    waiting: Waiting,
+    closed: Rows,
+    postings: Postings,
 }
 
 impl Model for Transfers {
-    ghost use Rattle.std.specs.Prelude.{◌-◌, min, map, vec_len, vec_capacity};
-    ghost use Rattle.std.specs.List.{All};
-    ghost use Rattle.bank_transfers.specs.Held.{posting_held, rows_held, waiting_in, IsPostedRow, HaveOwnIds};
+    ghost use Rattle.std.specs.Prelude.{min};
+    ghost use Rattle.std.specs.List.{All, AllByRecursion};
+    ghost use Rattle.bank_transfers.specs.Held.{settled_rows, IsClosed};
+    ghost use Rattle.bank_transfers.specs.PostingsView.{IsPosted};
     ghost use Rattle.bank_transfers.specs.TransfersView.{TransfersView};
 
     ghost Value = { TransfersView };
 
     ghost view = { λ t. record {
-      rows = rows_held t.rows.items t.postings.items;
-      waiting = waiting_in t.rows.items;
-      postings = map posting_held t.postings.items;
-      room = min (vec_capacity t.rows - vec_len t.rows) (vec_capacity t.postings - vec_len t.postings);
+      waiting = t.waiting.rows;
+      settled = settled_rows t.closed.rows t.postings.postings;
+      postings = t.postings.postings;
+      room = min t.waiting.room (min t.closed.room t.postings.room);
     } };
 
-    ghost invariant = { λ t. All IsPostedRow t.postings.items × HaveOwnIds t.rows.items };
+    ghost invariant = { λ t. All IsPosted t.postings.postings × AllByRecursion IsClosed t.closed.rows };
 }
 
 impl Transfers {
@@ -52,8 +57,9 @@ impl Transfers {
         ensures { StandsFor result [] }
     {
         Transfers {
-            rows: Vec::new(alloc),
-            postings: Vec::new(alloc),
+            waiting: Waiting::new(alloc),
+            closed: Rows::new(alloc),
+            postings: Postings::new(alloc),
         }
     }
 
@@ -61,9 +67,9 @@ impl Transfers {
     pub fn get(&self, id: u64) -> Option<&TransferRow>
         ensures { (entries : List Entry) → StandsFor self.now entries → option_copied result ≡ row_of id entries }
     {
-        match own_row(&self.rows, id) {
+        match self.waiting.get(id) {
             Some(row) => Some(row),
-            None => posted_row(&self.postings, id),
+            None => settled_row(&self.closed, &self.postings, id),
         }
     }
 
@@ -71,16 +77,16 @@ impl Transfers {
     ///
     /// Where memory is refused, all rows and postings are as before, and so is the room that there was.
     pub fn reserve(&mut self, entries: u32) -> Result<(), OutOfMemory>
-        ensures rows { self.new.rows ≡ self.old.rows }
-        ensures waiting { self.new.waiting ≡ self.old.waiting }
+        ensures rows { (id : ℕ) → row_held self.new id ≡ row_held self.old id }
+        ensures waiting { (id : ℕ) → row_at self.new.waiting id ≡ row_at self.old.waiting id }
         ensures postings { self.new.postings ≡ self.old.postings }
         ensures stands { (entries : List Entry) → StandsFor self.old entries → StandsFor self.new entries }
         ensures room { OnOk result (entries ≤ self.new.room) }
         ensures room_stays { self.old.room ≤ self.new.room }
     {
-        self.rows.reserve(entries as usize)?;
-        self.postings.reserve(entries as usize)?;
-        Ok(())
+        self.waiting.reserve(entries)?;
+        self.closed.reserve(entries)?;
+        self.postings.reserve(entries)
     }
 
     /// Takes in the row that the entry with this number gives. There is room for it, and it takes no memory.
@@ -92,44 +98,30 @@ impl Transfers {
             → StandsFor self.new (entries ++ entry ∷ []) }
         ensures room { self.old.room ≤ self.new.room + 1 }
     {
-        if is_posted(row.code) {
-            take_out(&mut self.rows, row.id);
-            self.postings.push_reserved(PostedRow { number, row });
+        if is_waiting(row.code) {
+            self.waiting.put(row);
         } else {
-            put_in(&mut self.rows, row);
+            self.waiting.take_out(row.id);
+            settle(&mut self.closed, &mut self.postings, number, row);
         }
     }
 
     /// The transfer that the bank has to post next on a business day: of those that wait and are due on or before it, the
     /// one with the earliest due day, and of one day the one with the least id (SRVRTID). Takes no memory.
-    #[tactic(auto, unfolding(bank_model::specs::Due::to_post))]
     pub fn due_on(&self, day: Day) -> Option<u64>
         ensures { (entries : List Entry) → StandsFor self.now entries
             → result ≡ option_map (λ task. task.id) (first_task (to_post day entries)) }
     {
-        let mut first = None;
-        for row in &self.rows {
-            if is_to_post(row, day) {
-                first = Some(earlier(first, row));
-            }
-        }
-        first.map(|task: DueTask| task.id)
+        self.waiting.first_due(day)
     }
 
     /// The ids (SRVRTID) of the transfers that the recurring transfer with this id (RECSRVRTID) made and that wait, in the
     /// order in which they were made.
-    #[tactic(auto, unfolding(bank_model::specs::Models::waiting_of))]
     pub fn waiting(&self, alloc: Global, model: u64) -> Result<Vec<u64>, OutOfMemory>
         ensures { IfOk result (λ ids. (entries : List Entry) → StandsFor self.now entries
             → ids.items ≡ map (λ (row : TransferRow). row.id) (waiting_of model entries)) }
     {
-        let mut ids = Vec::new(alloc);
-        for row in &self.rows {
-            if is_waiting_of(row, model) {
-                ids.push(row.id)?;
-            }
-        }
-        Ok(ids)
+        self.waiting.of_model(alloc, model)
     }
 
     /// What a statement of the account tells of a period, from its first moment until before its last; without a last
@@ -143,65 +135,50 @@ impl Transfers {
         ensures { IfOk result (λ lines. (entries : List Entry) → StandsFor self.now entries
             → lines ≡ lines_of name.now period.0 period.1 (moved entries)) }
     {
-        let mut lines = Sequence::new(alloc);
-        for posting in &self.postings {
-            if posting.is_listed(name, period) {
-                lines.push(posting.line(name))?;
-            }
-        }
-        Ok(lines)
+        self.postings.lines(alloc, name, period)
     }
 }
 
-/// The row of the transfer with this id, where it lies by itself.
-fn own_row(rows: &[TransferRow], id: u64) -> Option<&TransferRow>
-    ensures { option_copied result ≡ row_found id rows.now }
+/// The row of a transfer that doesn't wait.
+fn settled_row<'a>(closed: &'a Rows, postings: &'a Postings, id: u64) -> Option<&'a TransferRow>
+    ensures { option_copied result ≡ row_found id (settled_rows closed.now.rows postings.now.postings) }
 {
-    rows.iter().find(|row| row.id == id)
-}
-
-/// The row of the last posting of the transfer with this id.
-fn posted_row(postings: &[PostedRow], id: u64) -> Option<&TransferRow>
-    ensures { option_copied result
-        ≡ option_map (λ posted. posted.row) (find (λ posted. posted.row.id == id) (reverse postings.now)) }
-{
-    postings
-        .iter()
-        .rev()
-        .find(|posted| posted.row.id == id)
-        .map(|posted| &posted.row)
-}
-
-/// Puts a row in the place of the one with its id, and at the end where there is none.
-fn put_in(rows: &mut Vec<TransferRow>, row: TransferRow)
-    requires room { vec_len rows.old < vec_capacity rows.old }
-    ensures rows { rows.new.items ≡ row_put row rows.old.items }
-    ensures more { vec_len rows.new ≤ vec_len rows.old + 1 }
-    ensures room { vec_capacity rows.new ≡ vec_capacity rows.old }
-{
-    match place_of(rows, row.id) {
-        Some(place) => rows[place] = row,
-        None => rows.push_reserved(row),
+    match closed.get(id) {
+        Some(row) => Some(row),
+        None => postings.row(id),
     }
 }
 
-fn place_of(rows: &[TransferRow], id: u64) -> Option<usize>
-    ensures { result ≡ position (λ row. row.id == id) rows.now }
+/// Puts the row of a transfer that doesn't wait: with its posting where it is posted, and otherwise among the closed ones.
+fn settle(closed: &mut Rows, postings: &mut Postings, number: u64, row: TransferRow)
+    requires closed { 0 < closed.old.room }
+    requires postings { 0 < postings.old.room }
+    requires amount { IsWithinAmounts row }
+    requires waits { IsClosed row }
+    ensures rows { (id : ℕ) → row_found id (settled_rows closed.new.rows postings.new.postings)
+        ≡ (if row.id == id then Some row else row_found id (settled_rows closed.old.rows postings.old.postings)) }
+    ensures postings { postings.new.postings ≡ postings.old.postings ++ ledger.posting_of number (Some row) }
+    ensures posted { All IsPosted postings.old.postings → All IsPosted postings.new.postings }
+    ensures closed { AllByRecursion IsClosed closed.old.rows → AllByRecursion IsClosed closed.new.rows }
+    ensures closed_room { closed.old.room ≤ closed.new.room + 1 }
+    ensures postings_room { postings.old.room ≤ postings.new.room + 1 }
 {
-    rows.iter().position(|row| row.id == id)
-}
-
-/// Takes the row of the transfer with this id out of the rows, where it is there.
-fn take_out(rows: &mut Vec<TransferRow>, id: u64)
-    ensures rows { rows.new.items ≡ filter (λ row. not (row.id == id)) rows.old.items }
-    ensures fewer { vec_len rows.new ≤ vec_len rows.old }
-    ensures room { vec_capacity rows.new ≡ vec_capacity rows.old }
-{
-    rows.retain(|row| row.id != id);
+    if is_posted(row.code) {
+        closed.take_out(row.id);
+        postings.post(number, row);
+    } else {
+        closed.put(row);
+    }
 }
 
 fn is_posted(code: XferCode) -> bool
     ensures { result ≡ ledger.is_posted code }
 {
     code == XferCode::Posted
+}
+
+fn is_waiting(code: XferCode) -> bool
+    ensures { result ≡ models.is_waiting code }
+{
+    code == XferCode::Waiting
 }

@@ -1,64 +1,189 @@
-//! Transfers that wait: which of them the bank posts next.
+//! The transfers that wait: found by their ids' hashes, and listed by their due days and by the recurring transfers that made
+//! them.
 
-ghost use Rattle.std.specs.Prelude.{◌≡◌, ◌&&◌, ◌==◌, ℤ, int_le, Some};
-ghost use Rattle.std.specs.Option.{option_map};
-ghost use Rattle.bank_model.specs.Models as models;
-ghost use Rattle.bank_model.specs.Due as tasks;
-ghost use Rattle.bank_model.specs.Due.{or_earlier, task_of};
-ghost use Rattle.bank_transfers.specs.Tasks.{task_held};
+ghost use Rattle.std.specs.Prelude.{◌≡◌, ◌+◌, ◌<◌, ◌≤◌, ℕ, List, None, Some, if◌then◌else◌, ◌==◌, map, filter, int_le, nat_le, nat_lt, not, IfOk, OnOk};
+ghost use Rattle.std.specs.Option.{option_copied, option_map};
+ghost use Rattle.std.specs.List.Sorted.{IsNonDecreasingBy};
+ghost use Rattle.ofx_types.specs.declared.transfer.TransferRow.{TransferRow};
+ghost use Rattle.bank_model.specs.Due.{first_task, task_of};
+ghost use Rattle.bank_transfers.specs.Waiting as waiting;
+ghost use Rattle.bank_transfers.specs.TransfersView.{row_at};
+ghost use Rattle.bank_transfers.specs.Waiting.{AreRows};
 
-use ofx_types::{Day, TransferRow, XferCode};
+use crate::order::{put_key, take_key};
+use ofx_types::{Day, OutOfMemory, TransferRow};
+use std::alloc::Global;
+use std::collections::HashMap;
+use std::marker::Model;
 
 /// A transfer that is to be posted: the day on which it is due, and its id (SRVRTID).
-#[derive(Clone, Copy, Debug)]
+#[derive(Clone, Copy, Debug, PartialEq, Eq, PartialOrd, Ord)]
 pub(crate) struct DueTask {
     pub(crate) day: Day,
     pub(crate) id: u64,
 }
 
-/// Of the task that came first so far and a transfer's task the one that comes first.
-pub(crate) fn earlier(first: Option<DueTask>, row: &TransferRow) -> DueTask
-    ensures { Some (task_held result) ≡ or_earlier (option_map task_held first) (task_of row.now) }
-{
-    let task = DueTask {
-        day: row.due,
-        id: row.id,
-    };
-    match first {
-        Some(first) => first_of_two(task, first),
-        None => task,
+/// A transfer with the id of the recurring transfer that made it (RECSRVRTID, 0 is none), and its own (SRVRTID).
+#[derive(Clone, Copy, Debug, PartialEq, Eq, PartialOrd, Ord)]
+pub(crate) struct Made {
+    pub(crate) model: u64,
+    pub(crate) id: u64,
+}
+
+/// The rows of the transfers that wait. The one that is due first is the first of the tasks, which stand in the order in which
+/// they are to be done; and those of a recurring transfer stand one after another.
+#[derive(Debug, Drop)]
+pub(crate) struct Waiting {
+    held: HashMap<u64, TransferRow>,
+    tasks: Vec<DueTask>,
+    made: Vec<Made>,
+    // for how many more there is room
+    left: usize,
+}
+
+impl Model for Waiting {
+    ghost use Rattle.std.specs.Prelude.{◌+◌, ◌≤◌, vec_len, vec_capacity};
+    ghost use Rattle.std.specs.HashMap.{spare};
+    ghost use Rattle.bank_transfers.specs.Waiting.{WaitingView, AreListed};
+
+    ghost Value = { WaitingView };
+
+    ghost view = { λ w. record { rows = w.held.entries; room = w.left } };
+
+    ghost invariant = { λ w. AreListed w.held.entries w.tasks.items w.made.items
+        × (w.left ≤ spare w.held) × (vec_len w.tasks + w.left ≤ vec_capacity w.tasks) × (vec_len w.made + w.left ≤ vec_capacity w.made) };
+}
+
+impl Waiting {
+    /// No transfer waits, and there is no room. Takes no memory.
+    pub(crate) fn new(alloc: Global) -> Waiting
+        ensures { (id : ℕ) → row_at result.rows id ≡ None }
+    {
+        Waiting {
+            held: HashMap::new(alloc),
+            tasks: Vec::new(alloc),
+            made: Vec::new(alloc),
+            left: 0,
+        }
+    }
+
+    /// The row of the transfer with this id, lent.
+    pub(crate) fn get(&self, id: u64) -> Option<&TransferRow>
+        ensures { option_copied result ≡ row_at self.now.rows id }
+    {
+        self.held.get(&id)
+    }
+
+    /// Makes room for so many more rows.
+    pub(crate) fn reserve(&mut self, rows: u32) -> Result<(), OutOfMemory>
+        ensures found { (id : ℕ) → row_at self.new.rows id ≡ row_at self.old.rows id }
+        ensures room { OnOk result (rows ≤ self.new.room) }
+        ensures room_stays { self.old.room ≤ self.new.room }
+    {
+        self.held.reserve(rows as usize)?;
+        self.tasks.reserve(rows as usize)?;
+        self.made.reserve(rows as usize)?;
+        if self.left < rows as usize {
+            self.left = rows as usize;
+        }
+        Ok(())
+    }
+
+    /// Puts the row of a transfer that waits, in the place of the one with its id. There is room for it, and it takes no memory.
+    pub(crate) fn put(&mut self, row: TransferRow)
+        requires room { 0 < self.old.room }
+        ensures found { (id : ℕ) → row_at self.new.rows id ≡ (if row.id == id then Some row else row_at self.old.rows id) }
+        ensures room { self.old.room ≤ self.new.room + 1 }
+    {
+        let id = row.id;
+        self.take_out(id);
+        self.left -= 1;
+        put_key(&mut self.tasks, task_key(&row));
+        put_key(&mut self.made, made_key(&row));
+        let put: Result<_, _> = self.held.insert(id, row);
+        let _none = put.unwrap();
+    }
+
+    /// Takes the row of the transfer with this id out, where it is there.
+    pub(crate) fn take_out(&mut self, id: u64)
+        ensures found { (other : ℕ) → row_at self.new.rows other ≡ (if id == other then None else row_at self.old.rows other) }
+        ensures room { self.old.room ≤ self.new.room }
+    {
+        let Some(row) = self.held.remove(&id) else {
+            return;
+        };
+        take_key(&mut self.tasks, &task_key(&row));
+        take_key(&mut self.made, &made_key(&row));
+    }
+
+    /// The transfer that is to be posted next on a day: of those that are due on or before it, the one with the earliest due
+    /// day, and of one day the one with the least id.
+    pub(crate) fn first_due(&self, day: Day) -> Option<u64>
+        ensures { (rows : List TransferRow) → AreRows self.now rows
+            → result ≡ option_map (λ task. task.id) (first_task (map task_of (filter (λ (row : TransferRow). int_le row.due.0 day.0) rows))) }
+    {
+        match self.tasks.first() {
+            Some(task) => due_by(*task, day),
+            None => None,
+        }
+    }
+
+    /// The ids of the transfers that the recurring transfer with this id made, in the order in which they were made.
+    pub(crate) fn of_model(&self, alloc: Global, model: u64) -> Result<Vec<u64>, OutOfMemory>
+        ensures { IfOk result (λ ids. (rows : List TransferRow) → AreRows self.now rows
+            → ids.items ≡ map (λ (row : TransferRow). row.id) (filter (λ (row : TransferRow). row.model == model) rows)) }
+    {
+        let mut ids = Vec::new(alloc);
+        for made in up_to(from(&self.made, model), model) {
+            ids.push(made.id)?;
+        }
+        Ok(ids)
     }
 }
 
-fn first_of_two(task: DueTask, first: DueTask) -> DueTask
-    ensures { Some (task_held result) ≡ or_earlier (Some (task_held first)) (task_held task) }
+fn task_key(row: &TransferRow) -> DueTask
+    ensures { result ≡ waiting.task_key row.now }
 {
-    if is_before(task, first) { task } else { first }
+    DueTask {
+        day: row.due,
+        id: row.id,
+    }
 }
 
-/// Whether the one task comes before the other: on an earlier day, or on the same day with a lesser id.
-fn is_before(task: DueTask, other: DueTask) -> bool
-    ensures { result ≡ tasks.is_before (task_held task) (task_held other) }
+fn made_key(row: &TransferRow) -> Made
+    ensures { result ≡ waiting.made_key row.now }
 {
-    task.day.0 < other.day.0 || (task.day.0 <= other.day.0 && task.id < other.id)
+    Made {
+        model: row.model,
+        id: row.id,
+    }
 }
 
-/// Whether the transfer waits and is due on or before the day.
-pub(crate) fn is_to_post(row: &TransferRow, day: Day) -> bool
-    ensures { result ≡ (models.is_waiting row.now.code && int_le row.now.due.0 day.0) }
+/// The id of the task's transfer, where it is due on or before the day.
+fn due_by(task: DueTask, day: Day) -> Option<u64>
+    ensures { result ≡ (if int_le task.day.0 day.0 then Some task.id else None) }
 {
-    is_waiting(row) && row.due.0 <= day.0
+    if task.day.0 <= day.0 {
+        Some(task.id)
+    } else {
+        None
+    }
 }
 
-/// Whether it waits, and the recurring transfer with this id made it.
-pub(crate) fn is_waiting_of(row: &TransferRow, model: u64) -> bool
-    ensures { result ≡ (models.is_waiting row.now.code && (row.now.model == model)) }
+/// Those of a recurring transfer and of the later ones.
+fn from(made: &[Made], model: u64) -> &[Made]
+    requires { IsNonDecreasingBy (λ (m : Made). m.model) made.now }
+    ensures { result.now ≡ filter (λ (m : Made). not (nat_lt m.model model)) made.now }
 {
-    is_waiting(row) && row.model == model
+    let first = made.partition_point(|m| m.model < model);
+    &made[first..]
 }
 
-fn is_waiting(row: &TransferRow) -> bool
-    ensures { result ≡ models.is_waiting row.now.code }
+/// Those of a recurring transfer and of the earlier ones.
+fn up_to(made: &[Made], model: u64) -> &[Made]
+    requires { IsNonDecreasingBy (λ (m : Made). m.model) made.now }
+    ensures { result.now ≡ filter (λ (m : Made). nat_le m.model model) made.now }
 {
-    row.code == XferCode::Waiting
+    let last = made.partition_point(|m| m.model <= model);
+    &made[..last]
 }

@@ -151,7 +151,7 @@ sync_sound client object deeds is named few all = record {
   deeds = all;
 }
 
--- what a file asks: few asks, each sound, and mail behind all else
+-- what a file asks: few asks, each sound, and mail after all else
 pub record AreAsks (asked : List Ask) : Type 0 where
   pub few : length asked ≤ 65535
   pub bank_first : asked ≡ filter (λ (ask : Ask). not (is_mail_ask ask)) asked ++ filter is_mail_ask asked

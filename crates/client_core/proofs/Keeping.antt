@@ -1,10 +1,9 @@
 -- What a client knows stays within its bounds, whatever file it makes and whatever reply it takes in.
-use Rattle.std.proofs.Common.{◌≡◌, ℕ, ◌+◌, ◌<◌, ◌≤◌, Bool, true, false, cond, not, eqb, List, [], Option, None, Some, Result, Ok, Err, refl, sym, ap, ◌∙◌, subst, arith}
+use Rattle.std.proofs.Common.{◌≡◌, ℕ, ◌<◌, List, Option, None, Some, Result, Ok, Err, refl, sym, subst, arith}
 use Rattle.std.specs.Prelude.{IfOk, OnOk, OnErr}
 use Rattle.std.specs.Option.{IfSome}
 use Rattle.std.specs.List.{AllByRecursion, IsDistinct}
 use Rattle.ofx_types.specs.Calendar.{IsMoment}
-use Rattle.ofx_types.specs.TextRules.{IsFileUid}
 use Rattle.ofx_types.specs.declared.number.Moment.{Moment}
 use Rattle.ofx_types.specs.declared.sync.ObjectName.TheVariants as objects
 use Rattle.ofx_types.specs.declared.request.RequestFile.{RequestFile}
@@ -20,9 +19,9 @@ use Rattle.client_core.specs.declared.fault.ClientFault.{ClientFault}
 use Rattle.client_core.specs.declared.fault.ClientFault.TheVariants as faults
 use Rattle.client_core.specs.declared.report.Report.{Report}
 use Rattle.client_core.specs.declared.wish.Wish.{Wish}
-use Rattle.client_core.specs.ClientForm.{new_client, discarded}
+use Rattle.client_core.specs.ClientForm.{new_client}
 use Rattle.client_core.specs.Wishes.{IsSoundWish, errand_of}
-use Rattle.client_core.specs.Making.{objects_of, file_of, with_file, made_for, made}
+use Rattle.client_core.specs.Making.{objects_of, with_file, made_for, made}
 use Rattle.client_core.specs.Accepting.{Accepted, with_replies, refusal_for, accepted_unless, accepted_to, accepted}
 use Rattle.client_core.specs.Told.{IsRefusal, IsSoundReply}
 use Rattle.client_core.proofs.Files.{IsSoundErrand, IfSound, errand_sound, file_sound}
@@ -42,17 +41,6 @@ new_sound name user is within = record {
 
 stores_of : (client : ClientState) → IsSoundState client → AreStores client.stores
 stores_of client is = record { sound = is.stores; apart = is.distinct }
-
-pub discarded_sound : (client : ClientState) → IsSoundState client → IsSoundState (discarded client)
-discarded_sound client is = record {
-  name = is.name;
-  user = is.user;
-  next = is.next;
-  done = is.done;
-  outstanding = tt;
-  stores = is.stores;
-  distinct = is.distinct;
-}
 
 -- ---- a file more
 
@@ -133,16 +121,6 @@ pub accept_keeps : (client : ClientState) (reply : ReplyFile) (new : ClientState
     → IfOk result (λ report. accepted client reply ≡ Ok (record { after = new; lines = report.lines })) → OnErr result (new ≡ client) → IsSoundState new
 accept_keeps client reply new (Ok report) is told ok err = accepted_sound client reply (record { after = new; lines = report.lines }) is told ok
 accept_keeps client reply new (Err fault) is told ok err = subst IsSoundState (sym err) is
-
--- A wish without a row makes no file.
-pub refused_for : (client : ClientState) (at : Moment) (errand : Result Errand ClientFault) (fault : ClientFault) → IsRefusal errand fault
-    → IsRefusal (made_for client at errand) fault
-refused_for client at errand faults.OutOfMemory is = tt
-refused_for client at errand faults.BadName is = ap (made_for client at) is
-refused_for client at errand (faults.NoRow id) is = ap (made_for client at) is
-refused_for client at errand faults.NotMine is = ap (made_for client at) is
-refused_for client at errand (faults.Signon code) is = ap (made_for client at) is
-refused_for client at errand (faults.Shape number) is = ap (made_for client at) is
 
 -- What a rule refuses, a call refuses so.
 pub refused_with : {A : Type 0} (given : Result A ClientFault) (fault : ClientFault) → given ≡ Err fault → IsRefusal given fault

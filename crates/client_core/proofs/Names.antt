@@ -1,70 +1,36 @@
 -- The names of files and deeds are such as the header and the elements take.
-use Rattle.std.proofs.Common.{◌≡◌, ◌≢◌, ℕ, zero, suc, ◌+◌, ◌%◌, ◌<◌, ◌≤◌, ◌^◌, Bool, true, false, ◌&&◌, cond, nat_eq, List, [], ◌∷◌, ◌++◌, length, reverse, codes, Option, None, Some, is_none, refl, sym, ap, subst, ◌∙◌, length-append, arith}
+use Rattle.std.proofs.Common.{◌≡◌, ◌≢◌, ℕ, ◌+◌, ◌<◌, ◌≤◌, Bool, true, false, cond, nat_eq, List, [], ◌∷◌, ◌++◌, length, codes, None, refl, sym, ap, ◌∙◌, length-append, arith}
 use Rattle.std.specs.Prelude.{position}
 use Rattle.std.specs.Char.{is_ascii_alphanumeric}
 use Rattle.std.specs.Fmt.{decimal}
 use Rattle.std.specs.List.{list_all, position_or_len}
-use Rattle.std.specs.Str.{bytes_eq}
 use Rattle.std.proofs.lemmas.Bool.{and_parts, le-ltb}
 use Rattle.std.proofs.lemmas.Bool.Decides.{nat_tests}
-use Rattle.std.proofs.lemmas.Fmt.{decimal_by_steps, decimal_nonempty, length-decimal-le}
+use Rattle.std.proofs.lemmas.Fmt.{decimal_nonempty, length-decimal-le}
 use Rattle.std.proofs.lemmas.Grind.{common_steps}
-use Rattle.std.proofs.lemmas.List.{reverse-append, reverse-reverse}
-use Rattle.ofx_types.specs.TextRules.{is_white, trim_start, trim_end, trimmed, is_refused_in_text, is_refused_in_uid, IsText, IsTrnUid, IsFileUid}
-use Rattle.ofx_types.specs.TextOutcome.{text_fault, trnuid_fault, file_uid_fault}
+use Rattle.ofx_types.specs.TextRules.{is_refused_in_text, is_refused_in_uid, IsText, IsTrnUid, IsFileUid}
+use Rattle.ofx_types.specs.TextOutcome.{trnuid_fault, file_uid_fault}
+use Rattle.ofx_types.proofs.Bytes.{bytes_eq_other, not_zero}
+use Rattle.ofx_types.proofs.Trimming.{no_text_fault}
 use Rattle.bank_model.specs.Sound.{IsTextWithin, IsClientUid}
-use Rattle.bank_model.proofs.SetupWords.{bytes_eq_is}
 use Rattle.client_saved.specs.Bounds.{IsName}
 use Rattle.client_core.specs.Making.{file_name, deed_name}
+use Rattle.bank_model.proofs.Ink.{IsInk, ink_append, ink_trimmed, ink_clean, decimal_ink}
 
 -- ---- bytes that are no white space and no control bytes
 
-abbrev IsInk : List ℕ → Type 0
-IsInk [] = Unit {0}
-IsInk (b ∷ bytes) = (32 < b) × IsInk bytes
-
-ink_append : (xs ys : List ℕ) → IsInk xs → IsInk ys → IsInk (xs ++ ys)
-ink_append [] ys p q = q
-ink_append (x ∷ xs) ys p q = (p.0, ink_append xs ys p.1 q)
-
-not_white : (b : ℕ) → 32 < b → is_white b ≡ false
-not_white b above = grind (arith, common_steps)
-
-text_takes : (b : ℕ) → 32 < b → is_refused_in_text b ≡ false
-text_takes b above = grind (arith, common_steps)
-
 uid_takes : (b : ℕ) → 32 < b → is_refused_in_uid b ≡ false
 uid_takes b above = grind (arith, common_steps)
-
-ink_start : (bytes : List ℕ) → IsInk bytes → trim_start bytes ≡ bytes
-ink_start [] p = refl
-ink_start (b ∷ bytes) p = rw (not_white b p.0) refl
-
-ink_reverse : (bytes : List ℕ) → IsInk bytes → IsInk (reverse bytes)
-ink_reverse [] p = tt
-ink_reverse (b ∷ bytes) p =
-    rw (reverse-append (b ∷ []) bytes) (ink_append (reverse bytes) (b ∷ []) (ink_reverse bytes p.1) (p.0, tt))
-
-ink_trimmed : (bytes : List ℕ) → IsInk bytes → trimmed bytes ≡ bytes
-ink_trimmed bytes p =
-    ap trim_end (ink_start bytes p) ∙ ap reverse (ink_start (reverse bytes) (ink_reverse bytes p)) ∙ reverse-reverse bytes
-
-past_text : (bytes : List ℕ) → IsInk bytes → position_or_len is_refused_in_text bytes ≡ length bytes
-past_text [] p = refl
-past_text (b ∷ bytes) p = rw (text_takes b p.0, past_text bytes p.1) (omega arith)
 
 past_uid : (bytes : List ℕ) → IsInk bytes → position_or_len is_refused_in_uid bytes ≡ length bytes
 past_uid [] p = refl
 past_uid (b ∷ bytes) p = rw (uid_takes b p.0, past_uid bytes p.1) (omega arith)
 
-clean_text : (bytes : List ℕ) → IsInk bytes → position is_refused_in_text bytes ≡ None
-clean_text bytes p = rw (past_text bytes p, le-ltb (length bytes) (length bytes) (omega arith)) refl
-
 clean_uid : (bytes : List ℕ) → IsInk bytes → position is_refused_in_uid bytes ≡ None
 clean_uid bytes p = rw (past_uid bytes p, le-ltb (length bytes) (length bytes) (omega arith)) refl
 
 ink_text : (bytes : List ℕ) → IsInk bytes → length bytes ≤ 64 → IsText bytes
-ink_text bytes p short = record { is_trimmed = ink_trimmed bytes p; is_clean = clean_text bytes p; is_short = omega arith }
+ink_text bytes p short = record { is_trimmed = ink_trimmed bytes p; is_clean = ink_clean bytes p; is_short = omega arith }
 
 -- ---- names
 
@@ -76,11 +42,6 @@ letters_ink [] all = tt
 letters_ink (b ∷ name) all =
     let both = and_parts (is_ascii_alphanumeric b) (list_all is_ascii_alphanumeric name) all in
     (letter_ink b both.0, letters_ink name both.1)
-
-decimal_ink : (n : ℕ) → n < 2 ^ 64 → IsInk (decimal n)
-decimal_ink = decimal_by_steps (λ n ds. IsInk ds)
-    (λ n h. (omega arith, tt))
-    (λ n ds h p. ink_append ds ((48 + n % 10) ∷ []) p (omega arith, tt))
 
 pub token_within : (n : ℕ) → n ≤ 9999999999 → IsTextWithin 64 (decimal n)
 token_within n most =
@@ -169,25 +130,10 @@ deed_is_uid name n place is most few =
 
 -- ---- no fault is found in them
 
-no_text_fault : (is_refused : ℕ → Bool) (most : ℕ) (text : List ℕ) → length text ≤ most → position is_refused text ≡ None → text_fault is_refused most text ≡ None
-no_text_fault is_refused most text short clean = rw (le-ltb _ _ short, clean) refl
-
-not_empty : (text : List ℕ) → 0 < length text → nat_eq (length text) 0 ≡ false
-not_empty [] h = absurd (omega arith)
-not_empty (b ∷ text) h = grind (arith, nat_tests)
-
--- bytes that aren't a word
-other : (a b : List ℕ) → (a ≢ b) → bytes_eq a b ≡ false
-other a b differ = by_cases (bytes_eq a b) refl
-  where
-    by_cases : (c : Bool) → bytes_eq a b ≡ c → c ≡ false
-    by_cases true h = absurd (differ (bytes_eq_is a b h))
-    by_cases false h = refl
-
 pub no_file_fault : (uid : List ℕ) → IsFileUid uid → file_uid_fault uid ≡ None
 no_file_fault uid is =
-    rw (not_empty uid is.is_there, other uid (codes "NONE") is.is_some, no_text_fault is_refused_in_uid 36 uid is.is_within is.is_clean) refl
+    rw (not_zero (length uid) is.is_there, bytes_eq_other uid (codes "NONE") is.is_some, no_text_fault is_refused_in_uid 36 uid is.is_within is.is_clean) refl
 
 pub no_trnuid_fault : (uid : List ℕ) → IsTrnUid uid → trnuid_fault uid ≡ None
 no_trnuid_fault uid is =
-    rw (not_empty uid is.is_there, no_text_fault is_refused_in_text 36 uid is.is_within is.is_text.is_clean) refl
+    rw (not_zero (length uid) is.is_there, no_text_fault is_refused_in_text 36 uid is.is_within is.is_text.is_clean) refl

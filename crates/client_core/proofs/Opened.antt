@@ -1,9 +1,9 @@
--- Stores that are made stand behind those that were there.
+-- Stores that are made stand after those that were there.
 use Rattle.std.proofs.Common.{◌≡◌, ℕ, suc, Bool, true, false, cond, List, [], ◌∷◌, ◌++◌, length, take, refl, sym, ap, ◌∙◌}
 use Rattle.ofx_types.specs.declared.sync.ObjectName.{ObjectName}
-use Rattle.bank_model.specs.Stores.{Store}
+use Rattle.bank_model.specs.Stores.{Store, empty_store}
 use Rattle.client_saved.specs.Bounds.{has_store}
-use Rattle.client_core.specs.Objects.{empty_store, with_store}
+use Rattle.client_core.specs.Objects.{with_store}
 
 kept_append : (old stores more : List Store) → take (length old) stores ≡ old → take (length old) (stores ++ more) ≡ old
 kept_append [] stores more kept = refl

@@ -17,7 +17,7 @@ use Rattle.client_store.proofs.Ordered.{put_rising, out_rising, follows}
 use Rattle.bank_model.specs.Stores.{id_of}
 use Rattle.client_saved.specs.Bounds.{IsSoundRow, IsSoundTransfer, IsSoundModel, IsSoundMailRow}
 use Rattle.client_core.specs.Told.{IsSoundChange, IsSoundDeedReply}
-use Rattle.client_core.proofs.Lists.{all_append, all_filter, all_flat}
+use Rattle.bank_model.proofs.Lists.{all_append, all_filtered, all_flat}
 
 -- rows that a store of the family may have
 pub record AreRows (family : Family) (rows : List Row) : Type 0 where
@@ -37,7 +37,7 @@ put_all id row (first ∷ more) here all =
     ]
 
 out_all : (id : ℕ) (rows : List Row) → AllByRecursion IsSoundRow rows → AllByRecursion IsSoundRow (take_out id rows)
-out_all id rows all = all_filter IsSoundRow (λ (row : Row). not (has_id id row)) rows all
+out_all id rows all = all_filtered IsSoundRow (λ (row : Row). not (has_id id row)) rows all
 
 -- ---- the recurring transfer that made a row
 

@@ -1,10 +1,7 @@
 -- Stores stay within their bounds and apart, whichever are made and whatever replies they take.
-use Rattle.std.proofs.Common.{◌≡◌, ℕ, ◌^◌, ◌<◌, ◌≤◌, Bool, true, false, ◌&&◌, cond, nat_le, List, [], ◌∷◌, ◌++◌, length, map, Option, None, Some, unwrap_or, refl, sym, ap, ◌∙◌, subst, arith, rules}
-use Rattle.std.specs.Char.{is_ascii_digit}
-use Rattle.std.specs.List.{AllByRecursion, IsDistinct, find, list_all, list_any}
+use Rattle.std.proofs.Common.{◌≡◌, ℕ, ◌^◌, ◌<◌, Bool, true, false, cond, List, [], ◌∷◌, ◌++◌, map, Option, None, Some, unwrap_or, refl, ap, ◌∙◌, arith}
+use Rattle.std.specs.List.{AllByRecursion, find}
 use Rattle.std.specs.Str.Parse.{digits_value}
-use Rattle.std.proofs.lemmas.Bool.{and_parts, leb-true}
-use Rattle.std.proofs.lemmas.Str.Parse.{IsNumeralModel, numerals_by_value, digits_value_short}
 use Rattle.ofx_types.specs.NumberReading.{number_at, is_number_within}
 use Rattle.ofx_types.specs.SyncForm.{object_family}
 use Rattle.ofx_types.specs.declared.sync.ObjectName.{ObjectName}
@@ -16,31 +13,25 @@ use Rattle.ofx_types.specs.declared.request.Ask.{Ask}
 use Rattle.ofx_types.specs.declared.request.Ask.TheVariants as asks
 use Rattle.ofx_types.specs.declared.reply.AskReply.{AskReply}
 use Rattle.ofx_types.specs.declared.reply.AskReply.TheVariants as replies
-use Rattle.bank_model.specs.Sound.{IsId, IsSoundObject, IsSoundAsk, IsSoundSync}
+use Rattle.ofx_types.proofs.Numbers.{digits_within}
+use Rattle.bank_model.specs.Sound.{IsId, IsSoundObject, IsSoundAsk}
 use Rattle.bank_model.specs.Sync.{token_of}
-use Rattle.bank_model.specs.Stores.{Row, Store, taken, applied, with_rows, marked_lost}
+use Rattle.bank_model.specs.Stores.{Row, Store, taken, applied, with_rows, marked_lost, empty_store}
 use Rattle.bank_model.proofs.SetupParts.{distinct_push}
 use Rattle.client_saved.specs.Bounds.{IsSoundStore, AreDistinct, same_object, same_store, has_store}
-use Rattle.client_core.specs.Objects.{empty_store, is_of_object, store_under, with_store, with_stores}
-use Rattle.client_core.specs.Accepting.{taken_by, taken_into, stores_with, stores_after}
+use Rattle.client_core.specs.Objects.{is_of_object, store_under, with_store, with_stores}
+use Rattle.client_core.specs.Accepting.{taken_by, stores_with, stores_after}
 use Rattle.client_core.specs.Told.{IsSoundDeedReply, IsSoundReply}
-use Rattle.client_core.proofs.Lists.{all_append, all_map, all_find, distinct_map}
+use Rattle.client_core.proofs.Lists.{all_find, distinct_map}
 use Rattle.client_core.proofs.Rows.{AreRows, applied_rows}
+use Rattle.bank_model.proofs.Lists.{all_append, all_map}
+use Rattle.bank_model.proofs.TakenStores.{name_taken}
 
 -- ---- the token of a reply
 
-numerals : IsNumeralModel (λ ds. list_all is_ascii_digit ds ≡ true) (digits_value 10)
-numerals = numerals_by_value _ (search rules)
-
-digits_within : (text : List ℕ) → is_number_within 10 text ≡ true → digits_value 10 text < 10 ^ 10
-digits_within text h =
-    let parts = and_parts (nat_le 1 (length text) && nat_le (length text) 10) (list_all is_ascii_digit text) h in
-    let short : length text ≤ 10 = leb-true (length text) 10 (and_parts (nat_le 1 (length text)) _ parts.0).1 in
-    digits_value_short numerals text 10 parts.1 short
-
 token_few : (text : List ℕ) → IsId (unwrap_or (token_of text) 0)
 unfolding number_at
-token_few text = by_test (is_number_within 10 text) (digits_within text)
+token_few text = by_test (is_number_within 10 text) (digits_within 10 text)
   where
     by_test : (b : Bool) → (b ≡ true → digits_value 10 text < 10 ^ 10) → IsId (unwrap_or (cond b (Some (digits_value 10 text)) None) 0)
     by_test true small = let least : digits_value 10 text < 10 ^ 10 = small refl in omega arith
@@ -79,20 +70,6 @@ taken_sound store Refresh reply is all =
       | false ↦ with_sound store reply [] is (no_rows store.name) all
     ]
 
-taken_name : (store : Store) (kind : SyncKind) (reply : SyncReply) → (taken store kind reply).name ≡ store.name
-unfolding taken
-taken_name store TokenOnly reply = refl
-taken_name store (After text) reply =
-    elim reply.lost as (λ b. (cond b (marked_lost store) (with_rows store (unwrap_or (token_of reply.token) 0) (applied (object_family store.name) store.rows reply.replies))).name ≡ store.name) [
-      | true ↦ refl
-      | false ↦ refl
-    ]
-taken_name store Refresh reply =
-    elim reply.lost as (λ b. (cond b (marked_lost store) (with_rows store (unwrap_or (token_of reply.token) 0) (applied (object_family store.name) [] reply.replies))).name ≡ store.name) [
-      | true ↦ refl
-      | false ↦ refl
-    ]
-
 -- ---- stores of which one takes a reply
 
 pub record AreStores (stores : List Store) : Type 0 where
@@ -110,7 +87,7 @@ by_sound ask reply all store is =
 by_name : (ask : SyncAsk) (reply : SyncReply) (store : Store) → (taken_by ask reply store).name ≡ store.name
 by_name ask reply store =
     elim (same_object store.name ask.object) as (λ b. (cond b (taken store ask.kind reply) store).name ≡ store.name) [
-      | true ↦ taken_name store ask.kind reply
+      | true ↦ name_taken store ask.kind reply
       | false ↦ refl
     ]
 

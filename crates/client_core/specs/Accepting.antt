@@ -23,19 +23,19 @@ use Rattle.client_core.specs.declared.fault.ClientFault.TheVariants.{NotMine, Si
 
 -- ---- stores
 
--- The store of the object takes the reply. Where there is none it is made first, behind the others.
+-- The store of the object takes the reply. Where there is none it is made first, after the others.
 abbrev pub taken_by : SyncAsk → SyncReply → Store → Store
 taken_by ask reply store = if same_object store.name ask.object then taken store ask.kind reply else store
 
 abbrev pub taken_into : SyncAsk → SyncReply → List Store → List Store
 taken_into ask reply stores = map (taken_by ask reply) (with_store ask.object stores)
 
--- Only a reply to a synchronisation changes a store.
+-- Only a reply to a synchronisation, by a synchronisation's reply, changes a store.
 abbrev pub stores_with : Ask → AskReply → List Store → List Store
 stores_with (asks.Sync ask) (replies.Sync reply) stores = taken_into ask reply stores
 stores_with ask reply stores = stores
 
--- each reply in its turn
+-- each reply in its turn, as far as both lists go
 abbrev pub stores_after : List Ask → List AskReply → List Store → List Store
 stores_after (ask ∷ asks) (reply ∷ replies) stores = stores_after asks replies (stores_with ask reply stores)
 stores_after asks replies stores = stores
@@ -50,13 +50,13 @@ sync_lines ask reply stores =
     map done_line (last_replies ask.deeds reply.replies) ++ store_text (store_under ask.object stores) ∷ []
 
 -- A statement is told by its balance. A synchronisation is told by the code of each deed that was asked for, and by the store as
--- it is now.
+-- it is now. Any other pair has no line; a client makes no file with a deed outside a synchronisation.
 abbrev pub lines_of : Ask → AskReply → List Store → List (List ℕ)
 lines_of (asks.Statement trnuid account period) (replies.Statement uid code body) stores = balance_text account code body ∷ []
 lines_of (asks.Sync ask) (replies.Sync reply) stores = sync_lines ask reply stores
 lines_of ask reply stores = []
 
--- The lines of each reply, once it was taken, in the order of the asks.
+-- The lines of each reply, once it was taken, in the order of the asks, as far as both lists go.
 abbrev pub lines_along : List Ask → List AskReply → List Store → List (List ℕ)
 lines_along (ask ∷ asks) (reply ∷ replies) stores =
     lines_of ask reply (stores_with ask reply stores) ++ lines_along asks replies (stores_with ask reply stores)
@@ -86,6 +86,7 @@ with_replies client file replies = record {
   lines = lines_along file.asks replies client.stores;
 }
 
+-- whether both are the same name, or both none
 abbrev pub same_name : Option (List ℕ) → Option (List ℕ) → Bool
 same_name None None = true
 same_name (Some a) (Some b) = bytes_eq a b

@@ -96,8 +96,8 @@ mail_of client subject body at =
     deeds.Mail (record { created = at; sender = client.user; target = codes "BANK"; subject = subject; body = body })
 
 -- A wish to synchronise looks at an account. Any other has one deed: a transfer and a recurring transfer as they are wished; a
--- change and a cancellation of a row that a store has, whose source they keep; and a mail to the bank, written now. For the last
--- two no file is made.
+-- change and a cancellation of a row that a store has, whose source they keep; and a mail to the bank, written now. For a wish
+-- to check or to be shown what is kept no file is made, and `NoRow 0` stands for that.
 unfoldable pub errand_of : ClientState → Wish → Moment → Result Errand ClientFault
 errand_of client (wishes.Sync account) at = Ok (Look account)
 errand_of client (wishes.Transfer info) at = Ok (in_transfers info.from (deeds.Transfer info))

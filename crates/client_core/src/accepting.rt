@@ -22,7 +22,7 @@ use std::alloc::Global;
 struct Taken {
     /// The file that it answers.
     done: Option<FileUid>,
-    /// The stores behind it.
+    /// The stores after it.
     stores: Stores,
     /// The lines that tell of it.
     lines: ReportLines,

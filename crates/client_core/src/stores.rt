@@ -23,7 +23,7 @@ pub(crate) fn store_of<'a>(object: &ObjectName, stores: &'a [Store]) -> Option<&
         .find(|store| is_same_object(store.object(), object))
 }
 
-/// Makes the store of an object that isn't there, behind the others. Where memory is refused all are as before.
+/// Makes the store of an object that isn't there, after the others. Where memory is refused all are as before.
 #[tactic(auto, unfolding(crate::specs::Objects::with_store))]
 pub(crate) fn open_store(
     alloc: Global,

@@ -13,7 +13,7 @@ use client_store::Store;
 use ofx_types::{Ask, AskReply, DeedReply, Duplicate, ObjectName, OutOfMemory, SyncAsk, SyncReply};
 use std::alloc::Global;
 
-/// Adds the lines of a reply that was taken. The stores are those behind it.
+/// Adds the lines of a reply that was taken. The stores are those after it.
 pub(crate) fn tell(
     alloc: Global,
     ask: &Ask,

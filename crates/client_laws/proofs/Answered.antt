@@ -26,6 +26,7 @@ use Rattle.ofx_types.specs.declared.request.Period.{Period}
 use Rattle.ofx_types.specs.declared.request.Ask.{Ask}
 use Rattle.ofx_types.specs.declared.request.Ask.TheVariants as asks
 use Rattle.ofx_types.specs.declared.request.RequestFile.{RequestFile}
+use Rattle.ofx_types.proofs.Bytes.{bytes_eq_self}
 use Rattle.bank_model.specs.declared.event.State.{State}
 use Rattle.bank_model.specs.declared.setup.Setup.{Setup}
 use Rattle.bank_model.specs.Deeds.{deed_answer}
@@ -34,7 +35,6 @@ use Rattle.bank_model.specs.SetupForm.{IsWithinLimits}
 use Rattle.bank_model.specs.SetupLookups.{own_account}
 use Rattle.bank_model.specs.Sync.{token_of, refused_with, rejection, history_told, deed_answers, deeds_or_rejection, sync_on, sync_answer}
 use Rattle.bank_model.specs.Rules.{raised, statement_reply, ask_answer, ask_answers, reply_file}
-use Rattle.bank_model.proofs.SetupWords.{bytes_eq_self}
 use Rattle.bank_laws.specs.Histories.{IsInOrder}
 use Rattle.bank_laws.proofs.Events.{grows_ask, grows_raised}
 use Rattle.bank_laws.proofs.Tokens.{newest_read}

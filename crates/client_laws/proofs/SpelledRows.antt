@@ -24,8 +24,9 @@ use Rattle.ofx_types.specs.declared.transfer.Family.TheVariants as families
 use Rattle.ofx_types.specs.declared.reply.AskReply.{AskReply}
 use Rattle.ofx_types.specs.declared.reply.AskReply.TheVariants as replies
 use Rattle.ofx_types.specs.declared.reply.ReplyFile.{ReplyFile}
+use Rattle.ofx_types.proofs.Trimming.{text_within_in}
 use Rattle.bank_model.specs.Sound.{IsSoundAccount}
-use Rattle.ofx_file.proofs.SoundDeeds.{within, sound_account, sound_id, sound_recur, sound_info, sound_text}
+use Rattle.ofx_file.proofs.SoundDeeds.{sound_account, sound_id, sound_recur, sound_info, sound_text}
 use Rattle.client_saved.specs.Bounds.{IsSoundTransfer, IsSoundModel, IsSoundMailRow}
 use Rattle.client_core.specs.Told.{IsSoundChange, IsSoundDeedReply, IsSoundReply}
 
@@ -75,7 +76,7 @@ spelled_change reply (NewMail row) is = absurd is
 mail_of : (parent : Item) (row : MailRow) → HasMailOf parent row.user row.mail → IfSome row.about IsSoundAccount → IsSoundMailRow row
 mail_of parent row (item, only, user, is) about = record {
   about = about;
-  user = within (codes "USERID") 32 item row.user (omega arith) user;
+  user = text_within_in (codes "USERID") 32 item row.user (omega arith) user;
   mail = sound_text item row.mail is;
 }
 

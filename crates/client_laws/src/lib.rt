@@ -1,4 +1,4 @@
-//! What the bank and a client come to together: a store that is right is right behind the bank's own reply, and a client accepts
+//! What the bank and a client come to together: a store that is right is right after the bank's own reply, and a client accepts
 //! the bank's reply to its outstanding file. A client may take in every reply that bytes spell.
 //!
 //! Nothing here runs in a program: one call takes a reply in as a client does, and the contracts are laws.

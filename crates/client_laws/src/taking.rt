@@ -24,7 +24,7 @@ use ofx_types::{OutOfMemory, SyncAsk, SyncReply};
 /// Takes in the bank's reply to a synchronisation of the object that bears the store's name, as it comes over the wire. The
 /// object may be any, also of an account that isn't the user's.
 ///
-/// A store that is right and isn't marked lost, and whose client asks by its token, is right behind the reply, whatever the bank
+/// A store that is right and isn't marked lost, and whose client asks by its token, is right after the reply, whatever the bank
 /// did for it. So is any store whose client asks for all, also one that is marked lost. One whose client asks for the token
 /// alone is as right as it was. Where memory is refused the store is as before.
 pub fn take_bank_reply(

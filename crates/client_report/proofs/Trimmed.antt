@@ -1,5 +1,5 @@
 -- Lines are texts as they stand: each begins and ends with a byte that isn't white space.
-use Rattle.std.proofs.Common.{◌≡◌, ℕ, ℤ, ◌+◌, ◌%◌, ◌/◌, ◌^◌, ◌<◌, ◌≤◌, Bool, false, cond, List, [], ◌∷◌, ◌++◌, length, reverse, codes, Option, None, Some, refl, sym, ap, subst, ◌∙◌, append_assoc, arith}
+use Rattle.std.proofs.Common.{◌≡◌, ℕ, ℤ, ◌+◌, ◌%◌, ◌/◌, ◌^◌, ◌<◌, false, cond, List, [], ◌∷◌, ◌++◌, length, reverse, codes, Option, None, Some, refl, sym, ap, ◌∙◌, append_assoc, arith}
 use Rattle.std.specs.Fmt.{decimal}
 use Rattle.std.specs.Int.{is_negative}
 use Rattle.std.specs.Prelude.{unsigned_abs}
@@ -83,9 +83,6 @@ pub decimal_begins : (n : ℕ) → n < 2 ^ 64 → Begins (decimal n)
 decimal_begins = decimal_by_steps (λ n ds. Begins ds)
     (λ n h. digit_begins n h)
     (λ n ds h p. begins_append ds ((48 + n % 10) ∷ []) p)
-
-pub number_trimmed : (n : ℕ) → n < 2 ^ 64 → trimmed (decimal n) ≡ decimal n
-number_trimmed n less = trimmed_between (decimal n) (decimal_begins n less) (decimal_ends n less)
 
 -- ---- lines
 

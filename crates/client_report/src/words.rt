@@ -1,24 +1,11 @@
 //! The words of a line, appended to the bytes before them.
 
 ghost use Rattle.std.specs.Prelude.{◌≡◌, ◌<◌, ◌^◌, ◌++◌, length, OnOk};
-ghost use Rattle.ofx_types.specs.AccountForm as accounts;
 ghost use Rattle.client_report.specs.Lines as forms;
 
 use client_store::Store;
-use ofx_types::{AcctKind, AcctName, ObjectName, OutOfMemory, StatementBody, TrnUid};
+use ofx_types::{AcctName, ObjectName, OutOfMemory, StatementBody, TrnUid};
 use ofx_values::{print_amount, print_number};
-
-/// The word of a kind of account (ACCTTYPE).
-fn kind_word(kind: AcctKind) -> &'static [u8]
-    ensures { result.now ≡ accounts.kind_word kind }
-{
-    match kind {
-        AcctKind::Checking => b"CHECKING",
-        AcctKind::Savings => b"SAVINGS",
-        AcctKind::MoneyMarket => b"MONEYMRKT",
-        AcctKind::CreditLine => b"CREDITLINE",
-    }
-}
 
 #[tactic(auto, unfolding(crate::specs::Lines::account_words))]
 fn put_account(account: &AcctName, out: &mut Vec<u8>) -> Result<(), OutOfMemory>
@@ -26,7 +13,7 @@ fn put_account(account: &AcctName, out: &mut Vec<u8>) -> Result<(), OutOfMemory>
 {
     out.extend_from_slice(account.number.as_bytes())?;
     out.push(b' ')?;
-    out.extend_from_slice(kind_word(account.kind))?;
+    out.extend_from_slice(account.kind.word())?;
     Ok(())
 }
 

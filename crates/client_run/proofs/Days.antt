@@ -1,19 +1,11 @@
 -- A day is what a moment's text has before its time of day.
-use Rattle.std.proofs.Common.{◌≡◌, ◌∙◌, ℕ, ◌*◌, ◌+◌, ◌-◌, ◌/◌, ◌≤◌, suc, ℤ, pos, negsuc, neg_ℤ, List, ◌++◌, length, take, refl, sym, ap, arith, append_assoc, length-append}
-use Rattle.std.proofs.lemmas.Int.{ints}
+use Rattle.std.proofs.Common.{◌≡◌, ◌∙◌, ℕ, ◌+◌, ◌-◌, ◌≤◌, ℤ, List, ◌++◌, length, take, refl, sym, ap, arith, append_assoc, length-append}
 use Rattle.std.proofs.lemmas.List.{take_at}
 use Rattle.ofx_types.specs.Calendar.{civil_of, day_of, second_of_day, midnight}
 use Rattle.ofx_types.specs.DateForm.{clock_text, date_text, moment_text}
 use Rattle.ofx_types.specs.declared.number.Day.{Day}
+use Rattle.ofx_types.proofs.Days.{day_of-midnight}
 use Rattle.client_run.specs.Lines.{day_text}
-
--- A midnight lies in its day.
-day_of-midnight : (day : ℤ) → day ≡ day_of (midnight day)
-day_of-midnight (pos n) = omega (arith, ints)
-day_of-midnight (negsuc n) =
-    let before : suc n * 86400 ≡ suc (n * 86400 + 86399) = omega arith in
-    let same : n ≡ (n * 86400 + 86399) / 86400 = omega arith in
-    ap negsuc same ∙ sym (ap (λ (seconds : ℕ). day_of (neg_ℤ (pos seconds))) before)
 
 cut : (before date clock : List ℕ) → length clock ≡ 6 → take (length (before ++ (date ++ clock)) - 6) (before ++ (date ++ clock)) ≡ before ++ date
 cut before date clock six =

@@ -77,7 +77,7 @@ joined request ahead ahead' before after (Err (calls.Cut count)) sent later come
 joined request ahead ahead' before after (Err (calls.Http code)) sent later comes = (sent, comes)
 joined request ahead ahead' before after (Err (calls.BadReply at)) sent later comes = (sent, comes)
 
--- Behind a request that was sent comes what is received.
+-- After a request that was sent comes what is received.
 pub sent_and_received : (request ahead ahead' : List ℕ) (before after : LinkView) (left sent : Option (List ℕ)) (reads writes : ℕ) (got : Result ReplyFile CallStop)
     → Appends before.sent sent request × (before.write_faults ≤ writes) → Keeps before.left left → reads ≡ before.read_faults → Keeps sent after.sent
     → after.write_faults ≡ writes → Receives ahead (record { left = left; sent = sent; read_faults = reads; write_faults = writes }) ahead' after got

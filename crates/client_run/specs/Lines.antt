@@ -19,6 +19,7 @@ use Rattle.ofx_types.specs.declared.request.Ask.TheVariants as asks
 use Rattle.ofx_types.specs.declared.reply.AskReply.{AskReply}
 use Rattle.ofx_types.specs.declared.reply.AskReply.TheVariants as replies
 use Rattle.ofx_types.specs.declared.reply.ReplyFile.{ReplyFile}
+use Rattle.ofx_types.specs.Sheet.{uid_text}
 use Rattle.bank_model.specs.Sync.{token_of}
 use Rattle.bank_model.specs.Stores.{Row, transfer_row, model_row, mail_row, Store}
 use Rattle.client_report.specs.Lines.{store_text, newest_text}
@@ -28,7 +29,7 @@ use Rattle.client_core.specs.declared.fault.ClientFault.{ClientFault}
 use Rattle.client_core.specs.declared.fault.ClientFault.TheVariants.{Signon, Shape}
 use Rattle.client_run.specs.Views.{OutView}
 
--- Each line has an LF behind it.
+-- Each line has an LF after it.
 abbrev pub line : List ℕ → List ℕ
 line text = text ++ 10 ∷ []
 
@@ -54,20 +55,15 @@ row_text (model_row row) =
     codes "model " ++ (decimal row.id ++ 32 ∷ (freq_word row.recur.freq ++ 32 ∷ (amount_text row.amount.0 ++ 32 ∷ day_text row.first)))
 row_text (mail_row row) = codes "mail " ++ row.mail.subject
 
--- the uid of the last file whose reply was accepted, and `NONE` before there is one
-abbrev pub done_words : Option (List ℕ) → List ℕ
-done_words None = codes "NONE"
-done_words (Some uid) = uid
-
--- `client NAME next N done UID`
+-- `client NAME next N done UID`: the uid of the last file whose reply was accepted, and `NONE` before there is one
 unfoldable pub client_text : ClientState → List ℕ
 client_text client =
-    codes "client " ++ (client.name ++ (codes " next " ++ (decimal client.next ++ (codes " done " ++ done_words client.done))))
+    codes "client " ++ (client.name ++ (codes " next " ++ (decimal client.next ++ (codes " done " ++ uid_text client.done))))
 
 abbrev pub row_line : Row → List ℕ
 row_line row = line (row_text row)
 
--- a store, and its rows behind it
+-- a store, and its rows after it
 abbrev pub store_lines : Store → List ℕ
 store_lines store = line (store_text store) ++ flat_map row_line store.rows
 

@@ -6,8 +6,8 @@ ghost use Rattle.client_run.specs.Complete.{TakesTheBanks};
 
 use client_laws::bank_replies_answer;
 use client_saved::laws::{faults_save_nothing, one_first_fault, one_state};
-use http_front::{bad_heads_stay, heads_stay, one_head};
-use ofx_file::{faults_spell_no_reply, one_reply};
+use http_front::laws::{bad_heads_stay, heads_stay, one_head};
+use ofx_file::laws::{faults_spell_no_reply, one_reply};
 
 /// A run is refused for its words, or for a store of another client or user or with no number left, exactly where that is so, and
 /// for a text without a form exactly where that is so, as far as the text can be loaded and memory is there.

@@ -6,8 +6,7 @@ ghost use Rattle.std.specs.Option.{option_copied};
 ghost use Rattle.bank_model.specs.Stores.{transfer_row, model_row, mail_row};
 ghost use Rattle.ofx_types.specs.AmountForm.{amount_text};
 ghost use Rattle.ofx_types.specs.Calendar.{IsDay};
-ghost use Rattle.ofx_types.specs.RecurringForm.{freq_word};
-ghost use Rattle.ofx_types.specs.TransferForm.{code_word};
+ghost use Rattle.ofx_types.specs.Sheet.{uid_text};
 ghost use Rattle.client_store.specs.RowForm.{seen, all_seen};
 ghost use Rattle.client_saved.specs.Bounds.{IsSoundRow, IsSoundStore};
 ghost use Rattle.client_run.specs.Lines as rules;
@@ -16,41 +15,12 @@ use crate::printing::put_line;
 use client_core::Client;
 use client_report::store_line;
 use client_store::{Row, Store};
-use ofx_types::{Cents, Day, FileUid, Freq, MailRow, ModelRow, OutOfMemory, TransferRow, XferCode};
+use ofx_types::{Cents, Day, FileUid, MailRow, ModelRow, OutOfMemory, TransferRow};
 use ofx_values::{midnight, print_amount, print_moment, print_number};
 use std::alloc::Global;
 
 /// The number of digits of a time of day.
 const TIME: usize = 6;
-
-/// How far a transfer is, as a word (XFERPRCCODE).
-fn word_of_code(code: XferCode) -> &'static [u8]
-    ensures { result.now ≡ code_word code }
-{
-    match code {
-        XferCode::Waiting => b"WILLPROCESSON",
-        XferCode::Posted => b"POSTEDON",
-        XferCode::NoFunds => b"NOFUNDSON",
-        XferCode::Cancelled => b"CANCELEDON",
-    }
-}
-
-/// How often a transfer recurs, as a word (FREQ).
-fn word_of_freq(freq: Freq) -> &'static [u8]
-    ensures { result.now ≡ freq_word freq }
-{
-    match freq {
-        Freq::Weekly => b"WEEKLY",
-        Freq::Biweekly => b"BIWEEKLY",
-        Freq::TwiceMonthly => b"TWICEMONTHLY",
-        Freq::Monthly => b"MONTHLY",
-        Freq::FourWeeks => b"FOURWEEKS",
-        Freq::Bimonthly => b"BIMONTHLY",
-        Freq::Quarterly => b"QUARTERLY",
-        Freq::Semiannually => b"SEMIANNUALLY",
-        Freq::Annually => b"ANNUALLY",
-    }
-}
 
 /// Appends a day of the years 1900 to 9999 as YYYYMMDD.
 #[tactic(auto, using(crate::proofs::Days::day_left, crate::proofs::Days::moment_size))]
@@ -81,7 +51,7 @@ fn put_transfer(row: &TransferRow, out: &mut Vec<u8>) -> Result<(), OutOfMemory>
     out.extend_from_slice(b"transfer ")?;
     print_number(row.id, out)?;
     out.push(b' ')?;
-    out.extend_from_slice(word_of_code(row.code))?;
+    out.extend_from_slice(row.code.word())?;
     out.push(b' ')?;
     put_terms(row.amount, row.due, out)
 }
@@ -94,7 +64,7 @@ fn put_model(row: &ModelRow, out: &mut Vec<u8>) -> Result<(), OutOfMemory>
     out.extend_from_slice(b"model ")?;
     print_number(row.id, out)?;
     out.push(b' ')?;
-    out.extend_from_slice(word_of_freq(row.recur.freq))?;
+    out.extend_from_slice(row.recur.freq.word())?;
     out.push(b' ')?;
     put_terms(row.amount, row.first, out)
 }
@@ -159,7 +129,7 @@ fn put_stores(alloc: Global, stores: &[Store], out: &mut Vec<u8>) -> Result<(), 
 
 /// Appends the uid of the last file whose reply was accepted.
 fn put_done(done: Option<&FileUid>, out: &mut Vec<u8>) -> Result<(), OutOfMemory>
-    ensures { OnOk result (out.new.items ≡ out.old.items ++ rules.done_words (option_copied done.entry)) }
+    ensures { OnOk result (out.new.items ≡ out.old.items ++ uid_text (option_copied done.entry)) }
 {
     match done {
         Some(uid) => out.extend_from_slice(uid.as_bytes())?,

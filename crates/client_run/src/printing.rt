@@ -55,7 +55,7 @@ fn bytes_of(alloc: Global, lines: &[Text]) -> Result<Vec<u8>, OutOfMemory>
     Ok(bytes)
 }
 
-/// Prints lines, each with an LF behind it.
+/// Prints lines, each with an LF after it.
 pub(crate) fn print_lines<W: Sink>(
     alloc: Global,
     lines: &[Text],

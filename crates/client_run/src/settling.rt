@@ -13,7 +13,7 @@ use crate::stop::{CallStop, Stop};
 use client_core::Client;
 use client_laws::spelled_replies_are_sound;
 use http_link::Incoming;
-use ofx_file::sound_files_are_printable;
+use ofx_file::laws::sound_files_are_printable;
 use ofx_ports::{Link, PutFault, Sink, StoreKeeper};
 use ofx_types::{ReplyFile, Text};
 use std::alloc::Global;
@@ -31,7 +31,7 @@ fn is_bad_request(stop: CallStop) -> bool
     }
 }
 
-/// What a run ends with behind the last print.
+/// What a run ends with after the last print.
 pub(crate) fn print_end(told: Result<(), PutFault>) -> Result<(), Stop>
     ensures { result ≡ rules.print_end told }
 {

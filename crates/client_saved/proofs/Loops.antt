@@ -8,24 +8,18 @@ use Rattle.ofx_types.specs.declared.transfer.Family.{Family}
 use Rattle.bank_model.specs.Stores.{Row, id_of, Store}
 use Rattle.record_fields.specs.declared.fault.RecordFault.{RecordFault}
 use Rattle.record_fields.specs.declared.fault.RecordFault.TheVariants as faults
-use Rattle.record_fields.specs.FieldReading.{◌>>=◌}
 use Rattle.record_fields.specs.Answers.{Fails}
 use Rattle.record_fields.specs.FieldCoding.{u64_bytes}
-use Rattle.event_codec.proofs.Loops.{with_front}
+use Rattle.event_codec.proofs.Loops.{with_front, regroup}
 use Rattle.client_store.specs.RowForm.{seen, all_seen, bound_behind}
 use Rattle.client_store.specs.declared.row.Row.{Row as HeldRow}
 use Rattle.client_saved.specs.Bounds.{IsSoundRow}
 use Rattle.client_saved.specs.Coding.{row_bytes, counted_bytes}
 use Rattle.client_saved.specs.Reading.{row_at, rows_from, store_at, stores_from}
 
--- one item more was read
-regroup : {A : Type 0} (front : List A) (x : A) (read : Result (List A × ℕ) ℕ) → with_front front (read >>= λ y. Ok (x ∷ y.0, y.1)) ≡ with_front (front ++ x ∷ []) read
-regroup front x (Ok y) = ap (λ xs. Ok (xs, y.1)) (simp append_assoc)
-regroup front x (Err place) = refl
-
 -- ---- rows
 
--- the least id that may stand behind rows and one more
+-- the least id that may stand after rows and one more
 pub behind_one : (own before : Option ℕ) → bound_behind 0 (option_or own before) ≡ bound_behind (bound_behind 0 before) own
 behind_one None before = refl
 behind_one (Some id) before = refl

@@ -1,65 +1,20 @@
 -- A file that waits for its reply, and is read, is the one that was written.
-use Rattle.std.proofs.Common.{◌≡◌, ℕ, ◌^◌, ◌<◌, Bool, true, false, nat_eq, ◌||◌, List, [], ◌++◌, Ok, refl, sym, ap, subst, ◌∙◌, ◌⊎◌, inl, inr, arith}
-use Rattle.std.proofs.lemmas.Bool.{eqb-true}
+use Rattle.std.proofs.Common.{◌≡◌, ℕ, List, [], ◌++◌, Ok, refl, sym, ap, subst, ◌∙◌}
 use Rattle.ofx_types.specs.declared.request.RequestFile.{RequestFile}
-use Rattle.bank_model.specs.Sound.{IsVersion, IsSound}
+use Rattle.bank_model.specs.Sound.{IsSound}
 use Rattle.record_fields.specs.FieldCoding.{u16_bytes, file_uid_bytes, moment_bytes}
 use Rattle.record_fields.specs.Fields.{StandsAt, IsField}
-use Rattle.record_fields.proofs.Steps.{pass_ok, ok_is, joined, apart, step}
-use Rattle.record_fields.proofs.BoundedLaws.{u16_field, moment_field}
+use Rattle.record_fields.proofs.Steps.{ok_is, joined, apart, step}
+use Rattle.record_fields.proofs.BoundedLaws.{moment_field}
 use Rattle.record_fields.proofs.TextLaws.{file_uid_field}
 use Rattle.event_codec.specs.Coding.{asks_bytes, file_bytes}
-use Rattle.event_codec.specs.Reading.{version_at}
 use Rattle.event_codec.specs.AskList.{AreAsks}
 use Rattle.event_codec.proofs.AskLaws.{asks_field}
 use Rattle.client_saved.specs.Bounds.{IsSoundOutstanding}
 use Rattle.client_saved.specs.Coding.{outstanding_bytes}
 use Rattle.client_saved.specs.Reading.{outstanding_at}
 use Rattle.client_saved.specs.declared.state.Outstanding.{Outstanding}
-
--- ---- the version of a file
-
-either : (a b : Bool) → (a || b) ≡ true → (a ≡ true) ⊎ (b ≡ true)
-either true b h = inl refl
-either false b h = inr h
-
-abbrev is_version : ℕ → Bool
-is_version n = nat_eq n 102 || nat_eq n 103 || nat_eq n 151 || nat_eq n 160
-
-version_is : (n : ℕ) → is_version n ≡ true → IsVersion n
-version_is n h =
-    elim (either (nat_eq n 102 || nat_eq n 103 || nat_eq n 151) (nat_eq n 160) h) [
-      | inl a ↦ elim (either (nat_eq n 102 || nat_eq n 103) (nat_eq n 151) a) [
-        | inl b ↦ elim (either (nat_eq n 102) (nat_eq n 103) b) [
-          | inl c ↦ inl (eqb-true _ _ c)
-          | inr c ↦ inr (inl (eqb-true _ _ c))
-        ]
-        | inr b ↦ inr (inr (inl (eqb-true _ _ b)))
-      ]
-      | inr a ↦ inr (inr (inr (eqb-true _ _ a)))
-    ]
-
-is_version-true : (n : ℕ) → IsVersion n → is_version n ≡ true
-is_version-true n (inl h) = ap is_version h
-is_version-true n (inr (inl h)) = ap is_version h
-is_version-true n (inr (inr (inl h))) = ap is_version h
-is_version-true n (inr (inr (inr h))) = ap is_version h
-
-version_small : (n : ℕ) → IsVersion n → n < 2 ^ 16
-version_small n (inl h) = omega arith
-version_small n (inr (inl h)) = omega arith
-version_small n (inr (inr (inl h))) = omega arith
-version_small n (inr (inr (inr h))) = omega arith
-
-version_field : IsField version_at u16_bytes IsVersion
-unfolding version_at
-version_field = record {
-  stands = λ rec at found bytes le e.
-      let s = step u16_field rec at _ found bytes le e in
-      let g = pass_ok (is_version s.value) at (Ok (s.value, s.next)) found s.rest in
-      subst (λ (f : ℕ × ℕ). StandsAt rec at (u16_bytes f.0) f.1 × IsVersion f.0) (ok_is (s.value, s.next) found g.1) (s.stands, version_is s.value g.0);
-  again = λ rec at n next le p fits. rw (u16_field.again rec at n next le p (version_small n fits), is_version-true n fits) refl;
-}
+use Rattle.event_codec.proofs.RecordLaws.{version_field}
 
 -- ---- the file and its moment
 

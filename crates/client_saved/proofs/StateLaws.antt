@@ -97,7 +97,7 @@ state_field = record {
 
 -- ---- whole texts
 
--- nothing stands behind the end
+-- nothing stands after the end
 end_is : (text : List ℕ) → drop (length text) text ≡ []
 end_is text = drop_all (length text) text (omega arith)
 

@@ -68,7 +68,7 @@ row_kind families.RecIntra = 2
 row_kind families.BankMail = 3
 row_kind families.Mail = 3
 
--- what stands behind the kind of a row that begins at a place
+-- what stands after the kind of a row that begins at a place
 unfoldable pub row_of : Family → ℕ → ℕ → List ℕ → ℕ → Result (Row × ℕ) ℕ
 row_of families.Intra bound first text at = do
   row ← transfer_at bound first text at
@@ -110,7 +110,7 @@ new_object_at before text at = do
   object ← object_at false text at
   if has_store object.0 before then Err at else Ok object
 
--- a store behind others
+-- a store after others
 unfoldable pub store_at : List Store → List ℕ → ℕ → Result (Store × ℕ) ℕ
 store_at before text at = do
   object ← new_object_at before text at
@@ -119,7 +119,7 @@ store_at before text at = do
   rows ← rows_at (object_family object.0) text lost.1
   Ok (record { name = object.0; token = token.0; is_lost = lost.0; rows = rows.0 }, rows.1)
 
--- this many stores behind others
+-- this many stores after others
 unfoldable pub stores_from : ℕ → List Store → List ℕ → ℕ → Result (List Store × ℕ) ℕ
 stores_from zero before text at = Ok ([], at)
 stores_from (suc n) before text at = do
@@ -155,7 +155,7 @@ coding_at text at = do
   version ← u8_at text at
   if version.0 == 1 then Ok version else Err at
 
--- what a client knows, at the beginning of a text, and the place behind it
+-- what a client knows, at the beginning of a text, and the place after it
 unfoldable pub state_at : List ℕ → ℕ → Result (ClientState × ℕ) ℕ
 state_at text at = do
   version ← coding_at text at
@@ -167,7 +167,7 @@ state_at text at = do
   stores ← stores_at text outstanding.1
   Ok (record { name = name.0; user = user.0; next = next.0; done = done.0; outstanding = outstanding.0; stores = stores.0 }, stores.1)
 
--- A whole text: where all has a form and more bytes stand behind it, the first of these has none.
+-- A whole text: where all has a form and more bytes stand after it, the first of these has none.
 unfoldable pub state_read : List ℕ → Result ClientState ℕ
 state_read text = do
   state ← state_at text 0

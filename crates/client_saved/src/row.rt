@@ -89,7 +89,7 @@ fn kind_of(family: Family) -> u8
     }
 }
 
-/// What stands behind the kind of a row that begins at `first`.
+/// What stands after the kind of a row that begins at `first`.
 #[tactic(auto, unfolding(crate::specs::Reading::row_of))]
 fn row_of(
     alloc: Global,
@@ -123,7 +123,7 @@ fn row_of(
     }
 }
 
-/// The row of an object of the family at `at`, behind rows of which the last id is `before`.
+/// The row of an object of the family at `at`, after rows of which the last id is `before`.
 #[tactic(auto, unfolding(crate::specs::Reading::row_at))]
 pub(crate) fn get_row(
     alloc: Global,

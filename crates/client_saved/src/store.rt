@@ -104,7 +104,7 @@ fn store_of(object: ObjectName, token: u64, lost: bool, rows: Vec<Row>) -> Store
     }
 }
 
-/// The store at `at`, behind others.
+/// The store at `at`, after others.
 #[tactic(auto, unfolding(crate::specs::Reading::store_at))]
 fn get_store(
     alloc: Global,

@@ -72,7 +72,7 @@ fn is_above(id: u64, before: Option<u64>) -> bool
     }
 }
 
-/// The id of a row that begins at `first`, behind rows of which the last id is `before`.
+/// The id of a row that begins at `first`, after rows of which the last id is `before`.
 #[tactic(auto, unfolding(crate::specs::Reading::rising_id_at))]
 fn get_rising_id(
     before: Option<u64>,

@@ -1,7 +1,7 @@
 -- Rows in their order: what stays in order, and where no row has an id.
 use Rattle.std.proofs.Common.{◌≡◌, ◌≢◌, ℕ, suc, ◌<◌, ◌≤◌, Bool, true, false, not, cond, eqb, ltb, leb, List, [], ◌∷◌, ◌++◌, fold, Option, None, Some, refl, sym, ap, ◌∙◌, subst, arith}
 use Rattle.std.specs.Prelude.{◌&&◌}
-use Rattle.std.proofs.lemmas.Bool.{eqb-true, ne_eqb, eqb-false, ltb-true, ltb-false, leb-true, le-leb}
+use Rattle.std.proofs.lemmas.Bool.{eqb-true, ne_eqb, eqb-false, ltb-true, ltb-false, leb-true, le-leb, and_parts}
 use Rattle.ofx_types.specs.declared.transfer.Family.{Family}
 use Rattle.ofx_types.specs.declared.transfer.Family.TheVariants.{Intra, RecIntra, BankMail, Mail}
 use Rattle.bank_model.specs.Stores.{Row, transfer_row, model_row, mail_row, id_of, is_id, has_id, is_less, is_below, put, take_out, model_if_named}
@@ -20,14 +20,14 @@ pub not_here : (id : ℕ) (own : Option ℕ) → is_less id own ≡ true → is_
 not_here id None less = refl
 not_here id (Some own) less = ne_eqb own id (λ same. let lt = ltb-true own id less in omega (arith, lt, same))
 
--- An id is below what may stand behind it,
+-- An id is below what may stand after it,
 pub over_own : (id bound : ℕ) (own : Option ℕ) → is_id id own ≡ true → id < bound_behind bound own
 over_own id bound None is = absurd (no_true is)
 over_own id bound (Some own) is =
     let same = eqb-true own id is in
     let less : id < suc own = omega (arith, same) in less
 
--- and below what may stand behind a greater one.
+-- and below what may stand after a greater one.
 pub over_greater : (id bound : ℕ) (own : Option ℕ) → is_less id own ≡ false → id < bound_behind bound own
 over_greater id bound None less = absurd (no_false less)
 over_greater id bound (Some own) less =
@@ -46,18 +46,14 @@ bound_grows bound (Some own) from =
 
 -- ---- the two parts of what may follow
 
-both : (a b : Bool) → (a && b) ≡ true → (a ≡ true) × (b ≡ true)
-both true b is = (refl, is)
-both false b is = absurd (no_true is)
-
 joined : (a b : Bool) → a ≡ true → b ≡ true → (a && b) ≡ true
 joined a b first second = ap (λ x. x && b) first ∙ second
 
 pub follows_kind : (family : Family) (bound : ℕ) (row : Row) → may_follow family bound row ≡ true → is_of family row ≡ true
-follows_kind family bound row follows = (both (is_of family row) (is_from bound (id_of row)) follows).0
+follows_kind family bound row follows = (and_parts (is_of family row) (is_from bound (id_of row)) follows).0
 
 pub follows_from : (family : Family) (bound : ℕ) (row : Row) → may_follow family bound row ≡ true → is_from bound (id_of row) ≡ true
-follows_from family bound row follows = (both (is_of family row) (is_from bound (id_of row)) follows).1
+follows_from family bound row follows = (and_parts (is_of family row) (is_from bound (id_of row)) follows).1
 
 pub follows : (family : Family) (bound : ℕ) (row : Row) → is_of family row ≡ true → is_from bound (id_of row) ≡ true → may_follow family bound row ≡ true
 follows family bound row kind from = joined (is_of family row) (is_from bound (id_of row)) kind from

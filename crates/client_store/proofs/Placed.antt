@@ -168,7 +168,7 @@ module _ (family : Family) (id : ℕ) where
   none_there [] lacks = refl
   none_there (row ∷ more) lacks = ap (λ b. cond b (Some row) (find (has_id id) more)) lacks.0 ∙ none_there more lacks.1
 
-  -- where the row at the place hasn't got the id, none behind it has
+  -- where the row at the place hasn't got the id, none after it has
   first_row : (bound : ℕ) (row : Row) (more : List Row) → IsRising family bound (all_seen (row ∷ more)) → is_below id (seen row) ≡ false
       → (here : Bool) → has_id id (seen row) ≡ here
       → cond here (Some (seen row)) (find (has_id id) (all_seen more)) ≡ option_map seen (cond here (Some row) None)
@@ -185,7 +185,7 @@ module _ (family : Family) (id : ℕ) where
       ap (λ b. cond b (Some (seen row)) (find (has_id id) (all_seen more))) (not_here id (id_of (seen row)) place.0)
       ∙ row_there (bound_behind bound (id_of (seen row))) more at rising.1 place.1
 
--- ---- a mail behind the others
+-- ---- a mail after the others
 
 pub last_kept : (family : Family) (bound : ℕ) (rows : List Row) (row : MailRow) → IsRising family bound (all_seen rows)
     → is_of family (mail_row row) ≡ true → IsRising family bound (all_seen (rows ++ variants.Mail row ∷ []))

@@ -28,17 +28,17 @@ is_of BankMail (mail_row row) = true
 is_of Mail (mail_row row) = true
 is_of family row = false
 
--- An id is no less than a bound. A mail has none, and may stand behind any other.
+-- An id is no less than a bound. A mail has none, and may stand after any other.
 abbrev pub is_from : ℕ → Option ℕ → Bool
 is_from bound None = true
 is_from bound (Some own) = nat_le bound own
 
--- the least id that may stand behind an id
+-- the least id that may stand after an id
 abbrev pub bound_behind : ℕ → Option ℕ → ℕ
 bound_behind bound None = bound
 bound_behind bound (Some own) = suc own
 
--- A row may stand behind others: it is of the family, and its id is no less than the bound.
+-- A row may stand after others: it is of the family, and its id is no less than the bound.
 abbrev pub may_follow : Family → ℕ → model.Row → Bool
 may_follow family bound row = is_of family row && is_from bound (id_of row)
 

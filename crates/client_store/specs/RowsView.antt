@@ -19,7 +19,7 @@ IsPlace id [] (suc at) = ⊥
 IsPlace id (row ∷ more) zero = is_below id row ≡ false
 IsPlace id (row ∷ more) (suc at) = (is_below id row ≡ true) × IsPlace id more at
 
--- whether there is a row, and it has an id
+-- whether there is a row, and it has this id
 abbrev pub is_named : ℕ → Option Row → Bool
 is_named id None = false
 is_named id (Some row) = has_id id (seen row)

@@ -157,7 +157,7 @@ impl Rows {
         take_row_out(&mut self.items, self.family, id);
     }
 
-    /// Puts a mail behind all others. There is room for it.
+    /// Puts a mail after all others. There is room for it.
     fn put_last(&mut self, row: MailRow)
         requires room { 0 < self.old.room }
         requires kind { form.is_of self.old.family (model.mail_row row) ≡ true }

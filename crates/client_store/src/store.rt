@@ -127,7 +127,7 @@ impl Store {
     /// becomes the reply's and the mark goes. What is new or changed takes the place of its id, and a changed transfer keeps the
     /// recurring transfer that made it; what is cancelled is taken out; a mail comes last. A change that isn't of the object's
     /// family does nothing. The token has 1 to 10 digits; any other is taken as 0. This is so of every reply, also of one that no
-    /// bank would give: the rows stand in rising id behind it.
+    /// bank would give: the rows stand in rising id after it.
     ///
     /// Where memory is refused the store is as before.
     #[tactic(auto, unfolding(bank_model::specs::Stores::taken))]

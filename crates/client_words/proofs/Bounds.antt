@@ -1,19 +1,14 @@
 -- What words wish is within the bounds of a sound file.
-use Rattle.std.proofs.Common.{◌≡◌, ℕ, zero, suc, ◌<◌, ◌≤◌, ◌^◌, Bool, true, false, cond, ◌&&◌, nat_le, ℤ, unsigned_abs, List, length, Option, None, Some, Result, Ok, Err, IfOk, refl, ap, ◌∙◌, arith, rules}
-use Rattle.std.proofs.lemmas.Bool.{and_parts, leb-true}
-use Rattle.std.proofs.lemmas.Str.Parse.{IsNumeralModel, numerals_by_value, digits_value_short}
-use Rattle.std.specs.Char.{is_ascii_digit}
-use Rattle.std.specs.List.{list_all}
+use Rattle.std.proofs.Common.{◌≡◌, ℕ, ◌<◌, ◌≤◌, ◌^◌, Bool, true, false, cond, List, Option, None, Some, Result, Ok, Err, IfOk, refl, arith}
 use Rattle.std.specs.Option.{IfSome}
 use Rattle.std.specs.Str.Parse.{digits_value}
-use Rattle.ofx_types.specs.AmountForm.{IsAmount}
 use Rattle.ofx_types.specs.Calendar.{IsDay}
-use Rattle.ofx_types.specs.Digits.{signed}
 use Rattle.ofx_types.specs.NumberReading.{is_number_within, number_at}
 use Rattle.ofx_types.specs.declared.account.AcctName.{AcctName}
 use Rattle.ofx_types.specs.declared.number.Day.{Day}
 use Rattle.ofx_types.specs.declared.recurring.Recur.{Recur}
 use Rattle.ofx_types.specs.declared.transfer.XferInfo.{XferInfo}
+use Rattle.ofx_types.proofs.Numbers.{digits_within, amount_within}
 use Rattle.bank_model.specs.Sound.{IsTextWithin, IsSoundAccount, IsSoundInfo, IsSoundRecur, IsId}
 use Rattle.client_core.specs.declared.wish.Wish.{Wish}
 use Rattle.client_words.specs.Words.{IsAccount, IsMaybeDay, IsFirstDay, IsCount, IsPayment, IsIdWord, IsWishedBy, AreWords}
@@ -26,31 +21,11 @@ use Rattle.client_words.specs.declared.verb.Verb.TheVariants as verbs
 account_in : (bank number kind : List ℕ) (account : AcctName) → IsTextWithin 32 bank → IsAccount bank number kind account → IsSoundAccount account
 account_in bank number kind account fits is = (rw is.bank_is fits, rw is.number_is is.number_fits)
 
-signed_size : (negative : Bool) (magnitude : ℕ) → unsigned_abs (signed negative magnitude) ≡ magnitude
-signed_size true zero = refl
-signed_size true (suc n) = refl
-signed_size false n = refl
-
-at_most : (a b most : ℕ) → a ≡ b → b ≤ most → a ≤ most
-at_most a b most same h = rw same h
-
-amount_in : (word : List ℕ) (cents : ℤ) → IsAmount word cents → unsigned_abs cents ≤ 9999999999999
-amount_in word cents a = at_most _ _ 9999999999999 (ap unsigned_abs a.meant ∙ signed_size a.negative _) a.is_bounded
-
 -- ---- numbers
-
-numerals : IsNumeralModel (λ ds. list_all is_ascii_digit ds ≡ true) (digits_value 10)
-numerals = numerals_by_value _ (search rules)
-
-digits_in : (text : List ℕ) → is_number_within 10 text ≡ true → digits_value 10 text < 10 ^ 10
-digits_in text h =
-    let parts = and_parts (nat_le 1 (length text) && nat_le (length text) 10) (list_all is_ascii_digit text) h in
-    let short : length text ≤ 10 = leb-true (length text) 10 (and_parts (nat_le 1 (length text)) _ parts.0).1 in
-    digits_value_short numerals text 10 parts.1 short
 
 id_in : (word : List ℕ) (id : ℕ) → IsIdWord word id → IsId id
 unfolding number_at
-id_in word id is = by_test (is_number_within 10 word) (digits_in word) is
+id_in word id is = by_test (is_number_within 10 word) (digits_within 10 word) is
   where
     by_test : (b : Bool) → (b ≡ true → digits_value 10 word < 10 ^ 10) → cond b (Some (digits_value 10 word)) None ≡ Some id → id ≤ 9999999999
     by_test true small e =
@@ -78,7 +53,7 @@ info_in : (bank number kind other_number other_kind amount : List ℕ) (info : X
 info_in bank number kind other_number other_kind amount info fits is due = record {
   from = account_in bank number kind info.from fits is.from_is;
   to = account_in bank other_number other_kind info.to fits is.to_is;
-  amount = amount_in amount info.amount.0 is.amount_is;
+  amount = amount_within amount info.amount.0 is.amount_is;
   due = due;
 }
 
@@ -89,7 +64,7 @@ wish_in bank verbs.Sync words wish fits (account, e, is) = rw e (account_in bank
 wish_in bank verbs.Transfer words wish fits (info, e, is) =
     rw e (info_in bank is.number is.kind is.other_number is.other_kind is.amount info fits is.payment (last_day_in is.more info.due is.due_is))
 wish_in bank verbs.Modify words wish fits (id, to, amount, due, e, is) =
-    rw e (id_in is.word id is.id_is, (account_in bank is.number is.kind to fits is.to_is, (amount_in is.amount amount.0 is.amount_is, is.day_is.within)))
+    rw e (id_in is.word id is.id_is, (account_in bank is.number is.kind to fits is.to_is, (amount_within is.amount amount.0 is.amount_is, is.day_is.within)))
 wish_in bank verbs.Cancel words wish fits (id, e, (word, alone, is)) = rw e (id_in word id is)
 wish_in bank verbs.Repeat words wish fits (recur, info, e, is) =
     rw e (

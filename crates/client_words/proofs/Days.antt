@@ -1,23 +1,13 @@
 -- Days among the words: eight bytes that are a date have neither a time nor a zone.
-use Rattle.std.proofs.Common.{◌≡◌, ℕ, ◌+◌, ◌*◌, ◌/◌, List, [], ◌∷◌, ◌++◌, length, drop, ℤ, pos, negsuc, neg_ℤ, ◌+ℤ◌, ◌-ℤ◌, zero, suc, inl, inr, refl, sym, ap, arith, ◌∙◌}
+use Rattle.std.proofs.Common.{◌≡◌, ℕ, ◌+◌, ◌/◌, List, [], ◌∷◌, ◌++◌, length, drop, ℤ, pos, ◌+ℤ◌, ◌-ℤ◌, zero, inl, inr, refl, sym, ap, arith, ◌∙◌}
 use Rattle.std.proofs.lemmas.Int.{ints}
 use Rattle.std.proofs.lemmas.List.{length-append}
 use Rattle.ofx_types.specs.TextRules.{trimmed}
-use Rattle.ofx_types.specs.Calendar.{IsMoment, IsDay, civil_of, day_of, midnight}
+use Rattle.ofx_types.specs.Calendar.{IsDay, civil_of, day_of, midnight}
 use Rattle.ofx_types.specs.DateForm.{IsDate, IsTime, IsZone, IsBracketed, date_text}
 use Rattle.ofx_types.specs.declared.number.Day.{Day}
+use Rattle.ofx_types.proofs.Days.{day_of-midnight, IsMoment-midnight}
 use Rattle.client_words.specs.Words.{IsDayWord}
-
--- A midnight lies in its day.
-day_of-midnight : (day : ℤ) → day ≡ day_of (midnight day)
-day_of-midnight (pos n) = omega (arith, ints)
-day_of-midnight (negsuc n) =
-    let before : suc n * 86400 ≡ suc (n * 86400 + 86399) = omega arith in
-    let same : n ≡ (n * 86400 + 86399) / 86400 = omega arith in
-    ap negsuc same ∙ sym (ap (λ (seconds : ℕ). day_of (neg_ℤ (pos seconds))) before)
-
-IsMoment-midnight : (day : ℤ) → IsDay day → IsMoment (midnight day)
-IsMoment-midnight day is = (omega (arith, ints), omega (arith, ints))
 
 nothing_behind : (front rest : List ℕ) → length front ≡ 8 → length (front ++ rest) ≡ 8 → rest ≡ []
 nothing_behind front [] size whole = refl

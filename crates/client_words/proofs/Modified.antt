@@ -1,4 +1,4 @@
--- The words behind `modify`.
+-- The words after `modify`.
 use Rattle.std.proofs.Common.{◌≡◌, ℕ, List, [], ◌∷◌, get_or, Err, sym, refl, ap, ◌∙◌}
 use Rattle.ofx_types.specs.declared.account.AcctName.{AcctName}
 use Rattle.ofx_types.specs.declared.number.Cents.{Cents}

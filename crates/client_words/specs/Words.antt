@@ -47,7 +47,7 @@ pub record IsAccount (bank number kind : List ℕ) (account : AcctName) : Type 0
   pub number_fits : IsTextWithin 32 number
   pub kind_is : kind ≡ kind_word account.kind
 
--- ---- what stands behind the word of a command
+-- ---- what stands after the word of a command
 
 -- `NUMBER KIND`
 pub record IsAbout (bank : List ℕ) (words : List (List ℕ)) (account : AcctName) : Type 0 where
@@ -145,7 +145,7 @@ verb_word verbs.Mail = codes "mail"
 verb_word verbs.Check = codes "check"
 verb_word verbs.Show = codes "show"
 
--- what is wished by a command with these words behind its own, at the bank that BANK names
+-- what is wished by a command with these words after its own, at the bank that BANK names
 abbrev pub IsWishedBy : List ℕ → Verb → List (List ℕ) → Wish → Type 0
 IsWishedBy bank verbs.Sync words wish = (account : AcctName) × (wish ≡ wishes.Sync account) × IsAbout bank words account
 IsWishedBy bank verbs.Transfer words wish = (info : XferInfo) × (wish ≡ wishes.Transfer info) × IsTransfer bank words info
@@ -159,7 +159,7 @@ IsWishedBy bank verbs.Mail words wish = (subject : List ℕ) × (body : List ℕ
 IsWishedBy bank verbs.Check words wish = (account : AcctName) × (wish ≡ wishes.Check account) × IsAbout bank words account
 IsWishedBy bank verbs.Show words wish = (wish ≡ wishes.Show) × (words ≡ [])
 
--- a command: its own word, and those behind it
+-- a command: its own word, and those after it
 pub record IsWished (bank : List ℕ) (words : List (List ℕ)) (wish : Wish) : Type 0 where
   pub verb : Verb
   pub rest : List (List ℕ)

@@ -31,23 +31,11 @@ const KINDS: [AcctKind; 4] = [
     AcctKind::CreditLine,
 ];
 
-/// The word of a kind.
-fn word_of(kind: AcctKind) -> &'static [u8]
-    ensures { result.now ≡ kind_word kind }
-{
-    match kind {
-        AcctKind::Checking => b"CHECKING",
-        AcctKind::Savings => b"SAVINGS",
-        AcctKind::MoneyMarket => b"MONEYMRKT",
-        AcctKind::CreditLine => b"CREDITLINE",
-    }
-}
-
 /// The first of these kinds whose word this is.
 fn kind_among<'k>(word: &Text, kinds: &'k [AcctKind]) -> Option<&'k AcctKind>
     ensures { option_map (λ kind. kind.now) result ≡ find (λ kind. bytes_eq word.now (kind_word kind)) kinds.now }
 {
-    kinds.iter().find(|kind| word.as_bytes() == word_of(**kind))
+    kinds.iter().find(|kind| word.as_bytes() == (**kind).word())
 }
 
 /// The kind of account that a word names.

@@ -40,7 +40,7 @@ fn of_id(words: &[Text]) -> Result<u64, WordsFault>
     }
 }
 
-/// The change that the words behind `modify` say.
+/// The change that the words after `modify` say.
 fn modify_of(bank: &Text, words: &[Text]) -> Result<Wish, WordsFault>
     ensures { Reads (IsWishedBy bank.now verbs.Modify words.now) result }
 {
@@ -56,7 +56,7 @@ fn modify_of(bank: &Text, words: &[Text]) -> Result<Wish, WordsFault>
     }
 }
 
-/// The mail that the words behind `mail` say.
+/// The mail that the words after `mail` say.
 fn mail_of(words: &[Text]) -> Result<Wish, WordsFault>
     ensures { (bank : List ℕ) → Reads (IsWishedBy bank verbs.Mail words.now) result }
 {
@@ -71,7 +71,7 @@ fn mail_of(words: &[Text]) -> Result<Wish, WordsFault>
     }
 }
 
-/// The wish to be shown what is kept, for which no words stand behind `show`.
+/// The wish to be shown what is kept, for which no words stand after `show`.
 fn show_of(words: &[Text]) -> Result<Wish, WordsFault>
     ensures { (bank : List ℕ) → Reads (IsWishedBy bank verbs.Show words.now) result }
 {
@@ -82,21 +82,21 @@ fn show_of(words: &[Text]) -> Result<Wish, WordsFault>
     }
 }
 
-/// What the words behind `sync` wish.
+/// What the words after `sync` wish.
 fn sync_of(bank: &Text, words: &[Text]) -> Result<Wish, WordsFault>
     ensures { Reads (IsWishedBy bank.now verbs.Sync words.now) result }
 {
     Ok(Wish::Sync(about(bank, words)?))
 }
 
-/// What the words behind `transfer` wish.
+/// What the words after `transfer` wish.
 fn transfer_wish(bank: &Text, words: &[Text]) -> Result<Wish, WordsFault>
     ensures { Reads (IsWishedBy bank.now verbs.Transfer words.now) result }
 {
     Ok(Wish::Transfer(transfer_of(bank, words)?))
 }
 
-/// What the words behind `repeat` wish.
+/// What the words after `repeat` wish.
 fn repeat_wish(bank: &Text, words: &[Text]) -> Result<Wish, WordsFault>
     ensures { Reads (IsWishedBy bank.now verbs.Repeat words.now) result }
 {
@@ -104,28 +104,28 @@ fn repeat_wish(bank: &Text, words: &[Text]) -> Result<Wish, WordsFault>
     Ok(Wish::Repeat(recur, info))
 }
 
-/// What the words behind `check` wish.
+/// What the words after `check` wish.
 fn check_of(bank: &Text, words: &[Text]) -> Result<Wish, WordsFault>
     ensures { Reads (IsWishedBy bank.now verbs.Check words.now) result }
 {
     Ok(Wish::Check(about(bank, words)?))
 }
 
-/// What the words behind `cancel` wish.
+/// What the words after `cancel` wish.
 fn cancel_of(words: &[Text]) -> Result<Wish, WordsFault>
     ensures { (bank : List ℕ) → Reads (IsWishedBy bank verbs.Cancel words.now) result }
 {
     Ok(Wish::Cancel(of_id(words)?))
 }
 
-/// What the words behind `stop` wish.
+/// What the words after `stop` wish.
 fn stop_of(words: &[Text]) -> Result<Wish, WordsFault>
     ensures { (bank : List ℕ) → Reads (IsWishedBy bank verbs.Stop words.now) result }
 {
     Ok(Wish::Stop(of_id(words)?))
 }
 
-/// What a command wishes with these words behind its own.
+/// What a command wishes with these words after its own.
 fn wish_by(bank: &Text, verb: Verb, words: &[Text]) -> Result<Wish, WordsFault>
     ensures { Reads (IsWishedBy bank.now verb words.now) result }
 {

@@ -23,7 +23,7 @@ pub(crate) fn day_word(word: &Text) -> Result<Day, WordsFault>
     }
 }
 
-/// The day that stands behind all else, if one does.
+/// The day that stands after all else, if one does.
 pub(crate) fn last_day(words: &[Text]) -> Result<Option<Day>, WordsFault>
     ensures { Reads (IsMaybeDay words.now) result }
 {

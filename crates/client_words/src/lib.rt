@@ -1,6 +1,6 @@
 //! The words of the customer's program: where they have a form, and what they order.
 //!
-//! `order_of` reads `PORT STORE CLIENT USER PASS BANK` and the words of one command behind them.
+//! `order_of` reads `PORT STORE CLIENT USER PASS BANK` and the words of one command after them.
 #![tactic(auto)]
 
 mod account;

@@ -38,28 +38,11 @@ const FREQS: [Freq; 9] = [
     Freq::Annually,
 ];
 
-/// The word of a frequency.
-fn word_of(freq: Freq) -> &'static [u8]
-    ensures { result.now ≡ freq_word freq }
-{
-    match freq {
-        Freq::Weekly => b"WEEKLY",
-        Freq::Biweekly => b"BIWEEKLY",
-        Freq::TwiceMonthly => b"TWICEMONTHLY",
-        Freq::Monthly => b"MONTHLY",
-        Freq::FourWeeks => b"FOURWEEKS",
-        Freq::Bimonthly => b"BIMONTHLY",
-        Freq::Quarterly => b"QUARTERLY",
-        Freq::Semiannually => b"SEMIANNUALLY",
-        Freq::Annually => b"ANNUALLY",
-    }
-}
-
 /// The first of these frequencies whose word this is.
 fn freq_among<'f>(word: &Text, freqs: &'f [Freq]) -> Option<&'f Freq>
     ensures { option_map (λ freq. freq.now) result ≡ find (λ freq. bytes_eq word.now (freq_word freq)) freqs.now }
 {
-    freqs.iter().find(|freq| word.as_bytes() == word_of(**freq))
+    freqs.iter().find(|freq| word.as_bytes() == (**freq).word())
 }
 
 /// How often something recurs, as a word says.
@@ -96,7 +79,7 @@ fn payment(
     })
 }
 
-/// The transfer that the words behind `transfer` say.
+/// The transfer that the words after `transfer` say.
 pub(crate) fn transfer_of(bank: &Text, words: &[Text]) -> Result<XferInfo, WordsFault>
     ensures { Reads (forms.IsTransfer bank.now words.now) result }
 {
@@ -109,7 +92,7 @@ pub(crate) fn transfer_of(bank: &Text, words: &[Text]) -> Result<XferInfo, Words
     }
 }
 
-/// The recurring transfer that the words behind `repeat` say.
+/// The recurring transfer that the words after `repeat` say.
 pub(crate) fn repeat_of(bank: &Text, words: &[Text]) -> Result<(Recur, XferInfo), WordsFault>
     ensures { Reads (λ (found : Recur × XferInfo). forms.IsRepeat bank.now words.now found.0 found.1) result }
 {

@@ -97,7 +97,7 @@ fn mistake_of(topic: Topic, words: &[Text]) -> Mistake<'_> {
     }
 }
 
-/// What is wrong with the words behind the paths, where none is missing.
+/// What is wrong with the words after the paths, where none is missing.
 fn mistake_behind(topic: Topic, words: &[Text]) -> Mistake<'_> {
     match topic {
         Topic::Answer => option_mistake(words),
@@ -109,7 +109,7 @@ fn mistake_behind(topic: Topic, words: &[Text]) -> Mistake<'_> {
     }
 }
 
-/// What is wrong with the words of `answer` behind the records.
+/// What is wrong with the words of `answer` after the records.
 fn option_mistake(words: &[Text]) -> Mistake<'_> {
     let option = text_at(words, 3);
     if option != "--at" {

@@ -13,7 +13,7 @@ pub fn is_version(word: &str) -> bool {
     word == "-V" || word == "--version"
 }
 
-/// Whether a word behind the command asks for help. Words that have a form are let be: a letter may be about `--help`.
+/// Whether a word after the command asks for help. Words that have a form are let be: a letter may be about `--help`.
 pub fn asks_for_help(words: &[Text]) -> bool {
     for place in 1..words.len() {
         if is_help_option(text_at(words, place)) {

@@ -45,7 +45,7 @@ impl Topic {
         }
     }
 
-    /// What is said of it behind its form.
+    /// What is said of it after its form.
     pub fn about(self) -> &'static str {
         match self {
             Topic::Program => texts::PROGRAM,
@@ -69,7 +69,7 @@ impl Topic {
         }
     }
 
-    /// The words that it can't do without, behind the command.
+    /// The words that it can't do without, after the command.
     pub fn needs(self) -> &'static [&'static str] {
         match self {
             Topic::Program => &["COMMAND"],

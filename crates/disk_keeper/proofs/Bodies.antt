@@ -39,7 +39,7 @@ behind_write (Err e) a b h at bytes written broken is =
     part more (inl none) = subst (WriteBehind at) (sym none) tt
     part more (inr some) = subst (WriteBehind at) (sym some.2) (omega arith, tt)
 
--- writes behind others
+-- writes after others
 pub behind_on : (n m : ℕ) (h : History) (a b : Option History) → n ≤ m → WritesBehind n h a → ((g : History) → a ≡ Some g → WritesBehind m g b) → WritesBehind n h b
 behind_on n m h a b le first then_more =
     let next = then_more (after h first.0) first.1 in (
@@ -48,7 +48,7 @@ behind_on n m h a b le first then_more =
       behind_append n next.0 first.0 (behind_less m n next.0 le next.2) first.2,
     )
 
--- the image behind a write
+-- the image after a write
 pub image_written : (a b : Option History) (h : History) (at : ℕ) (bytes : List ℕ) → a ≡ Some h → GoesOn a b (write_of at bytes ∷ []) → HasImage b (overlaid (shown h) at bytes)
 image_written a b h at bytes is goes = subst (λ o. HasImage o (overlaid (shown h) at bytes)) (sym (told_on a b h _ is goes)) refl
 
@@ -60,7 +60,7 @@ image_told (Some h) file has = (h, refl, has)
 overlaid_at : (p x bytes : List ℕ) (at : ℕ) → length p ≡ at → overlaid (p ++ x) at bytes ≡ p ++ bytes ++ drop (at + length bytes) (p ++ x)
 overlaid_at p x bytes at is = ap (λ (l : List ℕ). l ++ bytes ++ drop (at + length bytes) (p ++ x)) (take_at p x at is)
 
--- the three writes of a body, one behind another
+-- the three writes of a body, one after another
 pub body_laid : (old bytes : List ℕ) (gate : ℕ) → gate < length old
     → (rest : List ℕ) × (overlaid (overlaid (overlaid old (gate + 1) (size_bytes (length bytes))) (gate + 9) bytes) (gate + 9 + length bytes) (0 ∷ [])
     ≡ take (gate + 1) old ++ size_bytes (length bytes) ++ bytes ++ 0 ∷ rest)

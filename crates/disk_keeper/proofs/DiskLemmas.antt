@@ -76,7 +76,7 @@ pub told_before : (a b : Option History) (g : History) → (a ≡ None → b ≡
 told_before None b g quiet is = absurd (none_some g (sym (quiet refl) ∙ is))
 told_before (Some h) b g quiet is = (h, refl)
 
--- what is shown behind a sync
+-- what is shown after a sync
 pub told_synced : (a b : Option History) (g : History) → (a ≡ None → b ≡ None) → GoesOn a b (Sync ∷ []) → b ≡ Some g
     → (h : History) × (a ≡ Some h) × (g ≡ after h (Sync ∷ []))
 told_synced a b g quiet goes is =

@@ -86,7 +86,7 @@ module _ (r : List ℕ) (rest : List ℕ) (fits : length r < 2 ^ 64) where
   rest_is =
       rw size_is (drop_at (size_bytes (length r) ++ r) rest (8 + length r) (omega (arith, length-append (size_bytes (length r)) r, length-size_bytes (length r))))
 
-  -- a record behind an open gate is read, and then what follows it
+  -- a record after an open gate is read, and then what follows it
   pub record_read : (most number : ℕ) → records_from (suc most) number (block r ++ rest) ≡ joined r (records_from most (number + 1) rest)
   record_read most number = step (size_bytes (length r) ++ r ++ rest) r rest most number whole bytes_are rest_is
 

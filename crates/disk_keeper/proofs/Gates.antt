@@ -12,7 +12,7 @@ blocks_push [] r rest = ap (λ (l : List ℕ). l ++ rest) (append-nil (block r))
 blocks_push (s ∷ rs) r rest =
     append_assoc (block s) (blocks (rs ++ r ∷ [])) rest ∙ ap (λ (l : List ℕ). block s ++ l) (blocks_push rs r rest) ∙ sym (append_assoc (block s) (blocks rs) (block r ++ rest))
 
--- a record more in front of what stands behind
+-- a record more in front of what stands after
 pub front_push : (rs : List (List ℕ)) (r rest : List ℕ) → front (rs ++ r ∷ []) ++ rest ≡ front rs ++ 1 ∷ (size_bytes (length r) ++ r ++ rest)
 front_push rs r rest =
     append_assoc mark (blocks (rs ++ r ∷ [])) rest ∙ ap (λ (l : List ℕ). mark ++ l) (blocks_push rs r rest) ∙ sym (append_assoc mark (blocks rs) (block r ++ rest))
@@ -61,7 +61,7 @@ module _ (rs : List (List ℕ)) (r rest : List ℕ) (place : ℕ) (at : place �
   body : List ℕ
   body = size_bytes (length r) ++ r ++ 0 ∷ rest
 
-  -- behind an open gate the record counts
+  -- after an open gate the record counts
   pub opened : (file : List ℕ) → file ≡ front rs ++ 1 ∷ (size_bytes (length r) ++ r ++ 0 ∷ rest) → IsFile (rs ++ r ∷ []) (place + 9 + length r) file
   opened file is = record {
     gate = 0;
@@ -72,7 +72,7 @@ module _ (rs : List (List ℕ)) (r rest : List ℕ) (place : ℕ) (at : place �
     sizes = sizes_push rs r sizes fits;
   }
 
-  -- and behind another it doesn't
+  -- and after another it doesn't
   any_gate : (gate : ℕ) (file : List ℕ) → file ≡ front rs ++ gate ∷ (size_bytes (length r) ++ r ++ 0 ∷ rest) → MayHave rs r place (place + 9 + length r) file
   any_gate gate file is = elim (cases_eq gate 1) [
     | inl is_open ↦ inr (opened file (is ∙ ap (λ g. front rs ++ g ∷ (size_bytes (length r) ++ r ++ 0 ∷ rest)) is_open))

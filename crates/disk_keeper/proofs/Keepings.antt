@@ -89,7 +89,7 @@ append_moments (Some h) b end last bytes r keeps told =
       throughout_map _ _ h t.more (λ c have. subst (λ rs. ListsWith rs bytes c) (sym (settled_is h end last k)) (lists_with k.records bytes end.place _ c have)) t.moments,
     )
 
--- and behind it
+-- and after it
 pub kept_after : (a b : Option History) (end last : Gate) (bytes : List ℕ) (r : Reached) → AllKept a end last Nothing → (a ≡ None → b ≡ None) → Told a b end bytes r
     → AllKept b (end_after end r) last (begun_after r)
 kept_after a b end last bytes r keeps quiet told g is =
@@ -140,7 +140,7 @@ may_grow o p rs bytes size old is (inl new) =
 may_grow o p rs bytes size old is (inr new) =
     rw (old, new) (may_grow_by rs (rs ++ bytes ∷ []) bytes (nat_lt size (length (rs ++ bytes ∷ []))) (λ lacks. absurd (landed size rs bytes is lacks)) (λ _. refl))
 
--- what the image lists behind an append that failed
+-- what the image lists after an append that failed
 lists_after : (rs : List (List ℕ)) (place : ℕ) (bytes : List ℕ) (r : Reached) (h : History) → ReachedBy rs place bytes r h → ListsWith rs bytes (shown h)
 lists_after rs place bytes (reached.Acknowledged next) h done = inr (listed_file (rs ++ bytes ∷ []) next (shown h) done.0)
 lists_after rs place bytes reached.Body h done = inl (listed_file rs place (shown h) done.0)
@@ -166,7 +166,7 @@ settled_with : (o : Option (List (List ℕ))) (rs : List (List ℕ)) (bytes : Li
 settled_with o rs bytes size is (inl new) = ap (settled_on size) new ∙ all_settled rs size is
 settled_with o rs bytes size is (inr new) = ap (settled_on size) new ∙ one_more rs bytes size is
 
--- The acknowledged records stay behind an append that failed.
+-- The acknowledged records stay after an append that failed.
 pub settled_stay : (a b : Option History) (end last : Gate) (bytes : List ℕ) (r : Reached) → AllKept a end last Nothing → (a ≡ None → b ≡ None) → Told a b end bytes r
     → settled_on end.records (records_on b) ≡ settled_on end.records (records_on a)
 settled_stay None b end last bytes r keeps quiet told = ap (λ o. settled_on end.records (records_on o)) (quiet refl)
@@ -277,7 +277,7 @@ kept_shut a end last begun gate keeps settled read found h is =
       now = (stands_shut k.records end.place begun h gate k.place k.now (read h is) found, settled h is);
     }
 
--- behind a sync a crash leaves what is shown
+-- after a sync a crash leaves what is shown
 pub synced_settled : (a b : Option History) → (a ≡ None → b ≡ None) → GoesOn a b (Sync ∷ []) → (h : History) → b ≡ Some h → IsSettled h
 synced_settled a b quiet synced h is =
     let t = told_synced a b h quiet synced is in subst IsSettled (sym t.2) (λ c left. left)

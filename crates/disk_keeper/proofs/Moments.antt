@@ -12,7 +12,7 @@ use Rattle.disk_keeper.proofs.DiskLemmas.{told_on, told_broken, torn_overlaid, f
 use Rattle.disk_keeper.proofs.Bodies.{after_after, image_told}
 use Rattle.disk_keeper.proofs.Gates.{same_front, within_file, torn_gate, gate_opened}
 
--- what a crash may leave behind the last change
+-- what a crash may leave after the last change
 pub leaves_last : (P : List ℕ → Type 0) (h : History) (more : List Change) → LeavesThroughout P h more → Leaves P (after h more)
 leaves_last P h [] all = all
 leaves_last P h (change ∷ more) all = all.0
@@ -28,7 +28,7 @@ throughout_on P h [] first all then_more = all
 throughout_on P h (change ∷ more) first all then_more =
     (subst (Leaves P) (after_after h (change ∷ more) first) then_more.0, throughout_on P h more first all then_more.1)
 
--- Writes behind a place leave what stands in front of it.
+-- Writes after a place leave what stands in front of it.
 front_left : (n : ℕ) (F : List ℕ) (h : History) (more : List Change) → WriteBehind n more → Leaves (λ c. take n c ≡ F) h → LeavesThroughout (λ c. take n c ≡ F) h more
 front_left n F h [] behind left = left
 front_left n F h (Write at size bytes ∷ more) behind left =

@@ -77,7 +77,7 @@ module _ (rs : List (List ℕ)) (gate : Gate) (file : List ℕ) (holds : Holds r
   pub behind_gate : Passed rs gate → gate.records < length rs → Behind rs gate file
   behind_gate passed more = some_rest passed.passed passed.rest passed.split passed.count passed.place more
 
-  -- the gate that stands behind the record
+  -- the gate that stands after the record
   pub passed_on : Passed rs gate → gate.records < length rs → (size : ℕ) → (gate.place < length file → IsSize (drop (gate.place + 1) file) (Some size))
       → (next : Gate) → next.records ≡ gate.records + 1 → next.place ≡ gate.place + 9 + size → Passed rs next
   passed_on passed more size read next counts places =

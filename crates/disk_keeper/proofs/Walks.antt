@@ -1,9 +1,8 @@
 -- What stands behind the gates that were passed.
 use Rattle.std.proofs.Common.{◌≡◌, ◌≢◌, ◌⊎◌, inl, inr, ℕ, zero, suc, ◌+◌, ◌-◌, ◌<◌, ◌≤◌, ◌^◌, List, [], ◌∷◌, ◌++◌, length, take, drop, get_or, Bool, true, false, Option, Some, None, Result, Ok, Err, refl, sym, ◌∙◌, ap, subst, arith, append_assoc, length-append, length-take, length-drop, take-append-drop}
-use Rattle.std.specs.Str.{bytes_eq}
 use Rattle.std.proofs.lemmas.List.{append-nil, take_at, drop_at, drop_more, drop_all, drop-drop, length-take-le, length_push}
 use Rattle.std.proofs.lemmas.Bool.Decides.{nat_tests}
-use Rattle.std.proofs.lemmas.Slice.Eq.{bytes_eq-Decides}
+use Rattle.ofx_types.proofs.Bytes.{bytes_eq_is}
 use Rattle.disk_keeper.specs.File.{mark, size_bytes, size_of, next_size, is_whole, records_from, found_in, has_mark}
 use Rattle.disk_keeper.specs.Layout.{blocks, front, HaveSizes, IsFile}
 use Rattle.disk_keeper.specs.Reading.{IsSize, Walked, IsStep, IsFound}
@@ -14,9 +13,6 @@ use Rattle.disk_keeper.proofs.Gates.{front_push, length-front_push, sizes_push}
 
 false_or : (b : Bool) → (b ≡ false) ⊎ (b ≡ true)
 false_or = elim [ true ↦ inr refl | false ↦ inl refl ]
-
-same_bytes : (xs ys : List ℕ) → bytes_eq xs ys ≡ true → xs ≡ ys
-same_bytes xs ys is = (bytes_eq-Decides xs ys).0 is
 
 whole_long : (behind : List ℕ) (size : ℕ) → is_whole behind ≡ true → next_size behind ≡ size → 8 + size ≤ length behind
 whole_long behind size whole is = grind (arith, nat_tests)
@@ -32,7 +28,7 @@ module _ (gate : Gate) (file : List ℕ) (walked : Walked gate file) (within : g
   pub walked_last : get_or file gate.place 0 ≢ 1 → IsFile walked.records gate.place file
   walked_last shut = record { gate = get_or file gate.place 0; behind = drop (gate.place + 1) file; shut = shut; bytes = whole_is; place_is = walked.place_is; sizes = walked.sizes }
 
-  -- behind one that is open there is a record, and the next gate
+  -- after one that is open there is a record, and the next gate
   module _ (size : ℕ) (is_open : get_or file gate.place 0 ≡ 1) (read : IsSize (drop (gate.place + 1) file) (Some size)) where
     behind : List ℕ
     behind = drop (gate.place + 1) file
@@ -118,7 +114,7 @@ walked_first gate file none place marked_is = record {
 }
   where
     is_mark : take 8 file ≡ mark
-    is_mark = same_bytes (take 8 file) mark marked_is
+    is_mark = bytes_eq_is (take 8 file) mark marked_is
 
 -- the length that was read behind a gate
 pub size_read : (file bytes : List ℕ) (place size : ℕ) → place + 9 ≤ length file → length bytes ≡ 8 → bytes ≡ take (length bytes) (drop (place + 1) file)

@@ -8,13 +8,13 @@ use Rattle.disk_keeper.specs.declared.change.Change.TheVariants.{Write, Sync}
 use Rattle.disk_keeper.specs.declared.appending.Reached.{Reached}
 use Rattle.disk_keeper.specs.declared.appending.Reached.TheVariants.{Acknowledged, Body, Gate}
 
--- only writes, at this place or behind it
+-- only writes, at this place or after it
 abbrev pub WriteBehind : ℕ → List Change → Type 0
 WriteBehind place [] = Unit {0}
 WriteBehind place (Write at size bytes ∷ more) = (place ≤ at) × WriteBehind place more
 WriteBehind place (Sync ∷ more) = ⊥
 
--- Since a history there were only writes, at this place or behind it.
+-- Since a history there were only writes, at this place or after it.
 abbrev pub WritesBehind : ℕ → History → Option History → Type 0
 WritesBehind place old new = (more : List Change) × (new ≡ Some (after old more)) × WriteBehind place more
 
@@ -31,7 +31,7 @@ HasBody gate begun old new = (rest : List ℕ) × HasImage new (take (gate + 1) 
 abbrev pub IsSettled : History → Type 0
 IsSettled history = Leaves (λ crash. crash ≡ shown history) history
 
--- the place of the gate behind a record
+-- the place of the gate after a record
 abbrev pub place_behind : ℕ → List ℕ → ℕ
 place_behind gate begun = gate + 9 + length begun
 

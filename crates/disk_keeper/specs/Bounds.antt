@@ -6,7 +6,7 @@ use Rattle.disk_keeper.specs.declared.reading.Found.TheVariants.{End, NoMark, Pa
 use Rattle.disk_keeper.specs.declared.reading.Step.{Step}
 use Rattle.disk_keeper.specs.declared.reading.Step.TheVariants.{Next, Last, Cut}
 
--- A gate has its place within the file, behind the mark and at least one byte for each record.
+-- A gate has its place within the file, after the mark and at least one byte for each record.
 pub record IsWithin (gate : Gate) (size : ℕ) : Type 0 where
   pub place : gate.place < size
   pub most : gate.place < 2 ^ 63

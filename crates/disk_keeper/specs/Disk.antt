@@ -35,11 +35,11 @@ MayLeave found [] crash = crash ≡ found
 MayLeave found (Write at size bytes ∷ changes) crash = (earlier : List ℕ) × MayLeave found changes earlier × Torn at size earlier crash
 MayLeave found (Sync ∷ changes) crash = crash ≡ image found changes
 
--- the image behind all these changes
+-- the image after all these changes
 abbrev pub shown : History → List ℕ
 shown history = image history.found history.changes
 
--- the history with these changes behind the others, the newest first
+-- the history with these changes after the others, the newest first
 abbrev pub after : History → List Change → History
 after history more = record { found = history.found; changes = more ++ history.changes }
 
@@ -47,7 +47,7 @@ after history more = record { found = history.found; changes = more ++ history.c
 abbrev pub Leaves : (List ℕ → Type 0) → History → Type 0
 Leaves P history = (crash : List ℕ) → MayLeave history.found history.changes crash → P crash
 
--- All that a crash may leave has P: in front of these changes, between any two of them, and behind them.
+-- All that a crash may leave has P: in front of these changes, between any two of them, and after them.
 abbrev pub LeavesThroughout : (List ℕ → Type 0) → History → List Change → Type 0
 LeavesThroughout P history [] = Leaves P history
 LeavesThroughout P history (change ∷ more) = Leaves P (after history (change ∷ more)) × LeavesThroughout P history more

@@ -29,7 +29,7 @@ abbrev pub joined : List ℕ → Result (List (List ℕ)) ℕ → Result (List (
 joined record_bytes (Ok records) = Ok (record_bytes ∷ records)
 joined record_bytes (Err number) = Err number
 
--- The records from the gate of this number on. Behind a gate of 1 there is a record, and then the next gate; another gate
+-- The records from the gate of this number on. After a gate of 1 there is a record, and then the next gate; another gate
 -- ends them. Where a gate or its record passes the end, there is its number instead. At most so many gates are looked at.
 unfoldable pub records_from : ℕ → ℕ → List ℕ → Result (List (List ℕ)) ℕ
 records_from zero number bytes = Err number
@@ -41,7 +41,7 @@ records_from (suc most) number (gate ∷ behind) =
     else Err number)
     else Ok []
 
--- The records behind the mark, or the number of the first record or gate that passes the end. There are fewer gates than
+-- The records after the mark, or the number of the first record or gate that passes the end. There are fewer gates than
 -- bytes.
 abbrev pub found_in : List ℕ → Result (List (List ℕ)) ℕ
 found_in file = records_from (length file) 1 (drop 8 file)

@@ -15,7 +15,7 @@ is_begun Nothing = false
 is_begun Body = true
 is_begun (Opening next) = true
 
--- The gate behind the record of an append that failed, where that stands: the append had come to its gate, and the gate is
+-- The gate after the record of an append that failed, where that stands: the append had come to its gate, and the gate is
 -- open.
 abbrev pub opened_by : Begun → ℕ → Option ℕ
 opened_by Nothing gate = None
@@ -30,13 +30,13 @@ Stands records place Body history = IsFile records place (shown history) × Leav
 Stands records place (Opening next) history =
     (bytes : List ℕ) × MayHave records bytes place next (shown history) × Leaves (MayHave records bytes place next) history
 
--- The gate behind a record whose append failed is within the file.
+-- The gate after a record whose append failed is within the file.
 abbrev pub NextWithin : Gate → ℕ → Begun → Type 0
 NextWithin end size Nothing = Unit {0}
 NextWithin end size Body = Unit {0}
 NextWithin end size (Opening next) = (next < size) × (next < 2 ^ 63) × (end.place < next)
 
--- The records of a disk that tells, with the gate behind them and the gate that was read last.
+-- The records of a disk that tells, with the gate after them and the gate that was read last.
 pub record Keeps (end last : Gate) (begun : Begun) (history : History) : Type 0 where
   pub records : List (List ℕ)
   pub count : end.records ≡ length records

@@ -11,7 +11,7 @@ pub record Passed (records : List (List ℕ)) (gate : Gate) : Type 0 where
   pub count : gate.records ≡ length passed
   pub place : gate.place ≡ length (front passed)
 
--- These records stand at the front of a file, and more bytes behind them.
+-- These records stand at the front of a file, and more bytes after them.
 pub record Holds (records : List (List ℕ)) (file : List ℕ) : Type 0 where
   pub behind : List ℕ
   pub some : ℕ

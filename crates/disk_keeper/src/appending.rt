@@ -13,11 +13,11 @@ use ofx_ports::Failed;
 /// How far an append came.
 #[derive(Clone, Copy, Debug, Drop)]
 pub enum Reached {
-    /// The record is kept, and the gate behind it is at this place.
+    /// The record is kept, and the gate after it is at this place.
     Acknowledged(u64),
     /// The body failed, or its sync.
     Body,
-    /// The gate failed, or its sync. The gate behind the record is at this place.
+    /// The gate failed, or its sync. The gate after the record is at this place.
     Gate(u64),
 }
 

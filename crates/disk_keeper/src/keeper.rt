@@ -34,7 +34,7 @@ const EMPTY: [u8; 9] = *b"OFXKEEP1\0";
 #[derive(Drop)]
 pub struct DiskKeeper<D: Disk> {
     disk: D,
-    // the gate behind the last record
+    // the gate after the last record
     end: Gate,
     // the gate that was read last
     last: Gate,
@@ -177,7 +177,7 @@ impl<D: Disk + Send> Keeper for DiskKeeper<D> {
         ensures faults { CountsFaults (D.faults self.old.disk) (D.faults self.new.disk) (IsErr result) }
 
         // Where a crash leaves the acknowledged records, or these and the one that was begun, it leaves them at any moment of
-        // the call, and behind an error. Behind an answer it leaves the acknowledged ones, with that one where it stands.
+        // the call, and after an error. After an answer it leaves the acknowledged ones, with that one where it stands.
         ensures moments { (begun : List ℕ) → NowLeaves (ListsWith (acknowledged D.history self.old) begun) (D.history self.old.disk)
             → LeavesOnly (ListsWith (acknowledged D.history self.old) begun) (D.history self.old.disk) (D.history self.new.disk) }
         ensures awaits { OnErr result ((begun : List ℕ) → NowLeaves (ListsWith (acknowledged D.history self.old) begun) (D.history self.old.disk)

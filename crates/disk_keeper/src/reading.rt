@@ -17,7 +17,7 @@ pub const MARK: [u8; 8] = *b"OFXKEEP1";
 /// The gate in front of a record.
 pub const OPEN: u8 = 1;
 
-/// The gate behind the last record.
+/// The gate after the last record.
 pub const SHUT: u8 = 0;
 
 /// The bytes of a gate and a length.
@@ -30,7 +30,7 @@ pub struct Gate {
     pub place: u64,
 }
 
-/// The first gate, behind the mark.
+/// The first gate, after the mark.
 pub const FIRST: Gate = Gate {
     records: 0,
     place: 8,
@@ -50,7 +50,7 @@ pub enum Step {
 /// What a file was found to be.
 #[derive(Clone, Copy, Debug)]
 pub enum Found {
-    /// Records, and the gate behind the last one.
+    /// Records, and the gate after the last one.
     End(Gate),
     /// The mark is missing.
     NoMark,

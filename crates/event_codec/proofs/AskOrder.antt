@@ -4,7 +4,7 @@ use Rattle.ofx_types.specs.PrintedFile.{is_mail_ask}
 use Rattle.ofx_types.specs.declared.request.Ask.{Ask}
 use Rattle.event_codec.proofs.SyncLaws.{IsAllowed}
 
--- each ask is allowed behind those before it
+-- each ask is allowed after those before it
 abbrev pub AreInOrder : Bool → List Ask → Type 0
 AreInOrder is_behind_mail [] = Unit {0}
 AreInOrder is_behind_mail (ask ∷ asks) = IsAllowed is_behind_mail (is_mail_ask ask) × AreInOrder (is_behind_mail || is_mail_ask ask) asks
@@ -21,7 +21,7 @@ filter_yes p x xs h = ap (λ (b : Bool). cond b (x ∷ filter p xs) (filter p xs
 filter_no : (p : Ask → Bool) (x : Ask) (xs : List Ask) → p x ≡ false → filter p (x ∷ xs) ≡ filter p xs
 filter_no p x xs h = ap (λ (b : Bool). cond b (x ∷ filter p xs) (filter p xs)) h
 
--- behind mail there is mail alone
+-- after mail there is mail alone
 mail_alone : (asks : List Ask) → AreInOrder true asks → (filter is_bank_ask asks ≡ []) × (filter is_mail_ask asks ≡ asks)
 mail_alone [] h = (refl, refl)
 mail_alone (x ∷ xs) h =

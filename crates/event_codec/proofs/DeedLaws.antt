@@ -84,7 +84,7 @@ wanted_of : (wanted : Option Family) (deed : Deed) → IsOf wanted deed → is_w
 wanted_of None deed h = refl
 wanted_of (Some family) deed h = subst (λ (f : Family). is_kind_of f (deed_kind deed) ≡ true) h (family_kind deed)
 
--- ---- a deed behind its kind
+-- ---- a deed after its kind
 
 record DeedStands (kind : ℕ) (rec : List ℕ) (at : ℕ) (found : Deed × ℕ) : Type 0 where
   stands : StandsAt rec at (deed_bytes found.0) found.1

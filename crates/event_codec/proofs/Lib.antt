@@ -1,4 +1,3 @@
-pub mod Fronts
 pub mod Loops
 pub mod PeriodLaws
 pub mod DeedLaws

@@ -1,6 +1,6 @@
 -- Whole records: what is read is coded so, and what is coded so is read.
 use Rattle.std.proofs.Common.{◌≡◌, ℕ, ◌^◌, ◌<◌, ◌≤◌, Bool, true, false, cond, nat_eq, leb, ◌&&◌, ◌||◌, List, [], ◌∷◌, ◌++◌, length, drop, Result, Ok, Err, refl, sym, ap, subst, ◌∙◌, ◌⊎◌, inl, inr, arith}
-use Rattle.std.proofs.lemmas.Bool.{eqb-true, eqb-false, eq-eqb, leb-true, le-leb}
+use Rattle.std.proofs.lemmas.Bool.{eqb-true, eqb-false, eq-eqb, leb-true, le-leb, and_parts}
 use Rattle.std.proofs.lemmas.List.{append-nil, drop_all}
 use Rattle.ofx_types.specs.Calendar.{IsMoment}
 use Rattle.ofx_types.specs.declared.number.Moment.{Moment}
@@ -20,7 +20,7 @@ use Rattle.event_codec.specs.AskList.{AreAsks}
 use Rattle.record_fields.specs.Fields.{IsBytes, StandsAt, IsField}
 use Rattle.record_fields.proofs.Steps.{bind_ok, ok_is, pass_ok, fork, joined, apart, step}
 use Rattle.record_fields.proofs.NumberLaws.{u8_field}
-use Rattle.record_fields.proofs.BoundedLaws.{both, u16_field, u32_field, id_field, moment_field}
+use Rattle.record_fields.proofs.BoundedLaws.{u16_field, u32_field, id_field, moment_field}
 use Rattle.record_fields.proofs.TextLaws.{file_uid_field}
 use Rattle.record_fields.proofs.PartLaws.{text64, text10000}
 use Rattle.event_codec.proofs.AskLaws.{asks_field}
@@ -59,7 +59,7 @@ version_small n (inr (inl h)) = omega arith
 version_small n (inr (inr (inl h))) = omega arith
 version_small n (inr (inr (inr h))) = omega arith
 
-version_field : IsField version_at u16_bytes IsVersion
+pub version_field : IsField version_at u16_bytes IsVersion
 unfolding version_at
 version_field = record {
   stands = λ rec at found bytes le e.
@@ -179,7 +179,7 @@ event_again rec at (Letter user subject body) next le p fits =
       text10000.again rec b.mid body next b.first.within b.second fits.2,
     ) refl
 
--- ---- what stands behind the version
+-- ---- what stands after the version
 
 kind_field : IsField kind_at u8_bytes (λ kind. (1 ≤ kind) × (kind ≤ 4))
 unfolding kind_at
@@ -187,7 +187,7 @@ kind_field = record {
   stands = λ rec at found bytes le e.
       let s = step u8_field rec at _ found bytes le e in
       let g = pass_ok (leb 1 s.value && leb s.value 4) at (Ok (s.value, s.next)) found s.rest in
-      let b = both (leb 1 s.value) (leb s.value 4) g.0 in
+      let b = and_parts (leb 1 s.value) (leb s.value 4) g.0 in
       let low : 1 ≤ s.value = leb-true _ _ b.0 in
       let high : s.value ≤ 4 = leb-true _ _ b.1 in
       subst (λ (f : ℕ × ℕ). StandsAt rec at (u8_bytes f.0) f.1 × ((1 ≤ f.0) × (f.0 ≤ 4))) (ok_is (s.value, s.next) found g.1) (s.stands, (low, high));
@@ -197,7 +197,7 @@ kind_field = record {
       rw (u8_field.again rec at n next le p (omega (arith, fits.1)), low, high) refl;
 }
 
--- what a record holds behind its version
+-- what a record holds after its version
 pub record Holds (rec : List ℕ) (found : Event × Moment) : Type 0 where
   pub stands : StandsAt rec 1 (kind_of_event found.0 ∷ i64_bytes found.1.0 ++ event_bytes found.0) (length rec)
   pub moment : IsMoment found.1.0
@@ -248,7 +248,7 @@ unplaced : {A : Type 0} (r : Result A ℕ) (y : A) → placed r ≡ Ok y → r �
 unplaced (Ok x) y e = cc
 unplaced (Err place) y e = absurd cc
 
--- nothing stands behind the end
+-- nothing stands after the end
 end_is : (rec : List ℕ) → drop (length rec) rec ≡ []
 end_is rec = drop_all (length rec) rec (omega arith)
 

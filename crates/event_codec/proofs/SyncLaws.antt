@@ -3,6 +3,7 @@ use Rattle.std.proofs.Common.{◌≡◌, ℕ, zero, suc, ◌<◌, ◌≤◌, Boo
 use Rattle.std.specs.List.{flat_map, AllByRecursion}
 use Rattle.std.proofs.lemmas.Bool.{eqb-true, lt-ltb}
 use Rattle.std.proofs.lemmas.List.Concat.{flat_map-cons}
+use Rattle.std.proofs.Math.Bool.{and-false}
 use Rattle.ofx_types.specs.SyncForm.{object_family, is_mail_family}
 use Rattle.ofx_types.specs.declared.transfer.Deed.{Deed}
 use Rattle.ofx_types.specs.declared.transfer.Family.{Family}
@@ -22,10 +23,11 @@ use Rattle.record_fields.proofs.BoundedLaws.{u16_field}
 use Rattle.record_fields.proofs.TextLaws.{given_uid_field, nothing_stands}
 use Rattle.record_fields.proofs.PartLaws.{acct_field, text64}
 use Rattle.event_codec.proofs.DeedLaws.{renumbered, deed_field}
+use Rattle.std.proofs.Math.Bool.{and-false}
 
 -- ---- objects
 
--- Behind a mail ask stands mail alone.
+-- After a mail ask stands mail alone.
 abbrev pub IsAllowed : Bool → Bool → Type 0
 IsAllowed is_behind_mail is_mail = is_behind_mail ≡ true → is_mail ≡ true
 
@@ -77,11 +79,6 @@ object_of_stands mail kind rec at next found bytes allowed p e =
     let g = pass_ok (nat_eq kind 3) at (Ok (objects.Mail, next)) found e in
     mail_stands mail rec at next found (renumbered kind 3 rec at next g.0 p) g.1)))
 
--- a test that nothing has to pass
-and_false : (b : Bool) → (b && false) ≡ false
-and_false true = refl
-and_false false = refl
-
 pub not_behind : (mail : Bool) → IsAllowed mail false → mail ≡ false
 not_behind true h = absurd (let t : false ≡ true = h refl in cc)
 not_behind false h = refl
@@ -98,7 +95,7 @@ object_again mail rec at (objects.BankMail account) next le p fits =
     let a = apart rec at (2 ∷ []) (acct_bytes account) next le p in
     rw (u8_field.again rec at 2 a.mid le a.first (omega arith), not_behind mail fits.1, acct_field.again rec a.mid account next a.first.within a.second fits.0) refl
 object_again mail rec at objects.Mail next le p fits =
-    rw (u8_field.again rec at 3 next le p (omega arith), and_false mail) refl
+    rw (u8_field.again rec at 3 next le p (omega arith), and-false mail) refl
 
 pub object_field : (mail : Bool) → IsField (object_at mail) object_bytes (λ object. IsSoundObject object × IsAllowed mail (is_mail_family (object_family object)))
 unfolding object_at
@@ -111,7 +108,7 @@ object_field mail = record {
   again = λ rec at object next le p fits. object_again mail rec at object next le p fits;
 }
 
--- an object that stands behind no mail ask
+-- an object that stands after no mail ask
 pub plain_object_field : IsField (object_at false) object_bytes IsSoundObject
 plain_object_field = record {
   stands = λ rec at found bytes le e. let s = (object_field false).stands rec at found bytes le e in (s.0, s.1.0);

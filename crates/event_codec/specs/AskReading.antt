@@ -34,7 +34,7 @@ period_at rec at = do
   include ← flag_at rec end.1
   Ok (record { start = start.0; end = end.0; include = include.0 }, include.1)
 
--- ---- deeds, each behind its kind
+-- ---- deeds, each after its kind
 
 unfoldable pub transfer_at : List ℕ → ℕ → Result (Deed × ℕ) ℕ
 transfer_at rec at = do
@@ -139,7 +139,7 @@ object_of kind rec at next =
     else (if kind == 3 then Ok (objects.Mail, next)
     else Err at)))
 
--- Behind a mail ask an object of an account has no form from its kind on.
+-- After a mail ask an object of an account has no form from its kind on.
 unfoldable pub object_at : Bool → List ℕ → ℕ → Result (ObjectName × ℕ) ℕ
 object_at is_behind_mail rec at = do
   kind ← u8_at rec at
@@ -194,7 +194,7 @@ statement_at rec at = do
   period ← optional_at period_at rec account.1
   Ok (asks.Statement uid.0 account.0 period.0, period.1)
 
--- Behind a mail ask only mail may stand.
+-- After a mail ask only mail may stand.
 abbrev pub wanted_behind : Bool → Option Family
 wanted_behind false = None
 wanted_behind true = Some families.Mail

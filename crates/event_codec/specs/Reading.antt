@@ -56,7 +56,7 @@ kind_at rec at = do
   kind ← u8_at rec at
   if nat_le 1 kind.0 && nat_le kind.0 4 then Ok kind else Err at
 
--- What stands behind the version, with nothing behind it.
+-- What stands after the version, with nothing after it.
 unfoldable pub behind_version : List ℕ → Result (Event × Moment) ℕ
 behind_version rec = do
   kind ← kind_at rec 1
@@ -85,7 +85,7 @@ record_fault rec = fault_of (record_read rec)
 abbrev pub IsRecordFault : List ℕ → RecordFault → Type 0
 IsRecordFault rec fault = record_fault rec ≡ Some fault
 
--- The place that is told of a fault: of a version it is the first byte.
+-- The place that is told of a fault: of a version it is the first byte. Want of memory has none; 0 stands for it.
 abbrev pub fault_place : RecordFault → ℕ
 fault_place (faults.Version n) = 0
 fault_place (faults.Bad at) = at

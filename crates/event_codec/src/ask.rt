@@ -139,7 +139,7 @@ fn statement(alloc: Global, rec: &[u8], at: usize) -> Result<(Ask, usize), Recor
     Ok((Ask::Statement(uid, account, period), next))
 }
 
-/// The family of the deeds that may stand behind a mail ask, or none where any may.
+/// The family of the deeds that may stand after a mail ask, or none where any may.
 fn wanted_behind(is_behind_mail: bool) -> Option<Family>
     ensures { result ≡ wanted_behind is_behind_mail }
 {
@@ -203,7 +203,7 @@ fn ask_of(
     }
 }
 
-/// The ask at `at`, which has to be of mail behind a mail ask.
+/// The ask at `at`, which has to be of mail after a mail ask.
 #[tactic(auto, unfolding(crate::specs::AskReading::ask_at))]
 fn get_ask(
     alloc: Global,
@@ -239,7 +239,7 @@ fn asks_from(alloc: Global, count: u16, rec: &[u8], at: usize) -> Result<(Asks, 
 
 /// The asks of a file at `at`.
 ///
-/// `Bad(k)` at the first field without a form, at k. Behind an ask of mail only asks of mail have one.
+/// `Bad(k)` at the first field without a form, at k. After an ask of mail only asks of mail have one.
 #[tactic(auto, unfolding(crate::specs::AskReading::asks_at))]
 pub fn get_asks(alloc: Global, rec: &[u8], at: usize) -> Result<(Asks, usize), RecordFault>
     requires { at ≤ length rec.now }
@@ -276,7 +276,7 @@ fn put_ask(ask: &Ask, out: &mut Vec<u8>) -> Result<(), OutOfMemory>
 }
 
 /// Appends at most 65,535 asks that are within their bounds.
-#[tactic(auto, using(crate::proofs::Fronts::front_of_front))]
+#[tactic(auto, using(ofx_types::proofs::Bytes::front_of_front))]
 pub fn put_asks(value: &Asks, out: &mut Vec<u8>) -> Result<(), OutOfMemory>
     requires few { length value.now ≤ 65535 }
     requires sound { AllByRecursion IsSoundAsk value.now }

@@ -31,7 +31,7 @@ pub fn get_object(alloc: Global, rec: &[u8], at: usize) -> Result<(ObjectName, u
     get_object_behind(alloc, false, rec, at)
 }
 
-/// The object at `at`, which may not be an account's behind a mail ask.
+/// The object at `at`, which may not be an account's after a mail ask.
 #[tactic(auto, unfolding(crate::specs::AskReading::object_at))]
 fn get_object_behind(
     alloc: Global,
@@ -229,7 +229,7 @@ fn put_pair(pair: &(TrnUid, Deed), family: Family, out: &mut Vec<u8>) -> Result<
     put_deed(&pair.1, out)
 }
 
-#[tactic(auto, using(crate::proofs::Fronts::front_of_front))]
+#[tactic(auto, using(ofx_types::proofs::Bytes::front_of_front))]
 fn put_pairs(pairs: &[(TrnUid, Deed)], family: Family, out: &mut Vec<u8>) -> Result<(), OutOfMemory>
     requires few { length pairs.now ≤ 65535 }
     requires sound { AllByRecursion (IsSoundPair family) pairs.now }
@@ -243,7 +243,7 @@ fn put_pairs(pairs: &[(TrnUid, Deed)], family: Family, out: &mut Vec<u8>) -> Res
     Ok(())
 }
 
-/// The synchronisation at `at`, which may not be of an account's object behind a mail ask.
+/// The synchronisation at `at`, which may not be of an account's object after a mail ask.
 #[tactic(auto, unfolding(crate::specs::AskReading::sync_at))]
 pub(crate) fn get_sync(
     alloc: Global,

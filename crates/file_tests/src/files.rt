@@ -6,10 +6,8 @@ mod replies;
 mod requests;
 
 use bank_model::Printer;
-use ofx_file::{
-    OfxPrinter, read_reply, read_request, sound_files_are_printable, spelled_replies_are_printable,
-    write_reply, write_request,
-};
+use ofx_file::laws::{sound_files_are_printable, spelled_replies_are_printable};
+use ofx_file::{OfxPrinter, read_reply, read_request, write_reply, write_request};
 use ofx_types::{Moment, RequestFile};
 use std::test::Fail;
 

@@ -85,7 +85,7 @@ const FAULTS: &[(&[u8], HeaderFault)] = &[
     ),
 ];
 
-/// Lines behind the first six, and the first fault.
+/// Lines after the first six, and the first fault.
 const LATER_FAULTS: &[(&[u8], HeaderFault)] = &[
     (b"COMPRESSION:none\n", HeaderFault::Value(7, 89)),
     (

@@ -161,7 +161,7 @@ fn numbers_are_digits_up_to_a_limit(rt: HostRuntime) {
     }
 }
 
-/// Each is printed behind what stands, the widest ones too.
+/// Each is printed after what stands, the widest ones too.
 #[test]
 fn numbers_and_amounts_are_printed(rt: HostRuntime) -> Result<(), Fail> {
     let mut out = Vec::new(rt.alloc());

@@ -1,19 +1,17 @@
 -- The fields so far, and one more.
-use Rattle.std.proofs.Common.{◌≡◌, ℕ, ◌+◌, ◌-◌, ◌*◌, ◌^◌, ◌<◌, ◌≤◌, Bool, true, false, cond, ◌&&◌, List, [], ◌∷◌, ◌++◌, length, get_or, take, drop, map, filter, Option, Some, None, is_some, refl, sym, ap, ◌∙◌, arith}
+use Rattle.std.proofs.Common.{◌≡◌, ℕ, ◌+◌, ◌-◌, ◌*◌, ◌^◌, ◌<◌, ◌≤◌, Bool, true, false, cond, List, [], ◌∷◌, ◌++◌, length, get_or, take, drop, map, filter, Option, Some, None, is_some, refl, sym, ap, ◌∙◌, arith}
 use Rattle.std.specs.Char.{is_ascii_digit, digit_value}
 use Rattle.std.specs.Prelude.{option_map}
 use Rattle.std.specs.Option.{option_to_list}
 use Rattle.std.specs.List.{list_all, list_any}
-use Rattle.std.specs.Str.{all_ascii_digits}
 use Rattle.std.specs.Str.Parse.{digits_value}
-use Rattle.std.specs.Int.{IsInRange}
 use Rattle.std.proofs.lemmas.List.{take_more, take-append-drop, get_or-map, length-map}
 use Rattle.std.proofs.lemmas.List.Folds.{list_any_at}
-use Rattle.std.proofs.lemmas.Bool.{and_from}
 use Rattle.std.proofs.lemmas.List.Recursion.{and_at}
 use Rattle.std.proofs.lemmas.Str.{digit_value_digit}
-use Rattle.std.proofs.lemmas.Str.Parse.{IsNumeralModel, numerals_by_value, tells_all_ascii_digits, digits_value_short, digits_value-take-le}
+use Rattle.std.proofs.lemmas.Str.Parse.{digits_value_short, digits_value-take-le}
 use Rattle.std.proofs.lemmas.Int.Digits.{digits_value_more}
+use Rattle.ofx_types.proofs.Numbers.{digit_in, numerals}
 use Rattle.http_front.specs.Fields.{is_named, values_of, only}
 
 -- ---- values of one name
@@ -63,29 +61,15 @@ values_twice name f xs i d value h one named =
 
 -- ---- digits
 
--- one test of digits is the other
-digits_test : (ds : List ℕ) → list_all is_ascii_digit ds ≡ all_ascii_digits ds
-digits_test [] = refl
-digits_test (d ∷ ds) = ap (λ (t : Bool). is_ascii_digit d && t) (digits_test ds)
-
-abbrev AreDigits : List ℕ → Type 0
-AreDigits ds = all_ascii_digits ds ≡ true
-
-own : IsNumeralModel AreDigits (digits_value 10)
-own = numerals_by_value AreDigits tells_all_ascii_digits
-
 -- 9 digits stay below 10 ^ 9, and so do the first of them
 pub value_small : (ds : List ℕ) (i : ℕ) → list_all is_ascii_digit ds ≡ true → length ds ≤ 9 → digits_value 10 (take i ds) < 10 ^ 9
-value_small ds i digits few = omega (arith, digits_value-take-le 10 ds i (omega arith), digits_value_short own ds 9 (sym (digits_test ds) ∙ digits) few)
-
-range_of : (c : ℕ) → is_ascii_digit c ≡ true → IsInRange 48 57 c
-range_of c h = let parts = tells_all_ascii_digits.parts c [] (and_from _ _ h refl) in parts.0
+value_small ds i digits few = omega (arith, digits_value-take-le 10 ds i (omega arith), digits_value_short numerals ds 9 digits few)
 
 -- one digit more
 pub value_step : (ds : List ℕ) (i : ℕ) → i < length ds → list_all is_ascii_digit ds ≡ true → (10 * digits_value 10 (take i ds) + (get_or ds i 0 - 48) ≡ digits_value 10 (take (i + 1) ds)) × (48 ≤ get_or ds i 0)
 value_step ds i lt digits =
     let digit : is_ascii_digit (get_or ds i 0) ≡ true = and_at (list_all is_ascii_digit) is_ascii_digit refl (λ _ _. refl) ds i 0 lt digits in
-    let value : digit_value (get_or ds i 0) + 48 ≡ get_or ds i 0 = digit_value_digit (get_or ds i 0) (range_of _ digit) in
+    let value : digit_value (get_or ds i 0) + 48 ≡ get_or ds i 0 = digit_value_digit (get_or ds i 0) (digit_in _ digit) in
     (omega (arith, digits_value_more 10 ds i lt, value), omega (arith, value))
 
 -- ---- one field that passes a test

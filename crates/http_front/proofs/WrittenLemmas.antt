@@ -1,5 +1,5 @@
 -- The heads that are written, as heads of the grammar.
-use Rattle.std.proofs.Common.{◌≡◌, ℕ, ◌+◌, ◌%◌, ◌^◌, ◌<◌, ◌≤◌, ◌⊎◌, inl, inr, Bool, true, false, ◌&&◌, ◌||◌, cond, eqb, List, [], ◌∷◌, ◌++◌, length, codes, reverse, map, Some, None, refl, sym, ap, subst, ◌∙◌, arith, append_assoc, length-append, append-nil, lit<, lit≤}
+use Rattle.std.proofs.Common.{◌≡◌, ℕ, ◌+◌, ◌^◌, ◌<◌, ◌≤◌, ◌⊎◌, inl, inr, Bool, true, false, ◌||◌, cond, eqb, List, [], ◌∷◌, ◌++◌, length, codes, reverse, map, Some, None, refl, sym, ap, subst, ◌∙◌, arith, append_assoc, length-append, append-nil, lit<, lit≤}
 use Rattle.std.specs.Prelude.{All, IsTrue}
 use Rattle.std.specs.Char.{is_ascii_digit}
 use Rattle.std.specs.Fmt.{decimal, digits}
@@ -8,10 +8,9 @@ use Rattle.std.specs.Str.{IsAscii}
 use Rattle.std.specs.Str.Parse.{digits_value}
 use Rattle.std.proofs.lemmas.Bool.{and_from, le-leb, or_cases, eqb-true}
 use Rattle.std.proofs.lemmas.Bool.{cond-false}
-use Rattle.std.proofs.lemmas.Fmt.{decimal_by_steps, decimal_is_IsNumeral, length-decimal-le}
+use Rattle.std.proofs.lemmas.Fmt.{decimal_is_IsNumeral, length-decimal-le}
 use Rattle.std.proofs.lemmas.Grind.{common_steps}
 use Rattle.std.proofs.lemmas.List.Elements.{All-cons, All-nil, All-weaker}
-use Rattle.std.proofs.lemmas.List.Folds.{list_all-append}
 use Rattle.std.proofs.lemmas.List.Sums.{AllPass-from_list_all}
 use Rattle.std.proofs.lemmas.Str.{IsUtf8-from_ascii}
 use Rattle.std.proofs.lemmas.Str.Ascii.{IsAscii-cons, IsAscii-nil}
@@ -20,20 +19,13 @@ use Rattle.httparse.specs.Spans.{name_and_value}
 use Rattle.httparse.proofs.GrammarLemmas.{cons-append, print_response-append, print_request-append}
 use Rattle.httparse.proofs.TrimLemmas.{AllPass-reverse, trim_ows_space}
 use Rattle.ofx_types.specs.NumberReading.{number_at}
+use Rattle.ofx_types.proofs.Numbers.{decimal_digits}
 use Rattle.http_front.specs.Fields.{usable_length, says_close}
 use Rattle.http_front.proofs.TargetLemmas.{token_from}
 use Rattle.http_front.specs.Heads.{BeginsResponse, response_told, BeginsRequest, request_told}
 use Rattle.http_front.specs.HeadText.{IsReplyCode, phrase, media_type, field_line, ending, status_line, reply_head, post_head}
 
 -- ---- numbers
-
-digit_byte : (d : ℕ) → d < 10 → is_ascii_digit (48 + d) ≡ true
-digit_byte d less = grind (arith, common_steps)
-
-decimal_digits : (n : ℕ) → n < 2 ^ 64 → list_all is_ascii_digit (decimal n) ≡ true
-decimal_digits = decimal_by_steps (λ n ds. list_all is_ascii_digit ds ≡ true)
-    (λ n h. ap (λ b. b && true) (digit_byte n h))
-    (λ n ds h p. list_all-append is_ascii_digit ds ((48 + n % 10) ∷ []) ∙ and_from _ _ p (ap (λ b. b && true) (digit_byte (n % 10) (omega arith))))
 
 length_again : (n : ℕ) → n < 10 ^ 9 → number_at 9 (decimal n) ≡ Some n
 unfolding number_at

@@ -33,6 +33,6 @@ is_close field = is_named (codes "Connection") field && str_eq_ignore_ascii_case
 unfoldable pub says_close : List (List ℕ × List ℕ) → Bool
 says_close fields = list_any is_close fields
 
--- the sender's connection ends behind this message: it is HTTP/1.0, or says so
+-- the sender's connection ends after this message: it is HTTP/1.0, or says so
 abbrev pub is_last : ℕ → List (List ℕ × List ℕ) → Bool
 is_last minor fields = minor == 0 || says_close fields

@@ -17,7 +17,7 @@ phrase code =
     if code == 413 then codes "Payload Too Large" else (
     if code == 500 then codes "Internal Server Error" else codes "Service Unavailable"))))))
 
--- the body's media type: an OFX file behind 200, and a text behind the others
+-- the body's media type: an OFX file after 200, and a text after the others
 abbrev pub media_type : ℕ → List ℕ
 media_type code = if code == 200 then codes "application/x-ofx" else codes "text/plain"
 
@@ -25,11 +25,11 @@ media_type code = if code == 200 then codes "application/x-ofx" else codes "text
 abbrev pub field_line : List ℕ → List ℕ → List ℕ
 field_line name value = name ++ (codes ": " ++ (value ++ codes "\r\n"))
 
--- behind 405 the method that is allowed is named
+-- after 405 the method that is allowed is named
 abbrev pub allowed : ℕ → List ℕ
 allowed code = if code == 405 then field_line (codes "Allow") (codes "POST") else []
 
--- whether the connection ends behind the reply
+-- whether the connection ends after the reply
 abbrev pub ending : Bool → List ℕ
 ending last = if last then codes "close" else codes "keep-alive"
 

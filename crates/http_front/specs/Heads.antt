@@ -8,7 +8,7 @@ use Rattle.http_front.specs.declared.head.HeadFault.{HeadFault}
 use Rattle.http_front.specs.declared.head.HeadFault.TheVariants.{NotYet, Bad}
 use Rattle.http_front.specs.Fields.{usable_length, is_last}
 
--- A head is taken where it has at most 8,192 bytes and at most 64 fields. Its bytes are all those up to the end of the empty line behind its fields; empty lines before its first line are among them.
+-- A head is taken where it has at most 8,192 bytes and at most 64 fields. Its bytes are all those up to the end of the empty line after its fields; empty lines before its first line are among them.
 abbrev pub IsTaken : ℕ → ℕ → Type 0
 IsTaken size fields = (size ≤ 8192) × (fields ≤ 64)
 
@@ -26,7 +26,7 @@ pub record AwaitsRequest (bytes : List ℕ) : Type 0 where
   pub none : HasNoRequest bytes
   pub may : MayBecomeRequest bytes
 
--- What a request's head tells: whether the method is POST and the target `/ofx`, byte for byte; the usable length of the body; whether the connection ends behind it; and its number of bytes.
+-- What a request's head tells: whether the method is POST and the target `/ofx`, byte for byte; the usable length of the body; whether the connection ends after it; and its number of bytes.
 abbrev pub request_told : RequestHead → Head
 request_told h =
     let fields = map name_and_value h.fields in

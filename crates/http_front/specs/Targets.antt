@@ -2,7 +2,7 @@
 use Rattle.std.specs.Prelude.{◌≡◌, ℕ, Bool, ◌==◌, List, ◌∷◌, ◌++◌}
 use Rattle.httparse.specs.Grammar.{is_uri_byte, AllPass, IsToken, LineEnd, print_end, print_blank}
 
--- the space behind a method
+-- the space after a method
 abbrev pub is_space : ℕ → Bool
 is_space b = b == 32
 
@@ -10,7 +10,7 @@ is_space b = b == 32
 abbrev pub BeginsNoLine : List ℕ → Type 0
 BeginsNoLine text = (end : LineEnd) (rest : List ℕ) → ¬ (text ≡ print_end end ++ rest)
 
--- the text is what stands behind all empty lines at the front of the bytes
+-- the text is what stands after all empty lines at the front of the bytes
 abbrev pub StandsBehindBlank : List ℕ → List ℕ → Type 0
 StandsBehindBlank bytes text = (blank : List LineEnd) × (bytes ≡ print_blank blank ++ text)
 

@@ -9,9 +9,9 @@ pub struct Head {
     pub path_is_ofx: bool,
     /// The body's number of bytes, where the head states it in a form that is taken.
     pub length: Option<u64>,
-    /// The connection ends behind this request: it is HTTP/1.0, or a Connection field says `close`.
+    /// The connection ends after this request: it is HTTP/1.0, or a Connection field says `close`.
     pub last: bool,
-    /// The head's number of bytes. The body stands behind them.
+    /// The head's number of bytes. The body stands after them.
     pub size: usize,
 }
 
@@ -22,7 +22,7 @@ pub struct ReplyHead {
     pub code: u16,
     /// The body's number of bytes, where the head states it in a form that is taken.
     pub length: Option<u64>,
-    /// The head's number of bytes. The body stands behind them.
+    /// The head's number of bytes. The body stands after them.
     pub size: usize,
 }
 

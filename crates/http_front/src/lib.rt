@@ -7,13 +7,12 @@
 
 mod fields;
 mod head;
-mod laws;
+pub mod laws;
 mod request;
 mod response;
 mod writing;
 
 pub use head::{Head, HeadFault, ReplyHead};
-pub use laws::{bad_heads_stay, heads_stay, one_head, written_heads_are_read};
 pub use request::read_request;
 pub use response::read_response;
 pub use writing::{HEAD_ROOM, write_head, write_post};

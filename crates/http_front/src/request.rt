@@ -101,7 +101,7 @@ fn are_target_bytes(bytes: &[u8]) -> bool
     bytes.iter().all(|b| is_uri_token(*b))
 }
 
-/// The bytes behind all empty lines at the front.
+/// The bytes after all empty lines at the front.
 fn behind_empty_lines(buf: &[u8]) -> &[u8]
     ensures split { StandsBehindBlank buf.now result.now }
     ensures all { BeginsNoLine result.now }
@@ -113,7 +113,7 @@ fn behind_empty_lines(buf: &[u8]) -> &[u8]
     rest
 }
 
-/// The bytes behind the empty line at the front, if there is one.
+/// The bytes after the empty line at the front, if there is one.
 fn behind_empty_line(text: &[u8]) -> Option<&[u8]>
     ensures split { IfSome result (λ rest. (end : LineEnd) × (text.now ≡ print_end end ++ rest.now)) }
     ensures none { IfNone result (BeginsNoLine text.now) }

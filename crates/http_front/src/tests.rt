@@ -1,9 +1,12 @@
 //! Each public call once, and tables of heads: what they tell, where they are cut, and those that are bad.
 
+ghost use Rattle.http_front.specs.HeadText.{IsReplyCode};
+
 use crate::{
     HEAD_ROOM, Head, HeadFault, ReplyHead, read_request, read_response, write_head, write_post,
 };
 use std::alloc::Global;
+use std::process::Abort;
 use std::test::Fail;
 
 const HEAD: &[u8; 58] = b"POST /ofx HTTP/1.1\r\nHost: localhost\r\nContent-Length: 5\r\n\r\n";
@@ -254,79 +257,133 @@ fn replies_are_told(rt: HostRuntime) -> Result<(), Fail> {
     Ok(())
 }
 
-#[test]
-fn heads_of_replies_are_written(rt: HostRuntime) -> Result<(), Fail> {
-    for (code, last, first, end) in [
-        (
-            200,
-            false,
-            b"HTTP/1.1 200 OK\r\nContent-Type: application/x-ofx\r\n".as_slice(),
-            b"keep-alive".as_slice(),
-        ),
-        (
-            400,
-            true,
-            b"HTTP/1.1 400 Bad Request\r\nContent-Type: text/plain\r\n",
-            b"close",
-        ),
-        (
-            404,
-            true,
-            b"HTTP/1.1 404 Not Found\r\nContent-Type: text/plain\r\n",
-            b"close",
-        ),
-        (
-            405,
-            true,
-            b"HTTP/1.1 405 Method Not Allowed\r\nAllow: POST\r\nContent-Type: text/plain\r\n",
-            b"close",
-        ),
-        (
-            411,
-            true,
-            b"HTTP/1.1 411 Length Required\r\nContent-Type: text/plain\r\n",
-            b"close",
-        ),
-        (
-            413,
-            true,
-            b"HTTP/1.1 413 Payload Too Large\r\nContent-Type: text/plain\r\n",
-            b"close",
-        ),
-        (
-            500,
-            true,
-            b"HTTP/1.1 500 Internal Server Error\r\nContent-Type: text/plain\r\n",
-            b"close",
-        ),
-        (
-            503,
-            false,
-            b"HTTP/1.1 503 Service Unavailable\r\nContent-Type: text/plain\r\n",
-            b"keep-alive",
-        ),
-    ] {
-        let text = joined(
-            rt.alloc(),
-            &[
-                first,
-                b"Content-Length: 1234\r\nConnection: ",
-                end,
-                b"\r\n\r\n",
-            ],
-        )?;
-        let mut written = joined(rt.alloc(), &[b"before"])?;
-        write_head(code, 1234, last, &mut written)?;
-        let wanted = joined(rt.alloc(), &[b"before", &text])?;
-        assert_eq!(rt; written.as_slice(), wanted.as_slice());
-        let told = ReplyHead {
-            code,
-            length: Some(1234),
-            size: text.len(),
-        };
-        assert!(rt; read_response(&text) == Ok(told));
-    }
+/// The head of a reply of 1,234 bytes is written so, after what stands there, and is read as what was written.
+fn check_head(
+    rt: &impl Abort,
+    alloc: Global,
+    code: u16,
+    last: bool,
+    first: &[u8],
+    end: &[u8],
+) -> Result<(), Fail>
+    requires { IsReplyCode code }
+{
+    let text = joined(
+        alloc,
+        &[
+            first,
+            b"Content-Length: 1234\r\nConnection: ",
+            end,
+            b"\r\n\r\n",
+        ],
+    )?;
+    let mut written = joined(alloc, &[b"before"])?;
+    write_head(code, 1234, last, &mut written)?;
+    let wanted = joined(alloc, &[b"before", &text])?;
+    assert_eq!(rt; written.as_slice(), wanted.as_slice());
+    let told = ReplyHead {
+        code,
+        length: Some(1234),
+        size: text.len(),
+    };
+    assert!(rt; read_response(&text) == Ok(told));
     Ok(())
+}
+
+#[test]
+fn the_head_of_200_is_written(rt: HostRuntime) -> Result<(), Fail> {
+    check_head(
+        &rt,
+        rt.alloc(),
+        200,
+        false,
+        b"HTTP/1.1 200 OK\r\nContent-Type: application/x-ofx\r\n",
+        b"keep-alive",
+    )
+}
+
+#[test]
+fn the_head_of_400_is_written(rt: HostRuntime) -> Result<(), Fail> {
+    check_head(
+        &rt,
+        rt.alloc(),
+        400,
+        true,
+        b"HTTP/1.1 400 Bad Request\r\nContent-Type: text/plain\r\n",
+        b"close",
+    )
+}
+
+#[test]
+fn the_head_of_404_is_written(rt: HostRuntime) -> Result<(), Fail> {
+    check_head(
+        &rt,
+        rt.alloc(),
+        404,
+        true,
+        b"HTTP/1.1 404 Not Found\r\nContent-Type: text/plain\r\n",
+        b"close",
+    )
+}
+
+#[test]
+fn the_head_of_405_is_written(rt: HostRuntime) -> Result<(), Fail> {
+    check_head(
+        &rt,
+        rt.alloc(),
+        405,
+        true,
+        b"HTTP/1.1 405 Method Not Allowed\r\nAllow: POST\r\nContent-Type: text/plain\r\n",
+        b"close",
+    )
+}
+
+#[test]
+fn the_head_of_411_is_written(rt: HostRuntime) -> Result<(), Fail> {
+    check_head(
+        &rt,
+        rt.alloc(),
+        411,
+        true,
+        b"HTTP/1.1 411 Length Required\r\nContent-Type: text/plain\r\n",
+        b"close",
+    )
+}
+
+#[test]
+fn the_head_of_413_is_written(rt: HostRuntime) -> Result<(), Fail> {
+    check_head(
+        &rt,
+        rt.alloc(),
+        413,
+        true,
+        b"HTTP/1.1 413 Payload Too Large\r\nContent-Type: text/plain\r\n",
+        b"close",
+    )
+}
+
+#[test]
+fn the_head_of_500_is_written(rt: HostRuntime) -> Result<(), Fail> {
+    check_head(
+        &rt,
+        rt.alloc(),
+        500,
+        true,
+        b"HTTP/1.1 500 Internal Server Error\r\nContent-Type: text/plain\r\n",
+        b"close",
+    )
+}
+
+#[test]
+fn the_head_of_503_is_written(rt: HostRuntime) -> Result<(), Fail> {
+    check_head(
+        &rt,
+        rt.alloc(),
+        503,
+        false,
+        b"HTTP/1.1 503 Service Unavailable\r\nContent-Type: text/plain\r\n",
+        b"keep-alive",
+    )
 }
 
 #[test]

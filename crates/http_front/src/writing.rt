@@ -11,7 +11,7 @@ use ofx_types::OutOfMemory;
 /// More bytes than a written head has. Where there is room for so many, writing one takes no memory.
 pub const HEAD_ROOM: usize = 512;
 
-/// Appends the head of a reply: its code, the length of its body, and whether the connection ends behind it.
+/// Appends the head of a reply: its code, the length of its body, and whether the connection ends after it.
 ///
 /// After `OutOfMemory` nothing is appended. Where `out` has room for 512 bytes, no memory is taken.
 pub fn write_head(code: u16, length: u64, last: bool, out: &mut Vec<u8>) -> Result<(), OutOfMemory>

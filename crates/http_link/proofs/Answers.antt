@@ -11,7 +11,7 @@ use Rattle.http_link.specs.declared.answer.Answer.{Answer}
 use Rattle.http_link.specs.declared.served.ServeError.{ServeError}
 use Rattle.http_link.specs.declared.served.ServeError.TheVariants.{ReadFault, WriteFault, Cut, OutOfMemory}
 
--- a head's bytes and what stands behind them
+-- a head's bytes and what stands after them
 parts : (bytes : List ℕ) (head : ReplyHead) (rest : List ℕ) → (has : HasReplyHead bytes head rest) → (bytes ≡ print_response has.h ++ rest) × (head.size ≡ length (print_response has.h))
 parts bytes head rest has = (has.begins.0.1, ap (λ (h : ReplyHead). h.size) has.told_is)
 
@@ -23,7 +23,7 @@ reply_head-more bytes more head rest has = record {
   told_is = has.told_is;
 }
 
--- and when bytes behind it are cut
+-- and when bytes after it are cut
 head-cut : (bytes : List ℕ) (head : ReplyHead) (rest : List ℕ) (size : ℕ) → HasReplyHead bytes head rest → head.size ≤ size
     → HasReplyHead (take size bytes) head (take (size - head.size) (drop head.size bytes))
 head-cut bytes head rest size has low =

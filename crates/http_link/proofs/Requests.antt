@@ -13,7 +13,7 @@ use Rattle.http_link.specs.declared.refusal.Refusal.TheVariants.{BadHead, NotPos
 use Rattle.http_link.specs.declared.served.ServeError.{ServeError}
 use Rattle.http_link.specs.declared.served.ServeError.TheVariants.{ReadFault, WriteFault, Cut, OutOfMemory}
 
--- a head's bytes and what stands behind them
+-- a head's bytes and what stands after them
 parts : (bytes : List ℕ) (head : Head) (rest : List ℕ) → (has : HasHead bytes head rest) → (bytes ≡ print_request has.h ++ rest) × (head.size ≡ length (print_request has.h))
 parts bytes head rest has = (has.begins.0.1, ap (λ (h : Head). h.size) has.told_is)
 
@@ -25,7 +25,7 @@ head-more bytes more head rest has = record {
   told_is = has.told_is;
 }
 
--- and when bytes behind it are cut
+-- and when bytes after it are cut
 pub head-cut : (bytes : List ℕ) (head : Head) (rest : List ℕ) (size : ℕ) → HasHead bytes head rest → head.size ≤ size
     → HasHead (take size bytes) head (take (size - head.size) (drop head.size bytes))
 head-cut bytes head rest size has low =

@@ -1,22 +1,10 @@
 -- What is written in parts.
-use Rattle.std.proofs.Common.{◌≡◌, ℕ, ◌+◌, ◌-◌, ◌≤◌, List, ◌++◌, length, take, drop, Option, Result, Ok, Err, OnErr, sym, ap, ◌∙◌, subst, arith, length-append, length-drop}
+use Rattle.std.proofs.Common.{ℕ, ◌+◌, ◌≤◌, List, ◌++◌, length, take, Option, Result, Ok, Err, OnErr, sym, subst, arith, length-append}
 use Rattle.std.specs.Io.KnownBytes.{Appends}
 use Rattle.std.proofs.KnownBytes.{Appends-trans}
-use Rattle.std.proofs.lemmas.List.{take_rest, take-append-le}
-use Rattle.std.proofs.Math.Seq.{take-add, take-append-add}
+use Rattle.std.proofs.lemmas.List.{take-append-le}
+use Rattle.std.proofs.Math.Seq.{take-append-add}
 use Rattle.ofx_ports.specs.Writes.{AppendsPart}
-
--- the bytes behind a place, as a slice gives them
-pub rest_length : (done : ℕ) (bytes : List ℕ) → length (take (length bytes - done) (drop done bytes)) ≡ length bytes - done
-rest_length done bytes = ap length (take_rest bytes done) ∙ length-drop done bytes
-
--- a front is written, and then more of the bytes
-pub written_more : (before mid after : Option (List ℕ)) (done count : ℕ) (bytes : List ℕ) → Appends before mid (take done bytes)
-    → Appends mid after (take count (take (length bytes - done) (drop done bytes))) → Appends before after (take (done + count) bytes)
-written_more before mid after done count bytes front more =
-    let joined : take done bytes ++ take count (take (length bytes - done) (drop done bytes)) ≡ take (done + count) bytes =
-    ap (λ (l : List ℕ). take done bytes ++ take count l) (take_rest bytes done) ∙ sym (take-add done count bytes) in
-    rw (sym joined) (Appends-trans before mid after _ _ front more)
 
 -- a front of the first of two texts is a front of both
 pub front_of_first : (before after : Option (List ℕ)) (first second : List ℕ) → AppendsPart before after first → AppendsPart before after (first ++ second)

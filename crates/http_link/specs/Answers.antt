@@ -16,7 +16,7 @@ use Rattle.http_link.specs.declared.answer.Answer.{Answer}
 abbrev pub request_of : List ℕ → List ℕ
 request_of body = post_head (length body) ++ body
 
--- A reply's head that is taken begins the bytes and tells this, and the rest stands behind it.
+-- A reply's head that is taken begins the bytes and tells this, and the rest stands after it.
 pub record HasReplyHead (bytes : List ℕ) (head : ReplyHead) (rest : List ℕ) : Type 0 where
   pub h : ResponseHead
   pub begins : BeginsResponse bytes h rest
@@ -41,7 +41,7 @@ pub record HasNoLength (bytes : List ℕ) : Type 0 where
 abbrev pub HasBadHead : List ℕ → Type 0
 HasBadHead bytes = HasNoHead bytes ⊎ HasNoLength bytes
 
--- A whole reply is a usable head, and behind it the body, which has the length that the head tells.
+-- A whole reply is a usable head, and after it the body, which has the length that the head tells.
 pub record IsWholeReply (bytes : List ℕ) (head : ReplyHead) (body : List ℕ) : Type 0 where
   pub has_head : HasReplyHead bytes head body
   pub length_is : head.length ≡ Some (length body)

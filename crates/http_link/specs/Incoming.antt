@@ -11,7 +11,7 @@ use Rattle.http_link.specs.declared.request.Next.TheVariants as nexts
 use Rattle.http_link.specs.declared.served.ServeError.{ServeError}
 use Rattle.http_link.specs.declared.served.ServeError.TheVariants.{ReadFault, WriteFault, Cut, OutOfMemory}
 
--- Bytes may have come behind those that were there.
+-- Bytes may have come after those that were there.
 abbrev pub GrowsOn : List ℕ → List ℕ → Type 0
 GrowsOn old new = (more : List ℕ) × (new ≡ old ++ more)
 
@@ -22,13 +22,13 @@ IsDry before now OutOfMemory = Unit {0}
 IsDry before now WriteFault = ⊥
 IsDry before now (Cut count) = ⊥
 
--- What stands in front of the bytes: nothing, behind which nothing comes; a head, or no head whatever comes.
+-- What stands in front of the bytes: nothing, after which nothing comes; a head, or no head whatever comes.
 abbrev pub IsFront : List ℕ → Option (List ℕ) → Front → Type 0
 IsFront bytes left fronts.End = (bytes ≡ []) × IsAtEnd left
 IsFront bytes left fronts.Bad = HasBadHead bytes
 IsFront bytes left (fronts.Told head) = (0 < head.size) × (head.size ≤ 8192) × (head.size ≤ length bytes) × ((rest : List ℕ) × HasHead bytes head rest)
 
--- A link that ended behind so many bytes of a head ended where a request had, or in one.
+-- A link that ended after so many bytes of a head ended where a request had, or in one.
 abbrev pub LinkEnds : ℕ → Result Front ServeError → Type 0
 LinkEnds count (Ok fronts.End) = count ≡ 0
 LinkEnds count (Ok fronts.Bad) = ⊥

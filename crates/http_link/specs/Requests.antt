@@ -6,7 +6,7 @@ use Rattle.http_front.specs.declared.head.Head.{Head}
 use Rattle.http_link.specs.declared.refusal.Refusal.{Refusal}
 use Rattle.http_link.specs.declared.refusal.Refusal.TheVariants.{BadHead, NotPost, NotFound, NoLength, TooLarge}
 
--- A head that is taken begins the bytes and tells this, and the rest stands behind it.
+-- A head that is taken begins the bytes and tells this, and the rest stands after it.
 pub record HasHead (bytes : List ℕ) (head : Head) (rest : List ℕ) : Type 0 where
   pub h : RequestHead
   pub begins : BeginsRequest bytes h rest
@@ -39,7 +39,7 @@ IsRefusedByHead bytes refusal = (head : Head) × HasHead bytes head [] × (head_
 
 -- ---- bodies
 
--- A whole request is a head that isn't refused, and behind it the body, which has the length that the head tells.
+-- A whole request is a head that isn't refused, and after it the body, which has the length that the head tells.
 pub record IsWhole (bytes : List ℕ) (head : Head) (body : List ℕ) : Type 0 where
   pub has_head : HasHead bytes head body
   pub unrefused : head_refusal head ≡ None

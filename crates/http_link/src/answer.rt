@@ -18,7 +18,7 @@ const MOST_BODY: u64 = 67_108_864;
 pub struct Answer {
     /// The status code, below 1,000.
     pub code: u16,
-    /// The number of bytes of its head. The body stands behind them.
+    /// The number of bytes of its head. The body stands after them.
     pub head: usize,
     /// The number of bytes of head and body.
     pub size: usize,
@@ -88,7 +88,7 @@ fn reply_head<L: Link>(incoming: &mut Incoming, link: &mut L) -> Result<ReplyHea
     }
 }
 
-/// Reads the body behind the head that stands in front.
+/// Reads the body after the head that stands in front.
 fn reply_body<L: Link>(
     incoming: &mut Incoming,
     link: &mut L,

@@ -53,7 +53,7 @@ impl Incoming {
         self.bytes.truncate(end - count);
     }
 
-    /// Reads more bytes behind those that have come, and answers how many: 0 where the link has ended. Room for them is made
+    /// Reads more bytes after those that have come, and answers how many: 0 where the link has ended. Room for them is made
     /// first, so that none is lost.
     ///
     /// `ReadFault`, `OutOfMemory`.
@@ -90,7 +90,7 @@ fn shift(buffer: &mut [u8], start: usize, end: usize)
     buffer.copy_within(start..end, 0);
 }
 
-/// Puts bytes behind others, where there is room for them.
+/// Puts bytes after others, where there is room for them.
 fn append(bytes: &mut Vec<u8>, more: &[u8])
     requires { vec_len bytes.old + length more.now ≤ vec_capacity bytes.old }
     ensures { bytes.new.items ≡ bytes.old.items ++ more.now }

@@ -83,7 +83,7 @@ fn read_head<L: Link>(incoming: &mut Incoming, link: &mut L) -> Result<Front, Se
     }
 }
 
-/// What a link that has ended behind so many bytes of a head is.
+/// What a link that has ended after so many bytes of a head is.
 fn link_end(count: usize) -> Result<Front, ServeError>
     ensures { LinkEnds count result }
 {
@@ -132,7 +132,7 @@ pub fn next_request<L: Link>(incoming: &mut Incoming, link: &mut L) -> Result<Ne
     }
 }
 
-/// Reads the body behind the head that stands in front, unless the head refuses the request.
+/// Reads the body after the head that stands in front, unless the head refuses the request.
 fn next_body<L: Link>(incoming: &mut Incoming, link: &mut L, head: Head) -> Result<Next, ServeError>
     requires head { (rest : List ℕ) × HasHead incoming.old head rest }
     requires within { head.size ≤ length incoming.old }

@@ -14,8 +14,9 @@ use Rattle.ofx_types.specs.declared.transfer.Change.TheVariants.{NewTransfer, Se
 use Rattle.ofx_types.specs.declared.transfer.Family.{Family}
 use Rattle.ofx_types.specs.declared.transfer.Family.TheVariants.{Intra, RecIntra, BankMail, Mail}
 use Rattle.ofx_types.specs.declared.transfer.DeedReply.{DeedReply}
+use Rattle.ofx_types.proofs.Bytes.{bytes_eq_is, went}
 use Rattle.ofx_tree.specs.Placed.{Stands, Any, IsWithin}
-use Rattle.ofx_tree.proofs.FormLaws.{bind_ok, bind_to, one_value, chosen, bytes_same, one_of_found, one_of_again, has_one_of, text_in_found, text_in_again}
+use Rattle.ofx_tree.proofs.FormLaws.{bind_ok, bind_to, one_value, one_of_found, one_of_again, has_one_of, text_in_found, text_in_again}
 use Rattle.ofx_tree.proofs.FormPlaces.{bound, either, one_of_within, text_within}
 use Rattle.msg_parts.proofs.Statuses.{status_found, status_again, status_within}
 use Rattle.msg_parts.proofs.Named.{third_name, none_of_three, other_name, two_named}
@@ -26,12 +27,12 @@ use Rattle.msg_deed.proofs.ModelReplies.{new_model_found, set_model_found, drop_
 
 transfer_reply : (reply : Item) (change : Change) → is_one_of transfer_replies reply.node.name ≡ true → change_of reply ≡ Ok change → IsChange reply change
 unfolding change_of
-transfer_reply reply change named h = elim (chosen (has_name (codes "INTRARS") reply) _ _ _ h) [
-  | inl (is, read) ↦ new_found reply change (bytes_same _ _ is) read
-  | inr (first, more) ↦ elim (chosen (has_name (codes "INTRAMODRS") reply) _ _ _ more) [
-    | inl (is, read) ↦ set_found reply change (bytes_same _ _ is) read
-    | inr (second, last) ↦ elim (chosen (has_name (codes "INTRACANRS") reply) _ _ _ last) [
-      | inl (is, read) ↦ drop_found reply change (bytes_same _ _ is) read
+transfer_reply reply change named h = elim (went (has_name (codes "INTRARS") reply) _ _ _ h) [
+  | inl (is, read) ↦ new_found reply change (bytes_eq_is _ _ is) read
+  | inr (first, more) ↦ elim (went (has_name (codes "INTRAMODRS") reply) _ _ _ more) [
+    | inl (is, read) ↦ set_found reply change (bytes_eq_is _ _ is) read
+    | inr (second, last) ↦ elim (went (has_name (codes "INTRACANRS") reply) _ _ _ last) [
+      | inl (is, read) ↦ drop_found reply change (bytes_eq_is _ _ is) read
       | inr (third, read) ↦ absurd (none_of_three _ _ _ named first second third)
     ]
   ]
@@ -39,16 +40,16 @@ transfer_reply reply change named h = elim (chosen (has_name (codes "INTRARS") r
 
 model_reply : (reply : Item) (change : Change) → is_one_of model_replies reply.node.name ≡ true → change_of reply ≡ Ok change → IsChange reply change
 unfolding change_of
-model_reply reply change named h = elim (chosen (has_name (codes "INTRARS") reply) _ _ _ h) [
-  | inl (is, read) ↦ absurd (other_name model_replies reply.node.name (codes "INTRARS") refl named (bytes_same reply.node.name (codes "INTRARS") is))
-  | inr (_, behind) ↦ elim (chosen (has_name (codes "INTRAMODRS") reply) _ _ _ behind) [
-    | inl (is, read) ↦ absurd (other_name model_replies reply.node.name (codes "INTRAMODRS") refl named (bytes_same reply.node.name (codes "INTRAMODRS") is))
-    | inr (_, next) ↦ elim (chosen (has_name (codes "INTRACANRS") reply) _ _ _ next) [
-      | inl (is, read) ↦ absurd (other_name model_replies reply.node.name (codes "INTRACANRS") refl named (bytes_same reply.node.name (codes "INTRACANRS") is))
-      | inr (_, more) ↦ elim (chosen (has_name (codes "RECINTRARS") reply) _ _ _ more) [
-        | inl (is, read) ↦ new_model_found reply change (bytes_same _ _ is) read
-        | inr (first, last) ↦ elim (chosen (has_name (codes "RECINTRAMODRS") reply) _ _ _ last) [
-          | inl (is, read) ↦ set_model_found reply change (bytes_same _ _ is) read
+model_reply reply change named h = elim (went (has_name (codes "INTRARS") reply) _ _ _ h) [
+  | inl (is, read) ↦ absurd (other_name model_replies reply.node.name (codes "INTRARS") refl named (bytes_eq_is reply.node.name (codes "INTRARS") is))
+  | inr (_, behind) ↦ elim (went (has_name (codes "INTRAMODRS") reply) _ _ _ behind) [
+    | inl (is, read) ↦ absurd (other_name model_replies reply.node.name (codes "INTRAMODRS") refl named (bytes_eq_is reply.node.name (codes "INTRAMODRS") is))
+    | inr (_, next) ↦ elim (went (has_name (codes "INTRACANRS") reply) _ _ _ next) [
+      | inl (is, read) ↦ absurd (other_name model_replies reply.node.name (codes "INTRACANRS") refl named (bytes_eq_is reply.node.name (codes "INTRACANRS") is))
+      | inr (_, more) ↦ elim (went (has_name (codes "RECINTRARS") reply) _ _ _ more) [
+        | inl (is, read) ↦ new_model_found reply change (bytes_eq_is _ _ is) read
+        | inr (first, last) ↦ elim (went (has_name (codes "RECINTRAMODRS") reply) _ _ _ last) [
+          | inl (is, read) ↦ set_model_found reply change (bytes_eq_is _ _ is) read
           | inr (second, read) ↦ drop_model_found reply change (third_name reply.node.name _ _ _ named first second) read
         ]
       ]
@@ -114,7 +115,7 @@ change_within most reply h =
 change_by_code_found : (code : ℕ) (family : Family) (transaction : Item) (change : Option Change) → family_told transaction ≡ Ok family →
     change_by_code code transaction ≡ Ok change → IsChangeByCode code family transaction change
 unfolding change_by_code
-change_by_code_found code family transaction change told h = elim (chosen (nat_eq code 0) _ _ _ h) [
+change_by_code_found code family transaction change told h = elim (went (nat_eq code 0) _ _ _ h) [
   | inl (is, read) ↦
       let zero : code ≡ 0 = grind (arith, common_steps, is) in
       let reply = bind_ok (reply_in transaction) _ change read in

@@ -22,7 +22,7 @@ use Rattle.ofx_types.specs.declared.transfer.Family.TheVariants.{Intra, RecIntra
 use Rattle.ofx_tree.specs.Documents.{leaf_item, branch_item}
 use Rattle.ofx_tree.proofs.FormLaws.{moment_in_found}
 use Rattle.ofx_tree.proofs.DocumentItems.{children_of_branch, named_of_branch, value_of_leaf}
-use Rattle.ofx_tree.proofs.Leaves.{moment_of_leaf}
+use Rattle.ofx_tree.proofs.Leaves.{moment_of_leaf, is_flag_of_leaf}
 use Rattle.msg_parts.specs.DeedDocuments.{info_documents, recur_documents, processing_documents, set_documents, first_documents, change_name, change_documents, deed_reply_documents}
 use Rattle.msg_parts.specs.SoundParts.{IsSoundMoment, family_of_change}
 use Rattle.msg_parts.proofs.Lawful.{named}
@@ -32,7 +32,7 @@ use Rattle.msg_deed.specs.DeedsReadBack.{DeedRepliesReadBack}
 use Rattle.msg_deed.specs.SoundDeeds.{IsId, IsSoundRow, IsSoundModelRow, IsSoundChange, IsSoundChangeByCode}
 use Rattle.msg_deed.proofs.DeedReplies.{reply_again}
 use Rattle.msg_deed.proofs.Lawful.{code_leaf, processing_lawful, new_lawful, set_lawful, first_lawful, change_lawful, deed_reply_lawful}
-use Rattle.msg_deed.proofs.DeedsBack.{is_id_of_leaf, is_flag_of_leaf, info_stands, recur_stands}
+use Rattle.msg_deed.proofs.DeedsBack.{is_id_of_leaf, info_stands, recur_stands}
 
 -- ---- how far a transfer is
 

@@ -13,8 +13,9 @@ use Rattle.ofx_types.specs.declared.transfer.Deed.TheVariants.{Transfer, ModifyT
 use Rattle.ofx_types.specs.declared.transfer.Family.{Family}
 use Rattle.ofx_types.specs.declared.transfer.Family.TheVariants.{Intra, RecIntra, BankMail, Mail}
 use Rattle.ofx_types.specs.declared.transfer.Deed.TheVariants as deeds
+use Rattle.ofx_types.proofs.Bytes.{bytes_eq_is, went}
 use Rattle.ofx_tree.specs.Placed.{Stands, Any, IsWithin}
-use Rattle.ofx_tree.proofs.FormLaws.{bind_ok, bind_to, one_value, chosen, bytes_same, one_of_found, one_of_again, has_one_of}
+use Rattle.ofx_tree.proofs.FormLaws.{bind_ok, bind_to, one_value, one_of_found, one_of_again, has_one_of}
 use Rattle.ofx_tree.proofs.FormPlaces.{bound, either, one_of_within}
 use Rattle.msg_parts.proofs.PartLaws.{trnuid_found, trnuid_again}
 use Rattle.msg_parts.proofs.PartPlaces.{trnuid_within}
@@ -27,12 +28,12 @@ use Rattle.msg_deed.proofs.ModelRequests.{model_found, modify_model_found, cance
 transfer_request : (request : Item) (deed : Deed) → is_one_of transfer_requests request.node.name ≡ true → request_of request ≡ Ok deed →
     IsRequestOf Intra request deed
 unfolding request_of
-transfer_request request deed named h = elim (chosen (has_name (codes "INTRARQ") request) _ _ _ h) [
-  | inl (is, read) ↦ transfer_found request deed (bytes_same _ _ is) read
-  | inr (first, more) ↦ elim (chosen (has_name (codes "INTRAMODRQ") request) _ _ _ more) [
-    | inl (is, read) ↦ modify_found request deed (bytes_same _ _ is) read
-    | inr (second, last) ↦ elim (chosen (has_name (codes "INTRACANRQ") request) _ _ _ last) [
-      | inl (is, read) ↦ cancel_found request deed (bytes_same _ _ is) read
+transfer_request request deed named h = elim (went (has_name (codes "INTRARQ") request) _ _ _ h) [
+  | inl (is, read) ↦ transfer_found request deed (bytes_eq_is _ _ is) read
+  | inr (first, more) ↦ elim (went (has_name (codes "INTRAMODRQ") request) _ _ _ more) [
+    | inl (is, read) ↦ modify_found request deed (bytes_eq_is _ _ is) read
+    | inr (second, last) ↦ elim (went (has_name (codes "INTRACANRQ") request) _ _ _ last) [
+      | inl (is, read) ↦ cancel_found request deed (bytes_eq_is _ _ is) read
       | inr (third, read) ↦ absurd (none_of_three _ _ _ named first second third)
     ]
   ]
@@ -41,16 +42,16 @@ transfer_request request deed named h = elim (chosen (has_name (codes "INTRARQ")
 model_request : (request : Item) (deed : Deed) → is_one_of model_requests request.node.name ≡ true → request_of request ≡ Ok deed →
     IsRequestOf RecIntra request deed
 unfolding request_of
-model_request request deed named h = elim (chosen (has_name (codes "INTRARQ") request) _ _ _ h) [
-  | inl (is, read) ↦ absurd (other_name model_requests request.node.name (codes "INTRARQ") refl named (bytes_same request.node.name (codes "INTRARQ") is))
-  | inr (_, behind) ↦ elim (chosen (has_name (codes "INTRAMODRQ") request) _ _ _ behind) [
-    | inl (is, read) ↦ absurd (other_name model_requests request.node.name (codes "INTRAMODRQ") refl named (bytes_same request.node.name (codes "INTRAMODRQ") is))
-    | inr (_, next) ↦ elim (chosen (has_name (codes "INTRACANRQ") request) _ _ _ next) [
-      | inl (is, read) ↦ absurd (other_name model_requests request.node.name (codes "INTRACANRQ") refl named (bytes_same request.node.name (codes "INTRACANRQ") is))
-      | inr (_, more) ↦ elim (chosen (has_name (codes "RECINTRARQ") request) _ _ _ more) [
-        | inl (is, read) ↦ model_found request deed (bytes_same _ _ is) read
-        | inr (first, last) ↦ elim (chosen (has_name (codes "RECINTRAMODRQ") request) _ _ _ last) [
-          | inl (is, read) ↦ modify_model_found request deed (bytes_same _ _ is) read
+model_request request deed named h = elim (went (has_name (codes "INTRARQ") request) _ _ _ h) [
+  | inl (is, read) ↦ absurd (other_name model_requests request.node.name (codes "INTRARQ") refl named (bytes_eq_is request.node.name (codes "INTRARQ") is))
+  | inr (_, behind) ↦ elim (went (has_name (codes "INTRAMODRQ") request) _ _ _ behind) [
+    | inl (is, read) ↦ absurd (other_name model_requests request.node.name (codes "INTRAMODRQ") refl named (bytes_eq_is request.node.name (codes "INTRAMODRQ") is))
+    | inr (_, next) ↦ elim (went (has_name (codes "INTRACANRQ") request) _ _ _ next) [
+      | inl (is, read) ↦ absurd (other_name model_requests request.node.name (codes "INTRACANRQ") refl named (bytes_eq_is request.node.name (codes "INTRACANRQ") is))
+      | inr (_, more) ↦ elim (went (has_name (codes "RECINTRARQ") request) _ _ _ more) [
+        | inl (is, read) ↦ model_found request deed (bytes_eq_is _ _ is) read
+        | inr (first, last) ↦ elim (went (has_name (codes "RECINTRAMODRQ") request) _ _ _ last) [
+          | inl (is, read) ↦ modify_model_found request deed (bytes_eq_is _ _ is) read
           | inr (second, read) ↦ cancel_model_found request deed (third_name request.node.name _ _ _ named first second) read
         ]
       ]

@@ -1,12 +1,11 @@
 -- Sound deeds read back as they were written.
-use Rattle.std.proofs.Common.{◌≡◌, ℕ, suc, ◌+◌, ◌*◌, ◌/◌, ◌≤◌, ℤ, pos, negsuc, neg_ℤ, Bool, false, not, ◌&&◌, filter, List, [], length, codes, Option, None, Some, refl, sym, ap, ◌∙◌, arith}
-use Rattle.std.proofs.lemmas.Int.{ints}
+use Rattle.std.proofs.Common.{◌≡◌, ℕ, ◌≤◌, false, not, ◌&&◌, filter, List, [], length, codes, Option, None, Some, refl, sym, ap, arith}
 use Rattle.std.proofs.lemmas.Fmt.{length-decimal-le}
 use Rattle.std.specs.Fmt.{decimal}
 use Rattle.std.specs.Prelude.{unwrap_or}
 use Rattle.std.specs.Str.{bytes_eq}
-use Rattle.ofx_types.specs.Calendar.{day_of, midnight}
-use Rattle.ofx_types.specs.FormWords.{flag_word, has_name, is_absent, named, IsOnly, IsOnlyOf, IsFlagIn, IsIdIn}
+use Rattle.ofx_types.specs.Calendar.{midnight}
+use Rattle.ofx_types.specs.FormWords.{has_name, is_absent, named, IsOnly, IsOnlyOf, IsIdIn}
 use Rattle.ofx_types.specs.Nodes.{Item}
 use Rattle.ofx_types.specs.TagNames.{is_one_of}
 use Rattle.ofx_types.specs.TransferForm.{IsMaybeDue, IsXferInfo, HasXferInfo}
@@ -24,12 +23,13 @@ use Rattle.ofx_types.specs.declared.transfer.Deed.TheVariants.{Transfer, ModifyT
 use Rattle.ofx_types.specs.declared.transfer.Family.{Family}
 use Rattle.ofx_types.specs.declared.transfer.Family.TheVariants.{Intra, RecIntra}
 use Rattle.ofx_types.specs.declared.transfer.Deed.TheVariants as deeds
+use Rattle.ofx_types.proofs.Days.{day_of-midnight, IsMoment-midnight}
 use Rattle.ofx_values.proofs.PrintedLemmas.{number_printed}
 use Rattle.ofx_tree.specs.PrintedForm.{IsElementName}
 use Rattle.ofx_tree.specs.Documents.{leaf_item, branch_item, items_of}
-use Rattle.ofx_tree.proofs.FormLaws.{text_in_found, flag_in_found, amount_in_found, moment_in_found, number_in_found}
+use Rattle.ofx_tree.proofs.FormLaws.{text_in_found, amount_in_found, moment_in_found, number_in_found}
 use Rattle.ofx_tree.proofs.DocumentItems.{children_of_branch, named_of_branch, value_of_leaf}
-use Rattle.ofx_tree.proofs.Leaves.{text_of_leaf, flag_of_leaf, amount_of_leaf, moment_of_leaf, number_of_leaf}
+use Rattle.ofx_tree.proofs.Leaves.{text_of_leaf, amount_of_leaf, moment_of_leaf, number_of_leaf, is_flag_of_leaf}
 use Rattle.msg_parts.specs.DeedDocuments.{due_document, info_documents, recur_documents, each_documents, asked_name, request_documents, deed_documents}
 use Rattle.msg_parts.proofs.PartLaws.{account_found}
 use Rattle.msg_parts.proofs.ReadBack.{account_back}
@@ -39,7 +39,7 @@ use Rattle.msg_deed.specs.DeedsReadBack.{DeedsReadBack}
 use Rattle.msg_deed.specs.SoundDeeds.{IsId, IsSoundInfo, IsSoundRecur, IsSoundDeed}
 use Rattle.msg_deed.specs.DeedSteps.{info_with}
 use Rattle.msg_deed.proofs.Deeds.{deed_again}
-use Rattle.msg_deed.proofs.Lawful.{IsMoment-midnight, id_leaf, freq_leaf, info_lawful, recur_lawful, each_lawful, request_lawful, deed_lawful}
+use Rattle.msg_deed.proofs.Lawful.{id_leaf, freq_leaf, info_lawful, recur_lawful, each_lawful, request_lawful, deed_lawful}
 
 -- What is printed of an id is read as that id.
 pub is_id_of_leaf : (name : List ℕ) (id place index : ℕ) (parent : Item) → IsElementName name → IsId id →
@@ -58,14 +58,6 @@ other_due : (name : List ℕ) → bytes_eq (codes "DTDUE") name ≡ false → (d
     filter (λ item. has_name name item) (items_of place index (due_document due)) ≡ []
 other_due name other None place index = refl
 other_due name other (Some day) place index = rw other refl
-
--- A midnight lies in its day.
-day_of-midnight : (day : ℤ) → day ≡ day_of (midnight day)
-day_of-midnight (pos n) = omega (arith, ints)
-day_of-midnight (negsuc n) =
-    let before : suc n * 86400 ≡ suc (n * 86400 + 86399) = omega arith in
-    let same : n ≡ (n * 86400 + 86399) / 86400 = omega arith in
-    ap negsuc same ∙ sym (ap (λ (seconds : ℕ). day_of (neg_ℤ (pos seconds))) before)
 
 due_stands : (place index : ℕ) (from to : AcctName) (amount : Cents) (due : Option Day) → IsSoundInfo (info_with from to amount due) →
     IsMaybeDue (branch_item place index (codes "XFERINFO") (info_documents (info_with from to amount due))) due
@@ -135,11 +127,6 @@ recur_stands place index recur r = recur_is place index recur.count recur.freq r
 each_stands : (place index : ℕ) (info : XferInfo) → IsSoundInfo info → HasXferInfo (branch_item place index (codes "INTRARQ") (each_documents info)) info
 each_stands place index info i =
     (_, named_of_branch place index 2 (codes "INTRARQ") (codes "XFERINFO") (each_documents info) (each_lawful 2 info (omega arith) i), info_stands _ _ info i)
-
--- What is printed of a flag is read as that flag.
-pub is_flag_of_leaf : (name : List ℕ) (flag : Bool) (place index : ℕ) (parent : Item) → IsElementName name →
-    IsOnly name parent (leaf_item place index name (flag_word flag)) → IsFlagIn name parent flag
-is_flag_of_leaf name flag place index parent named only = flag_in_found name parent flag (flag_of_leaf name flag place index parent named only)
 
 -- ---- the six requests
 

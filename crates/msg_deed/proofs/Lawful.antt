@@ -1,9 +1,8 @@
 -- The documents of sound deeds and of sound answers to them are lawful.
-use Rattle.std.proofs.Common.{ℕ, ◌-◌, ◌<◌, ◌≤◌, Bool, true, false, nat_eq, List, codes, Option, None, Some, ℤ, refl, arith}
-use Rattle.std.proofs.lemmas.Int.{ints}
+use Rattle.std.proofs.Common.{ℕ, ◌-◌, ◌<◌, ◌≤◌, Bool, true, false, nat_eq, List, codes, Option, None, Some, refl, arith}
 use Rattle.std.specs.Option.{IfSome}
 use Rattle.std.specs.Fmt.{decimal}
-use Rattle.ofx_types.specs.Calendar.{IsMoment, IsDay, midnight}
+use Rattle.ofx_types.specs.Calendar.{midnight}
 use Rattle.ofx_types.specs.FormWords.{flag_word}
 use Rattle.ofx_types.specs.TransferForm.{code_word, info_of}
 use Rattle.ofx_types.specs.RecurringForm.{freq_word, first_info}
@@ -26,6 +25,7 @@ use Rattle.ofx_types.specs.declared.transfer.Family.{Family}
 use Rattle.ofx_types.specs.declared.transfer.Family.TheVariants.{BankMail, Mail}
 use Rattle.ofx_types.specs.declared.transfer.DeedReply.{DeedReply}
 use Rattle.ofx_types.specs.declared.transfer.Deed.TheVariants as kinds
+use Rattle.ofx_types.proofs.Days.{IsMoment-midnight}
 use Rattle.ofx_tree.specs.PrintedForm.{IsElementName}
 use Rattle.ofx_tree.specs.Documents.{Documents, empty, leaf, branch, AreLawful, IsLeaf}
 use Rattle.ofx_tree.proofs.Leaves.{amount_leaf, moment_leaf, number_leaf, flag_leaf}
@@ -38,9 +38,6 @@ use Rattle.msg_deed.specs.DeedsReadBack.{DeedsAreLawful, DeedRepliesAreLawful}
 use Rattle.msg_deed.specs.SoundDeeds.{IsId, IsSoundDay, IsSoundInfo, IsSoundRecur, IsSoundDeed, IsSoundDeedRequest, IsSoundRow, IsSoundModelRow, IsSoundChange, IsSoundChangeByCode, IsSoundDeedReply}
 
 -- ---- they are lawful
-
-pub IsMoment-midnight : (day : ℤ) → IsDay day → IsMoment (midnight day)
-IsMoment-midnight day is = (omega (arith, ints), omega (arith, ints))
 
 pub code_leaf : (code : XferCode) → IsLeaf (codes "XFERPRCCODE") (code_word code)
 code_leaf Waiting = record { has_name = named (codes "XFERPRCCODE") refl refl; is_text = record { is_trimmed = refl; is_clean = refl; is_short = omega arith }; is_there = omega arith }

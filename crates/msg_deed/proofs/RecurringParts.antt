@@ -17,9 +17,10 @@ use Rattle.ofx_types.specs.declared.recurring.Freq.TheVariants.{Weekly, Biweekly
 use Rattle.ofx_types.specs.declared.recurring.Recur.{Recur}
 use Rattle.ofx_types.specs.declared.recurring.ModelRow.{ModelRow}
 use Rattle.ofx_types.specs.declared.transfer.XferInfo.{XferInfo}
+use Rattle.ofx_types.proofs.Bytes.{bytes_eq_is, went}
 use Rattle.ofx_tree.specs.Placed.{Stands, Any, IsWithin}
-use Rattle.ofx_tree.proofs.FormLaws.{bind_ok, bind_to, one_value, chosen, bytes_same, one_found, one_again, maybe_none, maybe_some, none_again, some_again, number_in_found, id_in_found, id_in_again, maybe_id_in_found, maybe_id_in_again}
-use Rattle.ofx_tree.proofs.FormPlaces.{bound, either, one_within, maybe_within, id_within, maybe_id_within}
+use Rattle.ofx_tree.proofs.FormLaws.{bind_ok, bind_to, one_value, one_found, one_again, maybe_none, maybe_some, none_again, some_again, number_in_found, id_in_found, id_in_again, maybe_id_in_found, maybe_id_in_again}
+use Rattle.ofx_tree.proofs.FormPlaces.{bound, either, one_within, maybe_within, id_within, maybe_id_within, number_or_within}
 use Rattle.msg_deed.proofs.TransferParts.{info_in_found, info_in_again, info_in_within, due_info_found, due_info_again, due_info_within}
 
 -- ---- the count
@@ -28,7 +29,7 @@ abbrev read_number : ℕ → Result ℕ TreeFault
 read_number n = Ok n
 
 not_zero_found : (place count read : ℕ) → not_zero place count ≡ Ok read → (count ≡ read) × (0 < read)
-not_zero_found place count read h = elim (chosen (nat_eq count 0) _ _ _ h) [
+not_zero_found place count read h = elim (went (nat_eq count 0) _ _ _ h) [
   | inl (is, fault) ↦ cc
   | inr (other, found) ↦
       let same : count ≡ read = one_value (Ok count) count read refl found in
@@ -79,10 +80,6 @@ count_again recurrinst (Some count) (there, some) = (
 not_zero_within : (most place count : ℕ) → place ≤ most → Stands most Any (not_zero place count)
 not_zero_within most place count h = either most Any (nat_eq count 0) _ _ h tt
 
-number_or_within : (most place : ℕ) (o : Option ℕ) → place ≤ most → Stands most Any (number_or place o)
-number_or_within most place None h = h
-number_or_within most place (Some n) h = tt
-
 count_within : (most : ℕ) (found : Option Item) → IfSome found (IsWithin most) → Stands most Any (count_if_any found)
 count_within most None h = tt
 count_within most (Some child) h =
@@ -108,7 +105,7 @@ freq_given place (Some f) freq h = ap (λ (g : Freq). Some g) (one_value (Ok f) 
 
 freq_found : (word : List ℕ) (place : ℕ) (freq : Freq) → freq_or place (freq_named word) ≡ Ok freq → word ≡ freq_word freq
 freq_found word place freq h =
-    sym (bytes_same (freq_word freq) word
+    sym (bytes_eq_is (freq_word freq) word
     (found_passes (λ (f : Freq). bytes_eq (freq_word f) word) freqs freq (freq_given place (freq_named word) freq h)))
 
 freq_named-word : (freq : Freq) → freq_named (freq_word freq) ≡ Some freq

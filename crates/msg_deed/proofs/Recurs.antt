@@ -1,10 +1,7 @@
 -- The count and the frequency of a recurring transfer, as they are read.
-use Rattle.std.proofs.Common.{◌≡◌, ℕ, ◌<◌, Bool, true, false, cond, ◌&&◌, nat_le, List, [], ◌∷◌, length, None, Some, Ok, refl, sym, rules}
-use Rattle.std.proofs.lemmas.Bool.{and_parts, leb-true}
+use Rattle.std.proofs.Common.{◌≡◌, ℕ, ◌<◌, Bool, true, false, cond, List, [], ◌∷◌, None, Some, Ok, refl, sym}
 use Rattle.std.proofs.lemmas.Slice.Eq.{bytes_eq-Decides}
-use Rattle.std.proofs.lemmas.Str.Parse.{IsNumeralModel, numerals_by_value, digits_value_short}
-use Rattle.std.specs.Char.{is_ascii_digit}
-use Rattle.std.specs.List.{list_all, find}
+use Rattle.std.specs.List.{find}
 use Rattle.std.specs.Str.{bytes_eq}
 use Rattle.std.specs.Str.Parse.{digits_value}
 use Rattle.ofx_types.specs.NumberReading.{is_number_within, number_at}
@@ -14,22 +11,14 @@ use Rattle.ofx_types.specs.FormWords.{number_or, number_of}
 use Rattle.ofx_types.specs.RecurringForm.{freq_word}
 use Rattle.ofx_types.specs.RecurringReading.{freqs, freq_named}
 use Rattle.ofx_types.specs.declared.recurring.Freq.{Freq}
-use Rattle.ofx_tree.proofs.FormLaws.{bytes_same}
+use Rattle.ofx_types.proofs.Numbers.{digits_within}
+use Rattle.ofx_types.proofs.Bytes.{bytes_eq_is}
 
 -- ---- three digits stay below 1,000
 
-numerals : IsNumeralModel (λ ds. list_all is_ascii_digit ds ≡ true) (digits_value 10)
-numerals = numerals_by_value _ (search rules)
-
-digits_below : (text : List ℕ) → is_number_within 3 text ≡ true → digits_value 10 text < 1000
-digits_below text h =
-    let parts = and_parts (nat_le 1 (length text) && nat_le (length text) 3) (list_all is_ascii_digit text) h in
-    let short = leb-true (length text) 3 (and_parts (nat_le 1 (length text)) _ parts.0).1 in
-    digits_value_short numerals text 3 parts.1 short
-
 number_below : (place : ℕ) (text : List ℕ) (n : ℕ) → number_or place (number_at 3 text) ≡ Ok n → n < 1000
 unfolding number_at
-number_below place text n h = by_test (is_number_within 3 text) (digits_below text) h
+number_below place text n h = by_test (is_number_within 3 text) (digits_within 3 text) h
   where
     by_test : (b : Bool) → (b ≡ true → digits_value 10 text < 1000) → number_or place (cond b (Some (digits_value 10 text)) None) ≡ Ok n → n < 1000
     by_test true small e = let below : digits_value 10 text < 1000 = small refl in let same : digits_value 10 text ≡ n = cc in rw (← same) below
@@ -46,7 +35,7 @@ same_test false true f g = g refl
 same_test false false f g = refl
 
 bytes_turned : (a b : List ℕ) → bytes_eq a b ≡ true → bytes_eq b a ≡ true
-bytes_turned a b h = (bytes_eq-Decides b a).1 (sym (bytes_same a b h))
+bytes_turned a b h = (bytes_eq-Decides b a).1 (sym (bytes_eq_is a b h))
 
 same_find : {A : Type 0} (p q : A → Bool) → ((x : A) → p x ≡ q x) → (xs : List A) → find p xs ≡ find q xs
 same_find p q same [] = refl

@@ -14,8 +14,9 @@ use Rattle.ofx_types.specs.declared.number.Moment.{Moment}
 use Rattle.ofx_types.specs.declared.transfer.XferInfo.{XferInfo}
 use Rattle.ofx_types.specs.declared.transfer.XferCode.{XferCode}
 use Rattle.ofx_types.specs.declared.transfer.XferCode.TheVariants.{Waiting, Posted, NoFunds, Cancelled}
+use Rattle.ofx_types.proofs.Bytes.{bytes_eq_is, went}
 use Rattle.ofx_tree.specs.Placed.{Stands, Any, IsWithin}
-use Rattle.ofx_tree.proofs.FormLaws.{bind_ok, bind_to, one_value, chosen, ok_guarded, bytes_same, one_found, one_again, amount_in_found, amount_in_again, moment_in_found, moment_in_again, maybe_moment_in_found, maybe_moment_in_again}
+use Rattle.ofx_tree.proofs.FormLaws.{bind_ok, bind_to, one_value, ok_guarded, one_found, one_again, amount_in_found, amount_in_again, moment_in_found, moment_in_again, maybe_moment_in_found, maybe_moment_in_again}
 use Rattle.ofx_tree.proofs.FormPlaces.{bound, either, one_within, amount_within, moment_within, maybe_moment_within}
 use Rattle.msg_parts.proofs.PartLaws.{account_found, account_again}
 use Rattle.msg_parts.proofs.PartPlaces.{account_within}
@@ -156,13 +157,13 @@ told_no_funds : NoFunds ≢ Cancelled
 told_no_funds e = cc
 
 code_found : (word : List ℕ) (place : ℕ) (code : XferCode) → code_named word place ≡ Ok code → Told word code
-code_found word place code h = elim (chosen (bytes_eq word (codes "WILLPROCESSON")) _ _ _ h) [
-  | inl (same, is) ↦ subst (Told word) (one_value (Ok Waiting) Waiting code refl is) (bytes_same word _ same, told_waiting)
-  | inr (other, second) ↦ elim (chosen (bytes_eq word (codes "POSTEDON")) _ _ _ second) [
-    | inl (same, is) ↦ subst (Told word) (one_value (Ok Posted) Posted code refl is) (bytes_same word _ same, told_posted)
+code_found word place code h = elim (went (bytes_eq word (codes "WILLPROCESSON")) _ _ _ h) [
+  | inl (same, is) ↦ subst (Told word) (one_value (Ok Waiting) Waiting code refl is) (bytes_eq_is word _ same, told_waiting)
+  | inr (other, second) ↦ elim (went (bytes_eq word (codes "POSTEDON")) _ _ _ second) [
+    | inl (same, is) ↦ subst (Told word) (one_value (Ok Posted) Posted code refl is) (bytes_eq_is word _ same, told_posted)
     | inr (other, last) ↦
         let is = ok_guarded (bytes_eq word (codes "NOFUNDSON")) NoFunds code _ last in
-        subst (Told word) is.1 (bytes_same word _ is.0, told_no_funds)
+        subst (Told word) is.1 (bytes_eq_is word _ is.0, told_no_funds)
   ]
 ]
 

@@ -4,7 +4,7 @@ ghost use Rattle.msg_deed.specs.DeedLaws.{DeedsAreFound, DeedFaultsHavePlaces, D
 ghost use Rattle.msg_parts.specs.DeedDocuments.{DeedsAreDocuments, DeedRepliesAreDocuments};
 ghost use Rattle.msg_deed.specs.DeedsReadBack.{DeedsAreLawful, DeedsReadBack, DeedsReadBackAlone, DeedRepliesAreLawful, DeedRepliesReadBack, DeedRepliesReadBackAlone};
 
-use msg_parts::{deed_replies_are_documents, deeds_are_documents};
+use msg_parts::laws::{deed_replies_are_documents, deeds_are_documents};
 
 /// The request of a deed has its form exactly where it is read, and what is read is what stands there.
 pub fn deeds_are_found()

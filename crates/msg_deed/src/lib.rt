@@ -5,15 +5,11 @@
 //! written is the message's one printed form.
 #![tactic(auto)]
 
-mod laws;
+pub mod laws;
 mod recurring;
 mod reply;
 mod request;
 mod transfer;
 
-pub use laws::{
-    deed_faults_have_places, deed_replies_are_found, deed_replies_read_back,
-    deed_reply_faults_have_places, deeds_are_found, deeds_read_back,
-};
 pub use reply::{print_reply, read_reply};
 pub use request::{print_deed, read_deed};

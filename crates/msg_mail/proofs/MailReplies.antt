@@ -15,8 +15,9 @@ use Rattle.ofx_types.specs.declared.transfer.Change.TheVariants.{NewMail}
 use Rattle.ofx_types.specs.declared.transfer.Family.{Family}
 use Rattle.ofx_types.specs.declared.transfer.Family.TheVariants.{Intra, RecIntra, BankMail, Mail}
 use Rattle.ofx_types.specs.declared.transfer.DeedReply.{DeedReply}
+use Rattle.ofx_types.proofs.Bytes.{went}
 use Rattle.ofx_tree.specs.Placed.{Stands, Any, IsWithin}
-use Rattle.ofx_tree.proofs.FormLaws.{bind_ok, bind_to, one_value, chosen, one_found, one_again, text_in_found, text_in_again}
+use Rattle.ofx_tree.proofs.FormLaws.{bind_ok, bind_to, one_value, one_found, one_again, text_in_found, text_in_again}
 use Rattle.ofx_tree.proofs.FormPlaces.{bound, either, one_within, text_within}
 use Rattle.msg_parts.proofs.Named.{two_named}
 use Rattle.msg_parts.proofs.Statuses.{status_found, status_again, status_within}
@@ -132,7 +133,7 @@ unfolding mail_by_code mail_row_of
 by_code_found code transaction change h =
     let is_bank = has_name (codes "BANKMAILTRNRS") transaction in
     let By : Option Change → Type 0 = IsMailByCode code (family_by is_bank) transaction in
-    elim (chosen (nat_eq code 0) _ _ _ h) [
+    elim (went (nat_eq code 0) _ _ _ h) [
       | inl (is, read) ↦
           let row = bind_ok (row_by is_bank transaction) _ change read in
           subst By (one_value _ _ change refl row.2) (row_by_found is_bank code transaction row.0 (zero_of code is) row.1)

@@ -7,8 +7,9 @@ use Rattle.ofx_types.specs.MailReading.{account_in, mail_in, bank_mail_of, plain
 use Rattle.ofx_types.specs.RequestReading.{trnuid_of}
 use Rattle.ofx_types.specs.declared.transfer.Deed.{Deed}
 use Rattle.ofx_types.specs.declared.transfer.Deed.TheVariants as deeds
+use Rattle.ofx_types.proofs.Bytes.{bytes_eq_is, went}
 use Rattle.ofx_tree.specs.Placed.{Stands, Any, IsWithin}
-use Rattle.ofx_tree.proofs.FormLaws.{bind_ok, bind_to, one_value, chosen, bytes_same, one_found, one_again}
+use Rattle.ofx_tree.proofs.FormLaws.{bind_ok, bind_to, one_value, one_found, one_again}
 use Rattle.ofx_tree.proofs.FormPlaces.{bound, either, one_within}
 use Rattle.msg_parts.proofs.PartLaws.{trnuid_found, trnuid_again}
 use Rattle.msg_parts.proofs.PartPlaces.{trnuid_within}
@@ -39,10 +40,10 @@ plain_mail_found transaction deed name h =
 
 request_found : (transaction : Item) (deed : Deed) → mail_request_of transaction ≡ Ok deed → IsMailRequest transaction deed
 unfolding mail_request_of
-request_found transaction deed h = elim (chosen (has_name (codes "BANKMAILTRNRQ") transaction) _ _ _ h) [
-  | inl (is, read) ↦ bank_mail_found transaction deed (bytes_same _ _ is) read
-  | inr (other, more) ↦ elim (chosen (has_name (codes "MAILTRNRQ") transaction) _ _ _ more) [
-    | inl (is, read) ↦ plain_mail_found transaction deed (bytes_same _ _ is) read
+request_found transaction deed h = elim (went (has_name (codes "BANKMAILTRNRQ") transaction) _ _ _ h) [
+  | inl (is, read) ↦ bank_mail_found transaction deed (bytes_eq_is _ _ is) read
+  | inr (other, more) ↦ elim (went (has_name (codes "MAILTRNRQ") transaction) _ _ _ more) [
+    | inl (is, read) ↦ plain_mail_found transaction deed (bytes_eq_is _ _ is) read
     | inr (_, read) ↦ cc
   ]
 ]

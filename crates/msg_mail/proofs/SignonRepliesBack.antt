@@ -14,7 +14,7 @@ use Rattle.msg_parts.specs.PartDocuments.{status_documents, StatusesAreDocuments
 use Rattle.msg_mail.specs.SignonsAsDocuments.{IsSoundSignonReply, signon_reply_documents, SignonRepliesAreDocuments, SignonRepliesAreLawful, SignonRepliesReadBack}
 use Rattle.msg_mail.proofs.SignonsBack.{language_leaf}
 
--- what stands behind the status
+-- what stands after the status
 abbrev behind_status : Moment → Documents
 behind_status at = leaf (codes "DTSERVER") (moment_text at.0) (leaf (codes "LANGUAGE") (codes "ENG") empty)
 

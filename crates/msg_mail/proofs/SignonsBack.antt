@@ -1,21 +1,17 @@
 -- Sound signons read back as they were written.
 use Rattle.std.proofs.Common.{ℕ, ◌-◌, List, codes, refl, ◌∙◌, arith, append-nil}
+use Rattle.msg_parts.proofs.Lawful.{text_leaf}
 use Rattle.ofx_types.specs.RequestReading.{signon_of}
 use Rattle.ofx_types.specs.RequestText.{signon_request}
 use Rattle.ofx_types.specs.Sheet.{element}
 use Rattle.ofx_types.specs.declared.number.Moment.{Moment}
-use Rattle.ofx_tree.specs.PrintedForm.{IsElementName}
 use Rattle.ofx_tree.specs.Documents.{AreLawful, IsLeaf, IsBranch, branch_item}
 use Rattle.ofx_tree.proofs.FormLaws.{bind_to}
 use Rattle.ofx_tree.proofs.DocumentItems.{named_of_branch}
 use Rattle.ofx_tree.proofs.Leaves.{moment_leaf, text_of_leaf}
-use Rattle.msg_parts.specs.SoundParts.{IsTextWithin}
 use Rattle.msg_mail.specs.SignonsAsDocuments.{IsSoundSignon, signon_documents, SignonsAreDocuments, SignonsAreLawful, SignonsReadBack}
 
 -- ---- the leaves
-
-text_leaf : (name : List ℕ) (most : ℕ) (text : List ℕ) → IsElementName name → IsTextWithin most text → IsLeaf name text
-text_leaf name most text named t = record { has_name = named; is_text = t.is_text; is_there = t.is_there }
 
 pub language_leaf : IsLeaf (codes "LANGUAGE") (codes "ENG")
 language_leaf = record {

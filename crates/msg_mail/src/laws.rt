@@ -6,7 +6,7 @@ ghost use Rattle.msg_parts.specs.DeedDocuments.{DeedsAreDocuments, DeedRepliesAr
 ghost use Rattle.msg_mail.specs.MailsAsDocuments.{MailsAreLawful, MailsReadBack, MailsReadBackAlone, MailRepliesAreLawful, MailRepliesReadBack, MailRepliesReadBackAlone};
 ghost use Rattle.msg_mail.specs.SignonsAsDocuments.{SignonsAreDocuments, SignonsAreLawful, SignonsReadBack, SignonRepliesAreDocuments, SignonRepliesAreLawful, SignonRepliesReadBack};
 
-use msg_parts::{
+use msg_parts::laws::{
     deed_replies_are_documents, deeds_are_documents, status_faults_have_places, statuses_are_found,
     statuses_read_back,
 };

@@ -7,16 +7,17 @@ use Rattle.ofx_types.specs.RequestReading.{kind_named, unless_zero}
 use Rattle.ofx_types.specs.declared.account.AcctKind.{AcctKind}
 use Rattle.ofx_types.specs.declared.account.AcctKind.TheVariants.{Checking, Savings, MoneyMarket, CreditLine}
 use Rattle.ofx_types.specs.declared.fault.TreeFault.{TreeFault}
-use Rattle.ofx_tree.proofs.FormLaws.{chosen, ok_guarded, one_value, bytes_same}
+use Rattle.ofx_types.proofs.Bytes.{bytes_eq_is, went}
+use Rattle.ofx_tree.proofs.FormLaws.{ok_guarded, one_value}
 
 pub kind_found : (word : List ℕ) (place : ℕ) (kind : AcctKind) → kind_named word place ≡ Ok kind → word ≡ kind_word kind
-kind_found word place kind h = elim (chosen (bytes_eq word (codes "CHECKING")) _ _ _ h) [
-  | inl (same, is) ↦ bytes_same word _ same ∙ ap kind_word (one_value (Ok Checking) Checking kind refl is)
-  | inr (other, second) ↦ elim (chosen (bytes_eq word (codes "SAVINGS")) _ _ _ second) [
-    | inl (same, is) ↦ bytes_same word _ same ∙ ap kind_word (one_value (Ok Savings) Savings kind refl is)
-    | inr (other, third) ↦ elim (chosen (bytes_eq word (codes "MONEYMRKT")) _ _ _ third) [
-      | inl (same, is) ↦ bytes_same word _ same ∙ ap kind_word (one_value (Ok MoneyMarket) MoneyMarket kind refl is)
-      | inr (other, last) ↦ let is = ok_guarded (bytes_eq word (codes "CREDITLINE")) CreditLine kind _ last in bytes_same word _ is.0 ∙ ap kind_word is.1
+kind_found word place kind h = elim (went (bytes_eq word (codes "CHECKING")) _ _ _ h) [
+  | inl (same, is) ↦ bytes_eq_is word _ same ∙ ap kind_word (one_value (Ok Checking) Checking kind refl is)
+  | inr (other, second) ↦ elim (went (bytes_eq word (codes "SAVINGS")) _ _ _ second) [
+    | inl (same, is) ↦ bytes_eq_is word _ same ∙ ap kind_word (one_value (Ok Savings) Savings kind refl is)
+    | inr (other, third) ↦ elim (went (bytes_eq word (codes "MONEYMRKT")) _ _ _ third) [
+      | inl (same, is) ↦ bytes_eq_is word _ same ∙ ap kind_word (one_value (Ok MoneyMarket) MoneyMarket kind refl is)
+      | inr (other, last) ↦ let is = ok_guarded (bytes_eq word (codes "CREDITLINE")) CreditLine kind _ last in bytes_eq_is word _ is.0 ∙ ap kind_word is.1
     ]
   ]
 ]

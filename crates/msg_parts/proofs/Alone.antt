@@ -4,8 +4,9 @@ use Rattle.ofx_types.specs.FormWords.{one, IsOnly}
 use Rattle.ofx_types.specs.Nodes.{Item, AreNodesOf}
 use Rattle.ofx_types.specs.Sheet.{aggregate, start_line}
 use Rattle.ofx_types.specs.declared.fault.TreeFault.{TreeFault}
+use Rattle.ofx_types.proofs.Bytes.{bytes_eq_self}
 use Rattle.ofx_tree.specs.Documents.{Documents, empty, branch, printed, AreLawful, branch_item}
-use Rattle.ofx_tree.proofs.FormLaws.{bind_to, bytes_self, one_again}
+use Rattle.ofx_tree.proofs.FormLaws.{bind_to, one_again}
 use Rattle.ofx_tree.proofs.DocumentItems.{named_of_branch}
 use Rattle.ofx_tree.proofs.DocumentTrees.{documents_of_body}
 use Rattle.msg_parts.specs.PartDocuments.{IsReadAlone}
@@ -19,7 +20,7 @@ read_alone name lines inner read message same lawful reads white blank =
     let ofx = branch_item (length white) 0 (codes "OFX") documents in
     let at : ℕ = length white + length (start_line (codes "OFX")) in
     let item = branch_item at 1 name inner in
-    let only : IsOnly name ofx item = named_of_branch (length white) 0 15 (codes "OFX") name documents lawful ∙ rw (bytes_self name) refl in
+    let only : IsOnly name ofx item = named_of_branch (length white) 0 15 (codes "OFX") name documents lawful ∙ rw (bytes_eq_self name) refl in
     let P : List ℕ → Type 0 = λ text. AreNodesOf (white ++ aggregate (codes "OFX") text) (ofx.node ∷ ofx.inner) in (
       ofx.node ∷ ofx.inner,
       ofx,

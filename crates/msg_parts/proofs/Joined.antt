@@ -3,7 +3,7 @@ use Rattle.std.proofs.Common.{◌≡◌, ℕ, List, ◌++◌, Result, OnOk, ◌�
 use Rattle.std.proofs.lemmas.Result.{on_ok_weaker}
 use Rattle.ofx_types.specs.Sheet.{start_line, end_line, aggregate}
 
--- two pieces, one behind the other
+-- two pieces, one after the other
 pub behind : (o m n a b : List ℕ) → m ≡ o ++ a → n ≡ m ++ b → n ≡ o ++ (a ++ b)
 behind o m n a b p q = q ∙ rw p (append_assoc o a b)
 

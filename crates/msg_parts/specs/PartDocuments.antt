@@ -30,7 +30,7 @@ status_documents code =
 
 -- ---- they read back
 
--- The lines between the tags of OFX, behind white space, make a body in which the one aggregate of this name is read as
+-- The lines between the tags of OFX, after white space, make a body in which the one aggregate of this name is read as
 -- this message.
 abbrev pub IsReadAlone : {A : Type 0} → (name lines : List ℕ) → (Item → Result A TreeFault) → A → Type 0
 IsReadAlone name lines read message =

@@ -95,17 +95,5 @@ fn print_kind(kind: AcctKind, sheet: &mut Sheet) -> Result<(), OutOfMemory>
     ensures ok { OnOk result (sheet.new ≡ sheet.old ++ element (codes "ACCTTYPE") (kind_word kind)) }
     ensures kept { StartsWith sheet.new sheet.old }
 {
-    sheet.element(b"ACCTTYPE", word_of(kind))
-}
-
-/// The word of a kind.
-fn word_of(kind: AcctKind) -> &'static [u8]
-    ensures { result.now ≡ kind_word kind }
-{
-    match kind {
-        AcctKind::Checking => b"CHECKING",
-        AcctKind::Savings => b"SAVINGS",
-        AcctKind::MoneyMarket => b"MONEYMRKT",
-        AcctKind::CreditLine => b"CREDITLINE",
-    }
+    sheet.element(b"ACCTTYPE", kind.word())
 }

@@ -8,17 +8,13 @@
 
 mod account;
 mod flag;
-mod laws;
+pub mod laws;
 mod status;
 mod transaction;
 mod trnuid;
 
 pub use account::{print_account, print_destination, read_account, read_account_in};
 pub use flag::print_flag;
-pub use laws::{
-    deed_replies_are_documents, deeds_are_documents, status_faults_have_places, statuses_are_found,
-    statuses_read_back,
-};
 pub use status::{print_status, read_status};
 pub use transaction::{reply_name, request_name};
 pub use trnuid::{print_trnuid, read_own_trnuid, read_trnuid};

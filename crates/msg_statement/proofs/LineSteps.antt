@@ -40,7 +40,7 @@ lines_behind-cons front child more = next_child (has_name (codes "STMTTRN") chil
 abbrev then : List StatementLine → List Item → Result (Option StatementLine) TreeFault → Result (List StatementLine) TreeFault
 then front more read = read >>= λ found. lines_behind (front ++ option_to_list found) more
 
--- what a child is stands behind the lines so far
+-- what a child is stands after the lines so far
 pub lines_behind-ok : (front : List StatementLine) (child : Item) (more : List Item) (found : Option StatementLine) → line_at child ≡ Ok found →
     lines_behind front (child ∷ more) ≡ lines_behind (front ++ option_to_list found) more
 lines_behind-ok front child more found h = lines_behind-cons front child more ∙ ap (then front more) h

@@ -11,8 +11,9 @@ use Rattle.ofx_types.specs.declared.number.Cents.{Cents}
 use Rattle.ofx_types.specs.declared.number.Moment.{Moment}
 use Rattle.ofx_types.specs.declared.reply.StatementBody.{StatementBody}
 use Rattle.ofx_types.specs.declared.reply.AskReply.{AskReply}
+use Rattle.ofx_types.proofs.Bytes.{went}
 use Rattle.ofx_tree.specs.Placed.{Stands, Any, IsWithin}
-use Rattle.ofx_tree.proofs.FormLaws.{bind_ok, bind_to, one_value, chosen, one_found, one_again, text_in_found, text_in_again, amount_in_found, amount_in_again, moment_in_found, moment_in_again}
+use Rattle.ofx_tree.proofs.FormLaws.{bind_ok, bind_to, one_value, one_found, one_again, text_in_found, text_in_again, amount_in_found, amount_in_again, moment_in_found, moment_in_again}
 use Rattle.ofx_tree.proofs.FormPlaces.{bound, either, one_within, maybe_within, text_within, amount_within, moment_within}
 use Rattle.msg_parts.proofs.PartLaws.{account_found, account_again}
 use Rattle.msg_parts.proofs.PartPlaces.{account_within}
@@ -109,7 +110,7 @@ body_within most stmtrs h =
 body_by_code_found : (code : ℕ) (stmttrnrs : Item) (body : Option StatementBody) → body_by_code code stmttrnrs ≡ Ok body →
     IsBodyByCode code stmttrnrs body
 unfolding body_by_code
-body_by_code_found code stmttrnrs body h = elim (chosen (nat_eq code 0) _ _ _ h) [
+body_by_code_found code stmttrnrs body h = elim (went (nat_eq code 0) _ _ _ h) [
   | inl (is, read) ↦
       let zero : code ≡ 0 = grind (arith, common_steps, is) in
       let stmtrs = bind_ok (one (codes "STMTRS") stmttrnrs) _ body read in

@@ -25,6 +25,6 @@ joined front more = Ok (front ++ more)
 unfoldable pub lines_behind : List StatementLine → List Item → Result (List StatementLine) TreeFault
 lines_behind front items = lines_of items >>= joined front
 
--- what a statement request says behind its uid
+-- what a statement request says after its uid
 abbrev pub asked : AcctName → Option Period → List ℕ
 asked account period = aggregate (codes "STMTRQ") (account_from account ++ period_request period)

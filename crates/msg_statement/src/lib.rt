@@ -4,14 +4,10 @@
 //! written is the message's one printed form.
 #![tactic(auto)]
 
-mod laws;
+pub mod laws;
 mod list;
 mod reply;
 mod request;
 
-pub use laws::{
-    statement_faults_have_places, statement_replies_are_found, statement_replies_read_back,
-    statement_reply_faults_have_places, statements_are_found, statements_read_back,
-};
 pub use reply::{print_statement_reply, read_statement_reply};
 pub use request::{print_statement, read_statement};

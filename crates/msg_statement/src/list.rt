@@ -54,7 +54,7 @@ fn read_lines(alloc: Global, banktranlist: &Cursor<'_>) -> Result<Lines, TreeFau
     Ok(lines)
 }
 
-/// Puts a line behind the others, where there is one.
+/// Puts a line after the others, where there is one.
 fn put(found: Option<StatementLine>, lines: &mut Lines) -> Result<(), TreeFault>
     ensures ok { OnOk result (lines.new ≡ lines.old ++ option_to_list found) }
     ensures err { IfErr result (λ fault. fault ≡ TreeFault.OutOfMemory) }

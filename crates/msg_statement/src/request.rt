@@ -73,7 +73,7 @@ pub fn print_statement(
     out.end(b"STMTTRNRQ")
 }
 
-/// Writes what stands in the wrapper behind its uid.
+/// Writes what stands in the wrapper after its uid.
 #[tactic(auto, unfolding(ofx_types::specs::Sheet::aggregate))]
 fn print_asked(
     account: &AcctName,

@@ -42,7 +42,7 @@ forms_behind-cons read is_wanted front child more = next_child (is_wanted child.
 abbrev then : {M : Type 0} → (Item → Result M TreeFault) → (List ℕ → Bool) → List M → List Item → Result (Option M) TreeFault → Result (List M) TreeFault
 then read is_wanted front more found = found >>= λ form. forms_behind read is_wanted (front ++ option_to_list form) more
 
--- what a child is stands behind the forms so far
+-- what a child is stands after the forms so far
 pub forms_behind-ok : {M : Type 0} (read : Item → Result M TreeFault) (is_wanted : List ℕ → Bool) (front : List M) (child : Item) (more : List Item) (found : Option M) →
     form_at read is_wanted child ≡ Ok found →
     forms_behind read is_wanted front (child ∷ more) ≡ forms_behind read is_wanted (front ++ option_to_list found) more

@@ -1,4 +1,4 @@
--- The deeds and the answers inside a synchronisation are forms one behind the other.
+-- The deeds and the answers inside a synchronisation are forms one after the other.
 use Rattle.std.proofs.Common.{◌≡◌, ℕ, List, [], ◌∷◌, refl, sym, ◌∙◌}
 use Rattle.ofx_types.specs.Nodes.{Item}
 use Rattle.ofx_types.specs.SyncReading.{transaction_of, transaction_reply_of, deeds_of, replies_of}

@@ -11,8 +11,9 @@ use Rattle.ofx_types.specs.declared.sync.ObjectName.{ObjectName}
 use Rattle.ofx_types.specs.declared.sync.ObjectName.TheVariants as objects
 use Rattle.ofx_types.specs.declared.transfer.Family.{Family}
 use Rattle.ofx_types.specs.declared.transfer.Family.TheVariants.{Intra, RecIntra, BankMail, Mail}
+use Rattle.ofx_types.proofs.Bytes.{bytes_eq_is}
 use Rattle.ofx_tree.specs.Placed.{Stands, Any, IsWithin}
-use Rattle.ofx_tree.proofs.FormLaws.{bind_ok, bind_to, one_value, bytes_same}
+use Rattle.ofx_tree.proofs.FormLaws.{bind_ok, bind_to, one_value}
 use Rattle.ofx_tree.proofs.FormPlaces.{bound, either}
 use Rattle.msg_mail.proofs.MailParts.{account_in_found, account_in_again, account_in_within}
 
@@ -26,7 +27,7 @@ pub name_of_family : (name_of : Family → List ℕ) (name : List ℕ) (fault : 
     else (if bytes_eq name (name_of Mail) then Ok Mail else Err fault)))) ≡ Ok family → name ≡ name_of family
 name_of_family name_of name fault family h =
     told (bytes_eq name (name_of Intra)) (bytes_eq name (name_of RecIntra)) (bytes_eq name (name_of BankMail)) (bytes_eq name (name_of Mail))
-    (bytes_same name _) (bytes_same name _) (bytes_same name _) (bytes_same name _) h
+    (bytes_eq_is name _) (bytes_eq_is name _) (bytes_eq_is name _) (bytes_eq_is name _) h
   where
     told : (a b c d : Bool) → (a ≡ true → name ≡ name_of Intra) → (b ≡ true → name ≡ name_of RecIntra) → (c ≡ true → name ≡ name_of BankMail) →
         (d ≡ true → name ≡ name_of Mail) →

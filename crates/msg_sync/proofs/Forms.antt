@@ -1,4 +1,4 @@
--- Forms one behind the other stand exactly where they are read, their faults have places, and branches read back.
+-- Forms one after the other stand exactly where they are read, their faults have places, and branches read back.
 use Rattle.std.proofs.Common.{◌≡◌, ◌↔◌, ℕ, ◌+◌, Bool, true, false, cond, filter, List, [], ◌∷◌, ◌++◌, length, map, Result, Ok, refl, ap, subst, ◌∙◌}
 use Rattle.std.specs.List.{AllZip, AllByRecursion, flat_map}
 use Rattle.ofx_types.specs.Sheet as sheet

@@ -1,5 +1,5 @@
 -- What is found among the items of documents is found past those that have other names.
-use Rattle.std.proofs.Common.{◌≡◌, ℕ, ◌+◌, Bool, false, List, ◌∷◌, length, Result, codes}
+use Rattle.std.proofs.Common.{◌≡◌, ℕ, ◌+◌, Bool, false, List, ◌∷◌, length, Result, codes, []}
 use Rattle.ofx_types.specs.Sheet as sheet
 use Rattle.ofx_types.specs.Nodes.{Item}
 use Rattle.ofx_types.specs.declared.fault.TreeFault.{TreeFault}
@@ -31,6 +31,10 @@ pub forms_skip : {M : Type 0} (read : Item → Result M TreeFault) (is_wanted : 
     Skips (λ items. forms_of read is_wanted items ≡ forms) is_wanted
 unfolding forms_of
 forms_skip read is_wanted forms item items other h = rw other h
+
+-- No item is wanted.
+abbrev pub IsNone : (List ℕ → Bool) → List Item → Type 0
+IsNone is_wanted items = wanted is_wanted items ≡ []
 
 -- ---- a leaf and a branch
 

@@ -19,9 +19,10 @@ use Rattle.ofx_types.specs.declared.transfer.Family.TheVariants as families
 use Rattle.ofx_types.specs.declared.sync.ObjectName.{ObjectName}
 use Rattle.ofx_types.specs.declared.sync.ObjectName.TheVariants.{Intra, RecIntra, BankMail, Mail}
 use Rattle.ofx_types.specs.declared.sync.SyncReply.{SyncReply}
+use Rattle.ofx_types.proofs.Bytes.{bytes_eq_self}
 use Rattle.ofx_tree.specs.Documents.{Documents, leaf, branch, AreLawful, leaf_item, branch_item, items_of}
 use Rattle.ofx_tree.proofs.DocumentItems.{children_of_branch, named_of_branch}
-use Rattle.ofx_tree.proofs.FormLaws.{bind_to, bytes_self}
+use Rattle.ofx_tree.proofs.FormLaws.{bind_to}
 use Rattle.ofx_tree.proofs.Leaves.{text_of_leaf, maybe_flag_of_leaf}
 use Rattle.msg_parts.specs.PartDocuments.{account_documents}
 use Rattle.msg_deed.specs.DeedsReadBack.{DeedRepliesReadBack}
@@ -34,7 +35,7 @@ use Rattle.msg_sync.specs.SoundSyncs.{IsSoundObject, IsSoundToldIn, IsSoundSyncR
 use Rattle.msg_sync.specs.SyncsAsDocuments.{answer_name, answer_inner, AnswersAreLawful, AnswersReadBack, object_document, sync_reply_inner, SyncRepliesReadBack}
 use Rattle.msg_sync.proofs.Deeds.{replies_are}
 use Rattle.msg_sync.proofs.Forms.{wanted, branches_read, branches_passed}
-use Rattle.msg_sync.proofs.Skipped.{Everywhere, wanted_skips, forms_skip, leaf_skipped, object_skipped}
+use Rattle.msg_sync.proofs.Skipped.{Everywhere, wanted_skips, forms_skip, leaf_skipped, object_skipped, IsNone}
 use Rattle.msg_sync.proofs.SyncDocuments.{sync_reply_lawful}
 use Rattle.msg_sync.proofs.SyncReplies.{told_again}
 use Rattle.msg_sync.proofs.SyncsBack.{HasAccountItem, account_stands, account_in_front, account_skips}
@@ -73,13 +74,10 @@ unfolding transaction_reply_of
 answers_back bank mails place index reply (inl r) = rw (no_mail place index reply r.is_family) (bank place index reply r)
 answers_back bank mails place index reply (inr r) = rw (a_mail place index reply r.is_family) (mails place index reply r ∙ ap Ok (mail_whole reply r))
 
--- ---- what stands behind the token and the flag
+-- ---- what stands after the token and the flag
 
 abbrev replies_documents : List DeedReply → Documents
 replies_documents replies = branches answer_name answer_inner replies
-
-abbrev IsNone : (List ℕ → Bool) → List Item → Type 0
-IsNone is_wanted items = wanted is_wanted items ≡ []
 
 no_answer : (is_wanted : List ℕ → Bool) → ((family : Family) → is_wanted (reply_name family) ≡ false) → (object : ObjectName) (replies : List DeedReply) →
     AllByRecursion (IsSoundToldIn (object_family object)) replies → Everywhere (IsNone is_wanted) (replies_documents replies)
@@ -193,7 +191,7 @@ replies_back reads reply s =
     (leaf_skipped Holds is_wanted skips (codes "LOSTSYNC") (flag_word reply.lost) (object_document reply.object replies) others.1
     (object_skipped Holds is_wanted skips others.2 reply.object replies (λ place index.
     branches_read (IsSoundToldIn family) answer_name answer_inner transaction_reply_of is_wanted wire
-    (λ answer is. rw is.1 (bytes_self (reply_name family)))
+    (λ answer is. rw is.1 (bytes_eq_self (reply_name family)))
     (λ at first answer is. reads at first answer is.0)
     place index reply.replies s.replies)))
 

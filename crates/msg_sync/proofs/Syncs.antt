@@ -15,8 +15,9 @@ use Rattle.ofx_types.specs.declared.transfer.Family.TheVariants.{Intra, RecIntra
 use Rattle.ofx_types.specs.declared.sync.SyncKind.{SyncKind}
 use Rattle.ofx_types.specs.declared.sync.SyncKind.TheVariants.{After, TokenOnly, Refresh}
 use Rattle.ofx_types.specs.declared.sync.SyncAsk.{SyncAsk}
+use Rattle.ofx_types.proofs.Bytes.{bytes_eq_is, went}
 use Rattle.ofx_tree.specs.Placed.{Stands, Any, IsWithin}
-use Rattle.ofx_tree.proofs.FormLaws.{bind_ok, bind_to, one_value, chosen, ok_guarded, bytes_same, one_of_found, one_of_again, has_one_of, text_found, text_again, flag_in_found, flag_in_again}
+use Rattle.ofx_tree.proofs.FormLaws.{bind_ok, bind_to, one_value, ok_guarded, one_of_found, one_of_again, has_one_of, text_found, text_again, flag_in_found, flag_in_again}
 use Rattle.ofx_tree.proofs.FormPlaces.{bound, either, one_of_within, flag_within, children_within}
 use Rattle.msg_parts.proofs.Named.{third_name}
 use Rattle.msg_sync.specs.SyncLaws.{TransactionsAreFound, TransactionFaultsHavePlaces, SyncsAreFound, SyncFaultsHavePlaces}
@@ -32,16 +33,16 @@ yes_found choice kind read is h =
     subst (IsKind choice) (ok_guarded (bytes_eq (value_of choice.node.text) (codes "Y")) kind read _ h).1 is
 
 yes_said : (choice : Item) (kind read : SyncKind) → only_yes kind choice.node ≡ Ok read → value_of choice.node.text ≡ codes "Y"
-yes_said choice kind read h = bytes_same _ _ (ok_guarded (bytes_eq (value_of choice.node.text) (codes "Y")) kind read _ h).0
+yes_said choice kind read h = bytes_eq_is _ _ (ok_guarded (bytes_eq (value_of choice.node.text) (codes "Y")) kind read _ h).0
 
 kind_found : (choice : Item) (kind : SyncKind) → is_one_of sync_kinds choice.node.name ≡ true → kind_of choice ≡ Ok kind → IsKind choice kind
 unfolding kind_of
-kind_found choice kind named h = elim (chosen (has_name (codes "TOKEN") choice) _ _ _ h) [
+kind_found choice kind named h = elim (went (has_name (codes "TOKEN") choice) _ _ _ h) [
   | inl (is, read) ↦
       let token = bind_ok (text_at 64 choice.node) _ kind read in
-      subst (IsKind choice) (one_value _ _ kind refl token.2) (bytes_same _ _ is, text_found 64 choice.node token.0 token.1)
-  | inr (first, more) ↦ elim (chosen (has_name (codes "TOKENONLY") choice) _ _ _ more) [
-    | inl (is, read) ↦ yes_found choice TokenOnly kind (bytes_same _ _ is, yes_said choice TokenOnly kind read) read
+      subst (IsKind choice) (one_value _ _ kind refl token.2) (bytes_eq_is _ _ is, text_found 64 choice.node token.0 token.1)
+  | inr (first, more) ↦ elim (went (has_name (codes "TOKENONLY") choice) _ _ _ more) [
+    | inl (is, read) ↦ yes_found choice TokenOnly kind (bytes_eq_is _ _ is, yes_said choice TokenOnly kind read) read
     | inr (second, read) ↦ yes_found choice Refresh kind (third_name choice.node.name _ _ _ named first second, yes_said choice Refresh kind read) read
   ]
 ]

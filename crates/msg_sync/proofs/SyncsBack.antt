@@ -20,9 +20,10 @@ use Rattle.ofx_types.specs.declared.sync.ObjectName.TheVariants.{Intra, RecIntra
 use Rattle.ofx_types.specs.declared.sync.SyncKind.{SyncKind}
 use Rattle.ofx_types.specs.declared.sync.SyncKind.TheVariants.{After, TokenOnly, Refresh}
 use Rattle.ofx_types.specs.declared.sync.SyncAsk.{SyncAsk}
+use Rattle.ofx_types.proofs.Bytes.{bytes_eq_self}
 use Rattle.ofx_tree.specs.Documents.{Documents, leaf, branch, AreLawful, leaf_item, branch_item, items_of}
 use Rattle.ofx_tree.proofs.DocumentItems.{children_of_branch, named_of_branch, named_one_of_branch, value_of_leaf}
-use Rattle.ofx_tree.proofs.FormLaws.{bind_to, bytes_self, one_again, one_of_again}
+use Rattle.ofx_tree.proofs.FormLaws.{bind_to, one_again, one_of_again}
 use Rattle.ofx_tree.proofs.Leaves.{flag_leaf, stands_of_leaf, flag_of_leaf}
 use Rattle.msg_parts.specs.PartDocuments.{account_documents}
 use Rattle.msg_deed.specs.DeedsReadBack.{DeedsReadBack}
@@ -38,7 +39,7 @@ use Rattle.msg_sync.specs.SoundSyncs.{IsSoundObject, IsSoundKind, IsSoundIn, IsS
 use Rattle.msg_sync.specs.SyncsAsDocuments.{deed_name, deed_inner, TransactionsAreLawful, TransactionsReadBack, kind_document, plain_documents, object_document, sync_inner, SyncsReadBack}
 use Rattle.msg_sync.proofs.Deeds.{deeds_are}
 use Rattle.msg_sync.proofs.Forms.{wanted, branches_read, branches_passed}
-use Rattle.msg_sync.proofs.Skipped.{Everywhere, wanted_skips, forms_skip, leaf_skipped, IsNoKind, kind_skipped, IsNoPlain, plain_skipped, object_skipped}
+use Rattle.msg_sync.proofs.Skipped.{Everywhere, wanted_skips, forms_skip, leaf_skipped, IsNoKind, kind_skipped, IsNoPlain, plain_skipped, object_skipped, IsNone}
 use Rattle.msg_sync.proofs.SyncDocuments.{sync_lawful}
 use Rattle.msg_sync.proofs.Syncs.{kind_again, synced_again}
 
@@ -113,16 +114,13 @@ kind_is place index TokenOnly k =
 kind_is place index Refresh k =
     (refl, (value_of_leaf place index (codes "REFRESH") (codes "Y") (flag_leaf (codes "REFRESH") true (named (codes "REFRESH") refl refl))).0)
 
--- ---- what stands behind the kind
+-- ---- what stands after the kind
 
 abbrev deeds_documents : List (List ℕ × Deed) → Documents
 deeds_documents deeds = branches deed_name deed_inner deeds
 
 abbrev behind_reject : ObjectName → List (List ℕ × Deed) → Documents
 behind_reject object deeds = plain_documents (object_family object) (object_document object (deeds_documents deeds))
-
-abbrev IsNone : (List ℕ → Bool) → List Item → Type 0
-IsNone is_wanted items = wanted is_wanted items ≡ []
 
 -- no deed has a name that no transaction has
 no_deed : (is_wanted : List ℕ → Bool) → ((family : Family) → is_wanted (request_name family) ≡ false) → (object : ObjectName) (deeds : List (List ℕ × Deed)) →
@@ -264,7 +262,7 @@ deeds_back reads ask s =
     (plain_skipped Holds is_wanted skips (no_plain family) family (object_document ask.object deeds)
     (object_skipped Holds is_wanted skips (no_account family) ask.object deeds (λ place index.
     branches_read (IsSoundIn family) deed_name deed_inner transaction_of is_wanted (λ deed. deed)
-    (λ deed is. rw is.1 (bytes_self (request_name family)))
+    (λ deed is. rw is.1 (bytes_eq_self (request_name family)))
     (λ at first deed is. reads at first deed is.0)
     place index ask.deeds s.deeds
     ∙ ap Ok (same_all ask.deeds)))))

@@ -11,8 +11,8 @@ use Rattle.ofx_types.specs.declared.transfer.Deed.TheVariants as deeds
 use Rattle.ofx_types.specs.declared.transfer.Family.{Family}
 use Rattle.ofx_types.specs.declared.transfer.Family.TheVariants.{Intra, RecIntra, BankMail, Mail}
 use Rattle.ofx_types.specs.declared.transfer.DeedReply.{DeedReply}
+use Rattle.ofx_types.proofs.Bytes.{went}
 use Rattle.ofx_tree.specs.Placed.{Any}
-use Rattle.ofx_tree.proofs.FormLaws.{chosen}
 use Rattle.ofx_tree.proofs.FormPlaces.{either}
 use Rattle.msg_deed.specs.DeedLaws.{DeedsAreFound, DeedFaultsHavePlaces, DeedRepliesAreFound, DeedReplyFaultsHavePlaces}
 use Rattle.msg_mail.specs.MailLaws.{MailsAreFound, MailFaultsHavePlaces, MailRepliesAreFound, MailReplyFaultsHavePlaces}
@@ -22,7 +22,7 @@ use Rattle.msg_sync.specs.SyncLaws.{TransactionsAreFound, TransactionFaultsHaveP
 
 transaction_found : DeedsAreFound → MailsAreFound → (transaction : Item) (deed : List ℕ × Deed) → transaction_of transaction ≡ Ok deed → IsTransaction transaction deed
 unfolding transaction_of
-transaction_found bank mails transaction deed h = elim (chosen (is_mail transaction) _ _ _ h) [
+transaction_found bank mails transaction deed h = elim (went (is_mail transaction) _ _ _ h) [
   | inl (is, read) ↦ inr ((mails transaction deed.0 deed.1).1 read)
   | inr (other, read) ↦ inl ((bank transaction deed.0 deed.1).1 read)
 ]
@@ -67,7 +67,7 @@ transaction_faults_have_places bank mails most transaction h =
 answer_found : DeedRepliesAreFound → MailRepliesAreFound → (transaction : Item) (reply : DeedReply) → transaction_reply_of transaction ≡ Ok reply →
     IsTransactionReply transaction reply
 unfolding transaction_reply_of
-answer_found bank mails transaction reply h = elim (chosen (is_mail_reply transaction) _ _ _ h) [
+answer_found bank mails transaction reply h = elim (went (is_mail_reply transaction) _ _ _ h) [
   | inl (is, read) ↦ inr ((mails transaction reply).1 read)
   | inr (other, read) ↦ inl ((bank transaction reply).1 read)
 ]

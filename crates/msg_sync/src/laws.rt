@@ -3,11 +3,11 @@
 ghost use Rattle.msg_sync.specs.SyncLaws.{TransactionsAreFound, TransactionFaultsHavePlaces, TransactionRepliesAreFound, TransactionReplyFaultsHavePlaces, SyncsAreFound, SyncFaultsHavePlaces, SyncRepliesAreFound, SyncReplyFaultsHavePlaces};
 ghost use Rattle.msg_sync.specs.SyncsAsDocuments.{TransactionsAreDocuments, TransactionsAreLawful, TransactionsReadBack, AnswersAreDocuments, AnswersAreLawful, AnswersReadBack, SyncsAreDocuments, SyncsAreLawful, SyncsReadBack, SyncRepliesAreDocuments, SyncRepliesAreLawful, SyncRepliesReadBack};
 
-use msg_deed::{
+use msg_deed::laws::{
     deed_faults_have_places, deed_replies_are_found, deed_replies_read_back,
     deed_reply_faults_have_places, deeds_are_found, deeds_read_back,
 };
-use msg_mail::{
+use msg_mail::laws::{
     mail_faults_have_places, mail_replies_are_found, mail_replies_read_back,
     mail_reply_faults_have_places, mails_are_found, mails_read_back,
 };

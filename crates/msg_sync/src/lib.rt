@@ -6,19 +6,13 @@
 //! message's one printed form.
 #![tactic(auto)]
 
-mod laws;
+pub mod laws;
 mod listing;
 mod object;
 mod reply;
 mod request;
 mod transaction;
 
-pub use laws::{
-    sync_faults_have_places, sync_replies_are_found, sync_replies_read_back,
-    sync_reply_faults_have_places, syncs_are_found, syncs_read_back,
-    transaction_faults_have_places, transaction_replies_are_found, transaction_replies_read_back,
-    transaction_reply_faults_have_places, transactions_are_found, transactions_read_back,
-};
 pub use listing::put_form;
 pub use reply::{print_sync_reply, read_sync_reply};
 pub use request::{print_sync, read_sync};

@@ -1,10 +1,10 @@
-//! Forms that stand one behind the other, each put behind those that are read already.
+//! Forms that stand one after the other, each put after those that are read already.
 
 ghost use Rattle.std.specs.Prelude.{◌≡◌, ◌++◌, IfErr, OnOk, OnErr, option_to_list};
 
 use ofx_types::{OutOfMemory, Sequence, TreeFault};
 
-/// Puts a form behind the others, where there is one.
+/// Puts a form after the others, where there is one.
 ///
 /// `OutOfMemory` where memory for it is refused; the forms are as before then.
 pub fn put_form<T: Drop>(found: Option<T>, forms: &mut Sequence<T>) -> Result<(), TreeFault>

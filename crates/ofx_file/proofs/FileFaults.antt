@@ -52,7 +52,7 @@ one_root nodes a b x y =
     ∙ ap (λ f. item_with b.node f a.inner) (x.2 ∙ sym y.2)
     ∙ ap (λ i. item_with b.node b.first i) (x.3 ∙ same.1 ∙ sym y.3)
 
--- behind headers of one size stands one body
+-- after headers of one size stands one body
 pub one_body : Laws → (bytes : List ℕ) (m n : ℕ) (xs ys : List TagNode) (a b : Item) → m ≡ n → HasBody bytes m xs a → HasBody bytes n ys b → a ≡ b
 one_body laws bytes m n xs ys a b size x y =
     let P : ℕ → Type 0 = λ k. AreNodesOf (drop k bytes) xs in
@@ -138,7 +138,7 @@ pub record Judges : Type 0 where
   pub tags : FaultlessTagsAreSpelled
   pub slices : NodesAreSlices
 
--- Behind a header stands a body whose parts are read.
+-- After a header stands a body whose parts are read.
 pub record HasParts {P : Type 0} (parts_of : Item → Result P TreeFault) (bytes : List ℕ) : Type 0 where
   pub size : ℕ
   pub nodes : List TagNode

@@ -1,4 +1,4 @@
--- The messages of a set are forms one behind the other.
+-- The messages of a set are forms one after the other.
 use Rattle.std.proofs.Common.{◌≡◌, ℕ, List, [], ◌∷◌, Option, None, Some, Result, Ok, inl, inr, refl, sym, ap, ◌∙◌}
 use Rattle.std.specs.Option.{IfSome}
 use Rattle.ofx_types.specs.TagNames.{is_one_of}

@@ -37,7 +37,7 @@ use Rattle.ofx_file.proofs.TagPlaces.{tag_fault_within}
 
 -- ---- the header and the tags
 
--- the bytes behind a header, as a slice up to the end has them
+-- the bytes after a header, as a slice up to the end has them
 pub rest_is : (size : ℕ) (bytes : List ℕ) → take (length bytes - size) (drop size bytes) ≡ drop size bytes
 rest_is size bytes = rw (← length-drop size bytes) (take-length (drop size bytes))
 

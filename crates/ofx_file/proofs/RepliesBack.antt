@@ -32,14 +32,14 @@ use Rattle.msg_mail.specs.SignonsAsDocuments.{signon_reply_documents, SignonRepl
 use Rattle.msg_sync.specs.SyncSteps.{is_name_of}
 use Rattle.msg_sync.specs.SyncsAsDocuments.{sync_reply_inner, AnswersAreDocuments, AnswersAreLawful, AnswersReadBack, SyncRepliesAreDocuments, SyncRepliesAreLawful, SyncRepliesReadBack}
 use Rattle.msg_sync.proofs.Forms.{wanted}
-use Rattle.msg_sync.proofs.Skipped.{Everywhere, wanted_skips, branch_skipped}
+use Rattle.msg_sync.proofs.Skipped.{Everywhere, wanted_skips, branch_skipped, IsNone}
 use Rattle.ofx_file.specs.declared.messages.MessageSet.{MessageSet}
 use Rattle.ofx_file.specs.declared.messages.MessageSet.TheVariants.{Bank, Mail}
 use Rattle.ofx_file.specs.MessageSets.{reply_set, reply_names, is_reply_in, replies_in}
 use Rattle.ofx_file.specs.FileLaws.{RepliesAreFound}
 use Rattle.ofx_file.specs.Written.{IsSoundAskReply, IsSoundReplyFile, RepliesReadBack}
-use Rattle.ofx_file.proofs.ReplyLaws.{transaction_branch_read, sync_branch_read}
-use Rattle.ofx_file.proofs.Sets.{maybe_set, set_printed, set_lawful, set_skipped, HasSet, set_skips, set_back, kept_sound, passed_sound, written_body}
+use Rattle.ofx_file.proofs.ReplyLaws.{transaction_branch_read, sync_branch_read, parts_with}
+use Rattle.ofx_file.proofs.Sets.{maybe_set, set_printed, set_lawful, set_skipped, HasSet, set_skips, set_back, kept_sound, passed_sound, written_body, no_more}
 use Rattle.ofx_file.proofs.Texts.{answer_is_there}
 
 -- the laws of the messages that a reply is made of
@@ -181,13 +181,7 @@ reply_lawful laws reply s = (
 
 -- ---- what is read of them
 
-abbrev IsNone : (List ℕ → Bool) → List Item → Type 0
-IsNone is_wanted items = wanted is_wanted items ≡ []
-
-no_more : (is_wanted : List ℕ → Bool) → Everywhere (IsNone is_wanted) empty
-no_more is_wanted place index = refl
-
--- the sets behind the signon's have other names
+-- the sets after the signon's have other names
 none_behind : (is_wanted : List ℕ → Bool) → ((set : MessageSet) → is_wanted (reply_set set) ≡ false) → (answers : List AskReply) →
     Everywhere (IsNone is_wanted) (set_documents Bank answers (set_documents Mail answers empty))
 none_behind is_wanted other answers =
@@ -236,9 +230,6 @@ mail_stands laws reply sound =
     (codes "SIGNONMSGSRSV1") (signon_inner reply.signon reply.moment) (set_documents Bank reply.replies (set_documents Mail reply.replies empty)) refl
     (set_skipped (HasAnswers Mail reply.replies) is_mail skips (reply_set Bank) answer_name answer_inner refl (replies_in Bank reply.replies) (set_documents Mail reply.replies empty)
     (answers_read laws Mail reply.replies empty sound (no_more is_mail)))
-
-parts_with : ℕ → Moment → List AskReply → ReplyParts
-parts_with signon moment replies = record { signon = signon; moment = moment; replies = replies }
 
 -- what is told of both sets is told of all
 told_of_both : (bank mail : List AskReply) → map wire_answer bank ++ map wire_answer mail ≡ map wire_answer (bank ++ mail)

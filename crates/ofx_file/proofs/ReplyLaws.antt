@@ -19,7 +19,8 @@ use Rattle.ofx_types.specs.declared.transfer.DeedReply.{DeedReply}
 use Rattle.ofx_types.specs.declared.sync.SyncReply.{SyncReply}
 use Rattle.ofx_types.specs.declared.reply.AskReply.{AskReply}
 use Rattle.ofx_types.specs.declared.reply.AskReply.TheVariants.{Statement, One, Sync}
-use Rattle.ofx_tree.proofs.FormLaws.{bind_ok, bind_to, one_value, chosen, bytes_same, one_found, one_again}
+use Rattle.ofx_types.proofs.Bytes.{bytes_eq_is, went}
+use Rattle.ofx_tree.proofs.FormLaws.{bind_ok, bind_to, one_value, one_found, one_again}
 use Rattle.msg_statement.specs.StatementLaws.{StatementRepliesAreFound}
 use Rattle.msg_mail.specs.SignonLaws.{SignonRepliesAreFound}
 use Rattle.msg_sync.specs.SyncLaws.{TransactionRepliesAreFound, SyncRepliesAreFound}
@@ -56,9 +57,9 @@ sync_found laws reply answer h =
 
 answer_found : Laws → (reply : Item) (answer : AskReply) → ask_reply_of reply ≡ Ok answer → IsAskReply reply answer
 unfolding ask_reply_of
-answer_found laws reply answer h = elim (chosen (has_name (codes "STMTTRNRS") reply) _ _ _ h) [
-  | inl (is, read) ↦ statement_found laws reply answer (bytes_same _ _ is) read
-  | inr (other, more) ↦ elim (chosen (is_named_one_of transaction_reply_names reply) _ _ _ more) [
+answer_found laws reply answer h = elim (went (has_name (codes "STMTTRNRS") reply) _ _ _ h) [
+  | inl (is, read) ↦ statement_found laws reply answer (bytes_eq_is _ _ is) read
+  | inr (other, more) ↦ elim (went (is_named_one_of transaction_reply_names reply) _ _ _ more) [
     | inl (is, read) ↦ transaction_found laws reply answer read
     | inr (none, read) ↦ sync_found laws reply answer read
   ]
@@ -157,7 +158,7 @@ reply_found laws ofx parts h =
       are_answers = refl;
     })
 
-parts_with : ℕ → Moment → List AskReply → ReplyParts
+unfoldable pub parts_with : ℕ → Moment → List AskReply → ReplyParts
 parts_with signon moment replies = record { signon = signon; moment = moment; replies = replies }
 
 reply_again : Laws → (ofx : Item) (parts : ReplyParts) → IsReply ofx parts.signon parts.moment parts.replies → reply_of ofx ≡ Ok parts

@@ -19,7 +19,8 @@ use Rattle.ofx_types.specs.declared.transfer.Family.TheVariants.{Intra, RecIntra
 use Rattle.ofx_types.specs.declared.sync.SyncAsk.{SyncAsk}
 use Rattle.ofx_types.specs.declared.request.Ask.{Ask}
 use Rattle.ofx_types.specs.declared.request.Ask.TheVariants.{Statement, One, Sync}
-use Rattle.ofx_tree.proofs.FormLaws.{bind_ok, bind_to, one_value, chosen, bytes_same, one_found, one_again}
+use Rattle.ofx_types.proofs.Bytes.{bytes_eq_is, went}
+use Rattle.ofx_tree.proofs.FormLaws.{bind_ok, bind_to, one_value, one_found, one_again}
 use Rattle.msg_statement.specs.StatementLaws.{StatementsAreFound}
 use Rattle.msg_mail.specs.SignonLaws.{SignonsAreFound}
 use Rattle.msg_sync.specs.SyncLaws.{TransactionsAreFound, SyncsAreFound}
@@ -56,9 +57,9 @@ sync_found laws request ask h =
 
 ask_found : Laws → (request : Item) (ask : Ask) → ask_of request ≡ Ok ask → IsAsk request ask
 unfolding ask_of
-ask_found laws request ask h = elim (chosen (has_name (codes "STMTTRNRQ") request) _ _ _ h) [
-  | inl (is, read) ↦ statement_found laws request ask (bytes_same _ _ is) read
-  | inr (other, more) ↦ elim (chosen (is_named_one_of transaction_names request) _ _ _ more) [
+ask_found laws request ask h = elim (went (has_name (codes "STMTTRNRQ") request) _ _ _ h) [
+  | inl (is, read) ↦ statement_found laws request ask (bytes_eq_is _ _ is) read
+  | inr (other, more) ↦ elim (went (is_named_one_of transaction_names request) _ _ _ more) [
     | inl (is, read) ↦ transaction_found laws request ask read
     | inr (none, read) ↦ sync_found laws request ask read
   ]
@@ -149,7 +150,7 @@ request_found laws ofx parts h =
       are_asks = refl;
     })
 
-parts_with : List ℕ → List ℕ → List Ask → RequestParts
+unfoldable pub parts_with : List ℕ → List ℕ → List Ask → RequestParts
 parts_with user pass asks = record { user = user; pass = pass; asks = asks }
 
 request_again : Laws → (ofx : Item) (parts : RequestParts) → IsRequest ofx parts.user parts.pass parts.asks → request_of ofx ≡ Ok parts

@@ -31,15 +31,15 @@ use Rattle.msg_mail.specs.SignonsAsDocuments.{signon_documents, SignonsAreDocume
 use Rattle.msg_sync.specs.SyncSteps.{is_name_of}
 use Rattle.msg_sync.specs.SyncsAsDocuments.{sync_inner, TransactionsAreDocuments, TransactionsAreLawful, TransactionsReadBack, SyncsAreDocuments, SyncsAreLawful, SyncsReadBack}
 use Rattle.msg_sync.proofs.Forms.{wanted}
-use Rattle.msg_sync.proofs.Skipped.{Everywhere, wanted_skips, branch_skipped}
+use Rattle.msg_sync.proofs.Skipped.{Everywhere, wanted_skips, branch_skipped, IsNone}
 use Rattle.std.proofs.lemmas.List.{append-nil, map-id}
 use Rattle.ofx_file.specs.declared.messages.MessageSet.{MessageSet}
 use Rattle.ofx_file.specs.declared.messages.MessageSet.TheVariants.{Bank, Mail}
 use Rattle.ofx_file.specs.MessageSets.{request_set, request_names, is_ask_in, asks_in}
 use Rattle.ofx_file.specs.FileLaws.{RequestsAreFound}
 use Rattle.ofx_file.specs.Written.{IsSoundAsk, IsSoundFile, FilesReadBack}
-use Rattle.ofx_file.proofs.RequestLaws.{transaction_branch_read, sync_branch_read}
-use Rattle.ofx_file.proofs.Sets.{maybe_set, set_printed, set_lawful, set_skipped, HasSet, set_skips, set_back, kept_sound, passed_sound, written_body}
+use Rattle.ofx_file.proofs.RequestLaws.{transaction_branch_read, sync_branch_read, parts_with}
+use Rattle.ofx_file.proofs.Sets.{maybe_set, set_printed, set_lawful, set_skipped, HasSet, set_skips, set_back, kept_sound, passed_sound, written_body, no_more}
 use Rattle.ofx_file.proofs.Texts.{ask_is_there}
 
 -- the laws of the messages that a request is made of
@@ -178,13 +178,7 @@ request_lawful laws file at s = (
 
 -- ---- what is read of them
 
-abbrev IsNone : (List ℕ → Bool) → List Item → Type 0
-IsNone is_wanted items = wanted is_wanted items ≡ []
-
-no_more : (is_wanted : List ℕ → Bool) → Everywhere (IsNone is_wanted) empty
-no_more is_wanted place index = refl
-
--- the sets behind the signon's have other names
+-- the sets after the signon's have other names
 none_behind : (is_wanted : List ℕ → Bool) → ((set : MessageSet) → is_wanted (request_set set) ≡ false) → (asks : List Ask) →
     Everywhere (IsNone is_wanted) (set_documents Bank asks (set_documents Mail asks empty))
 none_behind is_wanted other asks =
@@ -233,9 +227,6 @@ mail_stands laws file at sound =
     (codes "SIGNONMSGSRQV1") (signon_inner file.user file.pass at) (set_documents Bank file.asks (set_documents Mail file.asks empty)) refl
     (set_skipped (HasAsks Mail file.asks) is_mail skips (request_set Bank) ask_name ask_inner refl (asks_in Bank file.asks) (set_documents Mail file.asks empty)
     (asks_read laws Mail file.asks empty sound (no_more is_mail)))
-
-parts_with : List ℕ → List ℕ → List Ask → RequestParts
-parts_with user pass asks = record { user = user; pass = pass; asks = asks }
 
 request_back : Laws → (file : RequestFile) (at : Moment) → IsSoundFile file at →
     request_of (branch_item 2 0 (codes "OFX") (request_inner file at)) ≡ Ok (parts_with file.user file.pass file.asks)

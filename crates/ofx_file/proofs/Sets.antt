@@ -11,15 +11,19 @@ use Rattle.ofx_types.specs.FormWords.{if_any}
 use Rattle.ofx_types.specs.MessageReading.{messages_in}
 use Rattle.ofx_types.specs.FileForm.{HasBody}
 use Rattle.ofx_types.specs.declared.fault.TreeFault.{TreeFault}
-use Rattle.ofx_tree.specs.Documents.{Documents, branch, printed, AreLawful, IsBranch, branch_item}
+use Rattle.ofx_types.proofs.Bytes.{bytes_eq_self}
+use Rattle.ofx_tree.specs.Documents.{Documents, branch, printed, AreLawful, IsBranch, branch_item, empty}
 use Rattle.ofx_tree.proofs.DocumentItems.{children_of_branch}
 use Rattle.ofx_tree.proofs.DocumentTrees.{documents_of_body}
-use Rattle.ofx_tree.proofs.FormLaws.{bytes_self}
 use Rattle.msg_sync.specs.Listing.{forms_of, branches}
 use Rattle.msg_sync.specs.SyncSteps.{is_name_of}
 use Rattle.msg_sync.proofs.Forms.{wanted, branches_printed, branches_lawful, branches_read}
-use Rattle.msg_sync.proofs.Skipped.{Skips, Everywhere, branch_skipped}
+use Rattle.msg_sync.proofs.Skipped.{Skips, Everywhere, branch_skipped, IsNone}
 use Rattle.ofx_file.proofs.InSets.{messages_are}
+
+-- In nothing nothing is wanted.
+pub no_more : (is_wanted : List ℕ → Bool) → Everywhere (IsNone is_wanted) empty
+no_more is_wanted place index = refl
 
 -- ---- a message set that may be left out
 
@@ -72,7 +76,7 @@ set_back IsSound name_of inner_of read value_of name names named reads [] behind
 set_back IsSound name_of inner_of read value_of name names named reads (x ∷ xs) behind h none place index =
     let inner = branches name_of inner_of (x ∷ xs) in
     let set = branch_item place index name inner in
-    let own : is_name_of name name ≡ true = bytes_self name in (
+    let own : is_name_of name name ≡ true = bytes_eq_self name in (
       Some set,
       rw own (ap (λ (more : List Item). if_any (set ∷ more)) (none _ _)),
       messages_are read names (children set)
@@ -132,7 +136,7 @@ behind_front front white body two =
 behind_header : (text front body : List ℕ) → text ≡ front ++ 13 ∷ 10 ∷ [] → drop (length text - 2) (text ++ body) ≡ (13 ∷ 10 ∷ []) ++ body
 behind_header text front body is = rw is (behind_front front (13 ∷ 10 ∷ []) body refl)
 
--- Documents between the tags of OFX behind a header are a body.
+-- Documents between the tags of OFX after a header are a body.
 pub written_body : (version : ℕ) (older newer : Option (List ℕ)) (inner : Documents) → AreLawful 15 inner →
     let text = header_text version older newer in
     let ofx = branch_item 2 0 (codes "OFX") inner in

@@ -1,25 +1,18 @@
 -- What is read is within the bounds of a bank: texts and uids; and of a deed its accounts, its amount, its due day, its id and
 -- its count, and the texts and the moment of a mail.
-use Rattle.std.proofs.Common.{◌≡◌, inl, inr, ℕ, zero, suc, ◌<◌, ◌≤◌, ◌^◌, Bool, true, false, cond, ◌&&◌, nat_le, ℤ, pos, negsuc, unsigned_abs, List, [], length, take, Option, None, Some, codes, append-nil, refl, sym, ap, subst, ◌∙◌, arith, rules}
+use Rattle.std.proofs.Common.{◌≡◌, inl, inr, ℕ, ◌<◌, ◌≤◌, ◌^◌, Bool, true, false, cond, ℤ, pos, negsuc, List, [], length, take, Option, None, Some, codes, append-nil, refl, sym, ap, subst, ◌∙◌, arith}
 use Rattle.std.proofs.Math.Seq.{take-append_seam}
-use Rattle.std.proofs.lemmas.Bool.{and_parts, leb-true}
 use Rattle.std.proofs.lemmas.Int.{ints}
-use Rattle.std.proofs.lemmas.Str.Parse.{IsNumeralModel, numerals_by_value, digits_value_short}
-use Rattle.std.specs.Char.{is_ascii_digit}
-use Rattle.std.specs.List.{list_all}
 use Rattle.std.specs.Option.{IfSome}
 use Rattle.std.specs.Prelude.{unwrap_or}
 use Rattle.std.specs.Str.Parse.{digits_value}
-use Rattle.ofx_types.proofs.Trimming.{faultless, text_of_faultless, file_uid_of_faultless}
-use Rattle.ofx_types.specs.TextRules.{is_refused_in_text, IsFileUid}
-use Rattle.ofx_types.specs.ValueForm.{decoded, StandsFor}
+use Rattle.ofx_types.proofs.Trimming.{file_uid_of_faultless, text_within_in}
+use Rattle.ofx_types.specs.TextRules.{IsFileUid}
 use Rattle.ofx_types.specs.HeaderForm.{IsHeaderLine, IsUidValue}
 use Rattle.ofx_types.specs.Calendar.{IsMoment, IsDay, day_of}
-use Rattle.ofx_types.specs.Digits.{signed}
-use Rattle.ofx_types.specs.AmountForm.{IsAmount}
 use Rattle.ofx_types.specs.NumberReading.{is_number_within, number_at}
 use Rattle.ofx_types.specs.Nodes.{Item}
-use Rattle.ofx_types.specs.FormWords.{IsTextIn, id_of, IsIdIn}
+use Rattle.ofx_types.specs.FormWords.{id_of, IsIdIn}
 use Rattle.ofx_types.specs.RequestForm.{IsTrnUidOf, IsAccount}
 use Rattle.ofx_types.specs.TransferForm.{IsMaybeDue, HasXferInfo}
 use Rattle.ofx_types.specs.RecurringForm.{IsMaybeCount, HasRecur, HasEachInfo}
@@ -35,24 +28,14 @@ use Rattle.ofx_types.specs.declared.transfer.Deed.TheVariants.{Transfer, ModifyT
 use Rattle.ofx_types.specs.declared.mail.MailText.{MailText}
 use Rattle.ofx_types.specs.declared.sync.ObjectName.{ObjectName}
 use Rattle.ofx_types.specs.declared.sync.ObjectName.TheVariants as objects
-use Rattle.bank_model.specs.Sound.{IsTextWithin, IsClientUid, IsSoundAccount, IsSoundInfo, IsSoundRecur, IsId, IsSoundMail, IsSoundDeed, IsSoundObject}
+use Rattle.ofx_types.proofs.Numbers.{amount_within, digits_within}
+use Rattle.bank_model.specs.Sound.{IsClientUid, IsSoundAccount, IsSoundInfo, IsSoundRecur, IsId, IsSoundMail, IsSoundDeed, IsSoundObject}
 
 -- ---- texts and uids
 
--- what a value stands for is a text within its limit
-pub text_within : (most : ℕ) (value text : List ℕ) → most < 2 ^ 32 → StandsFor most value text → IsTextWithin most text
-text_within most value text small stands = record {
-  is_text = text_of_faultless most (decoded value) text text refl stands.value (sym stands.is_faultless) small;
-  is_there = stands.is_there;
-  is_within = (faultless is_refused_in_text most text stands.is_faultless).0;
-}
-
-pub within : (name : List ℕ) (most : ℕ) (parent : Item) (text : List ℕ) → most < 2 ^ 32 → IsTextIn name most parent text → IsTextWithin most text
-within name most parent text small t = text_within most t.child.node.text text small t.stands
-
 pub client_uid : (wrapper : Item) (trnuid : List ℕ) → IsTrnUidOf wrapper trnuid → IsClientUid trnuid
 client_uid wrapper trnuid u =
-    let text = within (codes "TRNUID") 36 wrapper trnuid (omega arith) u.text in
+    let text = text_within_in (codes "TRNUID") 36 wrapper trnuid (omega arith) u.text in
     (u.is_own, record { is_text = text.is_text; is_there = text.is_there; is_within = text.is_within })
 
 take_whole : (text : List ℕ) → take (length text) text ≡ text
@@ -67,20 +50,9 @@ file_uid tag value line (Some uid) has is =
 
 pub sound_account : (aggregate : Item) (account : AcctName) → IsAccount aggregate account → IsSoundAccount account
 sound_account aggregate account a =
-    (within (codes "BANKID") 32 aggregate account.bank (omega arith) a.bank, within (codes "ACCTID") 32 aggregate account.number (omega arith) a.number)
+    (text_within_in (codes "BANKID") 32 aggregate account.bank (omega arith) a.bank, text_within_in (codes "ACCTID") 32 aggregate account.number (omega arith) a.number)
 
 -- ---- amounts
-
-signed_size : (negative : Bool) (magnitude : ℕ) → unsigned_abs (signed negative magnitude) ≡ magnitude
-signed_size true zero = refl
-signed_size true (suc n) = refl
-signed_size false n = refl
-
-at_most : (a b most : ℕ) → a ≡ b → b ≤ most → a ≤ most
-at_most a b most same h = rw same h
-
-amount_within : (raw : List ℕ) (cents : ℤ) → IsAmount raw cents → unsigned_abs cents ≤ 9999999999999
-amount_within raw cents a = at_most _ _ 9999999999999 (ap unsigned_abs a.meant ∙ signed_size a.negative _) a.is_bounded
 
 -- ---- days
 
@@ -93,16 +65,6 @@ sound_due xferinfo None h = tt
 sound_due xferinfo (Some day) (moment, there, same) = let stands = there.stands in rw same (day_within moment.0 stands.is_moment)
 
 -- ---- numbers
-
-numerals : IsNumeralModel (λ ds. list_all is_ascii_digit ds ≡ true) (digits_value 10)
-numerals = numerals_by_value _ (search rules)
-
--- A number of so many digits stays below the power of ten with as many zeros.
-digits_within : (most : ℕ) (text : List ℕ) → is_number_within most text ≡ true → digits_value 10 text < 10 ^ most
-digits_within most text h =
-    let parts = and_parts (nat_le 1 (length text) && nat_le (length text) most) (list_all is_ascii_digit text) h in
-    let short : length text ≤ most = leb-true (length text) most (and_parts (nat_le 1 (length text)) _ parts.0).1 in
-    digits_value_short numerals text most parts.1 short
 
 id_within : (text : List ℕ) → IsId (id_of text)
 unfolding number_at
@@ -163,10 +125,10 @@ sound_deed request (Mail mail) r = absurd r
 pub sound_text : (item : Item) (mail : MailText) → IsMailText item mail → IsSoundMail mail
 sound_text item mail m = record {
   created = m.created.stands.is_moment;
-  sender = within (codes "FROM") 32 item mail.sender (omega arith) m.sender;
-  target = within (codes "TO") 32 item mail.target (omega arith) m.target;
-  subject = within (codes "SUBJECT") 64 item mail.subject (omega arith) m.subject;
-  body = within (codes "MSGBODY") 10000 item mail.body (omega arith) m.body;
+  sender = text_within_in (codes "FROM") 32 item mail.sender (omega arith) m.sender;
+  target = text_within_in (codes "TO") 32 item mail.target (omega arith) m.target;
+  subject = text_within_in (codes "SUBJECT") 64 item mail.subject (omega arith) m.subject;
+  body = text_within_in (codes "MSGBODY") 10000 item mail.body (omega arith) m.body;
 }
 
 sound_mail : (parent : Item) (mail : MailText) → HasMail parent mail → IsSoundMail mail

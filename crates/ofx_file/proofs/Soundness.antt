@@ -29,12 +29,13 @@ use Rattle.ofx_types.specs.declared.request.Period.{Period}
 use Rattle.ofx_types.specs.declared.request.Ask.{Ask}
 use Rattle.ofx_types.specs.declared.request.Ask.TheVariants.{Statement, One, Sync}
 use Rattle.ofx_types.specs.declared.request.RequestFile.{RequestFile}
+use Rattle.ofx_types.proofs.Bytes.{bytes_eq_is, bytes_eq_self}
+use Rattle.ofx_types.proofs.Trimming.{text_within}
 use Rattle.bank_model.specs.Sound.{IsSoundPeriod, IsSoundKind, IsSoundPair, IsSoundSync, IsSoundAsk, IsVersion, IsSound}
 use Rattle.ofx_tape.specs.Slices.{ArePlaced, AreSlices}
-use Rattle.ofx_tree.proofs.FormLaws.{bytes_same, bytes_self}
 use Rattle.ofx_tree.proofs.Chosen.{all_chosen, all_filtered}
 use Rattle.ofx_file.proofs.Names.{name_has}
-use Rattle.ofx_file.proofs.SoundDeeds.{text_within, client_uid, file_uid, sound_account, sound_transaction, sound_object}
+use Rattle.ofx_file.proofs.SoundDeeds.{client_uid, file_uid, sound_account, sound_transaction, sound_object}
 
 -- ---- how many bytes tags take
 
@@ -64,7 +65,7 @@ items_within index until (n ∷ nodes) =
     (omega (arith, items_within (index + 1) until nodes))
     (omega (arith, items_within (index + 1) n.after nodes))
 
--- the nodes of a tape stand one behind the other in the body
+-- the nodes of a tape stand one after the other in the body
 placed_within : (from : ℕ) (body : List ℕ) (nodes : List TagNode) → from ≤ length body → ArePlaced from body nodes → from + tag_bytes nodes ≤ length body
 placed_within from body [] h placed = omega arith
 placed_within from body (n ∷ nodes) h (behind, sliced, more) =
@@ -111,10 +112,10 @@ mail_long : (name : List ℕ) → is_one_of mail_names name ≡ true → 9 ≤ l
 mail_long name h = name_has IsLong mail_names name (omega arith, (omega arith, tt)) h
 
 request_long : (family : Family) (name : List ℕ) → bytes_eq name (request_name family) ≡ true → 9 ≤ length name
-request_long families.Intra name h = let same = bytes_same name (codes "INTRATRNRQ") h in rw same (omega arith)
-request_long families.RecIntra name h = let same = bytes_same name (codes "RECINTRATRNRQ") h in rw same (omega arith)
-request_long families.BankMail name h = let same = bytes_same name (codes "BANKMAILTRNRQ") h in rw same (omega arith)
-request_long families.Mail name h = let same = bytes_same name (codes "MAILTRNRQ") h in rw same (omega arith)
+request_long families.Intra name h = let same = bytes_eq_is name (codes "INTRATRNRQ") h in rw same (omega arith)
+request_long families.RecIntra name h = let same = bytes_eq_is name (codes "RECINTRATRNRQ") h in rw same (omega arith)
+request_long families.BankMail name h = let same = bytes_eq_is name (codes "BANKMAILTRNRQ") h in rw same (omega arith)
+request_long families.Mail name h = let same = bytes_eq_is name (codes "MAILTRNRQ") h in rw same (omega arith)
 
 -- the messages of a set are few
 few_messages : {M : Type 0} (IsMessage : Item → M → Type 0) (name : List ℕ) (names : List (List ℕ)) → ((other : List ℕ) → is_one_of names other ≡ true → 9 ≤ length other) →
@@ -159,7 +160,7 @@ sound_kind choice Refresh k = tt
 
 -- A transaction is of the family that its name tells.
 apart : (a b : List ℕ) → bytes_eq a b ≡ false → a ≡ b → ⊥
-apart a b other same = let is : bytes_eq a b ≡ true = rw same (bytes_self b) in cc
+apart a b other same = let is : bytes_eq a b ≡ true = rw same (bytes_eq_self b) in cc
 
 one_family : (a b : Family) → request_name a ≡ request_name b → a ≡ b
 one_family families.Intra families.Intra h = refl
@@ -206,7 +207,7 @@ all_named : (family : Family) (items : List Item) → AllByRecursion (HasName fa
 all_named family [] = tt
 all_named family (item ∷ items) =
     kept_names family (has_name (request_name family) item) item (filter (has_name (request_name family)) items)
-    (λ is. bytes_same item.node.name (request_name family) is) (all_named family items)
+    (λ is. bytes_eq_is item.node.name (request_name family) is) (all_named family items)
 
 sound_pairs : (family : Family) (items : List Item) (deeds : List (List ℕ × Deed)) → AllByRecursion (HasName family) items → AllZip IsTransaction items deeds →
     AllByRecursion (IsSoundPair family) deeds

@@ -1,7 +1,6 @@
 -- The printed form of a file, message set by message set.
-use Rattle.std.proofs.Common.{◌≡◌, ℕ, ◌<◌, Bool, true, false, cond, ◌||◌, filter, nat_eq, List, [], ◌∷◌, ◌++◌, length, codes, None, refl, sym, ap, arith}
+use Rattle.std.proofs.Common.{◌≡◌, ℕ, ◌<◌, Bool, true, false, cond, ◌||◌, filter, List, [], ◌∷◌, ◌++◌, length, codes, None, refl, sym, ap, arith}
 use Rattle.std.proofs.lemmas.List.{append-nil}
-use Rattle.std.proofs.lemmas.Grind.{common_steps}
 use Rattle.std.specs.List.{flat_map, list_any}
 use Rattle.ofx_types.specs.Sheet.{aggregate, aggregate_of_some, header_text}
 use Rattle.ofx_types.specs.RequestText.{signon_request, statement_request}
@@ -16,6 +15,7 @@ use Rattle.ofx_types.specs.declared.request.RequestFile.{RequestFile}
 use Rattle.ofx_types.specs.declared.reply.AskReply.{AskReply}
 use Rattle.ofx_types.specs.declared.reply.AskReply.TheVariants as replies
 use Rattle.ofx_types.specs.declared.reply.ReplyFile.{ReplyFile}
+use Rattle.ofx_types.proofs.Bytes.{not_zero}
 use Rattle.ofx_file.specs.declared.messages.MessageSet.{MessageSet}
 use Rattle.ofx_file.specs.declared.messages.MessageSet.TheVariants.{Bank, Mail}
 use Rattle.ofx_file.specs.MessageSets.{request_set, is_ask_in, has_ask, text_in, reply_set, is_reply_in, has_answer, answer_text_in}
@@ -56,12 +56,9 @@ none_passes {X = X} passes text_of (x ∷ xs) h = tested (λ e. none_passes pass
 
 -- ---- message sets
 
-there : (n : ℕ) → 0 < n → nat_eq n 0 ≡ false
-there n h = grind (arith, common_steps)
-
 pub some_set : (name inner : List ℕ) → 0 < length inner → aggregate_of_some name inner ≡ aggregate name inner
 unfolding aggregate_of_some
-some_set name inner h = rw (there (length inner) h) refl
+some_set name inner h = rw (not_zero (length inner) h) refl
 
 no_set : (out name inner : List ℕ) → inner ≡ [] → out ≡ out ++ aggregate_of_some name inner
 unfolding aggregate_of_some

@@ -10,7 +10,7 @@ use Rattle.ofx_tape.specs.Slices.{AreSlices}
 
 -- ---- header and tags
 
--- The bytes begin with this header, of this size, and the tags behind it have these nodes.
+-- The bytes begin with this header, of this size, and the tags after it have these nodes.
 pub record HasTags (bytes : List ℕ) (said : headers.Header) (size : ℕ) (nodes : List TagNode) : Type 0 where
   pub header : SpellsHeader bytes said.version said.older said.newer size
   pub is_inside : size ≤ length bytes

@@ -8,22 +8,24 @@ ghost use Rattle.ofx_file.specs.SoundFiles.{SpelledFilesAreSound};
 ghost use Rattle.ofx_file.specs.Printable.{SoundFilesArePrintable, SpelledRepliesArePrintable};
 ghost use Rattle.ofx_file.specs.Written.{FilesReadBack, RepliesReadBack};
 
-use msg_mail::{
+use msg_mail::laws::{
     signon_faults_have_places, signon_replies_are_found, signon_replies_read_back,
     signon_reply_faults_have_places, signons_are_found, signons_read_back,
 };
-use msg_statement::{
+use msg_statement::laws::{
     statement_faults_have_places, statement_replies_are_found, statement_replies_read_back,
     statement_reply_faults_have_places, statements_are_found, statements_read_back,
 };
-use msg_sync::{
+use msg_sync::laws::{
     sync_faults_have_places, sync_replies_are_found, sync_replies_read_back,
     sync_reply_faults_have_places, syncs_are_found, syncs_read_back,
     transaction_faults_have_places, transaction_replies_are_found, transaction_replies_read_back,
     transaction_reply_faults_have_places, transactions_are_found, transactions_read_back,
 };
-use ofx_header::{faultless_is_spelled, one_header, spelled_is_faultless, written_is_spelled};
-use ofx_tape::{
+use ofx_header::laws::{
+    faultless_is_spelled, one_header, spelled_is_faultless, written_is_spelled,
+};
+use ofx_tape::laws::{
     faultless_tags_are_spelled, nodes_are_slices, spelled_tags_have_no_fault, tags_are_unambiguous,
 };
 

@@ -10,7 +10,7 @@ use ofx_tape::Tape;
 use ofx_types::{FileFault, HeaderFault, TapeFault, TreeFault};
 use std::alloc::Global;
 
-/// What the header says, its number of bytes, and the tags behind it.
+/// What the header says, its number of bytes, and the tags after it.
 pub(crate) fn read_tags<'b>(
     alloc: Global,
     bytes: &'b [u8],

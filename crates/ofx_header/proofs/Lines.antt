@@ -36,7 +36,7 @@ one_more n = omega arith
 same_number : (a b : ℕ) → nat_eq a b ≡ true → a ≡ b
 same_number a b h = grind (arith, common_steps)
 
--- the bytes up to an LF at this place, that LF, and those behind it
+-- the bytes up to an LF at this place, that LF, and those after it
 abbrev SplitsAt : List ℕ → ℕ → Type 0
 SplitsAt bytes size = (bytes ≡ take size bytes ++ 10 ∷ drop (suc size) bytes) × (list_all is_on_line (take size bytes) ≡ true)
 
@@ -58,7 +58,7 @@ both : (x y : Bool) → (x && y) ≡ true → (x ≡ true) × (y ≡ true)
 both true y e = (refl, e)
 both false y e = cc
 
--- the first LF stands behind bytes without one
+-- the first LF stands after bytes without one
 end_is : (line rest : List ℕ) → list_all is_on_line line ≡ true → position_or_len is_line_feed (line ++ 10 ∷ rest) ≡ length line
 end_is [] rest on = refl
 end_is (b ∷ bs) rest on =
@@ -70,7 +70,7 @@ place_is line rest on =
     let there : nat_lt (length line) (length (line ++ 10 ∷ rest)) ≡ true = less_test _ _ (simp length-append (omega arith)) in
     rw (end_is line rest on, there) refl
 
--- what holds of each byte holds of each behind a front
+-- what holds of each byte holds of each after a front
 all_behind : (front rest : List ℕ) → list_all is_on_line (front ++ rest) ≡ true → list_all is_on_line rest ≡ true
 all_behind [] rest h = h
 all_behind (b ∷ bs) rest h = all_behind bs rest (both (is_on_line b) _ h).1
@@ -90,7 +90,7 @@ guard_ok : {A : Type 0} (b : Bool) (x y : A) (fault : HeaderFault) → cond b (O
 guard_ok true x y fault h = (refl, cc)
 guard_ok false x y fault h = cc
 
--- What stands behind the mark, up to the line's end.
+-- What stands after the mark, up to the line's end.
 record IsRaw (mark bytes : List ℕ) (at : ℕ) (raw : List ℕ) (next : ℕ) : Type 0 where
   split : drop at bytes ≡ mark ++ (raw ++ 10 ∷ drop next bytes)
   on_line : list_all is_on_line raw ≡ true
@@ -125,7 +125,7 @@ raw_found number mark bytes at raw h read =
       within = omega (arith, length-drop at bytes, parts.3);
     }
 
--- A line of the header is found: what its value stands for, and the place behind it.
+-- A line of the header is found: what its value stands for, and the place after it.
 pub record IsFound {A : Type 0} (meaning : List ℕ → Option A) (tag bytes : List ℕ) (at : ℕ) (x : A) (next : ℕ) : Type 0 where
   pub line : List ℕ
   pub value : List ℕ
@@ -240,7 +240,7 @@ ended_step meaning allows number tag bytes at size rules next same h there later
     (fault_from rules (number + 1) (at + size + 1) (drop (at + size + 1) bytes)) next
     (rw (← mark_length tag) (same _)) (λ x. later (x, at + size + 1) within))
 
--- One line's fault comes first, and otherwise that of the lines behind it.
+-- One line's fault comes first, and otherwise that of the lines after it.
 pub fault_step : {A B : Type 0} (meaning : List ℕ → Option A) (allows : List ℕ → Bool) (number : ℕ) (tag bytes : List ℕ) (at : ℕ) (rules : List HeaderRule) (next : A × ℕ → Result B HeaderFault) →
     ((value : List ℕ) → allows value ≡ is_some (meaning value)) → at ≤ length bytes →
     ((x : A × ℕ) → x.1 ≤ length bytes → fault_from rules (number + 1) x.1 (drop x.1 bytes) ≡ fault_of (next x)) →

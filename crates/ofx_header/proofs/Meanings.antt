@@ -8,6 +8,7 @@ use Rattle.ofx_types.specs.TextOutcome.{file_uid_fault}
 use Rattle.ofx_types.specs.declared.text.TextFault.{TextFault}
 use Rattle.ofx_types.specs.declared.text.TextFault.TheVariants.{Empty}
 use Rattle.ofx_types.specs.HeaderForm.{is_version, is_charset, is_version_text, is_uid_value, IsUidValue}
+use Rattle.ofx_types.proofs.Bytes.{bytes_eq_is, none_is}
 use Rattle.ofx_header.specs.HeaderReading.{fixed_in, charset_in, version_in, uid_in}
 
 -- ---- what a rule allows stands for something
@@ -40,15 +41,12 @@ uid_allowed given = one_of_two (bytes_eq given (codes "NONE")) (is_none (file_ui
 
 -- ---- what a value stands for has that value, and only it
 
-equal : (xs ys : List ℕ) → bytes_eq xs ys ≡ true → xs ≡ ys
-equal xs ys h = (bytes_eq-Decides xs ys).0 h
-
 only : {A : Type 0} (b : Bool) (x y : A) → cond b (Some x) None ≡ Some y → (b ≡ true) × (x ≡ y)
 only true x y h = (refl, cc)
 only false x y h = cc
 
 pub fixed_means : (value given : List ℕ) (x : Unit {0}) → fixed_in value given ≡ Some x → given ≡ value
-fixed_means value given x h = equal given value (only (bytes_eq given value) tt x h).0
+fixed_means value given x h = bytes_eq_is given value (only (bytes_eq given value) tt x h).0
 
 pub charset_means : (given : List ℕ) (x : Unit {0}) → charset_in given ≡ Some x → is_charset given ≡ true
 charset_means given x h = (only (is_charset given) tt x h).0
@@ -74,11 +72,11 @@ text_160 : IsVersionText (codes "160") 160
 unfolding digits
 text_160 = record { spelled = refl; is_known = refl }
 
--- a word is found, or one of those behind it
+-- a word is found, or one of those after it
 word_or : (given word : List ℕ) (n version : ℕ) (found : Bool) (later : Option ℕ) → bytes_eq given word ≡ found → IsVersionText word n →
     (later ≡ Some version → IsVersionText given version) → cond found (Some n) later ≡ Some version → IsVersionText given version
 word_or given word n version true later same is behind h =
-    let version_is : n ≡ version = cc in rw (equal given word same, ← version_is) is
+    let version_is : n ≡ version = cc in rw (bytes_eq_is given word same, ← version_is) is
 word_or given word n version false later same is behind h = behind h
 
 pub version_means : (given : List ℕ) (version : ℕ) → version_in given ≡ Some version → IsVersionText given version
@@ -125,14 +123,10 @@ fixed_again value = rw ((bytes_eq-Decides value value).1 refl) refl
 pub charset_again : (given : List ℕ) → is_charset given ≡ true → charset_in given ≡ Some tt
 charset_again given h = rw h refl
 
-none_is : {A : Type 0} (o : Option A) → is_none o ≡ true → o ≡ None
-none_is None h = refl
-none_is (Some x) h = cc
-
 uid_or : (given : List ℕ) (uid : Option (List ℕ)) (none clean : Bool) → bytes_eq given (codes "NONE") ≡ none → is_none (file_uid_fault given) ≡ clean →
     cond none (Some None) (cond clean (Some (Some given)) None) ≡ Some uid → IsUidValue given uid
 uid_or given uid true clean named e h =
-    let is : None ≡ uid = cc in subst (IsUidValue given) is (equal given (codes "NONE") named)
+    let is : None ≡ uid = cc in subst (IsUidValue given) is (bytes_eq_is given (codes "NONE") named)
 uid_or given uid false true named e h =
     let is : Some given ≡ uid = cc in subst (IsUidValue given) is (refl, none_is (file_uid_fault given) e)
 uid_or given uid false false named e h = cc

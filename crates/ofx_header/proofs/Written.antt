@@ -1,8 +1,7 @@
 -- A written header: its pieces, and how each of its lines spells what it says.
-use Rattle.std.proofs.Common.{◌≡◌, ℕ, suc, ◌+◌, ◌-◌, ◌<◌, ◌≤◌, Bool, true, false, not, cond, List, [], ◌∷◌, ◌++◌, length, reverse, position, codes, nat_eq, nat_lt, Option, None, Some, IfSome, refl, sym, ap, ◌∙◌, append_assoc, arith}
+use Rattle.std.proofs.Common.{◌≡◌, ℕ, suc, ◌+◌, ◌-◌, ◌≤◌, Bool, true, false, not, cond, List, [], ◌∷◌, ◌++◌, length, reverse, position, codes, nat_eq, nat_lt, Option, None, Some, IfSome, refl, sym, ap, ◌∙◌, append_assoc, arith}
 use Rattle.std.proofs.lemmas.Grind.{common_steps}
 use Rattle.std.proofs.lemmas.List.{length-append, reverse-append}
-use Rattle.std.proofs.lemmas.Slice.Eq.{bytes_eq-Decides}
 use Rattle.std.specs.Fmt.{decimal, digits}
 use Rattle.std.specs.List.{list_all, position_or_len}
 use Rattle.std.specs.Str.{bytes_eq}
@@ -11,6 +10,7 @@ use Rattle.ofx_types.specs.TextOutcome.{refused_at}
 use Rattle.ofx_types.specs.declared.text.TextFault.TheVariants.{Empty, TooLong}
 use Rattle.ofx_types.specs.Sheet.{ended, header_line, header_text, uid_text}
 use Rattle.ofx_types.specs.HeaderForm.{IsHeaderLine, IsUidValue, is_version}
+use Rattle.ofx_types.proofs.Bytes.{bytes_eq_other, not_zero}
 use Rattle.ofx_header.specs.HeaderLaws.{WrittenIsSpelled}
 use Rattle.ofx_header.proofs.Lines.{is_on_line, all_joined}
 use Rattle.ofx_header.proofs.Meanings.{of_known}
@@ -113,13 +113,6 @@ passes : (empty named long : Bool) (n : ℕ) (refused : Option ℕ) → empty �
     cond empty (Some Empty) (cond named (Some Empty) (cond long (Some (TooLong n)) (refused_at refused))) ≡ None
 passes empty named long n refused p q r s = rw (p, q, r, s) refl
 
-other_bytes : (xs ys : List ℕ) (same : Bool) → bytes_eq xs ys ≡ same → (xs ≡ ys → ⊥) → same ≡ false
-other_bytes xs ys true e differ = absurd (differ ((bytes_eq-Decides xs ys).0 e))
-other_bytes xs ys false e differ = refl
-
-is_there : (n : ℕ) → 0 < n → nat_eq n 0 ≡ false
-is_there n h = grind (arith, common_steps)
-
 is_within : (n : ℕ) → n ≤ 36 → nat_lt 36 n ≡ false
 is_within n h = grind (arith, common_steps)
 
@@ -129,7 +122,7 @@ uid_is None h = refl
 uid_is (Some uid) is = (
   refl,
   passes (nat_eq (length uid) 0) (bytes_eq uid (codes "NONE")) (nat_lt 36 (length uid)) (length uid) (position is_refused_in_uid uid)
-      (is_there (length uid) is.is_there) (other_bytes uid (codes "NONE") _ refl is.is_some) (is_within (length uid) is.is_within) is.is_clean,
+      (not_zero (length uid) is.is_there) (bytes_eq_other uid (codes "NONE") is.is_some) (is_within (length uid) is.is_within) is.is_clean,
 )
 
 -- ---- the whole

@@ -15,8 +15,8 @@ abbrev pub Gives : {X Y : Type 0} → (X → Y) → Result X HeaderFault → Res
 Gives view (Ok x) read = read ≡ Ok (view x)
 Gives view (Err fault) read = read ≡ Err fault
 
--- The bytes behind the mark, which is a tag and its colon, on the line that begins at this place and whose LF is so
--- far behind it; and the place behind the line.
+-- The bytes after the mark, which is a tag and its colon, on the line that begins at this place and whose LF is so
+-- far after it; and the place after the line.
 abbrev pub behind_mark : ℕ → List ℕ → List ℕ → ℕ → Option ℕ → Result (List ℕ × ℕ) HeaderFault
 behind_mark number mark bytes at None = Err (Cut (length bytes))
 behind_mark number mark bytes at (Some size) =
@@ -26,7 +26,7 @@ behind_mark number mark bytes at (Some size) =
 unfoldable pub raw_at : ℕ → List ℕ → List ℕ → ℕ → Result (List ℕ × ℕ) HeaderFault
 raw_at number mark bytes at = behind_mark number mark bytes at (position is_line_feed (drop at bytes))
 
--- what an allowed value stands for, and the place behind its line
+-- what an allowed value stands for, and the place after its line
 abbrev pub if_allowed : {A : Type 0} → ℕ → ℕ → ℕ → Option A → Result (A × ℕ) HeaderFault
 if_allowed number at next None = Err (Value number at)
 if_allowed number at next (Some x) = Ok (x, next)
@@ -66,7 +66,7 @@ pub record HeaderParts : Type 0 where
 abbrev pub parts_of : Header → ℕ → HeaderParts
 parts_of header size = record { version = header.version; older = header.older; newer = header.newer; size = size }
 
--- the four lines that say how the bytes are written, and the place behind them
+-- the four lines that say how the bytes are written, and the place after them
 unfoldable pub writing_at : List ℕ → ℕ → Result ℕ HeaderFault
 writing_at bytes at =
     line_at (fixed_in (codes "NONE")) 4 (codes "SECURITY:") bytes at >>= λ security.

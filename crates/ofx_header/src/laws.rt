@@ -17,7 +17,7 @@ pub fn faultless_is_spelled()
     ensures { FaultlessIsSpelled }
 {}
 
-/// The body is what stands behind the header's bytes.
+/// The body is what stands after the header's bytes.
 pub fn body_is_behind()
     ensures { BodyIsBehind }
 {}

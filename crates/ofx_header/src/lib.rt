@@ -4,15 +4,12 @@
 //! memory. `write_header` appends the one written form.
 #![tactic(auto)]
 
-mod laws;
+pub mod laws;
 mod line;
 mod reading;
 mod values;
 mod writing;
 
-pub use laws::{
-    body_is_behind, faultless_is_spelled, one_header, spelled_is_faultless, written_is_spelled,
-};
 pub use ofx_types::HeaderFault;
 pub use reading::read_header;
 pub use values::Header;

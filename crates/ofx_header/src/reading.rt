@@ -11,7 +11,7 @@ use crate::values::{Header, is_charset, uid_in, version_in};
 use ofx_types::{FileUid, HeaderFault, trim};
 
 /// The header that the bytes begin with, and its number of bytes up to the end of the ninth line. The body stands
-/// behind them, with the empty line that is usual there (OFX 1.6, "Open Financial Exchange Headers").
+/// after them, with the empty line that is usual there (OFX 1.6, "Open Financial Exchange Headers").
 ///
 /// The first bad line is `Line` where it doesn't begin with its tag and a colon, and `Value` where its value isn't
 /// allowed. A line whose LF isn't there is `Cut`.
@@ -30,7 +30,7 @@ pub fn read_header(bytes: &[u8]) -> Result<(Header, usize), HeaderFault>
     lines(bytes)
 }
 
-/// What the nine lines say, and the place behind the ninth.
+/// What the nine lines say, and the place after the ninth.
 #[tactic(auto, unfolding(crate::specs::HeaderReading::header_at))]
 fn lines(bytes: &[u8]) -> Result<(Header, usize), HeaderFault>
     ensures found { Gives (λ x. header.parts_of x.0 x.1) result (header.header_at bytes.now) }
@@ -50,7 +50,7 @@ fn lines(bytes: &[u8]) -> Result<(Header, usize), HeaderFault>
     Ok((header, at))
 }
 
-/// The place behind the four lines that say how the bytes are written.
+/// The place after the four lines that say how the bytes are written.
 #[tactic(auto, unfolding(crate::specs::HeaderReading::writing_at))]
 fn writing_lines(bytes: &[u8], at: usize) -> Result<usize, HeaderFault>
     requires { at ≤ length bytes.now }
@@ -63,7 +63,7 @@ fn writing_lines(bytes: &[u8], at: usize) -> Result<usize, HeaderFault>
     fixed_line(bytes, at, 7, b"COMPRESSION:", b"NONE")
 }
 
-/// The place behind a line that has one value.
+/// The place after a line that has one value.
 #[tactic(auto, unfolding(crate::specs::HeaderReading::line_at))]
 fn fixed_line(
     bytes: &[u8],
@@ -83,7 +83,7 @@ fn fixed_line(
     Ok(next)
 }
 
-/// The version, and the place behind its line.
+/// The version, and the place after its line.
 #[tactic(auto, unfolding(crate::specs::HeaderReading::line_at))]
 fn version_line(bytes: &[u8], at: usize) -> Result<(u16, usize), HeaderFault>
     requires { at ≤ length bytes.now }
@@ -97,7 +97,7 @@ fn version_line(bytes: &[u8], at: usize) -> Result<(u16, usize), HeaderFault>
     }
 }
 
-/// The place behind the line of the character set.
+/// The place after the line of the character set.
 #[tactic(auto, unfolding(crate::specs::HeaderReading::line_at))]
 fn charset_line(bytes: &[u8], at: usize) -> Result<usize, HeaderFault>
     requires { at ≤ length bytes.now }
@@ -111,7 +111,7 @@ fn charset_line(bytes: &[u8], at: usize) -> Result<usize, HeaderFault>
     Ok(next)
 }
 
-/// The uid on a line, if it has one, and the place behind the line.
+/// The uid on a line, if it has one, and the place after the line.
 #[tactic(auto, unfolding(crate::specs::HeaderReading::line_at))]
 fn uid_line(
     bytes: &[u8],

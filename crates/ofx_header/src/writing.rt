@@ -9,7 +9,7 @@ use crate::values::Header;
 use itoa::Buffer;
 use ofx_types::{FileUid, OutOfMemory};
 
-/// Appends the nine lines of a header and the empty line behind them, each with CRLF at its end.
+/// Appends the nine lines of a header and the empty line after them, each with CRLF at its end.
 ///
 /// After `OutOfMemory` some of them may be appended, and what stood in front is kept.
 pub fn write_header(header: &Header, out: &mut Vec<u8>) -> Result<(), OutOfMemory>

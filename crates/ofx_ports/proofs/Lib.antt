@@ -1,2 +1,3 @@
 pub mod ToldLaws
 pub mod FaultLaws
+pub mod Writing

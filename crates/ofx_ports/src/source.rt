@@ -15,7 +15,7 @@ pub trait Source {
     ghost faults: { Self → ℕ };
 
     /// Reads the next bytes to the front of `into` and answers how many they are: at least one, or 0 at the end of
-    /// the input. What `into` holds behind them is open.
+    /// the input. What `into` holds after them is open.
     ///
     /// `Failed` comes only where the count of faults rose in this call, and no byte is lost by it.
     fn read(&mut self, into: &mut [u8]) -> Result<usize, Failed>

@@ -41,7 +41,7 @@ pub stands_open : (size : ℕ) (start : List ℕ) (frames : List Frame) (built :
     Stands size start (record { place = place; name = name; text = text; before = built } ∷ frames) nothing within
 stands_open size start frames built bytes place name text within stands begins room = (bytes, within, stands, begins, room, refl)
 
--- what is spelled behind what stands, in the innermost aggregate
+-- what is spelled after what stands, in the innermost aggregate
 pub stands_more : (size : ℕ) (start : List ℕ) (frames : List Frame) (built later : Tree) (bytes rest : List ℕ) →
     Stands size start frames built bytes → Spells size (room_in frames) bytes later rest → Stands size start frames (join built later) rest
 stands_more size start [] built later bytes rest stands spells = spells_join built later size 16 start bytes rest stands spells
@@ -153,7 +153,7 @@ closed_node front y f built =
     rw (nodes, after) (set_at front y within (open_node (length front + 1 + length within) f) (length front) refl
     ∙ ap (λ ns. front ++ open_node (length front + 1 + length within) f ∷ ns) (sym (append-nil within)))
 
--- An end tag of an aggregate sets the index behind its last inner node.
+-- An end tag of an aggregate sets the index after its last inner node.
 pub nodes_close : (unknown : ℕ) (f : Frame) (outer : List Frame) (built : Tree) →
     set (built_nodes unknown (f ∷ outer) built) (length (built_nodes unknown outer f.before)) (open_node (length (built_nodes unknown (f ∷ outer) built)) f)
     ≡ built_nodes unknown outer (join f.before (aggregate f.place f.name f.text built nothing))

@@ -28,7 +28,7 @@ past_white size around white rest more none blank at =
     past_allowed size around white rest more (white_avoids white blank) at
     (rw none (none_from_avoids (λ b. not (is_white b)) white (none_from_all is_white white blank)))
 
--- a start tag and the text behind it
+-- a start tag and the text after it
 pub start_pieces : (size : ℕ) (name text rest : List ℕ) → is_name name ≡ true → list_any is_open text ≡ false →
     pieces_behind size (tag name ++ (text ++ rest))
     ≡ at_place (size - length (tag name ++ (text ++ rest))) (start_piece name) ∷ (text_pieces size (text ++ rest) ++ pieces_behind size rest)

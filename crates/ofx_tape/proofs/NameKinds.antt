@@ -1,4 +1,4 @@
--- The kind of a start tag, by its name and by whether text that isn't white space stands behind it.
+-- The kind of a start tag, by its name and by whether text that isn't white space stands after it.
 use Rattle.std.proofs.Common.{◌≡◌, ℕ, Bool, true, false, cond, ◌&&◌, ◌||◌, not, List, [], ◌∷◌, one-add, eqb-true, refl, sym, ap, ◌∙◌}
 use Rattle.std.proofs.lemmas.Bool.{and_parts, both_ways}
 use Rattle.std.proofs.lemmas.Slice.Eq.{bytes_eq-Decides}
@@ -9,7 +9,7 @@ use Rattle.ofx_types.specs.TagFault.{is_open}
 use Rattle.ofx_types.specs.TagNames.{is_one_of, is_element, element_names, aggregate_names}
 use Rattle.ofx_tape.specs.Standing.{is_at_tag}
 
--- ---- the text behind a tag
+-- ---- the text after a tag
 
 pub white_is_no_tag : (b : ℕ) → is_white b ≡ true → is_open b ≡ false
 white_is_no_tag b white = by_cases (is_open b) refl
@@ -61,7 +61,7 @@ ink_kind true a apart = sym (ap not (apart refl))
 ink_kind false true apart = refl
 ink_kind false false apart = refl
 
--- With white space alone behind it a start tag is an element's where its name always is.
+-- With white space alone after it a start tag is an element's where its name always is.
 pub kind_without_ink : (name behind : List ℕ) → is_at_tag (trim_start behind) ≡ true → is_one_of element_names name ≡ is_element name (before_first is_open behind)
 kind_without_ink name behind at =
     sym (ap (λ w. is_one_of element_names name || (not (is_one_of aggregate_names name) && not w)) (white_to_tag behind ∙ at)

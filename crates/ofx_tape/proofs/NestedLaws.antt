@@ -6,7 +6,7 @@ use Rattle.ofx_types.specs.Nodes.{TagNode, nodes_from, AreNodesOf}
 use Rattle.ofx_tape.specs.Slices.{AreInside, AreInsideEach}
 use Rattle.ofx_tape.specs.NodeView.{AreNested}
 
--- nodes behind others are counted on from them
+-- nodes after others are counted on from them
 pub inside_append : (xs ys : List TagNode) (index end : ℕ) → AreInside index end xs → AreInside (index + length xs) end ys → AreInside index end (xs ++ ys)
 inside_append [] ys index end first later = rw add-zero at later
 inside_append (x ∷ xs) ys index end first later =

@@ -52,7 +52,7 @@ start_at : (size place : ℕ) (behind : List ℕ) (others : List Placed) (name a
 unfolding pieces_at
 start_at size place behind others name after inside_is after_is closes named = rw (closes, inside_is, after_is, named) refl
 
--- A whole start tag is a piece, and what is behind it follows.
+-- A whole start tag is a piece, and what is after it follows.
 pub whole_start : (size : ℕ) (name rest : List ℕ) → is_name name ≡ true →
     pieces_behind size (60 ∷ (name ++ 62 ∷ rest))
     ≡ at_place (size - length (60 ∷ (name ++ 62 ∷ rest))) (start_piece name) ∷ (text_pieces size rest ++ pieces_behind size rest)
@@ -136,7 +136,7 @@ slash_inside name b more all other = go (b == 62) refl
     go true e = rw (whole ∙ ap (λ x. name ++ x) (before_at is_close b more e)) (no_slash name [] all (and_right (length name == 0) false refl))
     go false e = rw (whole ∙ ap (λ x. name ++ x) (before_past is_close b more e)) (no_slash name (b ∷ before_first is_close more) all (no_slash_next (length name == 0) b other))
 
--- what is behind a byte that is in no name, and no `/` in front, begins no tag
+-- what is after a byte that is in no name, and no `/` in front, begins no tag
 front_refused : (name : List ℕ) (b : ℕ) (more : List ℕ) → list_all is_name_byte name ≡ true → is_name_byte b ≡ false →
     ((length name == 0) && (b == 47)) ≡ false → is_front_of_tag (name ++ b ∷ more) ≡ false
 front_refused name b more all refused other = rw (slash, all_stopped is_name_byte name b more refused) (and_right (nat_le (length (name ++ b ∷ more)) 32) false refl)
@@ -144,7 +144,7 @@ front_refused name b more all refused other = rw (slash, all_stopped is_name_byt
     slash : starts_with nat_eq (name ++ b ∷ more) (47 ∷ []) ≡ false
     slash = no_slash name (b ∷ more) all (no_slash_next (length name == 0) b other)
 
--- A `<` begins no tag where the bytes of a name behind it end in another byte: no `>` behind a name, and no `/` behind none.
+-- A `<` begins no tag where the bytes of a name after it end in another byte: no `>` after a name, and no `/` after none.
 pub broken_start : (size : ℕ) (name : List ℕ) (b : ℕ) (more : List ℕ) → list_all is_name_byte name ≡ true → is_name_byte b ≡ false →
     ((b == 62) && is_name name) ≡ false → ((length name == 0) && (b == 47)) ≡ false →
     pieces_behind size (60 ∷ (name ++ b ∷ more)) ≡ at_place (size - length (60 ∷ (name ++ b ∷ more))) (no_tag false) ∷ []
@@ -157,7 +157,7 @@ broken_start size name b more all refused stops other =
     (and_right (list_any is_close behind) (starts_with nat_eq (before_first is_close behind) (47 ∷ [])) (slash_inside name b more all other)))
     (front_refused name b more all refused other))
 
--- Nor does it behind a `/`.
+-- Nor does it after a `/`.
 pub broken_end : (size : ℕ) (name : List ℕ) (b : ℕ) (more : List ℕ) → list_all is_name_byte name ≡ true → is_name_byte b ≡ false →
     ((b == 62) && is_name name) ≡ false →
     pieces_behind size (60 ∷ 47 ∷ (name ++ b ∷ more)) ≡ at_place (size - length (60 ∷ 47 ∷ (name ++ b ∷ more))) (no_tag false) ∷ []

@@ -32,7 +32,7 @@ depth_is r rest read fits =
     ∙ length-reverse (take r.depth r.«open»)
     ∙ length-take-le r.depth r.«open» (omega (arith, read.is_deep))
 
--- where a tag is, by what is behind it
+-- where a tag is, by what is after it
 tag_place : (size place at : ℕ) (rest front behind next : List ℕ) (i : ℕ) → place + length rest ≡ size → rest ≡ front ++ behind →
     at + length next ≡ size → i + length next ≡ length behind → place + length front + i ≡ at
 tag_place size place at rest front behind next i placed split there count = omega (arith, ap length split, length-append front behind)
@@ -89,7 +89,7 @@ started r rest name behind start fits =
       split = at.split;
     }
 
--- the bytes behind a tag, as the text up to the next one
+-- the bytes after a tag, as the text up to the next one
 pub with_text : (rest front behind : List ℕ) → rest ≡ front ++ behind → rest ≡ front ++ (text_at behind ++ tag_at behind)
 with_text rest front behind split = split ∙ ap (λ l. front ++ l) (text_then_tag behind).split
 
@@ -132,7 +132,7 @@ pub node_pushed : (ok : Bool) (items old : List Node) (node : Node) → items �
     map node_view items ≡ map node_view old ++ node_view node ∷ []
 node_pushed ok items old node is pushed = ap (map node_view) (is ∙ ap (λ b. cond b (old ++ node ∷ []) old) pushed) ∙ map_push node_view old node
 
--- What is behind a tag is shorter than from the tag on.
+-- What is after a tag is shorter than from the tag on.
 pub tag_shortens : (name rest behind next : List ℕ) → rest ≡ tag name ++ behind → length next ≤ length behind → length next < length rest
 tag_shortens name rest behind next split shorter = omega (arith, ap length split, length-append (tag name) behind)
 
@@ -162,7 +162,7 @@ fault_of_depth r rest name behind place start fits is_none full placed =
     fault_too_deep r.body.now 0 (nodes_in r) start.at.read.names (indices_in r) (element_in r) rest place name (text_at behind) (tag_at behind)
     s.reading placed (with_text rest (tag name) behind s.split) s.has_name text.avoids text.at is_none (omega (arith, s.depth))
 
--- Text behind the start tag of an aggregate.
+-- Text after the start tag of an aggregate.
 pub fault_of_text : (r : Reader) (rest name behind : List ℕ) (at : ℕ) → IsStartAt r rest name behind → length r.«open» ≡ 16 →
     is_element name (text_at behind) ≡ false → r.depth < 16 → is_at_tag (trim_start behind) ≡ false → length rest ≤ length r.body.now →
     at + length (trim_start behind) ≡ length r.body.now → tag_fault r.body.now ≡ Some (Tag at)
@@ -214,7 +214,7 @@ reading_before : (r : Reader) (rest name : List ℕ) (read : IsRead r rest) → 
 reading_before r rest name read it =
     subst (λ b. IsReading r.body.now 0 (nodes_in r) read.names (indices_in r) r.has_ended b rest) (element_before (element_in r) name it) read.reading
 
--- Text behind the end tag of an element.
+-- Text after the end tag of an element.
 pub fault_behind_end : (r : Reader) (rest name behind : List ℕ) (at : ℕ) → IsTagAt end_tag r rest name behind → is_name_of name (element_in r) ≡ true →
     is_at_tag (trim_start behind) ≡ false → at + length (trim_start behind) ≡ length r.body.now → tag_fault r.body.now ≡ Some (Tag at)
 fault_behind_end r rest name behind at here it stops there =
@@ -329,7 +329,7 @@ closing r rest name behind node at fits some is named =
     let same : innermost_is_named ≡ name = sym (innermost_name r rest innermost_is_named outer node i inside is) ∙ (bytes_eq-Decides node.name.now name).0 named in
     (outer, subst (λ n. IsInnermost r rest n outer) same i)
 
--- Text behind the end tag of an aggregate.
+-- Text after the end tag of an aggregate.
 pub fault_behind_close : (r : Reader) (rest name behind : List ℕ) (place : ℕ) (node : Node) (at : IsTagAt end_tag r rest name behind) → length r.«open» ≡ 16 → (r.depth ≡ 0 → ⊥) →
     is_name_of name (element_in r) ≡ false → node ≡ get_or r.nodes.items (innermost_index r) node → bytes_eq node.name.now name ≡ true →
     is_at_tag (trim_start behind) ≡ false → place + length (trim_start behind) ≡ length r.body.now → tag_fault r.body.now ≡ Some (Tag place)
@@ -343,7 +343,7 @@ fault_behind_close r rest name behind place node at fits some other is named sto
     closes.reading placed (with_text rest (end_tag name) behind at.split) at.has_name other text.avoids text.at found
     ∙ ap (λ p. Some (Tag p)) (tag_place (length r.body.now) here place rest (end_tag name) behind (trim_start behind) i placed at.split there count)
 
--- the node with the index behind its last inner node
+-- the node with the index after its last inner node
 closed_items : (items : List Node) (i : ℕ) (node closed : Node) → i < length items → node ≡ get_or items i node →
     node_view closed ≡ record (node_view node) { after = length (map node_view items) } →
     set (map node_view items) i (record (get_or (map node_view items) i (node_view node)) { after = length (map node_view items) }) ≡ map node_view (set items i closed)
@@ -399,7 +399,7 @@ reads_end_on r rest name behind next here it next_is at =
 
 -- ---- the front and the end of the body
 
--- Behind white space a reader that has read nothing has read its body up to there.
+-- After white space a reader that has read nothing has read its body up to there.
 pub fresh_is_read : (body : List ℕ) (r : Reader) (rest : List ℕ) → IsFresh body r → rest ≡ trim_start body → is_at_tag rest ≡ true → IsRead r rest
 fresh_is_read body r rest fresh rest_is at =
     let start = trim_start body in

@@ -45,7 +45,7 @@ other_awaits other name more other_named named differs =
 
 -- ---- what holds between two tags
 
--- Behind the white space at its front the reading of a body begins.
+-- After the white space at its front the reading of a body begins.
 pub reading_begins : (body white start : List ℕ) (unknown : ℕ) → body ≡ white ++ start → IsWhite white → is_at_tag start ≡ true →
     IsReading body unknown [] [] [] false None start
 reading_begins body white start unknown split blank at = record {

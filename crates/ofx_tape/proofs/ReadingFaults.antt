@@ -57,7 +57,7 @@ fault_start_of_another body unknown nodes names indices before rest place name m
     sym reading.same_fault ∙ start_at_place size place around rest name more placed is named
     ∙ start_of_another size place around name (text_pieces size more ++ pieces_behind size more) refl wrong
 
--- the text behind a tag is the next piece
+-- the text after a tag is the next piece
 next_is : (size : ℕ) (text next : List ℕ) → list_any is_open text ≡ false → is_at_tag next ≡ true →
     next_text (text_pieces size (text ++ next) ++ pieces_behind size (text ++ next)) ≡ text
 next_is size text next avoids at = rw (behind_text size text next avoids) (next_text_is size text next avoids at)
@@ -75,7 +75,7 @@ fault_too_deep body unknown nodes names indices before rest place name text next
 text_place : (size place : ℕ) (rest front text : List ℕ) → place + length rest ≡ size → rest ≡ front ++ text → size - length text ≡ place + length front
 text_place size place rest front text placed is = omega (arith, ap length is, length-append front text)
 
--- the first byte that is refused behind a tag
+-- the first byte that is refused after a tag
 refused_behind : (size place : ℕ) (around : Around) (rest front text next : List ℕ) (i : ℕ) → place + length rest ≡ size → rest ≡ front ++ (text ++ next) →
     list_any is_open text ≡ false → is_at_tag next ≡ true → position (is_refused_behind around.element) text ≡ Some i →
     first_fault size around (text_pieces size (text ++ next) ++ pieces_behind size (text ++ next)) ≡ Some (Tag (place + length front + i))
@@ -96,7 +96,7 @@ fault_in_value body unknown nodes names indices before rest place name text next
     ∙ start_of_element size place around name (text_pieces size (text ++ next) ++ pieces_behind size (text ++ next)) refl right (rw (next_is size text next avoids at) is_one)
     ∙ refused_behind size place later rest (tag name) text next i placed is avoids at refused
 
--- Text behind the start tag of an aggregate.
+-- Text after the start tag of an aggregate.
 pub fault_in_aggregate : (body : List ℕ) (unknown : ℕ) (nodes : List TagNode) (names : List (List ℕ)) (indices : List ℕ) (before : Option (List ℕ)) (rest : List ℕ)
     (place : ℕ) (name text next : List ℕ) (i : ℕ) → IsReading body unknown nodes names indices false before rest → place + length rest ≡ length body →
     rest ≡ tag name ++ (text ++ next) → is_name name ≡ true → list_any is_open text ≡ false → is_at_tag next ≡ true → is_element name text ≡ false →
@@ -139,7 +139,7 @@ fault_end_before_start body unknown nodes indices before rest place name more re
     sym reading.same_fault ∙ end_at_place size place around rest name more placed is named
     ∙ end_before_start size place around name (text_pieces size more ++ pieces_behind size more) other refl refl
 
--- Text behind the end tag of an element.
+-- Text after the end tag of an element.
 pub fault_behind_element : (body : List ℕ) (unknown : ℕ) (nodes : List TagNode) (names : List (List ℕ)) (indices : List ℕ) (ended : Bool) (rest : List ℕ)
     (place : ℕ) (name text next : List ℕ) (i : ℕ) → IsReading body unknown nodes names indices ended (Some name) rest → place + length rest ≡ length body →
     rest ≡ end_tag name ++ (text ++ next) → is_name name ≡ true → list_any is_open text ≡ false → is_at_tag next ≡ true →
@@ -152,7 +152,7 @@ fault_behind_element body unknown nodes names indices ended rest place name text
     ∙ end_of_element size place around name (text_pieces size (text ++ next) ++ pieces_behind size (text ++ next)) refl
     ∙ refused_behind size place later rest (end_tag name) text next i placed is avoids at refused
 
--- Text behind the end tag of an aggregate.
+-- Text after the end tag of an aggregate.
 pub fault_behind_aggregate : (body : List ℕ) (unknown : ℕ) (nodes : List TagNode) (name : List ℕ) (outer : List (List ℕ)) (indices : List ℕ) (ended : Bool) (before : Option (List ℕ)) (rest : List ℕ)
     (place : ℕ) (text next : List ℕ) (i : ℕ) → IsReading body unknown nodes (name ∷ outer) indices ended before rest → place + length rest ≡ length body →
     rest ≡ end_tag name ++ (text ++ next) → is_name name ≡ true → is_name_of name before ≡ false → list_any is_open text ≡ false → is_at_tag next ≡ true →

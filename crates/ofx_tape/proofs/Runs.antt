@@ -51,7 +51,7 @@ abbrev pub stops : (ℕ → Bool) → List ℕ → Bool
 stops p [] = true
 stops p (b ∷ bytes) = p b
 
--- a run that avoids the test ends where the bytes behind it begin with a byte that passes
+-- a run that avoids the test ends where the bytes after it begin with a byte that passes
 pub before_stop : (p : ℕ → Bool) (run rest : List ℕ) → list_any p run ≡ false → stops p rest ≡ true → before_first p (run ++ rest) ≡ run
 before_stop p run [] avoids at = before_run p run [] avoids ∙ append-nil run
 before_stop p run (b ∷ rest) avoids at = before_run p run (b ∷ rest) avoids ∙ ap (λ x. run ++ x) (before_at p b rest at) ∙ append-nil run

@@ -13,7 +13,7 @@ sliced : (front slice rest : List ℕ) (at : ℕ) → at ≡ length front → sl
 sliced front slice rest at is =
     rw (drop_at front (slice ++ rest) at (sym is), take_at slice rest (length slice) refl) refl
 
--- A tag and the text behind it are slices of the body that they stand in.
+-- A tag and the text after it are slices of the body that they stand in.
 pub tag_is_sliced : (front name text rest body : List ℕ) (node : TagNode) → node.name ≡ name → node.text ≡ text → node.place ≡ length front →
     body ≡ front ++ (tag name ++ (text ++ rest)) → IsSliced body node
 tag_is_sliced front name text rest body node name_is text_is place_is split = record {
@@ -34,7 +34,7 @@ tag_is_sliced front name text rest body node name_is text_is place_is split = re
 place_is : (body bytes : List ℕ) (ends : EndsIn body bytes) (place : ℕ) → place + length bytes ≡ length body → place ≡ length ends.front
 place_is body bytes ends place placed = omega (arith, simp length-append at (ap length ends.split))
 
--- The nodes of what is spelled at the end of a body are slices of it, each behind those before it; others may follow.
+-- The nodes of what is spelled at the end of a body are slices of it, each after those before it; others may follow.
 pub placed_tree : (body : List ℕ) (tree : Tree) (room index : ℕ) (bytes rest : List ℕ) (from : ℕ) (others : List TagNode) →
     EndsIn body bytes → Spells (length body) room bytes tree rest → from + length bytes ≤ length body →
     ((last : ℕ) → last + length rest ≤ length body → ArePlaced last body others) →

@@ -45,7 +45,7 @@ front_all passes (b ∷ bytes) = by_cases (passes b) refl (front_all passes byte
 pub front_passes : (passes : ℕ → Bool) (bytes front : List ℕ) → front ≡ front_of passes bytes → list_all passes front ≡ true
 front_passes passes bytes front is = rw is (front_all passes bytes)
 
--- and the first byte behind it doesn't
+-- and the first byte after it doesn't
 behind_stops : (passes : ℕ → Bool) (bytes : List ℕ) (b : ℕ) (more : List ℕ) → behind_front passes bytes ≡ b ∷ more → passes b ≡ false
 behind_stops passes [] b more is = cc
 behind_stops passes (c ∷ bytes) b more is = by_cases (passes c) refl (behind_stops passes bytes b more)
@@ -60,7 +60,7 @@ split_whole passes bytes front behind front_is behind_is =
 
 -- ---- names
 
--- a name is too long or too short, or another byte than `>` stands behind it
+-- a name is too long or too short, or another byte than `>` stands after it
 pub no_name_at : (bytes name rest : List ℕ) (b : ℕ) (more : List ℕ) → name ≡ front_of is_name_byte bytes → rest ≡ behind_front is_name_byte bytes → rest ≡ b ∷ more →
     ((b == 62) && is_name name) ≡ false → IsNoName bytes
 no_name_at bytes name rest b more name_is rest_is first other = record {
@@ -88,7 +88,7 @@ first_then (b ∷ bytes) h = ap (λ l. b ∷ l) (sym (take_all (suc (length byte
 pub first_is : (bytes : List ℕ) (b : ℕ) → 1 ≤ length bytes → get_or bytes 0 0 ≡ b → bytes ≡ b ∷ take (length bytes - 1) (drop 1 bytes)
 first_is bytes b some is = first_then bytes some ∙ ap (λ f. f ∷ take (length bytes - 1) (drop 1 bytes)) is
 
--- another byte than `>` stands behind a name
+-- another byte than `>` stands after a name
 pub no_name_other : (bytes name rest : List ℕ) → name ≡ front_of is_name_byte bytes → rest ≡ behind_front is_name_byte bytes → 1 ≤ length rest →
     (get_or rest 0 0 ≡ 62 → ⊥) → IsNoName bytes
 no_name_other bytes name rest name_is rest_is some other =

@@ -1,4 +1,4 @@
--- A `<` behind which no name ends with a `>` begins no tag.
+-- A `<` after which no name ends with a `>` begins no tag.
 use Rattle.std.proofs.Common.{◌≡◌, ℕ, suc, ◌-◌, ◌<◌, ◌≤◌, Bool, true, false, ◌==◌, ◌&&◌, nat_le, List, [], ◌∷◌, ◌++◌, length, get_or, ne_eqb, ◌⊎◌, inl, inr, refl, ap, ◌∙◌, arith}
 use Rattle.std.proofs.lemmas.Bool.{le-leb, lt-leb, and_left}
 use Rattle.std.specs.List.{list_all}

@@ -24,7 +24,7 @@ position_later p b bytes i fails found =
     let inside : suc n < suc (length bytes) = omega (arith, ltb-true n (length bytes) parts.0) in
     rw (fails, one-add, lt-ltb (suc n) (suc (length bytes)) inside) (ap (λ k. Some (suc k)) parts.1)
 
--- ---- the text up to the next `<`, and what is behind it
+-- ---- the text up to the next `<`, and what is after it
 
 abbrev pub text_at : List ℕ → List ℕ
 text_at bytes = before_first is_open bytes
@@ -59,7 +59,7 @@ trim_shorter (b ∷ bytes) = by_cases (is_white b) refl (trim_shorter bytes)
     by_cases true e again = rw e (omega arith)
     by_cases false e again = rw e (omega arith)
 
--- Where a tag comes behind white space, that white space is the text up to it.
+-- Where a tag comes after white space, that white space is the text up to it.
 pub record IsWhiteThenTag (bytes : List ℕ) : Type 0 where
   pub text : text_at bytes ≡ take (length bytes - length (trim_start bytes)) bytes
   pub white : IsWhite (text_at bytes)
@@ -120,7 +120,7 @@ pub not_true_is : (a : Bool) → not a ≡ true → a ≡ false
 not_true_is true e = cc
 not_true_is false e = refl
 
--- Where a tag comes behind the bytes that may stand in a value, they are the text up to it.
+-- Where a tag comes after the bytes that may stand in a value, they are the text up to it.
 pub value_then_tag : (bytes : List ℕ) → is_at_tag (behind_front is_value_byte bytes) ≡ true → text_at bytes ≡ front_of is_value_byte bytes
 value_then_tag [] at = refl
 value_then_tag (b ∷ bytes) at = by_cases (is_value_byte b) refl (value_then_tag bytes)

@@ -23,7 +23,7 @@ use Rattle.ofx_tape.proofs.Reading.{reading_begins, reading_done, reading_opens,
 use Rattle.ofx_tape.proofs.ReadingFaults.{fault_start_behind_end, fault_start_of_another, fault_too_deep, fault_in_value, fault_in_aggregate, fault_mismatch, fault_end_behind_end, fault_end_before_start, fault_behind_element, fault_behind_aggregate, fault_no_tag, fault_cut_tag, fault_cut_body, fault_in_front}
 use Rattle.ofx_tape.proofs.ReaderLaws.{with_text, element_before, tag_shortens, end_tag_shortens}
 
--- ---- what stands behind a `<`
+-- ---- what stands after a `<`
 
 -- a name and a `>`
 record HasName (bytes : List ℕ) : Type 0 where

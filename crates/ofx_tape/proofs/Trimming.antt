@@ -1,12 +1,13 @@
 -- Decoding and trimming in either order: entities stand for no white space.
 use Rattle.std.proofs.Common.{◌≡◌, ℕ, zero, suc, Bool, true, false, cond, ◌&&◌, not, List, [], ◌∷◌, ◌++◌, length, reverse, take, nat_eq, codes, refl, sym, ap, subst, ◌∙◌, ◌⊎◌, inl, inr}
-use Rattle.std.proofs.lemmas.Bool.{eqb-true, eq-eqb}
+use Rattle.std.proofs.lemmas.Bool.{eqb-true, eq-eqb, and_parts}
 use Rattle.std.proofs.lemmas.List.{reverse-append}
 use Rattle.std.proofs.lemmas.List.Folds.{list_all-append}
 use Rattle.std.proofs.lemmas.Slice.Eq.{bytes_eq-Decides}
 use Rattle.std.specs.List.{list_all, list_any, starts_with}
 use Rattle.ofx_types.specs.TextRules.{is_white, trim_start, trim_end, trimmed}
 use Rattle.ofx_types.specs.ValueForm.{decoded_past, decoded, value_of}
+use Rattle.ofx_types.proofs.Trimming.{trim_start-kept}
 use Rattle.ofx_tape.proofs.Decoding.{decoded-other, decoded-plain}
 
 -- trimming at the end, from the front on
@@ -22,10 +23,6 @@ cut_end-white (x ∷ xs) h = ap (λ b. cond b [] (x ∷ cut_end xs)) h
 cut_end-kept : (x : ℕ) (xs : List ℕ) → list_all is_white (x ∷ xs) ≡ false → cut_end (x ∷ xs) ≡ x ∷ cut_end xs
 unfolding cut_end
 cut_end-kept x xs h = ap (λ b. cond b [] (x ∷ cut_end xs)) h
-
--- a byte that is no white space
-trim_start-kept : (x : ℕ) (xs : List ℕ) → is_white x ≡ false → trim_start (x ∷ xs) ≡ x ∷ xs
-trim_start-kept x xs h = ap (λ b. cond b (trim_start xs) (x ∷ xs)) h
 
 all_white-kept : (x : ℕ) (xs : List ℕ) → is_white x ≡ false → list_all is_white (x ∷ xs) ≡ false
 all_white-kept x xs h = ap (λ b. b && list_all is_white xs) h
@@ -82,11 +79,6 @@ white_apart c b plain white = by_cases (nat_eq c b) refl
     by_cases true h = let e : c ≡ b = eqb-true c b h in let kept : is_white c ≡ is_white b = ap is_white e in cc
     by_cases false h = h
 
-first_of_two : (a b : Bool) → (a && b) ≡ true → (a ≡ true) × (b ≡ true)
-first_of_two true true h = (refl, refl)
-first_of_two true false h = cc
-first_of_two false b h = cc
-
 ink : (b : ℕ) → not (is_white b) ≡ true → is_white b ≡ false
 ink b h = by_cases (is_white b) refl
   where
@@ -102,16 +94,16 @@ starts_with-cut : (name bs : List ℕ) → list_all is_ink name ≡ true → sta
 unfolding cut_end
 starts_with-cut [] bs h = refl
 starts_with-cut (c ∷ cs) [] h = refl
-starts_with-cut (c ∷ cs) (b ∷ bs) h = by_cases (list_all is_white (b ∷ bs)) refl (starts_with-cut cs bs (first_of_two _ _ h).1)
+starts_with-cut (c ∷ cs) (b ∷ bs) h = by_cases (list_all is_white (b ∷ bs)) refl (starts_with-cut cs bs (and_parts _ _ h).1)
   where
     by_cases : (w : Bool) → list_all is_white (b ∷ bs) ≡ w → starts_with nat_eq (cut_end bs) cs ≡ starts_with nat_eq bs cs
         → starts_with nat_eq (cond w [] (b ∷ cut_end bs)) (c ∷ cs) ≡ starts_with nat_eq (b ∷ bs) (c ∷ cs)
     by_cases true e again =
-        let apart : nat_eq c b ≡ false = white_apart c b (ink c (first_of_two _ _ h).0) (first_of_two _ _ e).0 in
+        let apart : nat_eq c b ≡ false = white_apart c b (ink c (and_parts _ _ h).0) (and_parts _ _ e).0 in
         sym (ap (λ same. same && starts_with nat_eq bs cs) apart)
     by_cases false e again = ap (λ more. nat_eq c b && more) again
 
--- What is decoded at a byte: the byte that it stands for, and how many bytes behind it are passed over. It is the same
+-- What is decoded at a byte: the byte that it stands for, and how many bytes after it are passed over. It is the same
 -- where the end is trimmed.
 record Decodes (b : ℕ) (bs : List ℕ) : Type 0 where
   pub byte : ℕ
@@ -250,7 +242,7 @@ cut_end-decoded_past zero (b ∷ bs) h =
     let d = decodes_at b bs in
     cut_end_step b bs (list_all is_white (b ∷ bs)) d refl (cut_end-decoded_past d.passed bs d.is_ink_passed)
 cut_end-decoded_past (suc n) (b ∷ bs) h =
-    let parts = first_of_two _ _ h in
+    let parts = and_parts _ _ h in
     cut_end-decoded_past n bs parts.1 ∙ sym (ap (decoded_past (suc n)) (cut_end-kept b bs (all_white-kept b bs (ink b parts.0))))
 
 -- a value may be trimmed before it is decoded

@@ -40,7 +40,7 @@ same_tag name other more others named other_named same =
     let parts = same_run is_close name other (62 ∷ more) (62 ∷ others) (name_avoids 62 name refl (name_bytes name named)) (name_avoids 62 other refl (name_bytes other other_named)) refl refl inner in
     (parts.0, ap (drop 1) parts.1)
 
--- A start tag at its place, the text behind it, and what follows from the next tag on.
+-- A start tag at its place, the text after it, and what follows from the next tag on.
 record IsTagged (size : ℕ) (bytes : List ℕ) (place : ℕ) (name text next : List ℕ) : Type 0 where
   has_name : is_name name ≡ true
   avoids : list_any is_open text ≡ false

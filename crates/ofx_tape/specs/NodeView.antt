@@ -7,6 +7,6 @@ use Rattle.ofx_tape.specs.declared.tape.Node.{Node}
 abbrev pub node_view : Node → TagNode
 node_view n = record { is_element = n.element; name = n.name.now; text = n.value.now; place = n.at; after = n.after }
 
--- Each node ends behind itself, and among the nodes there are.
+-- Each node ends after itself, and among the nodes there are.
 abbrev pub AreNested : List TagNode → Type 0
 AreNested nodes = AreInside 0 (length nodes) nodes

@@ -2,20 +2,20 @@
 use Rattle.std.specs.Prelude.{◌≡◌, ℕ, ◌+◌, ◌-◌, ◌<◌, ◌≤◌, List, [], ◌∷◌, length, take, drop}
 use Rattle.ofx_types.specs.Nodes.{TagNode, AreNodesOf}
 
--- The name is the slice of the body behind the `<` at the node's place, and the text the slice behind the `>`.
+-- The name is the slice of the body after the `<` at the node's place, and the text the slice after the `>`.
 pub record IsSliced (body : List ℕ) (node : TagNode) : Type 0 where
   pub name : node.name ≡ take (length node.name) (drop (node.place + 1) body)
   pub text : node.text ≡ take (length node.text) (drop (node.place + length node.name + 2) body)
   pub inside : node.place + length node.name + 2 + length node.text ≤ length body
 
--- Places rise: each node stands behind this many bytes, and behind the nodes before it.
+-- Places rise: each node stands after this many bytes, and after the nodes before it.
 abbrev pub ArePlaced : ℕ → List ℕ → List TagNode → Type 0
 ArePlaced from body [] = Unit {0}
 ArePlaced from body (n ∷ nodes) =
     (from ≤ n.place) × IsSliced body n × ArePlaced (n.place + length n.name + 2 + length n.text) body nodes
 
--- Inner nodes lie inside their parent: each of the nodes, of which the first has this index, ends behind itself and not
--- behind the end of the parent.
+-- Inner nodes lie inside their parent: each of the nodes, of which the first has this index, ends after itself and not
+-- after the end of the parent.
 abbrev pub AreInside : ℕ → ℕ → List TagNode → Type 0
 AreInside index end [] = Unit {0}
 AreInside index end (n ∷ nodes) = (index < n.after) × (n.after ≤ end) × AreInside (index + 1) end nodes

@@ -12,27 +12,27 @@ abbrev pub is_at_tag : List ℕ → Bool
 is_at_tag [] = true
 is_at_tag (b ∷ bytes) = is_open b
 
--- the bytes up to the first one that doesn't pass a test, and that byte with what is behind it
+-- the bytes up to the first one that doesn't pass a test, and that byte with what is after it
 abbrev pub front_of : (ℕ → Bool) → List ℕ → List ℕ
 front_of passes bytes = before_first (λ b. not (passes b)) bytes
 
 abbrev pub behind_front : (ℕ → Bool) → List ℕ → List ℕ
 behind_front passes bytes = drop (position_or_len (λ b. not (passes b)) bytes) bytes
 
--- one forest behind another
+-- one forest after another
 abbrev pub join : Tree → Tree → Tree
 join nothing later = later
 join (element place name text behind) later = element place name text (join behind later)
 join (aggregate place name text inner behind) later = aggregate place name text inner (join behind later)
 
--- An open aggregate: the place of its start tag, its name, the text behind that tag, and what stands in front of it in its parent.
+-- An open aggregate: the place of its start tag, its name, the text after that tag, and what stands in front of it in its parent.
 pub record Frame : Type 0 where
   pub place : ℕ
   pub name : List ℕ
   pub text : List ℕ
   pub before : Tree
 
--- The bytes begin with the start tag of an aggregate and the text behind it.
+-- The bytes begin with the start tag of an aggregate and the text after it.
 pub record Begins (size : ℕ) (bytes : List ℕ) (place : ℕ) (name text within : List ℕ) : Type 0 where
   pub has_name : is_name name ≡ true
   pub is_one : is_element name text ≡ false
@@ -77,7 +77,7 @@ abbrev pub StandsBehind : ℕ → List ℕ → List Frame → Option (List ℕ) 
 StandsBehind size start frames None built rest = Stands size start frames built rest
 StandsBehind size start frames (Some name) built rest = Waits size start frames name built rest
 
--- The node of an open aggregate, whose index behind its last inner node isn't known yet.
+-- The node of an open aggregate, whose index after its last inner node isn't known yet.
 abbrev pub open_node : ℕ → Frame → TagNode
 open_node unknown f = record { is_element = false; name = f.name; text = f.text; place = f.place; after = unknown }
 
@@ -102,7 +102,7 @@ AreInOfx [] = Unit {0}
 AreInOfx (f ∷ []) = (f.name ≡ codes "OFX") × (f.before ≡ nothing)
 AreInOfx (f ∷ g ∷ outer) = AreInOfx (g ∷ outer)
 
--- What stands at the outermost level: nothing before OFX, and OFX alone behind it.
+-- What stands at the outermost level: nothing before OFX, and OFX alone after it.
 abbrev pub IsOutermost : List Frame → Bool → Tree → Type 0
 IsOutermost [] false built = built ≡ nothing
 IsOutermost [] true built = (place : ℕ) × (text : List ℕ) × (inner : Tree) × (built ≡ aggregate place (codes "OFX") text inner nothing)

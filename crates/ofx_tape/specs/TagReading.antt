@@ -55,7 +55,7 @@ pub record IsStartAt (r : Reader) (rest name behind : List ℕ) : Type 0 where
   pub is_open : r.has_ended ≡ false
   pub is_right : ((r.depth == 0) && not (bytes_eq name (codes "OFX"))) ≡ false
 
--- An end tag where no aggregate is open is no first tag, and closes none behind the end of OFX.
+-- An end tag where no aggregate is open is no first tag, and closes none after the end of OFX.
 abbrev pub IsFaultOfEnd : Bool → ℕ → List ℕ → TapeFault → Type 0
 IsFaultOfEnd true size rest fault = (place : ℕ) × (fault ≡ Mismatch place) × (place + length rest ≡ size)
 IsFaultOfEnd false size rest fault = (place : ℕ) × (fault ≡ Tag place) × (place + length rest ≡ size)

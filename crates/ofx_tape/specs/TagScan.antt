@@ -1,4 +1,4 @@
--- What stands behind the `<` of a tag.
+-- What stands after the `<` of a tag.
 use Rattle.std.specs.Prelude.{◌≡◌, ℕ, ◌<◌, ◌≤◌, ◌⊎◌, ◌-◌, ◌==◌, ◌&&◌, Bool, true, false, List, [], ◌∷◌, ◌++◌, length}
 use Rattle.std.specs.List.{list_all}
 use Rattle.ofx_types.specs.TagNames.{is_name, is_name_byte}

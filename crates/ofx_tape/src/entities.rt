@@ -109,7 +109,7 @@ pub(crate) fn first_refused(raw: &[u8]) -> Option<usize>
     None
 }
 
-/// The byte that the first bytes stand for, and the bytes behind those.
+/// The byte that the first bytes stand for, and the bytes after those.
 #[tactic(auto, using(crate::proofs::Decoding::decoded_front))]
 fn decoded_first(first: u8, behind: &[u8]) -> (u8, &[u8])
     ensures value { decoded (first ∷ behind.now) ≡ result.0 ∷ decoded result.1.now }
@@ -121,7 +121,7 @@ fn decoded_first(first: u8, behind: &[u8]) -> (u8, &[u8])
     (first, behind)
 }
 
-/// The byte that a `&` and the first bytes behind it stand for, and the bytes behind those.
+/// The byte that a `&` and the first bytes after it stand for, and the bytes after those.
 #[tactic(auto, using(crate::proofs::Decoding::decoded_front))]
 fn decoded_entity(behind: &[u8]) -> (u8, &[u8])
     ensures value { decoded (38 ∷ behind.now) ≡ result.0 ∷ decoded result.1.now }

@@ -5,7 +5,7 @@
 #![tactic(auto)]
 
 mod entities;
-mod laws;
+pub mod laws;
 mod names;
 mod reader;
 mod scan;
@@ -13,10 +13,6 @@ mod tape;
 mod value;
 
 pub use entities::SHORT_VALUE;
-pub use laws::{
-    faultless_tags_are_spelled, nodes_are_slices, nodes_fit_the_body, spelled_tags_have_no_fault,
-    tags_are_unambiguous,
-};
 pub use ofx_types::TapeFault;
 pub use tape::{Node, Tape};
 pub use value::{short_value, value_eq, value_into};

@@ -68,7 +68,7 @@ impl<'a> Reader<'a> {
         Err(TapeFault::Cut(body.len() as u64))
     }
 
-    /// Reads one tag and the text behind it: from a `<`, with the bytes behind that, to the next tag.
+    /// Reads one tag and the text after it: from a `<`, with the bytes after that, to the next tag.
     pub(crate) fn read_tag(
         &mut self,
         rest: &'a [u8],
@@ -94,7 +94,7 @@ impl<'a> Reader<'a> {
         (self.body.len() - rest.len()) as u64
     }
 
-    /// Reads a start tag of this name, with the text behind it.
+    /// Reads a start tag of this name, with the text after it.
     fn start(
         &mut self,
         rest: &'a [u8],
@@ -153,7 +153,7 @@ impl<'a> Reader<'a> {
         Ok(next)
     }
 
-    /// Reads the start tag of an aggregate, and the white space behind it.
+    /// Reads the start tag of an aggregate, and the white space after it.
     fn aggregate(
         &mut self,
         rest: &'a [u8],
@@ -188,7 +188,7 @@ impl<'a> Reader<'a> {
         Ok(next)
     }
 
-    /// Reads an end tag of this name, and the white space behind it.
+    /// Reads an end tag of this name, and the white space after it.
     fn end(
         &mut self,
         rest: &'a [u8],
@@ -219,7 +219,7 @@ impl<'a> Reader<'a> {
         }
     }
 
-    /// Reads the end tag of the innermost open aggregate, and the white space behind it.
+    /// Reads the end tag of the innermost open aggregate, and the white space after it.
     fn end_aggregate(
         &mut self,
         rest: &'a [u8],

@@ -10,9 +10,9 @@ ghost use Rattle.ofx_tape.specs.TagScan.{IsNameAt, IsTagBehind};
 
 use ofx_types::is_white_space;
 
-/// The front of what stands behind a `<` or a `</`.
+/// The front of what stands after a `<` or a `</`.
 pub(crate) enum NameAt<'a> {
-    /// A name and a `>`: the name, and the bytes behind the `>`.
+    /// A name and a `>`: the name, and the bytes after the `>`.
     Whole(&'a [u8], &'a [u8]),
     /// Nothing but bytes of a name, which more bytes could end.
     Unfinished,
@@ -20,11 +20,11 @@ pub(crate) enum NameAt<'a> {
     Broken,
 }
 
-/// What stands behind a `<`.
+/// What stands after a `<`.
 pub(crate) enum TagAt<'a> {
-    /// A start tag: its name, and the bytes behind it.
+    /// A start tag: its name, and the bytes after it.
     Start(&'a [u8], &'a [u8]),
-    /// An end tag: its name, and the bytes behind it.
+    /// An end tag: its name, and the bytes after it.
     End(&'a [u8], &'a [u8]),
     /// The front of a tag, which the body's end leaves unfinished.
     Unfinished,
@@ -93,7 +93,7 @@ fn is_of_name_length(name: &[u8]) -> bool
     !name.is_empty() && name.len() <= 32
 }
 
-/// The bytes at the front that may stand in a name, and the bytes behind them.
+/// The bytes at the front that may stand in a name, and the bytes after them.
 #[tactic(auto, using(crate::proofs::Splitting::splits))]
 fn split_name(bytes: &[u8]) -> (&[u8], &[u8])
     ensures name { result.0.now ≡ front_of is_name_byte bytes.now }
@@ -146,7 +146,7 @@ pub(crate) fn is_tag_next(bytes: &[u8]) -> bool
     }
 }
 
-/// The bytes at the front that may stand in a value, and the bytes behind them.
+/// The bytes at the front that may stand in a value, and the bytes after them.
 #[tactic(auto, using(crate::proofs::Splitting::splits))]
 pub(crate) fn split_value(bytes: &[u8]) -> (&[u8], &[u8])
     ensures value { result.0.now ≡ front_of is_value_byte bytes.now }

@@ -23,7 +23,7 @@ pub struct Node<'a> {
     pub value: &'a [u8],
     /// The place of its start tag, the number of bytes in front of it.
     pub at: usize,
-    /// The index behind its last inner node.
+    /// The index after its last inner node.
     pub after: usize,
 }
 

@@ -7,6 +7,7 @@ use Rattle.ofx_types.specs.TagForm.{nothing}
 use Rattle.ofx_types.specs.Nodes.{TagNode, Item, nodes_from, items_from}
 use Rattle.ofx_types.specs.TagNames.{is_one_of}
 use Rattle.ofx_types.specs.FormWords.{has_name, is_absent, named_one_of}
+use Rattle.ofx_types.specs.MessageForm.{is_named_one_of}
 use Rattle.ofx_tree.specs.Documents.{Documents, empty, leaf, branch, printed, AreLawful, tree_of, leaf_item, branch_item, items_of, BranchesHoldTheirDocuments, DocumentsAreFound, LeavesHaveTheirValues}
 use Rattle.ofx_tree.proofs.Items.{first_of}
 use Rattle.ofx_tree.proofs.Written.{value_of-written, written_black}
@@ -79,13 +80,10 @@ named_of_branch place index room own name inner lawful =
     ap (found (has_name name)) (children_of_branch place index own inner)
     ∙ items_stand (place + length (start_line own)) (index + 1) room (has_name name) inner lawful
 
-abbrev has_one : List (List ℕ) → Item → Bool
-has_one names item = is_one_of names item.node.name
-
 -- the same of several names
 pub named_one_of_branch : (place index room : ℕ) (own : List ℕ) (names : List (List ℕ)) (inner : Documents) → AreLawful room inner
     → named_one_of names (branch_item place index own inner)
     ≡ filter (λ item. is_one_of names item.node.name) (items_of (place + length (start_line own)) (index + 1) inner)
 named_one_of_branch place index room own names inner lawful =
-    ap (found (has_one names)) (children_of_branch place index own inner)
-    ∙ items_stand (place + length (start_line own)) (index + 1) room (has_one names) inner lawful
+    ap (found (is_named_one_of names)) (children_of_branch place index own inner)
+    ∙ items_stand (place + length (start_line own)) (index + 1) room (is_named_one_of names) inner lawful

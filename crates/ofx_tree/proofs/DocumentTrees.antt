@@ -42,7 +42,7 @@ documents_close_none room (branch name inner behind) more lawful none =
 
 -- ---- the tree
 
--- the place behind printed bytes
+-- the place after printed bytes
 placed_behind : (size place : ℕ) (bytes more : List ℕ) → place + length (bytes ++ more) ≡ size → place + length bytes + length more ≡ size
 placed_behind size place bytes more at = omega (arith, length-append bytes more)
 

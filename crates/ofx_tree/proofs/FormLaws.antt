@@ -1,7 +1,6 @@
 -- What stands in an aggregate is what reading finds there: its named children, and what their values stand for.
-use Rattle.std.proofs.Common.{◌≡◌, ℕ, ◌<◌, ◌⊎◌, inl, inr, Bool, true, false, cond, ◌&&◌, nat_lt, ℤ, List, [], ◌∷◌, length, filter, Option, None, Some, is_none, Result, Ok, Err, codes, refl, sym, ap, subst, ◌∙◌, arith}
+use Rattle.std.proofs.Common.{◌≡◌, ℕ, ◌<◌, inl, inr, Bool, true, false, cond, ◌&&◌, nat_lt, ℤ, List, [], ◌∷◌, length, filter, Option, None, Some, is_none, Result, Ok, Err, codes, refl, sym, ap, subst, ◌∙◌, arith}
 use Rattle.std.proofs.lemmas.Grind.{common_steps}
-use Rattle.std.proofs.lemmas.Slice.Eq.{bytes_eq-Decides}
 use Rattle.std.specs.Str.{bytes_eq}
 use Rattle.ofx_types.specs.TextRules.{is_refused_in_text}
 use Rattle.ofx_types.specs.TextOutcome.{text_fault}
@@ -18,6 +17,7 @@ use Rattle.ofx_types.specs.declared.fault.TreeFault.{TreeFault}
 use Rattle.ofx_types.specs.declared.number.Cents.{Cents}
 use Rattle.ofx_types.specs.declared.number.Moment.{Moment}
 use Rattle.ofx_types.proofs.Trimming.{trimmed-again}
+use Rattle.ofx_types.proofs.Bytes.{bytes_eq_is, went}
 use Rattle.ofx_values.proofs.AmountLemmas.{amount_takes, amount_again}
 use Rattle.ofx_values.proofs.DateLemmas.{date_takes, date_again}
 
@@ -34,20 +34,9 @@ bind_to r f x h = ap (λ s. s >>= f) h
 pub one_value : {A : Type 0} (r : Result A TreeFault) (x y : A) → r ≡ Ok x → r ≡ Ok y → x ≡ y
 one_value r x y h i = cc
 
--- which way a test went
-pub chosen : {A : Type 0} (b : Bool) (x y z : A) → cond b x y ≡ z → ((b ≡ true) × (x ≡ z)) ⊎ ((b ≡ false) × (y ≡ z))
-chosen true x y z h = inl (refl, h)
-chosen false x y z h = inr (refl, h)
-
 pub ok_guarded : {A : Type 0} (b : Bool) (x y : A) (e : TreeFault) → cond b (Ok x) (Err e) ≡ Ok y → (b ≡ true) × (x ≡ y)
 ok_guarded true x y e h = (refl, cc)
 ok_guarded false x y e h = cc
-
-pub bytes_same : (a b : List ℕ) → bytes_eq a b ≡ true → a ≡ b
-bytes_same a b h = (bytes_eq-Decides a b).0 h
-
-pub bytes_self : (a : List ℕ) → bytes_eq a a ≡ true
-bytes_self a = (bytes_eq-Decides a a).1 refl
 
 -- ---- named children
 
@@ -150,9 +139,9 @@ text_in_again name most parent text t =
 
 flag_chosen : (word : List ℕ) (e : TreeFault) (flag : Bool) →
     cond (bytes_eq word (codes "Y")) (Ok true) (cond (bytes_eq word (codes "N")) (Ok false) (Err e)) ≡ Ok flag → word ≡ flag_word flag
-flag_chosen word e flag h = elim (chosen (bytes_eq word (codes "Y")) _ _ _ h) [
-  | inl (same, is) ↦ bytes_same word (codes "Y") same ∙ ap flag_word (one_value (Ok true) true flag refl is)
-  | inr (other, is) ↦ let second = ok_guarded (bytes_eq word (codes "N")) false flag e is in bytes_same word (codes "N") second.0 ∙ ap flag_word second.1
+flag_chosen word e flag h = elim (went (bytes_eq word (codes "Y")) _ _ _ h) [
+  | inl (same, is) ↦ bytes_eq_is word (codes "Y") same ∙ ap flag_word (one_value (Ok true) true flag refl is)
+  | inr (other, is) ↦ let second = ok_guarded (bytes_eq word (codes "N")) false flag e is in bytes_eq_is word (codes "N") second.0 ∙ ap flag_word second.1
 ]
 
 flag_again : (flag : Bool) (e : TreeFault) →

@@ -126,7 +126,7 @@ maybe_moment_within most name item h =
     bound most (λ found. IfSome found (IsWithin most)) Any (maybe name item) moment_if_any (maybe_within most name item h)
     (λ found i. if_any_within most found i)
 
-number_or_within : (most place : ℕ) (o : Option ℕ) → place ≤ most → Stands most Any (number_or place o)
+pub number_or_within : (most place : ℕ) (o : Option ℕ) → place ≤ most → Stands most Any (number_or place o)
 number_or_within most place None h = h
 number_or_within most place (Some n) h = tt
 

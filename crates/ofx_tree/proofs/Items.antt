@@ -42,7 +42,7 @@ unfolding items_from
 pass_all i until [] k e = let none : k ≡ 0 = omega arith in rw none refl
 pass_all i until (n ∷ ns) k e = pass_tested i until n ns (nat_lt i until) refl (λ j f. pass_all (i + 1) until ns j f) k e
 
--- the first item of nodes, and those behind it
+-- the first item of nodes, and those after it
 pub first_of : (i k : ℕ) (n : TagNode) (ns : List TagNode) → k ≡ min (n.after - (i + 1)) (length ns)
     → items_from i i (n ∷ ns) ≡ record { node = n; first = i + 1; inner = take k ns } ∷ items_from (i + 1 + k) (i + 1 + k) (drop k ns)
 unfolding items_from

@@ -115,7 +115,8 @@ text_of_leaf name value most place index parent is short only =
       stands = stands_of_leaf name value most is short;
     })
 
-is_flag_of_leaf : (name : List ℕ) (flag : Bool) (place index : ℕ) (parent : Item) → IsElementName name
+-- What is printed of a flag is read as that flag.
+pub is_flag_of_leaf : (name : List ℕ) (flag : Bool) (place index : ℕ) (parent : Item) → IsElementName name
     → IsOnly name parent (leaf_item place index name (flag_word flag)) → IsFlagIn name parent flag
 is_flag_of_leaf name flag place index parent named only = record {
   child = leaf_item place index name (flag_word flag);

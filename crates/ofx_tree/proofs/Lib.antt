@@ -3,7 +3,6 @@ pub mod Plain
 pub mod Written
 pub mod Printed
 pub mod Root
-pub mod Fronts
 pub mod FormLaws
 pub mod FormPlaces
 pub mod Chosen

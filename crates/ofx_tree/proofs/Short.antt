@@ -1,6 +1,7 @@
 -- A value is read as it is, since it is trimmed already, and a long one is no amount, moment, number or id.
 use Rattle.std.proofs.Common.{◌≡◌, ℕ, ◌<◌, ◌≤◌, ℤ, Bool, true, false, ◌&&◌, nat_lt, List, length, position, Option, None, Some, is_none, refl, sym, ap, ◌∙◌, arith}
 use Rattle.std.proofs.lemmas.Grind.{common_steps}
+use Rattle.std.proofs.Math.Bool.{and-false}
 use Rattle.ofx_types.specs.TextRules.{trimmed, is_refused_in_text}
 use Rattle.ofx_types.specs.TextOutcome.{refused_at}
 use Rattle.ofx_types.specs.FormWords.{is_text_within}
@@ -53,13 +54,9 @@ short_text text short =
 pub same_text : (raw value : List ℕ) (b : Bool) → value ≡ value_of raw → b ≡ is_text_within 64 value → is_text_within 64 (value_of raw) ≡ b
 same_text raw value b e h = ap (is_text_within 64) (sym e) ∙ sym h
 
-nothing : (b : Bool) → (b && false) ≡ false
-nothing true = refl
-nothing false = refl
-
 no_text : (text : List ℕ) → 64 < length text → is_text_within 64 text ≡ false
 no_text text long =
-    let more : nat_lt 64 (length text) ≡ true = grind (arith, common_steps) in rw more (nothing (nat_lt 0 (length text)))
+    let more : nat_lt 64 (length text) ≡ true = grind (arith, common_steps) in rw more (and-false (nat_lt 0 (length text)))
 
 pub long_text : (raw : List ℕ) → 64 < length (value_of raw) → is_text_within 64 (value_of raw) ≡ false
 long_text raw long = no_text (value_of raw) long

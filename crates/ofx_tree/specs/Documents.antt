@@ -43,7 +43,7 @@ AreLawful room (branch name inner behind) =
 
 -- ---- what they spell
 
--- The tree of documents that are printed at a place, with the next tree behind it.
+-- The tree of documents that are printed at a place, with the next tree after it.
 abbrev pub tree_of : ℕ → Documents → Tree → Tree
 tree_of place empty next = next
 tree_of place (leaf name value behind) next =

@@ -12,7 +12,7 @@ abbrev pub items_at : ℕ → List Node → List Item
 items_at index nodes = items_from index index (map node_view nodes)
 
 -- So many of these nodes, of which the first has this index, make the first item: a node and its inner nodes. The others
--- make the items behind it.
+-- make the items after it.
 abbrev pub BeginsWithItem : ℕ → ℕ → List Node → Type 0
 BeginsWithItem index size nodes =
     (d : Node)

@@ -18,7 +18,7 @@ pub record IsAggregateName (name : List ℕ) : Type 0 where
   pub has_name : is_name name ≡ true
   pub is_free : is_one_of element_names name ≡ false
 
--- What stands behind an element's start tag, up to the next line.
+-- What stands after an element's start tag, up to the next line.
 abbrev pub written : List ℕ → List ℕ
 written value = ended (escaped value)
 

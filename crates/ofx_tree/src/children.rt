@@ -89,7 +89,7 @@ impl<'t> Iterator for Children<'t> {
     }
 }
 
-/// The number of nodes of the first item: its own and its inner ones. None of them lies behind the parent's, whatever the
+/// The number of nodes of the first item: its own and its inner ones. None of them lies after the parent's, whatever the
 /// node says.
 #[tactic(auto, using(crate::proofs::Items::first_item))]
 fn size_of_first(index: usize, nodes: &[Node<'_>]) -> usize

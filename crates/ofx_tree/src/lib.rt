@@ -7,15 +7,11 @@
 mod children;
 mod cursor;
 mod escape;
-mod laws;
+pub mod laws;
 mod raw;
 mod sheet;
 
 pub use children::Children;
 pub use cursor::Cursor;
-pub use laws::{
-    aggregates_read_back, bodies_read_back, documents_read_back, elements_read_back,
-    values_are_found,
-};
 pub use ofx_types::TreeFault;
 pub use sheet::Sheet;

@@ -40,7 +40,7 @@ impl Sheet {
         }
     }
 
-    /// A sheet that goes on behind these bytes, which takes no memory.
+    /// A sheet that goes on after these bytes, which takes no memory.
     pub fn from_vec(bytes: Vec<u8>) -> Sheet
         ensures { result ≡ bytes.items }
     {
@@ -127,7 +127,7 @@ impl Sheet {
         self.kept(size, written)
     }
 
-    /// What was written behind so many bytes stays, unless memory for it was refused.
+    /// What was written after so many bytes stays, unless memory for it was refused.
     fn kept(&mut self, size: usize, written: Result<(), OutOfMemory>) -> Result<(), OutOfMemory>
         ensures same { result ≡ written }
         ensures ok { OnOk written (self.new ≡ self.old) }

@@ -1,1 +1,4 @@
+pub mod Bytes
+pub mod Days
+pub mod Numbers
 pub mod Trimming

@@ -6,15 +6,20 @@ use Rattle.ofx_types.specs.TextRules.{is_white, trim_start, trim_end, trimmed, i
 use Rattle.ofx_types.specs.TextOutcome.{text_fault, refused_at, trnuid_fault, file_uid_fault}
 use Rattle.ofx_types.specs.declared.text.TextFault.{TextFault}
 use Rattle.ofx_types.specs.declared.text.TextFault.TheVariants.{Empty, TooLong}
+use Rattle.ofx_types.specs.Bounds.{IsTextWithin}
+use Rattle.ofx_types.specs.ValueForm.{decoded, StandsFor}
+use Rattle.ofx_types.specs.Nodes.{Item}
+use Rattle.ofx_types.specs.FormWords.{IsTextIn}
 use Rattle.std.specs.Str.{bytes_eq}
+use Rattle.std.proofs.lemmas.Bool.{le-ltb}
 
 -- in front of a byte that is no white space nothing is trimmed
-kept : (x : ℕ) (xs : List ℕ) → is_white x ≡ false → trim_start (x ∷ xs) ≡ x ∷ xs
-kept x xs h = grind (arith, common_steps)
+pub trim_start-kept : (x : ℕ) (xs : List ℕ) → is_white x ≡ false → trim_start (x ∷ xs) ≡ x ∷ xs
+trim_start-kept x xs h = grind (arith, common_steps)
 
 -- trimming in front of a last byte that is no white space
 trim_start-last : (xs : List ℕ) (x : ℕ) → is_white x ≡ false → trim_start (xs ++ x ∷ []) ≡ trim_start xs ++ x ∷ []
-trim_start-last [] x h = kept x [] h
+trim_start-last [] x h = trim_start-kept x [] h
 trim_start-last (y ∷ ys) x h =
     elim (is_white y) as (λ b. cond b (trim_start (ys ++ x ∷ [])) (y ∷ (ys ++ x ∷ [])) ≡ cond b (trim_start ys) (y ∷ ys) ++ x ∷ [])
     [ true ↦ trim_start-last ys x h | false ↦ refl ]
@@ -28,7 +33,7 @@ trim_end-kept x xs h =
     ∙ reverse-append (trim_start (reverse xs)) (x ∷ [])
 
 front_kept : (x : ℕ) (xs : List ℕ) → is_white x ≡ false → trim_start (trim_end (x ∷ xs)) ≡ trim_end (x ∷ xs)
-front_kept x xs h = ap trim_start (trim_end-kept x xs h) ∙ kept x _ h ∙ sym (trim_end-kept x xs h)
+front_kept x xs h = ap trim_start (trim_end-kept x xs h) ∙ trim_start-kept x _ h ∙ sym (trim_end-kept x xs h)
 
 -- trimming at the end leaves a front that is trimmed
 trim_start-trim_end : (xs : List ℕ) → trim_start (trim_end (trim_start xs)) ≡ trim_end (trim_start xs)
@@ -45,7 +50,7 @@ trim_start-again (x ∷ xs) = by_cases (is_white x) refl (trim_start-again xs)
   where
     by_cases : (b : Bool) → is_white x ≡ b → trim_start (trim_start xs) ≡ trim_start xs → trim_start (trim_start (x ∷ xs)) ≡ trim_start (x ∷ xs)
     by_cases true h again = ap (λ (c : Bool). trim_start (cond c (trim_start xs) (x ∷ xs))) h ∙ again ∙ sym (ap (λ (c : Bool). cond c (trim_start xs) (x ∷ xs)) h)
-    by_cases false h again = ap (λ (c : Bool). trim_start (cond c (trim_start xs) (x ∷ xs))) h ∙ kept x xs h ∙ sym (ap (λ (c : Bool). cond c (trim_start xs) (x ∷ xs)) h)
+    by_cases false h again = ap (λ (c : Bool). trim_start (cond c (trim_start xs) (x ∷ xs))) h ∙ trim_start-kept x xs h ∙ sym (ap (λ (c : Bool). cond c (trim_start xs) (x ∷ xs)) h)
 
 trim_end-again : (xs : List ℕ) → trim_end (trim_end xs) ≡ trim_end xs
 trim_end-again xs =
@@ -67,6 +72,10 @@ faultless is_refused most text h =
     let parts = no_fault (nat_lt most (length text)) (TooLong (length text)) (position is_refused text) h in
     (ltb-false most (length text) parts.0, parts.1)
 
+-- and bytes that are no longer and have none that is refused have no fault
+pub no_text_fault : (is_refused : ℕ → Bool) (most : ℕ) (text : List ℕ) → length text ≤ most → position is_refused text ≡ None → text_fault is_refused most text ≡ None
+no_text_fault is_refused most text short clean = rw (le-ltb _ _ short, clean) refl
+
 -- trimmed bytes without a fault are a text
 pub text_of_faultless : (most : ℕ) (bytes text items : List ℕ) → items ≡ text → text ≡ trimmed bytes → None ≡ text_fault is_refused_in_text most text → most < 2 ^ 32 → IsText items
 text_of_faultless most bytes text items same e h small =
@@ -83,7 +92,7 @@ pub guard_none : (refuses : Bool) (fault : TextFault) (next : Option TextFault) 
 guard_none true fault next h = cc
 guard_none false fault next h = (refl, sym h)
 
-not_empty : (xs : List ℕ) → nat_eq (length xs) 0 ≡ false → 0 < length xs
+pub not_empty : (xs : List ℕ) → nat_eq (length xs) 0 ≡ false → 0 < length xs
 not_empty [] h = cc
 not_empty (x ∷ xs) h = omega arith
 
@@ -113,3 +122,14 @@ file_uid_of_faultless bytes text stored same e h =
       is_some = λ is_none. let word : bytes_eq text (codes "NONE") ≡ true = ap (λ (t : List ℕ). bytes_eq t (codes "NONE")) is_none in cc;
     } in
     (clean.0, rw same whole)
+
+-- What a value stands for is a text within its limit.
+pub text_within : (most : ℕ) (value text : List ℕ) → most < 2 ^ 32 → StandsFor most value text → IsTextWithin most text
+text_within most value text small stands = record {
+  is_text = text_of_faultless most (decoded value) text text refl stands.value (sym stands.is_faultless) small;
+  is_there = stands.is_there;
+  is_within = (faultless is_refused_in_text most text stands.is_faultless).0;
+}
+
+pub text_within_in : (name : List ℕ) (most : ℕ) (parent : Item) (text : List ℕ) → most < 2 ^ 32 → IsTextIn name most parent text → IsTextWithin most text
+text_within_in name most parent text small t = text_within most t.child.node.text text small t.stands

@@ -8,17 +8,17 @@ use Rattle.std.specs.Int.{is_negative}
 use Rattle.ofx_types.specs.TextRules.{trimmed}
 use Rattle.ofx_types.specs.Digits.{IsSign, signed, two_digits}
 
--- The mark behind the dollars is a point or a comma. Without a mark no digit stands behind it.
+-- The mark after the dollars is a point or a comma. Without a mark no digit stands after it.
 abbrev pub IsFractionPart : List ℕ → List ℕ → Type 0
 IsFractionPart text digits =
     ((text ≡ []) × (digits ≡ [])) ⊎ ((text ≡ 46 ∷ digits) ⊎ (text ≡ 44 ∷ digits))
 
--- The first two digits behind the mark are cents; a digit that isn't there is 0.
+-- The first two digits after the mark are cents; a digit that isn't there is 0.
 abbrev pub cents_behind : List ℕ → ℕ
 cents_behind digits = digits_value 10 (take 2 (digits ++ 48 ∷ 48 ∷ []))
 
--- An amount has an optional sign and digits with at most one mark among, before or behind them, at least one digit,
--- at most 32 bytes, only 0 behind the second digit behind the mark, and a magnitude of at most 99,999,999,999.99.
+-- An amount has an optional sign and digits with at most one mark among, before or after them, at least one digit,
+-- at most 32 bytes, only 0 after the second digit after the mark, and a magnitude of at most 99,999,999,999.99.
 pub record IsAmount (raw : List ℕ) (cents : ℤ) : Type 0 where
   pub sign : List ℕ
   pub negative : Bool

@@ -45,7 +45,7 @@ clock_at text = do
   seconds ← clock_seconds hour.0 minute.0 second.0
   Some (seconds, second.1)
 
--- what stands behind three digits
+-- what stands after three digits
 unfoldable pub behind_three : List ℕ → Option (List ℕ)
 behind_three [] = None
 behind_three (a ∷ []) = None
@@ -53,7 +53,7 @@ behind_three (a ∷ b ∷ []) = None
 behind_three (a ∷ b ∷ c ∷ rest) =
     if is_ascii_digit a && is_ascii_digit b && is_ascii_digit c then Some rest else None
 
--- what stands behind a point and three digits, where the point stands
+-- what stands after a point and three digits, where the point stands
 unfoldable pub behind_fraction : List ℕ → Option (List ℕ)
 behind_fraction [] = Some []
 behind_fraction (b ∷ rest) = if b == 46 then behind_three rest else Some (b ∷ rest)
@@ -72,7 +72,7 @@ clock_and_fraction_at text = do
 unfoldable pub time_at : List ℕ → Option (ℕ × List ℕ)
 time_at text = if is_timeless text then Some (0, text) else clock_and_fraction_at text
 
--- a second digit may stand behind the first
+-- a second digit may stand after the first
 abbrev pub hours_behind : ℕ → List ℕ → ℕ × List ℕ
 hours_behind h [] = (h, [])
 hours_behind h (b ∷ rest) = if is_ascii_digit b then (10 * h + (b - 48), rest) else (h, b ∷ rest)
@@ -82,7 +82,7 @@ unfoldable pub hours_at : List ℕ → Option (ℕ × List ℕ)
 hours_at [] = None
 hours_at (a ∷ rest) = if is_ascii_digit a then Some (hours_behind (a - 48) rest) else None
 
--- hundredths of an hour behind a digit of tenths
+-- hundredths of an hour after a digit of tenths
 abbrev pub tenths_behind : ℕ → List ℕ → ℕ × List ℕ
 tenths_behind t [] = (10 * t, [])
 tenths_behind t (b ∷ rest) = if is_ascii_digit b then (10 * t + (b - 48), rest) else (10 * t, b ∷ rest)
@@ -91,7 +91,7 @@ unfoldable pub tenths_at : List ℕ → Option (ℕ × List ℕ)
 tenths_at [] = None
 tenths_at (a ∷ rest) = if is_ascii_digit a then Some (tenths_behind (a - 48) rest) else None
 
--- hundredths of an hour behind a point, where the point stands
+-- hundredths of an hour after a point, where the point stands
 unfoldable pub part_at : List ℕ → Option (ℕ × List ℕ)
 part_at [] = Some (0, [])
 part_at (b ∷ rest) = if b == 46 then tenths_at rest else Some (0, b ∷ rest)

@@ -16,13 +16,13 @@ use Rattle.ofx_types.specs.declared.fault.FileFault.TheVariants.{Header, Syntax,
 use Rattle.ofx_types.specs.declared.request.RequestFile.{RequestFile}
 use Rattle.ofx_types.specs.declared.reply.ReplyFile.{ReplyFile}
 
--- The bytes begin with a header, and the body behind it, whose first byte has the number `size` of the bytes in front
+-- The bytes begin with a header, and the body after it, whose first byte has the number `size` of the bytes in front
 -- of it, has these nodes, of which the root is OFX.
 pub record HasBody (bytes : List ℕ) (size : ℕ) (nodes : List TagNode) (ofx : Item) : Type 0 where
   pub are_nodes : AreNodesOf (drop size bytes) nodes
   pub is_root : IsRoot nodes ofx
 
--- The bytes spell a request file: a header, and behind it the nodes of a request.
+-- The bytes spell a request file: a header, and after it the nodes of a request.
 pub record SpellsFile (bytes : List ℕ) (file : RequestFile) : Type 0 where
   pub size : ℕ
   pub nodes : List TagNode
@@ -73,7 +73,7 @@ pub record HasHeader (bytes : List ℕ) (size : ℕ) : Type 0 where
 abbrev pub IsHeaderFault : List ℕ → ℕ → Type 0
 IsHeaderFault bytes at = (fault : HeaderFault) × (header_fault bytes ≡ Some fault) × (at ≡ header_place fault)
 
--- behind a header, the leftmost fault of the tags
+-- after a header, the leftmost fault of the tags
 pub record IsSyntaxFault (bytes : List ℕ) (at : ℕ) : Type 0 where
   pub size : ℕ
   pub fault : TapeFault
@@ -83,7 +83,7 @@ pub record IsSyntaxFault (bytes : List ℕ) (at : ℕ) : Type 0 where
   pub has_place : tag_place fault ≡ Some place
   pub at_is : at ≡ size + place
 
--- behind a header and in tags without a fault, the first fault of the forms
+-- after a header and in tags without a fault, the first fault of the forms
 pub record IsFormFault {P : Type 0} (parts_of : Item → Result P TreeFault) (bytes : List ℕ) (at : ℕ) : Type 0 where
   pub size : ℕ
   pub nodes : List TagNode

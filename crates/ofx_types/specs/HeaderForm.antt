@@ -33,7 +33,7 @@ IsUidValue value None = value ≡ codes "NONE"
 IsUidValue value (Some uid) = (value ≡ uid) × (file_uid_fault uid ≡ None)
 
 -- The bytes begin with a header of these values, of this number of bytes: nine lines in this order. The body is what
--- stands behind them.
+-- stands after them.
 pub record SpellsHeader (bytes : List ℕ) (version : ℕ) (older newer : Option (List ℕ)) (size : ℕ) : Type 0 where
   pub line_1 : List ℕ
   pub line_2 : List ℕ

@@ -3,7 +3,7 @@
 use Rattle.std.specs.Prelude.{◌≡◌, ℕ, ◌+◌, ◌-◌, Bool, true, false, nat_lt, List, [], ◌∷◌, ◌++◌, length, take, if◌then◌else◌}
 use Rattle.ofx_types.specs.TagForm.{Tree, nothing, element, aggregate, SpellsBody}
 
--- A node: its name and the text behind its start tag, the place of that tag, and the index behind its last inner node.
+-- A node: its name and the text after its start tag, the place of that tag, and the index after its last inner node.
 pub record TagNode : Type 0 where
   pub is_element : Bool
   pub name : List ℕ

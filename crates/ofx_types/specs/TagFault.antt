@@ -33,7 +33,7 @@ is_close b = b == 62
 abbrev pub behind_slash : List ℕ → List ℕ
 behind_slash inside = if starts_with nat_eq inside (47 ∷ []) then drop 1 inside else inside
 
--- The bytes behind a `<` that end with the body are the front of a tag: perhaps a `/`, and at most 32 bytes of a name.
+-- The bytes after a `<` that end with the body are the front of a tag: perhaps a `/`, and at most 32 bytes of a name.
 abbrev pub is_front_of_tag : List ℕ → Bool
 is_front_of_tag inside = nat_le (length (behind_slash inside)) 32 && list_all is_name_byte (behind_slash inside)
 
@@ -43,7 +43,7 @@ text_pieces size bytes =
     let run = before_first is_open bytes in
     if length run == 0 then [] else at_place (size - length bytes) (text_piece run) ∷ []
 
--- the pieces from a `<` at this place on: the bytes behind it, and the pieces from the next `<` on
+-- the pieces from a `<` at this place on: the bytes after it, and the pieces from the next `<` on
 unfoldable pub pieces_at : ℕ → ℕ → List ℕ → List Placed → List Placed
 pieces_at size place behind others =
     let inside = before_first is_close behind in
@@ -89,7 +89,7 @@ abbrev pub fault_at : ℕ → Option ℕ → Around → Result Around TapeFault
 fault_at place None around = Ok around
 fault_at place (Some i) around = Err (faults.Tag (place + i))
 
--- Behind the start tag of an element its value stands, in which a control byte is a fault. Anywhere else a byte that
+-- After the start tag of an element its value stands, in which a control byte is a fault. Anywhere else a byte that
 -- isn't white space is one.
 abbrev pub is_refused_behind : Option (List ℕ) → ℕ → Bool
 is_refused_behind None b = not (is_white b)
@@ -98,8 +98,8 @@ is_refused_behind (Some name) b = is_refused_in_text b
 unfoldable pub past_text : Around → ℕ → List ℕ → Result Around TapeFault
 past_text around place bytes = fault_at place (position (is_refused_behind around.element) bytes) around
 
--- No start tag stands behind the end of OFX, and the first tag is that of OFX. A start tag begins an element, as its
--- name or the text behind it says, and otherwise an aggregate, of which 16 may be open.
+-- No start tag stands after the end of OFX, and the first tag is that of OFX. A start tag begins an element, as its
+-- name or the text after it says, and otherwise an aggregate, of which 16 may be open.
 unfoldable pub past_start : Around → ℕ → List ℕ → List ℕ → Result Around TapeFault
 past_start around place name next =
     if around.has_ended then Err (faults.Tag place)

@@ -23,7 +23,7 @@ pub data Tree : Type 0 where
   element : (place : ℕ) (name text : List ℕ) (behind : Tree) → Tree
   aggregate : (place : ℕ) (name text : List ℕ) (inner behind : Tree) → Tree
 
--- An end tag of the same name right behind an element's value belongs to the element, with the white space behind it.
+-- An end tag of the same name right after an element's value belongs to the element, with the white space after it.
 -- Where no such end tag stands there, the element has none.
 abbrev pub Closes : List ℕ → List ℕ → List ℕ → Type 0
 Closes name closing more =
@@ -61,7 +61,7 @@ Spells size room bytes (aggregate place name text inner behind) rest =
     × Spells size (room - 1) within inner (end_tag name ++ (white ++ more))
     × Spells size room more behind rest
 
--- A body is the aggregate OFX with white space before and behind. At most 16 aggregates are open at once, OFX among them.
+-- A body is the aggregate OFX with white space before and after. At most 16 aggregates are open at once, OFX among them.
 pub record SpellsBody (body : List ℕ) (tree : Tree) : Type 0 where
   pub white : List ℕ
   pub place : ℕ

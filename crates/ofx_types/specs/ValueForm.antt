@@ -1,4 +1,4 @@
--- What the raw bytes behind a tag stand for.
+-- What the raw bytes after a tag stand for.
 use Rattle.std.specs.Prelude.{◌≡◌, ℕ, zero, suc, ◌<◌, ◌&&◌, ◌==◌, nat_eq, List, [], ◌∷◌, length, codes, None, if◌then◌else◌}
 use Rattle.std.specs.List.{starts_with}
 use Rattle.ofx_types.specs.TextRules.{trimmed, is_refused_in_text}

@@ -1,4 +1,4 @@
--- What the readers give, as functions on lists. A part that is read is a value and the bytes behind it.
+-- What the readers give, as functions on lists. A part that is read is a value and the bytes after it.
 use Rattle.std.specs.Prelude.{◌≡◌, ℕ, ◌+◌, ◌-◌, ◌*◌, Bool, true, false, ◌&&◌, ◌==◌, if◌then◌else◌, List, [], ◌∷◌, Option, Some, None}
 use Rattle.std.specs.Char.{is_ascii_digit}
 
@@ -19,7 +19,7 @@ pair_at (a ∷ []) = None
 pair_at (a ∷ b ∷ rest) =
     if is_ascii_digit a && is_ascii_digit b then Some (10 * (a - 48) + (b - 48), rest) else None
 
--- whether a minus stands here, and what stands behind a sign
+-- whether a minus stands here, and what stands after a sign
 unfoldable pub sign_at : List ℕ → Bool × List ℕ
 sign_at [] = (false, [])
 sign_at (b ∷ rest) = if b == 45 then (true, rest) else (if b == 43 then (false, rest) else (false, b ∷ rest))

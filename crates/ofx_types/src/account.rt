@@ -1,7 +1,7 @@
 //! Accounts as files name them: BANKACCTFROM and BANKACCTTO (OFX 1.6, "Banking Account").
 
 ghost use Rattle.std.specs.Prelude.{◌≡◌};
-ghost use Rattle.ofx_types.specs.AccountForm.{kind_number};
+ghost use Rattle.ofx_types.specs.AccountForm.{kind_number, kind_word};
 
 use crate::duplicate::Duplicate;
 use crate::memory::OutOfMemory;
@@ -30,6 +30,18 @@ impl AcctKind {
             AcctKind::Savings => 1,
             AcctKind::MoneyMarket => 2,
             AcctKind::CreditLine => 3,
+        }
+    }
+
+    /// Its word in files.
+    pub fn word(self) -> &'static [u8]
+        ensures { result.now ≡ kind_word self }
+    {
+        match self {
+            AcctKind::Checking => b"CHECKING",
+            AcctKind::Savings => b"SAVINGS",
+            AcctKind::MoneyMarket => b"MONEYMRKT",
+            AcctKind::CreditLine => b"CREDITLINE",
         }
     }
 }

@@ -16,7 +16,7 @@ pub enum HeaderFault {
 #[derive(Clone, Copy, Debug, PartialEq, Eq)]
 pub enum TapeFault {
     /// A `<` that begins no tag, a byte where no text may stand, a control byte, a first tag other than `<OFX>`, or a
-    /// start tag behind the end of OFX.
+    /// start tag after the end of OFX.
     Tag(u64),
     /// An end tag that doesn't close the innermost open aggregate.
     Mismatch(u64),

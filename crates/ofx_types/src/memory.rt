@@ -1,20 +1,12 @@
 //! The one refusal that every call which takes memory may give.
 
 use std::alloc::{AllocError, AllocFailed};
-use std::error::Error;
-use std::fmt;
+use thiserror::Error;
 
 /// Memory was refused. What was asked for wasn't done, and nothing else has changed.
-#[derive(Clone, Copy, Debug, PartialEq, Eq)]
+#[derive(Clone, Copy, Debug, PartialEq, Eq, Error)]
+#[error("out of memory")]
 pub struct OutOfMemory;
-
-impl fmt::Display for OutOfMemory {
-    fn fmt<W: fmt::Write>(&self, f: &mut fmt::Formatter<W>) -> fmt::Result {
-        write!(f, "out of memory")
-    }
-}
-
-impl Error for OutOfMemory {}
 
 impl From<AllocError> for OutOfMemory {
     fn from(_refused: AllocError) -> OutOfMemory {

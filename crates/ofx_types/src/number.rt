@@ -27,7 +27,7 @@ pub struct AcctId(pub u32);
 pub struct UserId(pub u32);
 
 /// What is synchronised, by its number. Account a has its transfers at 3a, its recurring transfers at 3a + 1 and its
-/// mail at 3a + 2; behind those of all accounts the mail of user u stands at u.
+/// mail at 3a + 2; after those of all accounts the mail of user u stands at u.
 #[derive(Clone, Copy, Debug, PartialEq, Eq, PartialOrd, Ord)]
 pub struct ObjectId(pub u32);
 

@@ -1,6 +1,9 @@
 //! Recurring transfers: how often they are made, and the rows that the bank keeps of them (OFX 1.6, "Recurring
 //! Transactions").
 
+ghost use Rattle.std.specs.Prelude.{◌≡◌};
+ghost use Rattle.ofx_types.specs.RecurringForm.{freq_word};
+
 use crate::account::AcctName;
 use crate::duplicate::Duplicate;
 use crate::memory::OutOfMemory;
@@ -27,6 +30,25 @@ pub enum Freq {
     Semiannually,
     /// Every year.
     Annually,
+}
+
+impl Freq {
+    /// Its word in files.
+    pub fn word(self) -> &'static [u8]
+        ensures { result.now ≡ freq_word self }
+    {
+        match self {
+            Freq::Weekly => b"WEEKLY",
+            Freq::Biweekly => b"BIWEEKLY",
+            Freq::TwiceMonthly => b"TWICEMONTHLY",
+            Freq::Monthly => b"MONTHLY",
+            Freq::FourWeeks => b"FOURWEEKS",
+            Freq::Bimonthly => b"BIMONTHLY",
+            Freq::Quarterly => b"QUARTERLY",
+            Freq::Semiannually => b"SEMIANNUALLY",
+            Freq::Annually => b"ANNUALLY",
+        }
+    }
 }
 
 /// How a transfer recurs (RECURRINST).

@@ -63,7 +63,7 @@ pub struct SyncReply {
     pub token: Text,
     /// Whether the client has missed what the bank no longer keeps (LOSTSYNC).
     pub lost: bool,
-    /// The history, and behind it the answers to the deeds.
+    /// The history, and after it the answers to the deeds.
     pub replies: DeedReplies,
 }
 

@@ -2,7 +2,7 @@
 
 use crate::number::Status;
 
-/// A status, and the numbers behind it.
+/// A status, and the numbers after it.
 #[derive(Clone, Copy, Debug, PartialEq, Eq)]
 pub struct Told {
     /// The status with which the program ends.

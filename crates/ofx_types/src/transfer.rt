@@ -2,6 +2,7 @@
 //! (OFX 1.6, "Intrabank Funds Transfer").
 
 ghost use Rattle.std.specs.Prelude.{◌≡◌};
+ghost use Rattle.ofx_types.specs.TransferForm.{code_word};
 
 use crate::account::AcctName;
 use crate::duplicate::Duplicate;
@@ -58,6 +59,20 @@ pub enum XferCode {
     NoFunds,
     /// It is cancelled (CANCELEDON).
     Cancelled,
+}
+
+impl XferCode {
+    /// Its word in files.
+    pub fn word(self) -> &'static [u8]
+        ensures { result.now ≡ code_word self }
+    {
+        match self {
+            XferCode::Waiting => b"WILLPROCESSON",
+            XferCode::Posted => b"POSTEDON",
+            XferCode::NoFunds => b"NOFUNDSON",
+            XferCode::Cancelled => b"CANCELEDON",
+        }
+    }
 }
 
 /// A transfer as the bank keeps it.

@@ -25,7 +25,7 @@ front_take text =
     let n = prefix_len is_ascii_digit text in
     ap (λ (k : ℕ). take k text) (length-take n text) ∙ take_min n text
 
--- what is left of them and behind them is the text
+-- what is left of them and after them is the text
 pub front_split : (text : List ℕ) → text ≡ front_digits text ++ behind_digits text
 front_split text =
     sym (take-append-drop (length (front_digits text)) text) ∙ ap (λ (t : List ℕ). t ++ behind_digits text) (front_take text)

@@ -1,17 +1,10 @@
 -- Which moments are read.
-use Rattle.std.proofs.Common.{◌≡◌, true, Some, None, arith, ℤ, pos, negsuc, ◌≤ℤ◌}
+use Rattle.std.proofs.Common.{◌≡◌, Some, None, ℤ, pos, negsuc}
 use Rattle.std.proofs.lemmas.Bool.{cond-true, cond-false, and_from, and_parts, false_from_ne_true}
 use Rattle.std.proofs.lemmas.Option.{cond_some}
-use Rattle.std.specs.Prelude.{int_le}
-use Rattle.std.proofs.lemmas.Int.{ints}
 use Rattle.ofx_types.specs.Calendar.{IsMoment}
 use Rattle.ofx_types.specs.DateReading.{lawful}
-
-le_from : (a b : ℤ) → a ≤ℤ b → int_le a b ≡ true
-le_from a b h = grind (arith, ints)
-
-le_holds : (a b : ℤ) → int_le a b ≡ true → a ≤ℤ b
-le_holds a b h = grind (arith, ints)
+use Rattle.ofx_types.proofs.Numbers.{le_from, le_holds}
 
 -- a lawful moment is read as it is
 pub lawful_some : (m z : ℤ) → m ≡ z → IsMoment z → lawful m ≡ Some z

@@ -19,7 +19,7 @@ done x = Some x
 pub some_is : {A : Type 0} (x y : A) → done x ≡ done y → x ≡ y
 some_is x y e = cc
 
--- a front, and another one behind it
+-- a front, and another one after it
 pub behind_front : (a x b y c : List ℕ) → a ≡ x ++ b → b ≡ y ++ c → a ≡ x ++ (y ++ c)
 behind_front a x b y c p q = p ∙ ap (λ (t : List ℕ). x ++ t) q
 
@@ -86,7 +86,7 @@ sign_again front rest negative (inl (none, same)) h = rw (none, same) (unsigned_
 sign_again front rest negative (inr (inl (plus, same))) h = rw (plus, same) (plus_again rest)
 sign_again front rest negative (inr (inr (minus, same))) h = rw (minus, same) (minus_again rest)
 
--- a step behind a test that did not fail
+-- a step after a test that did not fail
 pub guarded : {A : Type 0} (b : Bool) (o : Option A) (y : A) → cond b o None ≡ Some y → (b ≡ true) × (o ≡ Some y)
 guarded true o y e = (refl, e)
 guarded false o y e = absurd cc

@@ -1,5 +1,5 @@
 -- What is printed is spelled so, and no two values are printed alike.
-use Rattle.std.proofs.Common.{◌≡◌, ℕ, ◌+◌, ◌*◌, ◌/◌, ◌%◌, ◌^◌, ◌<◌, ◌≤◌, Bool, true, false, cond, List, [], ◌∷◌, ◌++◌, length, get_or, reverse, Some, refl, sym, ap, subst, ◌∙◌, inl, inr, arith, rules, append_assoc, ℤ, pos, negsuc, unsigned_abs, ◌+ℤ◌, ◌-ℤ◌}
+use Rattle.std.proofs.Common.{◌≡◌, ℕ, ◌+◌, ◌*◌, ◌/◌, ◌%◌, ◌^◌, ◌<◌, ◌≤◌, Bool, true, false, cond, List, [], ◌∷◌, ◌++◌, length, get_or, reverse, Some, refl, sym, ap, subst, ◌∙◌, inl, inr, arith, append_assoc, ℤ, pos, negsuc, unsigned_abs, ◌+ℤ◌, ◌-ℤ◌}
 use Rattle.std.specs.Int.{is_negative, int_rem_euclid}
 use Rattle.std.specs.Char.{is_ascii_digit}
 use Rattle.std.specs.Fmt.{decimal}
@@ -9,7 +9,6 @@ use Rattle.std.proofs.lemmas.Bool.{cond-true, cond-false, and_from, and_parts, l
 use Rattle.std.proofs.lemmas.Bool.Decides.{nat_tests}
 use Rattle.std.proofs.lemmas.Fmt.{digits_decimal, digits_value-decimal, decimal_nonempty, length-decimal-le}
 use Rattle.std.proofs.lemmas.List.{reverse-append, reverse-reverse, length-append}
-use Rattle.std.proofs.lemmas.Str.Parse.{IsNumeralModel, numerals_by_value}
 use Rattle.jiff_core.proofs.SignedLemmas.{signed_arith, int_div_euclid-parts, int_rem_euclid-parts}
 use Rattle.ofx_types.specs.TextRules.{trimmed, trim_start, trim_end, is_white}
 use Rattle.ofx_types.specs.Calendar.{CivilDate, IsMoment, IsDay, civil_of, day_of, second_of_day, midnight}
@@ -17,6 +16,7 @@ use Rattle.ofx_types.specs.Digits.{IsSign, signed, two_digits}
 use Rattle.ofx_types.specs.AmountForm.{IsAmount, amount_text, cents_behind}
 use Rattle.ofx_types.specs.DateForm.{IsDate, IsClock, date_text, clock_text, moment_text}
 use Rattle.ofx_types.specs.NumberReading.{number_at}
+use Rattle.ofx_types.proofs.Numbers.{numerals, decimal_digits}
 use Rattle.ofx_values.proofs.AmountLemmas.{amount_once}
 use Rattle.ofx_values.proofs.CivilLemmas.{size_is}
 use Rattle.ofx_values.proofs.DateLemmas.{date_once}
@@ -40,16 +40,13 @@ digit_kept b h = grind (arith, nat_tests)
 
 -- ---- amounts
 
-numerals : IsNumeralModel (λ ds. list_all is_ascii_digit ds ≡ true) (digits_value 10)
-numerals = numerals_by_value _ (search rules)
-
 -- a number that is printed is read, where the limit has room for it
 pub number_printed : (most n : ℕ) → 0 < most → n < 10 ^ most → n < 2 ^ 64 → number_at most (decimal n) ≡ Some n
 unfolding number_at
 number_printed most n some room h =
     let there = le-leb 1 (length (decimal n)) (decimal_nonempty n h) in
     let short = le-leb (length (decimal n)) most (length-decimal-le most n some room h) in
-    cond-true _ _ _ (and_from _ _ (and_from _ _ there short) (digits_decimal numerals n h)) ∙ ap Some (digits_value-decimal numerals n h)
+    cond-true _ _ _ (and_from _ _ (and_from _ _ there short) (decimal_digits n h)) ∙ ap Some (digits_value-decimal numerals n h)
 
 signed_is : (c : ℤ) → signed (is_negative c) (unsigned_abs c) ≡ c
 signed_is (pos n) = grind (arith, nat_tests)

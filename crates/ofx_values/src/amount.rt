@@ -1,4 +1,4 @@
-//! Amounts as they stand in a file: a sign, dollars, and cents behind a mark.
+//! Amounts as they stand in a file: a sign, dollars, and cents after a mark.
 
 ghost use Rattle.std.specs.Prelude.{◌≡◌, ◌==◌, ◌<◌, ◌≤◌, ℤ, length, drop, IsTrue, None, Some, IfSome, IfOk, IfErr, OnErr, MatchResult};
 ghost use Rattle.std.specs.List.{list_all};
@@ -21,8 +21,8 @@ const MOST_CENTS: u128 = 9_999_999_999_999;
 
 /// The amount that the bytes spell, after trimming.
 ///
-/// An amount has an optional sign and digits with at most one point or comma among, before or behind them: at most 32
-/// bytes, only zeros behind the second digit behind the mark, and a magnitude of at most 99,999,999,999.99 dollars.
+/// An amount has an optional sign and digits with at most one point or comma among, before or after them: at most 32
+/// bytes, only zeros after the second digit after the mark, and a magnitude of at most 99,999,999,999.99 dollars.
 /// `ValueFault::Amount` where the bytes spell none.
 pub fn read_amount(raw: &[u8]) -> Result<Cents, ValueFault>
     ensures found { IfOk result (λ c. IsAmount raw.now c.0) }
@@ -62,7 +62,7 @@ fn magnitude_at(text: &[u8]) -> Option<u64>
     magnitude_of(dollars, behind)
 }
 
-/// The digits at the front, and the bytes behind them.
+/// The digits at the front, and the bytes after them.
 #[tactic(auto, using(crate::proofs::DigitLemmas::front_all, crate::proofs::DigitLemmas::front_take))]
 fn split_digits(text: &[u8]) -> (&[u8], &[u8])
     ensures front { result.0.now ≡ reading.front_digits text.now }
@@ -82,7 +82,7 @@ fn digits_at(text: &[u8]) -> usize
     text.iter().take_while(|b| b.is_ascii_digit()).count()
 }
 
-/// The digits behind a mark, or none where there is no mark.
+/// The digits after a mark, or none where there is no mark.
 #[tactic(auto, unfolding(ofx_types::specs::AmountReading::behind_mark))]
 fn behind_mark(text: &[u8]) -> Option<&[u8]>
     ensures gives { Gives (λ x. x.now) result (reading.behind_mark text.now) }
@@ -96,7 +96,7 @@ fn behind_mark(text: &[u8]) -> Option<&[u8]>
     }
 }
 
-/// The cents of the digits before and behind a mark.
+/// The cents of the digits before and after a mark.
 #[tactic(auto, unfolding(ofx_types::specs::AmountReading::magnitude_of))]
 fn magnitude_of(dollars: &[u8], behind: &[u8]) -> Option<u64>
     requires dollars_short { length dollars.now ≤ AMOUNT_BYTES }
@@ -113,7 +113,7 @@ fn magnitude_of(dollars: &[u8], behind: &[u8]) -> Option<u64>
     Some(total as u64)
 }
 
-/// The cents of the first two digits behind a mark.
+/// The cents of the first two digits after a mark.
 fn cents_behind(digits: &[u8]) -> u8
     requires { IsTrue (list_all is_ascii_digit digits.now) }
     ensures value { result ≡ form.cents_behind digits.now }
@@ -126,7 +126,7 @@ fn cents_behind(digits: &[u8]) -> u8
     }
 }
 
-/// Whether only zeros stand behind the first two digits.
+/// Whether only zeros stand after the first two digits.
 fn is_whole_cents(digits: &[u8]) -> bool
     ensures { result ≡ list_all (λ b. b == 48) (drop 2 digits.now) }
 {

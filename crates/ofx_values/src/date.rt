@@ -18,7 +18,7 @@ use ofx_types::{Day, Moment, trim};
 
 /// The moment that the bytes spell, after trimming (OFX 1.6, "Dates, Times, and Time Zones").
 ///
-/// A date is YYYYMMDD or YYYYMMDDHHMMSS, the second perhaps with a point and three digits, which mean nothing. Behind
+/// A date is YYYYMMDD or YYYYMMDDHHMMSS, the second perhaps with a point and three digits, which mean nothing. After
 /// either a zone in brackets may stand: an offset in hours from -12 to +14, and perhaps a colon and a name. Without a
 /// time it is midnight, and without a zone it is GMT. `ValueFault::Date` where the bytes spell no date, or the written
 /// date or the moment in GMT lies outside the years 1900 to 9999.
@@ -35,7 +35,7 @@ pub fn read_moment(raw: &[u8]) -> Result<Moment, ValueFault>
     }
 }
 
-/// The day that eight digits stand for, and the bytes behind them.
+/// The day that eight digits stand for, and the bytes after them.
 #[tactic(auto, unfolding(ofx_types::specs::DateReading::day_at))]
 fn day_at(text: &[u8]) -> Option<(Day, &[u8])>
     ensures gives { Gives (λ x. (x.0.0, x.1.now)) result (reading.day_at text.now) }
@@ -48,7 +48,7 @@ fn day_at(text: &[u8]) -> Option<(Day, &[u8])>
     Some((number, rest))
 }
 
-/// The year that four digits stand for, and the bytes behind them.
+/// The year that four digits stand for, and the bytes after them.
 #[tactic(auto, unfolding(ofx_types::specs::DateReading::year_at))]
 fn year_at(text: &[u8]) -> Option<(u16, &[u8])>
     ensures gives { Gives (λ x. (x.0, x.1.now)) result (reading.year_at text.now) }
@@ -76,7 +76,7 @@ fn day_number(year: u16, month: u8, day: u8) -> Option<Day>
     }
 }
 
-/// The seconds since midnight that six digits stand for, and the bytes behind them.
+/// The seconds since midnight that six digits stand for, and the bytes after them.
 #[tactic(auto, unfolding(ofx_types::specs::DateReading::clock_at))]
 fn clock_at(text: &[u8]) -> Option<(u32, &[u8])>
     ensures gives { Gives (λ x. (x.0, x.1.now)) result (reading.clock_at text.now) }
@@ -102,7 +102,7 @@ fn clock_seconds(hour: u8, minute: u8, second: u8) -> Option<u32>
     }
 }
 
-/// The bytes behind a point and three digits, or all of them where no point stands.
+/// The bytes after a point and three digits, or all of them where no point stands.
 #[tactic(auto, unfolding(ofx_types::specs::DateReading::behind_fraction))]
 fn behind_fraction(text: &[u8]) -> Option<&[u8]>
     ensures { Gives (λ x. x.now) result (reading.behind_fraction text.now) }
@@ -125,7 +125,7 @@ fn behind_three(text: &[u8]) -> Option<&[u8]>
     }
 }
 
-/// The seconds since midnight of the time of day that stands here, or of midnight, and the bytes behind it.
+/// The seconds since midnight of the time of day that stands here, or of midnight, and the bytes after it.
 #[tactic(auto, unfolding(ofx_types::specs::DateReading::time_at))]
 fn time_at(text: &[u8]) -> Option<(u32, &[u8])>
     ensures gives { Gives (λ x. (x.0, x.1.now)) result (reading.time_at text.now) }

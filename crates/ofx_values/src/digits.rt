@@ -29,7 +29,7 @@ pub(crate) fn number(digits: &[u8]) -> u128
     value
 }
 
-/// The number that two digits stand for, and the bytes behind them.
+/// The number that two digits stand for, and the bytes after them.
 #[tactic(auto, unfolding(ofx_types::specs::ValueReading::pair_at))]
 pub(crate) fn pair_at(text: &[u8]) -> Option<(u8, &[u8])>
     ensures gives { Gives (λ x. (x.0, x.1.now)) result (reading.pair_at text.now) }
@@ -43,7 +43,7 @@ pub(crate) fn pair_at(text: &[u8]) -> Option<(u8, &[u8])>
     }
 }
 
-/// Whether a minus stands here, and the bytes behind the sign, if there is one.
+/// Whether a minus stands here, and the bytes after the sign, if there is one.
 #[tactic(auto, unfolding(ofx_types::specs::ValueReading::sign_at))]
 pub(crate) fn sign_at(text: &[u8]) -> (bool, &[u8])
     ensures negative { result.0 ≡ (reading.sign_at text.now).0 }

@@ -7,7 +7,7 @@ mod date;
 mod day;
 mod digits;
 mod fault;
-mod laws;
+pub mod laws;
 mod number;
 mod print;
 mod zone;
@@ -16,9 +16,5 @@ pub use amount::read_amount;
 pub use date::read_moment;
 pub use day::{day_of, midnight};
 pub use fault::ValueFault;
-pub use laws::{
-    amounts_differ, moments_differ, numbers_differ, one_amount, one_moment, printed_amount,
-    printed_moment,
-};
 pub use number::read_number;
 pub use print::{print_amount, print_moment, print_number};

@@ -1,4 +1,4 @@
-//! Zones as they stand behind a date: an offset in hours, and perhaps a name.
+//! Zones as they stand after a date: an offset in hours, and perhaps a name.
 
 ghost use Rattle.std.specs.Prelude.{◌≡◌, ◌<◌, pos, IfSome};
 ghost use Rattle.jiff_core.specs.Calendar.{IsWithin};
@@ -51,7 +51,7 @@ fn offset_at(text: &[u8]) -> Option<i64>
     offset_seconds(negative, hour, part)
 }
 
-/// Whole hours of one or two digits, and the bytes behind them.
+/// Whole hours of one or two digits, and the bytes after them.
 #[tactic(auto, unfolding(ofx_types::specs::DateReading::hours_at))]
 fn hours_at(text: &[u8]) -> Option<(u8, &[u8])>
     ensures gives { Gives (λ x. (x.0, x.1.now)) result (reading.hours_at text.now) }
@@ -66,7 +66,7 @@ fn hours_at(text: &[u8]) -> Option<(u8, &[u8])>
     }
 }
 
-/// Hundredths of an hour behind a point, or none where no point stands, and the bytes behind them.
+/// Hundredths of an hour after a point, or none where no point stands, and the bytes after them.
 #[tactic(auto, unfolding(ofx_types::specs::DateReading::part_at))]
 fn part_at(text: &[u8]) -> Option<(u8, &[u8])>
     ensures gives { Gives (λ x. (x.0, x.1.now)) result (reading.part_at text.now) }

@@ -14,6 +14,7 @@ use record_files::{
     Binding, Cause, bind_beside, bind_sqlite, find_beside, find_sqlite, make_on_disk, open_on_disk,
 };
 use sqlite_keeper::SqliteKeeper;
+use std::hash::RandomState;
 
 /// Why the records of a run aren't opened.
 #[derive(Drop)]
@@ -94,8 +95,8 @@ fn bind_on_disk(rt: &HostRuntime, path: &str, setup: &SetupFile, lines: &str) ->
 fn opens<K: Keeper>(rt: &HostRuntime, keeper: &mut K, setup: &SetupFile) -> bool
     requires { K.unsettled keeper.old ≡ false }
 {
-    match setup.setup(rt.alloc()) {
-        Ok(setup) => reopen(rt.alloc(), keeper, setup, OfxPrinter).is_ok(),
-        Err(_) => false,
+    match (setup.setup(rt.alloc()), RandomState::new(rt)) {
+        (Ok(setup), Ok(keys)) => reopen(rt.alloc(), keys, keeper, setup, OfxPrinter).is_ok(),
+        _ => false,
     }
 }

@@ -16,6 +16,7 @@ use ofx_types::{Text, Told};
 use record_files::{
     Binding, Cause, ReadRecords, cause_at, compared, find_beside, is_there, read_disk, read_sqlite,
 };
+use std::hash::RandomState;
 use std::io;
 
 /// The end of a check: what is told of it, and why the records can't be opened.
@@ -189,7 +190,10 @@ fn bound_within(rt: &HostRuntime, found: &ReadRecords, file: &SetupFile) -> Resu
 fn counted<K: Keeper>(rt: &HostRuntime, keeper: &mut K, file: &SetupFile) -> Result<Totals, End>
     requires { K.unsettled keeper.old ≡ false }
 {
-    match totals_of(rt.alloc(), keeper, file) {
+    let Ok(keys) = RandomState::new(rt) else {
+        return Err((plain(5), None));
+    };
+    match totals_of(rt.alloc(), keys, keeper, file) {
         Ok(totals) => Ok(totals),
         Err(told) => Err((told, None)),
     }

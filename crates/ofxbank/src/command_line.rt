@@ -22,7 +22,7 @@ pub enum Request {
     Version,
     /// `check`, by its words.
     Check(Vec<Text>),
-    /// Another command, by the words behind the program's name.
+    /// Another command, by the words after the program's name.
     Run(Vec<Text>),
     /// The words have no form.
     Usage(Vec<Text>),
@@ -32,7 +32,7 @@ pub enum Request {
     NoMemory,
 }
 
-/// What the program is asked, by the words behind its name.
+/// What the program is asked, by the words after its name.
 pub fn read_words<R: Env + AllocGlobal>(rt: &R) -> Request {
     let arguments = match env::args(rt) {
         Ok(arguments) => arguments,

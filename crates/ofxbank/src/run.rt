@@ -15,6 +15,7 @@ use ofx_ports::{Keeper, MemKeeper, ReaderSource, SystemClock, WriterSink};
 use ofx_types::{Text, Told};
 use record_files::Cause;
 use sqlite_keeper::SqliteKeeper;
+use std::hash::RandomState;
 use std::io;
 use std::sync::Wait;
 use std::thread::Threads;
@@ -79,10 +80,14 @@ fn over_disk(rt: HostRuntime, words: &[Text], setup: &SetupFile, path: &str) -> 
     }
 }
 
-/// The end of a run over the setup that was read, the standard input and the standard output.
+/// The end of a run over the setup that was read, the standard input and the standard output. The keys of hashes are the
+/// system's random bytes; where it has none to read, the run ends as where a read failed.
 fn run_over<K: Keeper>(rt: HostRuntime, words: &[Text], setup: &SetupFile, keeper: &mut K) -> Told
     requires { K.unsettled keeper.old ≡ false }
 {
+    let Ok(keys) = RandomState::new(&rt) else {
+        return plain(5);
+    };
     let alloc = rt.alloc();
     let Ok(mut setup) = setup.source(alloc) else {
         return plain(7);
@@ -91,6 +96,6 @@ fn run_over<K: Keeper>(rt: HostRuntime, words: &[Text], setup: &SetupFile, keepe
     let mut out = WriterSink::new(io::writer(&rt));
     let mut clock = SystemClock::new(rt);
     answer_told(
-        alloc, words, &mut setup, &mut input, &mut out, keeper, &mut clock,
+        alloc, keys, words, &mut setup, &mut input, &mut out, keeper, &mut clock,
     )
 }

@@ -14,6 +14,7 @@ use ofx_ports::{Keeper, LINK_SECONDS, MemKeeper, OpenGate, SystemClock, TcpDoor,
 use ofx_types::{OutOfMemory, Text, Told};
 use serve_log::{Journal, Level, LoggedDoor, LoggedKeeper};
 use sqlite_keeper::SqliteKeeper;
+use std::hash::RandomState;
 use std::marker::Brand;
 use std::net::TcpListener;
 use std::sync::Wait;
@@ -69,13 +70,16 @@ fn served_over<R: Threads + Wait + Sync, K: Keeper + Send>(
 ) -> Told
     requires { K.unsettled keeper ≡ false }
 {
+    let Ok(keys) = RandomState::new(rt) else {
+        return plain(5);
+    };
     let Ok(mut setup) = setup.source(rt.alloc()) else {
         return plain(7);
     };
     let count = keeper.len();
     let journal = Journal::new(*rt, log_level(rt));
     let logged = LoggedKeeper::over(keeper, journal);
-    match serve_open(rt.alloc(), words, &mut setup, logged, OfxPrinter) {
+    match serve_open(rt.alloc(), keys, words, &mut setup, logged, OfxPrinter) {
         Ok((plan, opened)) => {
             let Ok(room) = Vec::with_capacity(rt.alloc(), plan.workers as usize) else {
                 return plain(7);

@@ -12,6 +12,7 @@ use ofx_ports::{FetchFault, Keeper};
 use ofx_types::{Cents, Moment, OutOfMemory, Told};
 use ofx_values::{print_amount, print_moment};
 use std::alloc::Global;
+use std::hash::RandomState;
 
 /// The first and the last second of the years 1900 to 9999.
 const FIRST: i64 = -2_208_988_800;
@@ -32,11 +33,16 @@ pub struct Totals {
 }
 
 /// The numbers of the bank that opens from the records of this keeper. Where it doesn't, the end of a run over them.
-pub fn totals_of<K: Keeper>(alloc: Global, keeper: &mut K, file: &SetupFile) -> Result<Totals, Told>
+pub fn totals_of<K: Keeper>(
+    alloc: Global,
+    keys: RandomState,
+    keeper: &mut K,
+    file: &SetupFile,
+) -> Result<Totals, Told>
     requires { K.unsettled keeper.old ≡ false }
 {
     match last_moment(alloc, keeper) {
-        Ok(last) => opened(alloc, keeper, file, last),
+        Ok(last) => opened(alloc, keys, keeper, file, last),
         Err(stop) => Err(end_told(Err(stop))),
     }
 }
@@ -44,6 +50,7 @@ pub fn totals_of<K: Keeper>(alloc: Global, keeper: &mut K, file: &SetupFile) -> 
 /// The numbers of the bank that opens, with the greatest moment of its records.
 fn opened<K: Keeper>(
     alloc: Global,
+    keys: RandomState,
     keeper: &mut K,
     file: &SetupFile,
     last: i64,
@@ -52,7 +59,7 @@ fn opened<K: Keeper>(
 {
     let records = keeper.len();
     match file.setup(alloc) {
-        Ok(setup) => match reopen(alloc, keeper, setup, OfxPrinter) {
+        Ok(setup) => match reopen(alloc, keys, keeper, setup, OfxPrinter) {
             Ok((book, accounts)) => Ok(Totals {
                 records,
                 entries: entries_of(&book),

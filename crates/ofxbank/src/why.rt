@@ -1,4 +1,4 @@
-//! What people are told behind the fixed first line of an end: where, why, and what to do.
+//! What people are told after the fixed first line of an end: where, why, and what to do.
 
 use crate::keepers::ON_DISK;
 use crate::paths::{RECORDS, SETUP, named};
@@ -129,7 +129,7 @@ fn tell_record(rt: &HostRuntime, note: Note, words: &[Text]) -> io::Result<()> {
     }
 }
 
-/// Says on the error stream where the setup or the records can be read by others. Behind a run that told nothing an empty line
+/// Says on the error stream where the setup or the records can be read by others. After a run that told nothing an empty line
 /// stands in front, since the first line is that of a run that failed.
 pub fn tell_open_files(rt: &HostRuntime, words: &[Text], is_first: bool) {
     let setup = named(words, SETUP).unwrap_or("");

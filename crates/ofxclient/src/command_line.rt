@@ -15,7 +15,7 @@ pub enum Request {
     Help,
     /// `--version`
     Version,
-    /// A command, by the words behind the program's name.
+    /// A command, by the words after the program's name.
     Run(Vec<Text>),
     /// A word is no text.
     Usage,
@@ -23,7 +23,7 @@ pub enum Request {
     NoMemory,
 }
 
-/// What the program is asked, by the words behind its name. A word that isn't UTF-8 is no text.
+/// What the program is asked, by the words after its name. A word that isn't UTF-8 is no text.
 pub fn read_words<R: Env + AllocGlobal>(rt: &R) -> Request {
     let arguments = match env::args(rt) {
         Ok(arguments) => arguments,

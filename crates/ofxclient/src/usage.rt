@@ -28,7 +28,7 @@ const PARTIES: [(&str, &str); 6] = [
     ("BANK", "the bank's id (BANKID)"),
 ];
 
-/// Each command: its word, and the words behind it and what it does.
+/// Each command: its word, and the words after it and what it does.
 const COMMANDS: [(&str, &str); 9] = [
     (
         "sync",
@@ -59,7 +59,7 @@ const COMMANDS: [(&str, &str); 9] = [
     ("show", "what the store has; the bank isn't asked"),
 ];
 
-/// What stands behind all else.
+/// What stands after all else.
 const BEHIND: &str = "\
 Words:
   NUMBER   an account's number (ACCTID)
@@ -76,7 +76,7 @@ failed, 7 no memory, 8 store failed, 11 HTTP code, 12 bad reply, 13 a reply to
 another file, 14 signon refused, 15 the store has no form, 16 bad reply head,
 17 the reply was cut, 18 no such row";
 
-/// What is printed for `--help`, and behind the line `usage`.
+/// What is printed for `--help`, and after the line `usage`.
 pub fn help_text(alloc: Global) -> Result<String, AllocError> {
     let mut command = Command::new(alloc, "ofxclient")
         .version(VERSION)

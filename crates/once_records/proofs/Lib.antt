@@ -1,1 +1,3 @@
 pub mod OnceLemmas
+mod OrderLemmas
+mod NameLemmas

@@ -5,7 +5,9 @@
 //! taken in can't be refused.
 #![tactic(auto)]
 
+mod name;
 mod records;
+mod replies;
 mod uids;
 
 pub use records::Records;

@@ -1,60 +1,54 @@
-//! The uids that are used up and the replies that are kept, as plain lists.
+//! The uids that are used up and the replies that are kept, found by their hash.
 
 ghost use Rattle.std.specs.Prelude.{◌≡◌, ◌+◌, ◌<◌, ◌≤◌, ◌∷◌, ◌++◌, [], false, None, is_some, OnOk};
 ghost use Rattle.std.specs.Option.{option_copied};
-ghost use Rattle.bank_model.specs.Once.{is_pair, is_used, is_named, reply_kept, released};
+ghost use Rattle.bank_model.specs.Once.{is_used, reply_kept, released};
 ghost use Rattle.once_records.specs.RecordsView.{UsedOnce, KeptOnce};
 
-use bank_model::{KeptReply, UsedPair};
-use ofx_types::{FileUid, OutOfMemory, Sequence, TrnUid, UserId};
+use crate::name::Name;
+use crate::replies::Replies;
+use indexmap::IndexSet;
+use ofx_types::{FileUid, OutOfMemory, TrnUid, UserId};
 use std::alloc::Global;
+use std::hash::RandomState;
 use std::marker::Model;
 
 /// The uids that users have used up, and the replies that are kept for users' files. Each stands here once.
-#[derive(Debug, Drop)]
+///
+/// Clients choose the names, so their hashes have keys that no client knows.
+#[derive(Drop)]
 pub struct Records {
-    used: Vec<UsedPair>,
-    kept: Vec<KeptReply>,
+    used: IndexSet<Name, RandomState>,
+    kept: Replies,
 }
 
 impl Model for Records {
-    ghost use Rattle.std.specs.Prelude.{◌-◌, vec_len, vec_capacity};
-    ghost use Rattle.once_records.specs.RecordsView.{RecordsView, UsedOnce, KeptOnce};
+    ghost use Rattle.std.specs.Prelude.{map};
+    ghost use Rattle.std.specs.HashSet.{spare};
+    ghost use Rattle.once_records.specs.RecordsView.{RecordsView, UsedOnce};
+    ghost use Rattle.once_records.specs.Names.{pair_named};
 
     ghost Value = { RecordsView };
 
     ghost view = { λ r. record {
-      used = r.used.items;
-      kept = r.kept.items;
-      pairs = vec_capacity r.used - vec_len r.used;
-      files = vec_capacity r.kept - vec_len r.kept;
+      used = map pair_named r.used.keys;
+      kept = r.kept.kept;
+      pairs = spare r.used;
+      files = r.kept.room;
     } };
 
-    ghost invariant = { λ r. UsedOnce r.used.items × KeptOnce r.kept.items };
-}
-
-/// Whether it is that user's pair with that uid.
-fn has_uid(pair: &UsedPair, user: UserId, trnuid: &TrnUid) -> bool
-    ensures { result ≡ is_pair user trnuid.now pair.now }
-{
-    pair.user.0 == user.0 && pair.trnuid.as_bytes() == trnuid.as_bytes()
-}
-
-/// Whether it is the reply to that user's file.
-fn has_file(reply: &KeptReply, user: UserId, file: &FileUid) -> bool
-    ensures { result ≡ is_named user file.now reply.now }
-{
-    reply.user.0 == user.0 && reply.file.as_bytes() == file.as_bytes()
+    ghost invariant = { λ r. UsedOnce (map pair_named r.used.keys) };
 }
 
 impl Records {
     /// Nothing is used up and nothing is kept, and there is no room. Takes no memory.
-    pub fn new(alloc: Global) -> Records
-        ensures { result ≡ record { used = []; kept = []; pairs = 0; files = 0 } }
+    pub fn new(alloc: Global, keys: RandomState) -> Records
+        ensures used { result.used ≡ [] }
+        ensures kept { result.kept ≡ [] }
     {
         Records {
-            used: Vec::new(alloc),
-            kept: Vec::new(alloc),
+            used: IndexSet::with_hasher(alloc, keys),
+            kept: Replies::new(alloc, keys),
         }
     }
 
@@ -64,23 +58,22 @@ impl Records {
         ensures kept { KeptOnce self.now.kept }
     {
         let _used = &self.used;
+        self.kept.known();
     }
 
     /// Whether the user has used up the uid. Takes no memory.
     pub fn used(&self, user: UserId, trnuid: &TrnUid) -> bool
         ensures { result ≡ is_used user trnuid.now self.now.used }
     {
-        self.used.iter().any(|pair| has_uid(pair, user, trnuid))
+        let name = Name::new(user, trnuid.as_bytes());
+        self.used.contains(&name)
     }
 
     /// The reply that is kept for the user's file, lent. Takes no memory.
     pub fn kept(&self, user: UserId, file: &FileUid) -> Option<&[u8]>
         ensures { option_copied result ≡ reply_kept user file.now self.now.kept }
     {
-        self.kept
-            .iter()
-            .find(|reply| has_file(reply, user, file))
-            .map(|reply| reply.reply.items())
+        self.kept.get(user, file)
     }
 
     /// Makes room for so many more uids and so many more replies.
@@ -95,8 +88,7 @@ impl Records {
         ensures files_stay { self.old.files ≤ self.new.files }
     {
         self.used.reserve(pairs as usize)?;
-        self.kept.reserve(files as usize)?;
-        Ok(())
+        self.kept.reserve(files)
     }
 
     /// Uses up a uid that the user hasn't used. There is room for it, and it takes no memory.
@@ -105,10 +97,12 @@ impl Records {
         requires unused { is_used user trnuid self.old.used ≡ false }
         ensures used { self.new.used ≡ self.old.used ++ record { user = user; trnuid = trnuid } ∷ [] }
         ensures kept { self.new.kept ≡ self.old.kept }
-        ensures pairs { self.new.pairs + 1 ≡ self.old.pairs }
+        ensures pairs { self.old.pairs ≤ self.new.pairs + 1 }
         ensures files { self.new.files ≡ self.old.files }
     {
-        self.used.push_reserved(UsedPair { user, trnuid });
+        let name = Name::new(user, trnuid.as_bytes());
+        let used: Result<_, _> = self.used.insert(name);
+        let _new = used.unwrap();
     }
 
     /// Keeps the reply to a user's file that has none. There is room for it, and it takes no memory.
@@ -119,13 +113,9 @@ impl Records {
         ensures kept { self.new.kept
             ≡ self.old.kept ++ record { user = user; file = file; reply = reply.items } ∷ [] }
         ensures pairs { self.new.pairs ≡ self.old.pairs }
-        ensures files { self.new.files + 1 ≡ self.old.files }
+        ensures files { self.old.files ≤ self.new.files + 1 }
     {
-        self.kept.push_reserved(KeptReply {
-            user,
-            file,
-            reply: Sequence::from_vec(reply),
-        });
+        self.kept.keep(user, file, reply);
     }
 
     /// Lets go the reply to the user's file, and answers whether there was one. The room stays, and may grow.
@@ -136,8 +126,6 @@ impl Records {
         ensures pairs { self.new.pairs ≡ self.old.pairs }
         ensures files { self.old.files ≤ self.new.files }
     {
-        let there = self.kept(user, file).is_some();
-        self.kept.retain(|reply| !has_file(reply, user, file));
-        there
+        self.kept.release(user, file)
     }
 }

@@ -190,7 +190,7 @@ fn choosy(rt: &HostRuntime, name: &str, path: &str) -> Result<(), Fail> {
 
 const TABLE: &str = "CREATE TABLE records (number INTEGER PRIMARY KEY, bytes BLOB NOT NULL) STRICT";
 
-// A keeper over such a file, with one record and behind an append that failed.
+// A keeper over such a file, with one record and after an append that failed.
 fn stopped(rt: &HostRuntime, abort: &impl Abort, path: &str) -> Result<SqliteKeeper, Fail> {
     let mut keeper = opened(rt, path, 0)?;
     keep(abort, &mut keeper, b"one");
@@ -210,7 +210,7 @@ fn settling_finds_no_record_of_a_refused_append(rt: HostRuntime) -> Result<(), F
     Ok(())
 }
 
-// The file that stands there then has the record, as after an append that failed behind its writing.
+// The file that stands there then has the record, as after an append that failed after its writing.
 #[test]
 fn settling_finds_the_record_that_landed(rt: HostRuntime) -> Result<(), Fail> {
     choosy(&rt, "landed", "landed/records")?;

@@ -38,7 +38,7 @@ fn a_peer_that_cannot_be_reached_fails_at_each_call(rt: HostRuntime) -> Result<(
     Ok(())
 }
 
-// Were the link closed while bytes are unread, its peer would meet a reset behind the reply.
+// Were the link closed while bytes are unread, its peer would meet a reset after the reply.
 #[test]
 fn a_peer_whose_bytes_were_not_read_gets_the_reply_and_the_end(
     rt: HostRuntime,

@@ -1,13 +1,14 @@
 -- A number within its bounds that is read is the number that was written.
-use Rattle.std.proofs.Common.{◌≡◌, ℕ, ◌^◌, ◌<◌, ◌≤◌, Bool, true, false, leb, ◌&&◌, ℤ, pos, negsuc, List, Ok, refl, subst, arith}
-use Rattle.std.specs.Prelude.{FitsSigned, unsigned_abs, int_le, ◌≤ℤ◌}
+use Rattle.std.proofs.Common.{◌≡◌, ℕ, ◌^◌, ◌<◌, ◌≤◌, true, leb, ◌&&◌, ℤ, pos, negsuc, List, Ok, refl, subst, arith}
+use Rattle.std.specs.Prelude.{FitsSigned, unsigned_abs, int_le}
 use Rattle.std.specs.Int.{w16, w32, w64}
-use Rattle.std.proofs.lemmas.Bool.{leb-true, le-leb}
+use Rattle.std.proofs.lemmas.Bool.{leb-true, le-leb, and_parts}
 use Rattle.std.proofs.lemmas.Int.{ints}
 use Rattle.ofx_types.specs.Calendar.{IsMoment, IsDay}
 use Rattle.ofx_types.specs.declared.number.Moment.{Moment}
 use Rattle.ofx_types.specs.declared.number.Day.{Day}
 use Rattle.ofx_types.specs.declared.number.Cents.{Cents}
+use Rattle.ofx_types.proofs.Numbers.{le_from, le_holds}
 use Rattle.bank_model.specs.Sound.{IsId}
 use Rattle.record_fields.specs.FieldCoding.{u16_bytes, u32_bytes, u64_bytes, i32_bytes, i64_bytes, moment_bytes, day_bytes}
 use Rattle.record_fields.specs.FieldReading.{u16_at, u32_at, u64_at, i32_at, i64_at, id_at, amount_at, moment_at, day_at, count_at, is_moment, is_day}
@@ -30,11 +31,6 @@ i32_field = signed_field w32 (2 ^ 32) wide32
 pub i64_field : IsField i64_at i64_bytes (FitsSigned w64)
 i64_field = signed_field w64 (2 ^ 64) wide64
 
--- both of two tests
-pub both : (a b : Bool) → (a && b) ≡ true → (a ≡ true) × (b ≡ true)
-both true b h = (refl, h)
-both false b h = absurd cc
-
 pub id_field : IsField id_at u64_bytes IsId
 unfolding id_at
 id_field = record {
@@ -54,7 +50,7 @@ count_field = record {
   stands = λ rec at found bytes le e.
       let s = step u16_field rec at _ found bytes le e in
       let g = pass_ok (leb 1 s.value && leb s.value 999) at (Ok (s.value, s.next)) found s.rest in
-      let b = both (leb 1 s.value) (leb s.value 999) g.0 in
+      let b = and_parts (leb 1 s.value) (leb s.value 999) g.0 in
       let low : 1 ≤ s.value = leb-true _ _ b.0 in
       let high : s.value ≤ 999 = leb-true _ _ b.1 in
       subst (λ (f : ℕ × ℕ). StandsAt rec at (u16_bytes f.0) f.1 × ((0 < f.0) × (f.0 ≤ 999))) (ok_is (s.value, s.next) found g.1) (s.stands, (omega arith, high));
@@ -88,13 +84,6 @@ amount_field = record {
       rw (i64_field.again rec at cents.0 next le p (amount_fits cents.0 fits), small) refl;
 }
 
--- tests of signed numbers
-int_le-true : (a b : ℤ) → int_le a b ≡ true → a ≤ℤ b
-int_le-true a b h = grind (arith, ints)
-
-le-int_le : (a b : ℤ) → a ≤ℤ b → int_le a b ≡ true
-le-int_le a b h = grind (arith, ints)
-
 moment_fits : (z : ℤ) → IsMoment z → FitsSigned w64 z
 moment_fits (pos n) h = record { sfits = omega (arith, ints, h.0, h.1) }
 moment_fits (negsuc n) h = record { sfits = omega (arith, ints, h.0, h.1) }
@@ -104,16 +93,16 @@ day_fits (pos n) h = record { sfits = omega (arith, ints, h.0, h.1) }
 day_fits (negsuc n) h = record { sfits = omega (arith, ints, h.0, h.1) }
 
 pub moment_is : (z : ℤ) → is_moment z ≡ true → IsMoment z
-moment_is z h = let b = both (int_le (negsuc 2208988799) z) (int_le z (pos 253402300799)) h in (int_le-true _ _ b.0, int_le-true _ _ b.1)
+moment_is z h = let b = and_parts (int_le (negsuc 2208988799) z) (int_le z (pos 253402300799)) h in (le_holds _ _ b.0, le_holds _ _ b.1)
 
 pub is_moment-true : (z : ℤ) → IsMoment z → is_moment z ≡ true
-is_moment-true z h = rw (le-int_le (negsuc 2208988799) z h.0, le-int_le z (pos 253402300799) h.1) refl
+is_moment-true z h = rw (le_from (negsuc 2208988799) z h.0, le_from z (pos 253402300799) h.1) refl
 
 day_is : (z : ℤ) → is_day z ≡ true → IsDay z
-day_is z h = let b = both (int_le (negsuc 25566) z) (int_le z (pos 2932896)) h in (int_le-true _ _ b.0, int_le-true _ _ b.1)
+day_is z h = let b = and_parts (int_le (negsuc 25566) z) (int_le z (pos 2932896)) h in (le_holds _ _ b.0, le_holds _ _ b.1)
 
 is_day-true : (z : ℤ) → IsDay z → is_day z ≡ true
-is_day-true z h = rw (le-int_le (negsuc 25566) z h.0, le-int_le z (pos 2932896) h.1) refl
+is_day-true z h = rw (le_from (negsuc 25566) z h.0, le_from z (pos 2932896) h.1) refl
 
 pub moment_field : IsField moment_at moment_bytes (λ (at : Moment). IsMoment at.0)
 unfolding moment_at

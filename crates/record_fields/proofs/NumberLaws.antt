@@ -7,10 +7,11 @@ use Rattle.std.proofs.Math.Facts.{sfits_to_z, Fits-of_z, of_z-to_z, to_z-of_z}
 use Rattle.std.proofs.lemmas.Bool.{cases_lt, ltb-false, ltb-true, lt-ltb, le-ltb, eqb-true}
 use Rattle.std.proofs.lemmas.List.{take_at, take-append-drop, drop-drop, length-append, length-drop, length-take, get_or-drop, get_or-take, get_or_past}
 use Rattle.std.proofs.lemmas.Nat.{be_bytes_2, be_bytes_4, be_bytes_8, from_be_bytes-to_be_bytes_2, from_be_bytes-to_be_bytes_4, from_be_bytes-to_be_bytes_8}
+use Rattle.ofx_types.proofs.Bytes.{went}
 use Rattle.record_fields.specs.FieldReading.{◌>>=◌, u8_at, bytes_at, number_at, signed_at, flag_at, choice_at, chosen, optional_at}
 use Rattle.record_fields.specs.FieldCoding.{u8_bytes, flag_bytes, optional_bytes}
 use Rattle.record_fields.specs.Fields.{IsBytes, StandsAt, IsField}
-use Rattle.record_fields.proofs.Steps.{bind_ok, guard_ok, pass_ok, went, chosen_ok, ok_is, stands_then, apart, step, IsBytes-drop}
+use Rattle.record_fields.proofs.Steps.{bind_ok, guard_ok, pass_ok, chosen_ok, ok_is, stands_then, apart, step, IsBytes-drop}
 
 IsBytes-take : (n : ℕ) (bytes : List ℕ) → IsBytes bytes → IsBytes (take n bytes)
 IsBytes-take n bytes h i =

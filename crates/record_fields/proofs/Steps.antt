@@ -1,5 +1,5 @@
--- Steps of reading, and of fields that stand one behind the other.
-use Rattle.std.proofs.Common.{◌≡◌, ℕ, ◌+◌, ◌-◌, ◌≤◌, Bool, true, false, cond, List, ◌++◌, length, drop, Option, None, Some, Result, Ok, Err, refl, sym, ap, ◌∙◌, append_assoc, arith, inl, inr, ◌⊎◌}
+-- Steps of reading, and of fields that stand one after the other.
+use Rattle.std.proofs.Common.{◌≡◌, ℕ, ◌+◌, ◌-◌, ◌≤◌, Bool, true, false, cond, List, ◌++◌, length, drop, Option, None, Some, Result, Ok, Err, refl, sym, ap, ◌∙◌, append_assoc, arith}
 use Rattle.std.proofs.lemmas.List.{drop_at, drop-drop, length-append, length-drop, get_or-drop}
 use Rattle.record_fields.specs.FieldReading.{◌>>=◌, chosen}
 use Rattle.record_fields.specs.Fields.{IsBytes, StandsAt, IsField}
@@ -19,11 +19,6 @@ pub pass_ok : {A : Type 0} (b : Bool) (place : ℕ) (r : Result A ℕ) (y : A) �
 pass_ok true place r y e = (refl, e)
 pass_ok false place r y e = absurd cc
 
--- which way a test went
-pub went : {A : Type 0} (b : Bool) (x y z : A) → cond b x y ≡ z → ((b ≡ true) × (x ≡ z)) ⊎ ((b ≡ false) × (y ≡ z))
-went true x y z e = inl (refl, e)
-went false x y z e = inr (refl, e)
-
 -- by which way a test went
 pub fork : {A P : Type 0} (b : Bool) {x y z : A} → cond b x y ≡ z → (b ≡ true → x ≡ z → P) → (b ≡ false → y ≡ z → P) → P
 fork {A} {P} true {x} {y} {z} e passed failed = passed refl e
@@ -40,7 +35,7 @@ done x = Ok x
 pub ok_is : {A : Type 0} (x y : A) → done x ≡ done y → x ≡ y
 ok_is x y e = cc
 
--- fields one behind the other
+-- fields one after the other
 pub stands_then : (rec : List ℕ) (a : ℕ) (x : List ℕ) (b : ℕ) (y : List ℕ) (c : ℕ) → StandsAt rec a x b → StandsAt rec b y c → StandsAt rec a (x ++ y) c
 stands_then rec a x b y c p q = record { parts = p.parts ∙ ap (λ (t : List ℕ). x ++ t) q.parts ∙ sym (append_assoc x y (drop c rec)); within = q.within }
 

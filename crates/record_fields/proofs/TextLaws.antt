@@ -1,93 +1,69 @@
 -- A text or a uid that is read is the one that was written.
-use Rattle.std.proofs.Common.{◌≡◌, ◌≢◌, ℕ, ◌^◌, ◌<◌, ◌≤◌, Bool, true, false, cond, nat_eq, List, [], ◌∷◌, length, position, codes, Option, None, Some, is_none, Ok, Err, refl, sym, ap, subst, ◌∙◌, arith, inl, inr}
+use Rattle.std.proofs.Common.{◌≡◌, ◌≢◌, ℕ, ◌^◌, ◌<◌, ◌≤◌, true, cond, nat_eq, List, [], ◌∷◌, length, codes, Option, None, Some, is_none, Ok, Err, refl, sym, ap, subst, ◌∙◌, arith, inl, inr}
 use Rattle.std.specs.Prelude.{IfSome}
 use Rattle.std.specs.Str.{bytes_eq}
-use Rattle.std.proofs.lemmas.Bool.Decides.{nat_tests}
 use Rattle.std.proofs.lemmas.List.{nil_from_length}
-use Rattle.std.proofs.lemmas.Bool.{eqb-true, le-ltb}
+use Rattle.std.proofs.lemmas.Bool.{eqb-true, and_parts}
 use Rattle.ofx_types.specs.TextRules.{trimmed, is_refused_in_text, is_refused_in_uid, IsText, IsTrnUid, IsFileUid}
 use Rattle.ofx_types.specs.TextOutcome.{text_fault, trnuid_fault, file_uid_fault}
 use Rattle.ofx_types.specs.declared.text.TextFault.TheVariants.{Empty}
-use Rattle.ofx_types.proofs.Trimming.{faultless, guard_none}
+use Rattle.ofx_types.proofs.Trimming.{faultless, guard_none, no_text_fault, not_empty}
+use Rattle.ofx_types.proofs.Bytes.{bytes_eq_is, bytes_eq_self, bytes_eq_other, not_zero, none_is, went}
 use Rattle.bank_model.specs.Sound.{IsTextWithin, IsClientUid}
-use Rattle.bank_model.proofs.SetupWords.{bytes_eq_is, bytes_eq_self}
 use Rattle.record_fields.specs.FieldCoding.{u16_bytes, text_bytes, uid_bytes, file_uid_bytes}
 use Rattle.record_fields.specs.FieldReading.{◌>>=◌, bytes_at, is_text, text_at, filled_text_at, is_trnuid, trnuid_at, given_uid_at, is_file_uid, file_uid_at}
 use Rattle.record_fields.specs.Fields.{StandsAt, IsField}
-use Rattle.record_fields.proofs.Steps.{bind_ok, guard_ok, pass_ok, went, ok_is, stands_then, apart, step}
+use Rattle.record_fields.proofs.Steps.{bind_ok, guard_ok, pass_ok, ok_is, stands_then, apart, step}
 use Rattle.record_fields.proofs.NumberLaws.{u8_field, bytes_stand, bytes_again}
-use Rattle.record_fields.proofs.BoundedLaws.{u16_field, both}
+use Rattle.record_fields.proofs.BoundedLaws.{u16_field}
 
 -- ---- which bytes are texts and uids as they stand
 
-none_is : {A : Type 0} (o : Option A) → is_none o ≡ true → o ≡ None
-none_is None h = refl
-none_is (Some x) h = absurd cc
-
 text_is : (most : ℕ) (text : List ℕ) → most < 2 ^ 32 → is_text most text ≡ true → (length text ≤ most) × IsText text
 text_is most text small h =
-    let b = both (bytes_eq (trimmed text) text) (is_none (text_fault is_refused_in_text most text)) h in
+    let b = and_parts (bytes_eq (trimmed text) text) (is_none (text_fault is_refused_in_text most text)) h in
     let clean = faultless is_refused_in_text most text (none_is _ b.1) in
     (clean.0, record { is_trimmed = bytes_eq_is _ _ b.0; is_clean = clean.1; is_short = omega (arith, clean.0) })
-
-no_text_fault : (is_refused : ℕ → Bool) (most : ℕ) (text : List ℕ) → length text ≤ most → position is_refused text ≡ None → text_fault is_refused most text ≡ None
-no_text_fault is_refused most text short clean = rw (le-ltb _ _ short, clean) refl
 
 is_text-true : (most : ℕ) (text : List ℕ) → length text ≤ most → IsText text → is_text most text ≡ true
 is_text-true most text short fits =
     let same : bytes_eq (trimmed text) text ≡ true = ap (λ (t : List ℕ). bytes_eq t text) fits.is_trimmed ∙ bytes_eq_self text in
     rw (same, no_text_fault is_refused_in_text most text short fits.is_clean) refl
 
-filled : (text : List ℕ) → nat_eq (length text) 0 ≡ false → 0 < length text
-filled [] h = absurd cc
-filled (b ∷ text) h = omega arith
-
-not_empty : (text : List ℕ) → 0 < length text → nat_eq (length text) 0 ≡ false
-not_empty [] h = absurd (omega arith)
-not_empty (b ∷ text) h = grind (arith, nat_tests)
-
 trnuid_is : (uid : List ℕ) → is_trnuid uid ≡ true → IsTrnUid uid
 trnuid_is uid h =
-    let b = both (bytes_eq (trimmed uid) uid) (is_none (trnuid_fault uid)) h in
+    let b = and_parts (bytes_eq (trimmed uid) uid) (is_none (trnuid_fault uid)) h in
     let there = guard_none (nat_eq (length uid) 0) Empty (text_fault is_refused_in_text 36 uid) (sym (none_is _ b.1)) in
     let clean = faultless is_refused_in_text 36 uid there.1 in
     record {
       is_text = record { is_trimmed = bytes_eq_is _ _ b.0; is_clean = clean.1; is_short = omega (arith, clean.0) };
-      is_there = filled uid there.0;
+      is_there = not_empty uid there.0;
       is_within = clean.0;
     }
 
 is_trnuid-true : (uid : List ℕ) → IsTrnUid uid → is_trnuid uid ≡ true
 is_trnuid-true uid fits =
     let same : bytes_eq (trimmed uid) uid ≡ true = ap (λ (t : List ℕ). bytes_eq t uid) fits.is_text.is_trimmed ∙ bytes_eq_self uid in
-    rw (same, not_empty uid fits.is_there, no_text_fault is_refused_in_text 36 uid fits.is_within fits.is_text.is_clean) refl
+    rw (same, not_zero (length uid) fits.is_there, no_text_fault is_refused_in_text 36 uid fits.is_within fits.is_text.is_clean) refl
 
 file_uid_is : (uid : List ℕ) → is_file_uid uid ≡ true → IsFileUid uid
 file_uid_is uid h =
-    let b = both (bytes_eq (trimmed uid) uid) (is_none (file_uid_fault uid)) h in
+    let b = and_parts (bytes_eq (trimmed uid) uid) (is_none (file_uid_fault uid)) h in
     let there = guard_none (nat_eq (length uid) 0) Empty (cond (bytes_eq uid (codes "NONE")) (Some Empty) (text_fault is_refused_in_uid 36 uid)) (sym (none_is _ b.1)) in
     let named = guard_none (bytes_eq uid (codes "NONE")) Empty (text_fault is_refused_in_uid 36 uid) (sym there.1) in
     let clean = faultless is_refused_in_uid 36 uid named.1 in
     record {
       is_trimmed = bytes_eq_is _ _ b.0;
       is_clean = clean.1;
-      is_there = filled uid there.0;
+      is_there = not_empty uid there.0;
       is_within = clean.0;
       is_some = λ same. let word : bytes_eq uid (codes "NONE") ≡ true = ap (λ (t : List ℕ). bytes_eq t (codes "NONE")) same in cc;
     }
 
--- bytes that aren't a word
-other : (a b : List ℕ) → (a ≢ b) → bytes_eq a b ≡ false
-other a b differ = by_cases (bytes_eq a b) refl
-  where
-    by_cases : (c : Bool) → bytes_eq a b ≡ c → c ≡ false
-    by_cases true h = absurd (differ (bytes_eq_is a b h))
-    by_cases false h = refl
-
 is_file_uid-true : (uid : List ℕ) → IsFileUid uid → is_file_uid uid ≡ true
 is_file_uid-true uid fits =
     let same : bytes_eq (trimmed uid) uid ≡ true = ap (λ (t : List ℕ). bytes_eq t uid) fits.is_trimmed ∙ bytes_eq_self uid in
-    rw (same, not_empty uid fits.is_there, other uid (codes "NONE") fits.is_some, no_text_fault is_refused_in_uid 36 uid fits.is_within fits.is_clean) refl
+    rw (same, not_zero (length uid) fits.is_there, bytes_eq_other uid (codes "NONE") fits.is_some, no_text_fault is_refused_in_uid 36 uid fits.is_within fits.is_clean) refl
 
 -- ---- texts
 
@@ -114,9 +90,9 @@ filled_field most small = record {
       let s = step (text_field most small) rec at (λ text. cond (nat_eq (length text.0) 0) (Err at) (Ok text)) found bytes le e in
       let g = guard_ok (nat_eq (length s.value) 0) at (Ok (s.value, s.next)) found s.rest in
       subst (λ (f : List ℕ × ℕ). StandsAt rec at (text_bytes f.0) f.1 × IsTextWithin most f.0) (ok_is (s.value, s.next) found g.1)
-      (s.stands, record { is_text = s.fits.1; is_there = filled s.value g.0; is_within = s.fits.0 });
+      (s.stands, record { is_text = s.fits.1; is_there = not_empty s.value g.0; is_within = s.fits.0 });
   again = λ rec at text next le p fits.
-      rw ((text_field most small).again rec at text next le p (fits.is_within, fits.is_text), not_empty text fits.is_there) refl;
+      rw ((text_field most small).again rec at text next le p (fits.is_within, fits.is_text), not_zero (length text) fits.is_there) refl;
 }
 
 -- ---- uids
@@ -147,7 +123,7 @@ given_uid_field = record {
       subst (λ (f : List ℕ × ℕ). StandsAt rec at (uid_bytes f.0) f.1 × IsClientUid f.0) (ok_is (s.value, s.next) found g.1)
       (s.stands, (differ, s.fits));
   again = λ rec at uid next le p fits.
-      rw (trnuid_field.again rec at uid next le p fits.1, other uid (codes "0") fits.0) refl;
+      rw (trnuid_field.again rec at uid next le p fits.1, bytes_eq_other uid (codes "0") fits.0) refl;
 }
 
 file_uid_went : (rec : List ℕ) (at size next : ℕ) (uid : List ℕ × ℕ) (found : Option (List ℕ) × ℕ) → StandsAt rec at (size ∷ []) next → StandsAt rec next uid.0 uid.1 → length uid.0 ≡ size
@@ -182,7 +158,7 @@ file_uid_again rec at None next le p fits =
     rw (u8_field.again rec at 0 next le p (omega arith), bytes_again 0 rec at next [] next p.within (nothing_stands rec next p.within) refl) refl
 file_uid_again rec at (Some uid) next le p fits =
     let a = apart rec at (length uid ∷ []) uid next le p in
-    rw (u8_field.again rec at (length uid) a.mid le a.first (omega (arith, fits.is_within)), bytes_again (length uid) rec at a.mid uid next a.first.within a.second refl, is_file_uid-true uid fits, not_empty uid fits.is_there) refl
+    rw (u8_field.again rec at (length uid) a.mid le a.first (omega (arith, fits.is_within)), bytes_again (length uid) rec at a.mid uid next a.first.within a.second refl, is_file_uid-true uid fits, not_zero (length uid) fits.is_there) refl
 
 pub file_uid_field : IsField file_uid_at file_uid_bytes (λ uid. IfSome uid IsFileUid)
 unfolding file_uid_at

@@ -1,4 +1,4 @@
--- Reading a record from left to right: the value that stands at a place and the place behind it, or the place of the first
+-- Reading a record from left to right: the value that stands at a place and the place after it, or the place of the first
 -- field that has no form. A field is a number, a flag, a text or a uid with its length, or the byte that leads a choice.
 use Rattle.std.specs.Prelude.{ℕ, ◌+◌, ℤ, pos, negsuc, unsigned_abs, int_le, nat_lt, nat_le, ◌==◌, ◌&&◌, Bool, true, false, if◌then◌else◌, List, length, slice_get, slice_index, slice_range, codes, Option, None, Some, is_none, Result, Ok, Err}
 use Rattle.std.specs.Str.{bytes_eq}

@@ -2,7 +2,7 @@
 //! its readers and writers.
 //!
 //! Each field has a writer, which appends its coding, and a reader, which gives the value that stands at a place and the
-//! place behind it, or the place of the first field without a form. Where memory is refused, a writer may have appended a
+//! place after it, or the place of the first field without a form. Where memory is refused, a writer may have appended a
 //! part of the coding, and what stood before it is kept. The laws tell that reading finds just what the coding says.
 #![tactic(auto)]
 

@@ -10,7 +10,7 @@ ghost use Rattle.record_fields.specs.FieldReading.{bytes_at, u8_at, u16_at, u32_
 use crate::fault::RecordFault;
 use ofx_types::OutOfMemory;
 
-/// This many bytes from `start` on and the index behind them, in a field that begins at `at`.
+/// This many bytes from `start` on and the index after them, in a field that begins at `at`.
 #[tactic(auto, unfolding(crate::specs::FieldReading::bytes_at))]
 pub fn get_bytes(
     rec: &[u8],

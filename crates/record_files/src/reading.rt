@@ -38,7 +38,7 @@ impl ReadRecords {
         self.records.len() as u64
     }
 
-    /// Puts one more behind the others.
+    /// Puts one more after the others.
     pub fn put(&mut self, bytes: Vec<u8>) -> Result<(), AllocError> {
         self.records.push(bytes)?;
         Ok(())

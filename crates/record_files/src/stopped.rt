@@ -52,7 +52,7 @@ fn first_gap(rt: &HostRuntime, path: &str) -> Result<Option<u64>, Error> {
     Ok(None)
 }
 
-/// Whether a file can be made and written beside that of a path. It is gone again behind the call.
+/// Whether a file can be made and written beside that of a path. It is gone again after the call.
 fn room_beside(rt: &HostRuntime, path: &str) -> io::Result<()> {
     let trial = format!(in rt.alloc(); "{path}.room")?;
     let mut options = OpenOptions::new();

@@ -6,6 +6,7 @@ ghost use Rattle.bank_model.specs.SetupForm.{IsWithinLimits};
 use bank_core::Book;
 use bank_model::{Event, Printer, Setup};
 use bank_replay::{OpenFault, reopen};
+use bank_samples::keys::keys;
 use bank_samples::sample::{SETUP, request_with};
 use bank_samples::transfer::TRANSFER;
 use ofx_file::read_request;
@@ -44,7 +45,7 @@ fn setup(alloc: Global) -> Result<Setup, Fail>
 fn an_empty_keeper_opens_the_bank(rt: HostRuntime) -> Result<(), Fail> {
     let alloc = rt.alloc();
     let mut keeper = MemKeeper::new(alloc);
-    let (book, accounts) = reopen(alloc, &mut keeper, setup(alloc)?, NoPrinter)?;
+    let (book, accounts) = reopen(alloc, keys()?, &mut keeper, setup(alloc)?, NoPrinter)?;
     assert_eq!(rt; book.next_number(), Some(1));
     assert_eq!(rt; accounts.len(), 2);
     assert_eq!(rt; accounts[1].number().0, 1);
@@ -58,7 +59,7 @@ fn what_was_kept_has_happened(rt: HostRuntime) -> Result<(), Fail> {
     let mut keeper = MemKeeper::new(alloc);
     keeper.append(LETTER)?;
     keeper.append(LETTER)?;
-    let (book, accounts) = reopen(alloc, &mut keeper, setup(alloc)?, NoPrinter)?;
+    let (book, accounts) = reopen(alloc, keys()?, &mut keeper, setup(alloc)?, NoPrinter)?;
     assert_eq!(rt; book.next_number(), Some(3));
     assert_eq!(rt; accounts.len(), 2);
     Ok(())
@@ -69,11 +70,11 @@ fn fault_behind_a_letter(alloc: Global, rec: &[u8]) -> Result<Option<OpenFault>,
     let mut keeper = MemKeeper::new(alloc);
     keeper.append(LETTER)?;
     keeper.append(rec)?;
-    Ok(reopen(alloc, &mut keeper, setup(alloc)?, NoPrinter).err())
+    Ok(reopen(alloc, keys()?, &mut keeper, setup(alloc)?, NoPrinter).err())
 }
 
 /// Second records: of an unknown version, of an unknown kind, cut in a number, and of a transfer that doesn't wait.
-const STRANGE: [(&[u8], OpenFault); 4] = [
+const STRANGE: &[(&[u8], OpenFault)] = &[
     (b"\x02", OpenFault::Record(2, 0)),
     (b"\x01\x05", OpenFault::Record(2, 1)),
     (
@@ -85,7 +86,8 @@ const STRANGE: [(&[u8], OpenFault); 4] = [
 
 #[test]
 fn the_record_that_stops_a_bank_is_told(rt: HostRuntime) -> Result<(), Fail> {
-    for (rec, fault) in STRANGE {
+    for case in STRANGE.iter() {
+        let (rec, fault) = *case;
         assert_eq!(rt; fault_behind_a_letter(rt.alloc(), rec)?, Some(fault));
     }
     Ok(())
@@ -97,15 +99,15 @@ fn a_second_record_that_cannot_be_fetched_is_read(rt: HostRuntime) -> Result<(),
     let mut keeper = MemKeeper::failing(alloc, &[4], &[])?;
     keeper.append(LETTER)?;
     keeper.append(LETTER)?;
-    let fault = reopen(alloc, &mut keeper, setup(alloc)?, NoPrinter).err();
+    let fault = reopen(alloc, keys()?, &mut keeper, setup(alloc)?, NoPrinter).err();
     assert_eq!(rt; fault, Some(OpenFault::Read));
     assert_eq!(rt; keeper.faults(), 1);
     Ok(())
 }
 
 /// Changes of the sample's request, which asks for a statement of 1001, and the accounts that it names then: with a transfer
-/// from 1001 to 1002 behind it, to an account that the bank hasn't, and a statement of 1002 or of no account of the bank.
-const NAMED: [(&[(&str, &str)], &[AcctId]); 5] = [
+/// from 1001 to 1002 after it, to an account that the bank hasn't, and a statement of 1002 or of no account of the bank.
+const NAMED: &[(&[(&str, &str)], &[AcctId])] = &[
     (&[], &[AcctId(0)]),
     (&[TRANSFER], &[AcctId(0), AcctId(1)]),
     (&[TRANSFER, ("<ACCTID>1002", "<ACCTID>1009")], &[AcctId(0)]),
@@ -130,8 +132,9 @@ fn file_with(alloc: Global, changes: &[(&str, &str)]) -> Result<Event, Fail> {
 #[test]
 fn an_event_names_its_accounts_in_order(rt: HostRuntime) -> Result<(), Fail> {
     let alloc = rt.alloc();
-    let (book, _) = Book::begin(alloc, setup(alloc)?, NoPrinter)?;
-    for (changes, accounts) in NAMED {
+    let (book, _) = Book::begin(alloc, keys()?, setup(alloc)?, NoPrinter)?;
+    for case in NAMED.iter() {
+        let (changes, accounts) = *case;
         let event = file_with(alloc, changes)?;
         assert!(rt; book.named(alloc, &event)?.as_slice() == accounts);
     }

@@ -7,6 +7,7 @@ mod moments;
 mod polls;
 mod records;
 
+use bank_samples::keys::keys;
 use bank_samples::sample::{SETUP, replies, requests};
 use bank_samples::words::texts;
 use bank_session::{answer_files, answer_told};
@@ -41,7 +42,14 @@ fn told_over(
     let texts = texts(alloc, words)?;
     let _ = keeper.settle()?;
     let told = answer_told(
-        alloc, &texts, &mut setup, &mut input, &mut out, keeper, clock,
+        alloc,
+        keys()?,
+        &texts,
+        &mut setup,
+        &mut input,
+        &mut out,
+        keeper,
+        clock,
     );
     Ok((told, out.held().to_vec(alloc)?))
 }
@@ -83,7 +91,7 @@ fn written_over(
     Ok(String::from_str(alloc, str::from_utf8(&written)?)?)
 }
 
-/// Texts, one behind the other.
+/// Texts, one after the other.
 fn joined(alloc: Global, texts: &[&str]) -> Result<String, Fail> {
     let mut all = String::new(alloc);
     for text in texts {
@@ -104,6 +112,7 @@ fn run(
     let mut clock = MemClock::new(alloc, &[Moment(0)])?;
     let status = answer_files(
         alloc,
+        keys()?,
         &texts,
         &mut setup,
         &mut input,
@@ -125,7 +134,7 @@ fn end(status: u8, note: Note) -> Told {
 /// A read of the setup that fails and one of the input, the bytes that are written, and the status. The setup has 158 bytes
 /// and is read in pieces of 100, so its third read is at its end. The input has three frames of 538 bytes and is read in
 /// pieces of 200, so its tenth read is at its end. Each reply has 761 bytes.
-const READS: [(u64, u64, usize, u8); 9] = [
+const READS: &[(u64, u64, usize, u8)] = &[
     (1, 99, 0, 5),
     (3, 99, 0, 5),
     (4, 1, 0, 5),
@@ -142,7 +151,8 @@ fn a_read_that_fails_stops_the_run(rt: HostRuntime) -> Result<(), Fail> {
     let alloc = rt.alloc();
     let bytes = requests(alloc, &NAMES)?;
     let whole = replies(alloc, &NAMES)?;
-    for (of_setup, of_input, length, expected) in READS {
+    for case in READS.iter() {
+        let (of_setup, of_input, length, expected) = *case;
         let setup = MemSource::failing(alloc, SETUP, 100, &[of_setup])?;
         let input = MemSource::failing(alloc, &bytes, 200, &[of_input])?;
         let out = MemSink::new(alloc, ROOM)?;
@@ -156,7 +166,7 @@ fn a_read_that_fails_stops_the_run(rt: HostRuntime) -> Result<(), Fail> {
 
 /// The writes, the bytes that stand before each, and the status where it fails. The three replies have 761 bytes, and
 /// each is written in pieces of 300, 300 and 161.
-const WRITES: [(u64, usize, u8); 6] = [
+const WRITES: &[(u64, usize, u8)] = &[
     (1, 0, 6),
     (2, 300, 6),
     (4, 761, 6),
@@ -170,7 +180,8 @@ fn a_write_that_fails_stops_the_run(rt: HostRuntime) -> Result<(), Fail> {
     let alloc = rt.alloc();
     let bytes = requests(alloc, &NAMES)?;
     let whole = replies(alloc, &NAMES)?;
-    for (call, length, expected) in WRITES {
+    for case in WRITES.iter() {
+        let (call, length, expected) = *case;
         let setup = MemSource::new(alloc, SETUP)?;
         let input = MemSource::new(alloc, &bytes)?;
         let out = MemSink::failing(alloc, ROOM, 300, &[call])?;
@@ -195,7 +206,7 @@ fn single_bytes_are_answered_the_same(rt: HostRuntime) -> Result<(), Fail> {
 }
 
 /// Words of no command: one is missing, is too many, or is no subject.
-const NO_COMMANDS: [&[&str]; 3] = [
+const NO_COMMANDS: &[&[&str]] = &[
     &["answer", "setup"],
     &["due", "setup", "-", "-"],
     &["mail", "setup", "-", "bob", ""],
@@ -208,11 +219,12 @@ fn words_of_no_command_touch_nothing(rt: HostRuntime) -> Result<(), Fail> {
     let mut input = MemSource::new(alloc, b"DUE\n")?;
     let mut out = MemSink::new(alloc, ROOM)?;
     let mut clock = MemClock::new(alloc, &[Moment(0), Moment(1)])?;
-    for words in NO_COMMANDS {
-        let texts = texts(alloc, words)?;
+    for words in NO_COMMANDS.iter() {
+        let texts = texts(alloc, *words)?;
         let mut keeper = MemKeeper::new(alloc);
         let told = answer_told(
             alloc,
+            keys()?,
             &texts,
             &mut setup,
             &mut input,

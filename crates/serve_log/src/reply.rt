@@ -51,7 +51,7 @@ impl ReplyNote {
     }
 }
 
-/// What the reply at the front of the bytes tells. None where they are no reply. A body that doesn't stand whole behind the head
+/// What the reply at the front of the bytes tells. None where they are no reply. A body that doesn't stand whole after the head
 /// tells nothing.
 pub(crate) fn note_of(bytes: &[u8]) -> Option<ReplyNote> {
     let head = read_response(bytes).ok()?;

@@ -24,7 +24,7 @@ pub(crate) fn user_in(body: &[u8]) -> Option<&[u8]> {
     Some(trim(name))
 }
 
-/// What stands behind a tag that stands once.
+/// What stands after a tag that stands once.
 fn behind_only<'a>(text: &'a [u8], tag: &[u8]) -> Option<&'a [u8]> {
     let rest = behind(text, tag)?;
     match behind(rest, tag) {
@@ -33,7 +33,7 @@ fn behind_only<'a>(text: &'a [u8], tag: &[u8]) -> Option<&'a [u8]> {
     }
 }
 
-/// What stands behind the first of these tags.
+/// What stands after the first of these tags.
 fn behind<'a>(text: &'a [u8], tag: &[u8]) -> Option<&'a [u8]> {
     for at in 0..text.len() {
         if text[at] == b'<'

@@ -47,7 +47,7 @@ fn served(alloc: Global, bytes: &[u8]) -> Result<Outcome, Fail> {
     )
 }
 
-/// A file behind the head of a request of this version.
+/// A file after the head of a request of this version.
 pub fn posted(alloc: Global, version: &str, file: &[u8]) -> Result<Vec<u8>, Fail> {
     let head = format!(in alloc;
         "POST /ofx HTTP/{version}\r\nContent-Length: {}\r\n\r\n",
@@ -98,7 +98,7 @@ pub fn sample_reply(alloc: Global, ending: &str) -> Result<Vec<u8>, Fail> {
     )
 }
 
-/// The replies to the sample's request, so many times, behind which the connection goes on.
+/// The replies to the sample's request, so many times, after which the connection goes on.
 fn sample_replies(alloc: Global, count: usize) -> Result<Vec<u8>, Fail> {
     let reply = sample_reply(alloc, "keep-alive")?;
     let mut bytes = Vec::new(alloc);

@@ -2,6 +2,7 @@
 
 ghost use Rattle.std.specs.Prelude.{◌≡◌, false, is_some, OnOk};
 
+use bank_samples::keys::keys;
 use bank_samples::sample::SETUP;
 use bank_samples::words::texts;
 use bank_session::answer_told;
@@ -29,7 +30,14 @@ pub fn written_over(
     let mut out = MemSink::new(alloc, ROOM)?;
     let _ = keeper.settle()?;
     let told = answer_told(
-        alloc, &words, &mut setup, &mut input, &mut out, keeper, clock,
+        alloc,
+        keys()?,
+        &words,
+        &mut setup,
+        &mut input,
+        &mut out,
+        keeper,
+        clock,
     );
     let _ = keeper.settle()?;
     if told.status != Status(0) {

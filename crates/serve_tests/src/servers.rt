@@ -12,6 +12,7 @@ use crate::one_thread::written_over;
 use bank_connection::Served;
 use bank_counter::serve_connection;
 use bank_model::Setup;
+use bank_samples::keys::keys;
 use bank_samples::sample::{SETUP, request_with};
 use bank_samples::transfer::TRANSFER;
 use bank_samples::words::texts;
@@ -70,7 +71,7 @@ fn setup(alloc: Global) -> Result<Setup, Fail>
 pub fn opened_from<K: Keeper>(alloc: Global, keeper: K) -> Result<Opened<K, OfxPrinter>, Fail>
     requires { K.unsettled keeper ≡ false }
 {
-    match Opened::open(alloc, keeper, setup(alloc)?, OfxPrinter) {
+    match Opened::open(alloc, keys()?, keeper, setup(alloc)?, OfxPrinter) {
         Ok(opened) => Ok(opened),
         Err((fault, _keeper)) => Err(Fail::from(fault)),
     }
@@ -205,7 +206,7 @@ fn refused(alloc: Global, words: &[&str], keeper: MemKeeper) -> Result<Option<To
 {
     let words = texts(alloc, words)?;
     let mut setup = MemSource::new(alloc, SETUP)?;
-    match serve_open(alloc, &words, &mut setup, keeper, OfxPrinter) {
+    match serve_open(alloc, keys()?, &words, &mut setup, keeper, OfxPrinter) {
         Ok(_) => Ok(None),
         Err((told, _keeper)) => Ok(Some(told)),
     }

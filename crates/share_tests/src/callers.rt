@@ -5,6 +5,7 @@ ghost use Rattle.ofx_types.specs.Calendar.{IsMoment};
 
 use crate::script::{framed, refusal, setup};
 use bank_samples::changes::{DUE_LATER, NEXT_DAY, NOON, POLL};
+use bank_samples::keys::keys;
 use bank_samples::sample::request_with;
 use bank_samples::transfer::TRANSFER;
 use bank_shared::{Advance, Bank, BankName, Opened, Pass};
@@ -88,7 +89,7 @@ fn told_by_turns<N: BankName, R: Wait>(
 pub fn opened_over(alloc: Global, keeper: MemKeeper) -> Result<Opened<MemKeeper, OfxPrinter>, Fail>
     requires { is_some keeper.landed ≡ false }
 {
-    match Opened::open(alloc, keeper, setup(alloc)?, OfxPrinter) {
+    match Opened::open(alloc, keys()?, keeper, setup(alloc)?, OfxPrinter) {
         Ok(opened) => Ok(opened),
         Err((fault, _keeper)) => Err(Fail::from(fault)),
     }

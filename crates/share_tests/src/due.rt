@@ -45,7 +45,7 @@ fn run_at<N: BankName, R: Wait>(
 }
 
 /// What runs of due work answer in a bank with two transfers that are due on the next day, one on the day before and two on that
-/// day, and what the statement behind them tells.
+/// day, and what the statement after them tells.
 fn told_of_runs<N: BankName, R: Wait>(
     rt: &R,
     alloc: Global,
@@ -74,7 +74,7 @@ fn runs_over<R: Wait>(rt: &R, alloc: Global, keeper: MemKeeper) -> Result<(Strin
 }
 
 /// Which calls of the keeper fail and which of these land, and what the runs answer.
-const RUNS: [(&[u64], &[u64], &str); 4] = [
+const RUNS: &[(&[u64], &[u64], &str)] = &[
     (&[], &[], "did 0\ndid 2\ndid 0\n"),
     (&[2], &[], "did 0\nkeeper 1\ndid 2\n"),
     (&[3], &[], "did 0\nkeeper 1\ndid 1\n"),
@@ -85,7 +85,8 @@ const RUNS: [(&[u64], &[u64], &str); 4] = [
 #[test]
 fn all_that_is_due_happens_in_a_run(rt: HostRuntime) -> Result<(), Fail> {
     let alloc = rt.alloc();
-    for (failing, landing, answers) in RUNS {
+    for case in RUNS.iter() {
+        let (failing, landing, answers) = *case;
         let keeper = MemKeeper::failing(alloc, failing, landing)?;
         let (told, statement) = runs_over(&rt, alloc, keeper)?;
         assert_eq!(rt; told.as_str(), answers);

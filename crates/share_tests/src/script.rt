@@ -5,6 +5,7 @@ ghost use Rattle.ofx_types.specs.Calendar.{IsMoment};
 ghost use Rattle.bank_model.specs.SetupForm.{IsWithinLimits};
 
 use bank_model::{Event, LogItem, Setup, SubmitFault};
+use bank_samples::keys::keys;
 use bank_samples::sample::SETUP;
 use bank_shared::{Advance, BankName, Opened, Teller};
 use bank_signon::{Judgement, judge};
@@ -44,7 +45,7 @@ pub fn told_over(
     requires lawful { All (λ moment. IsMoment moment.0) moments.now }
 {
     let mut clock = MemClock::new(alloc, moments)?;
-    match Opened::open(alloc, keeper, setup(alloc)?, OfxPrinter) {
+    match Opened::open(alloc, keys()?, keeper, setup(alloc)?, OfxPrinter) {
         Ok(opened) => told::<Brand>(alloc, opened, &mut clock, calls),
         Err((fault, _)) => Err(Fail::from(fault)),
     }

@@ -3,6 +3,7 @@
 use crate::script::{Call, setup, told_over};
 use bank_replay::OpenFault;
 use bank_samples::changes::{DUE_LATER, NAMED, NEXT_DAY, NOON, POLL};
+use bank_samples::keys::keys;
 use bank_samples::sample::{reply_with, request_with};
 use bank_samples::transfer::{PAID, POSTED, SOURCE_BALANCE, TRANSFER};
 use bank_shared::Opened;
@@ -14,7 +15,7 @@ use std::test::Fail;
 /// What the first reply to the named file with the transfer tells.
 const FIRST: [(&str, &str); 5] = [NAMED, POSTED, PAID, SOURCE_BALANCE, SOURCE_BALANCE];
 
-/// What a statement tells behind the transfer.
+/// What a statement tells after the transfer.
 const PAID_BEFORE: [(&str, &str); 3] = [PAID, SOURCE_BALANCE, SOURCE_BALANCE];
 
 /// On 31 January 2024 at 12:00:00 the transfer with the id 1 is posted.
@@ -87,8 +88,8 @@ fn what_is_pending_stays_so_until_it_is_settled(rt: HostRuntime) -> Result<(), F
 }
 
 /// Which calls of the keeper fail and which of these land, while a named file with a transfer is handed in four times and a file
-/// without a name once, and the log behind that.
-const FAILING: [(&[u64], &[u64], &str); 10] = [
+/// without a name once, and the log after that.
+const FAILING: &[(&[u64], &[u64], &str)] = &[
     (
         &[],
         &[],
@@ -155,7 +156,8 @@ fn a_named_file_happens_once_however_the_keeper_fails(rt: HostRuntime) -> Result
         Call::File(&file),
         Call::File(&plain),
     ];
-    for (failing, landing, log) in FAILING {
+    for case in FAILING.iter() {
+        let (failing, landing, log) = *case;
         let keeper = MemKeeper::failing(alloc, failing, landing)?;
         let told = told_over(alloc, keeper, &[NOON], &calls)?;
         let before = told.strip_suffix(log).unwrap_or("");
@@ -166,7 +168,7 @@ fn a_named_file_happens_once_however_the_keeper_fails(rt: HostRuntime) -> Result
 
 /// Which calls of the keeper fail and which of these land, in a bank with a transfer that is due on the next day, which is looked
 /// for three times, and what is told then.
-const DUE: [(&[u64], &[u64], &str); 3] = [
+const DUE: &[(&[u64], &[u64], &str)] = &[
     (
         &[],
         &[],
@@ -189,7 +191,8 @@ fn what_is_due_happens_once(rt: HostRuntime) -> Result<(), Fail> {
     let alloc = rt.alloc();
     let file = request_with(alloc, &[TRANSFER, DUE_LATER])?;
     let calls = [Call::File(&file), Call::Due, Call::Due, Call::Due];
-    for (failing, landing, lines) in DUE {
+    for case in DUE.iter() {
+        let (failing, landing, lines) = *case;
         let keeper = MemKeeper::failing(alloc, failing, landing)?;
         let told = told_over(alloc, keeper, &[NOON, NEXT_DAY], &calls)?;
         assert!(rt; told.strip_suffix(lines).is_some(), "{told}");
@@ -231,7 +234,8 @@ fn a_bank_that_does_not_open_hands_its_keeper_back(rt: HostRuntime) -> Result<()
     let setup = setup(alloc)?;
     let mut keeper = MemKeeper::new(alloc);
     keeper.append(POST)?;
-    let refused = Opened::open(alloc, keeper, setup, OfxPrinter).err();
+    let keys = keys()?;
+    let refused = Opened::open(alloc, keys, keeper, setup, OfxPrinter).err();
     match refused {
         Some((fault, keeper)) => {
             assert_eq!(rt; fault, OpenFault::Illegal(1));

@@ -62,7 +62,7 @@ impl RecordFile {
         Ok(())
     }
 
-    /// Puts the bytes of the record of this number behind those in `into`.
+    /// Puts the bytes of the record of this number after those in `into`.
     pub fn fetch(&mut self, number: i64, into: &mut Vec<u8>) -> Result<(), Refusal>
         ensures { OnErr result (into.new.items ≡ into.old.items) }
     {

@@ -119,7 +119,7 @@ impl SqliteKeeper {
         }
     }
 
-    // Writes a record behind the others.
+    // Writes a record after the others.
     fn write(&mut self, bytes: &[u8]) -> Result<(), Refusal>
         ensures same { self.new ≡ self.old }
         ensures room { OnOk result (self.old.size < 2 ^ 63) }
@@ -155,7 +155,7 @@ impl SqliteKeeper {
         }
     }
 
-    // Whether the record behind the others stands in the file.
+    // Whether the record after the others stands in the file.
     fn has_landed(&mut self) -> Result<bool, Refusal>
         ensures same { self.new ≡ self.old }
         ensures room { IfOk result (λ stands. counted self.old.size stands < 2 ^ 63) }

@@ -72,7 +72,7 @@ all_above token before (x ∷ xs) rise less =
     cond-true (ltb token x.number) (x ∷ filter (is_above token) xs) (filter (is_above token) xs) (lt-ltb token x.number (omega (arith, rise.0, less)))
     ∙ ap (λ (rest : List Entry). x ∷ rest) (all_above token x.number xs rise.1 (omega (arith, rise.0, less)))
 
--- those above the number of an entry are those behind it
+-- those above the number of an entry are those after it
 pub cut_above : (before : ℕ) (k : ℕ) (xs : List Entry) → RiseFrom before xs → filter (is_above (last_number_from before (take k xs))) xs ≡ drop k xs
 cut_above before zero xs rise = all_above before before xs rise (omega arith)
 cut_above before (suc k) [] rise = refl

@@ -5,10 +5,9 @@
 //! it stands for.
 #![tactic(auto)]
 
-mod laws;
+pub mod laws;
 mod since;
 mod window;
 
-pub use laws::histories_by_one_more;
 pub use since::Since;
 pub use window::Window;

@@ -30,7 +30,7 @@ impl<'a> Model for Since<'a> {
 }
 
 impl<'a> Since<'a> {
-    /// The entries above a token of two runs of entries in order, the second behind the first. Takes no memory.
+    /// The entries above a token of two runs of entries in order, the second after the first. Takes no memory.
     pub(crate) fn new(older: &'a [Entry], newer: &'a [Entry], token: u64) -> Since<'a>
         requires older { IsNonDecreasingBy (λ (entry : Entry). entry.number) older.now }
         requires newer { IsNonDecreasingBy (λ (entry : Entry). entry.number) newer.now }

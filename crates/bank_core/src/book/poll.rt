@@ -12,7 +12,7 @@ ghost use Rattle.bank_model.specs.Polls as rules;
 use crate::book::Book;
 use crate::book::answer::reply_file;
 use bank_model::Printer;
-use bank_telling::{last_number, number_text};
+use bank_telling::number_text;
 use ofx_types::{
     Ask, AskReplies, AskReply, Duplicate, Moment, ObjectId, OutOfMemory, RequestFile, Sequence,
     SyncAsk, SyncReply, UserId,
@@ -21,11 +21,10 @@ use std::alloc::Global;
 
 impl<P: Printer> Book<P> {
     /// The newest token of an object: the number of its last entry, 0 where there is none. Takes no memory.
-    #[tactic(auto, unfolding(bank_model::specs::Objects::newest))]
     pub fn newest(&self, object: ObjectId) -> u64
         ensures { result ≡ objects.newest object self.now.state.entries }
     {
-        last_number(self.ledger.entries(), object, 0)
+        self.ledger.newest(object)
     }
 
     /// The reply at a moment to a poll file of a user, who is one of the setup's.

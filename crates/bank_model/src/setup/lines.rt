@@ -25,7 +25,7 @@ fn without_cr(line: &[u8]) -> &[u8]
     line
 }
 
-/// The first line without its end, and the bytes behind it. None where no LF ends a line.
+/// The first line without its end, and the bytes after it. None where no LF ends a line.
 #[tactic(auto, unfolding(crate::specs::SetupReading::line_at))]
 pub(super) fn first_line(bytes: &[u8]) -> Option<(&[u8], &[u8])>
     ensures exact { option_map (λ parts. (parts.0.now, parts.1.now)) result ≡ line_at bytes.now }

@@ -30,7 +30,7 @@ fn front(bytes: &[u8]) -> &[u8]
     }
 }
 
-/// The whole lines taken into a draft, the number of the line behind them, and what stands of it.
+/// The whole lines taken into a draft, the number of the line after them, and what stands of it.
 fn read_lines(alloc: Global, bytes: &[u8]) -> Result<(Draft, u64, &[u8]), SetupFault>
     requires { length bytes.now ≤ 262144 }
     ensures read { Gives (λ x. x.0) result (with_lines 1 unread (lines_in bytes.now)) }

@@ -49,7 +49,7 @@ fn place_of_mark(bytes: &[u8], mark: u8) -> Option<usize>
     bytes.iter().position(|byte| *byte == mark)
 }
 
-/// The bytes before and behind the first `mark`.
+/// The bytes before and after the first `mark`.
 pub(super) fn cut_at(bytes: &[u8], mark: u8) -> Option<(&[u8], &[u8])>
     ensures exact { option_map (λ parts. (parts.0.now, parts.1.now)) result ≡ cut mark bytes.now }
     ensures less { IfSome result (λ parts. length parts.1.now < length bytes.now) }
@@ -60,7 +60,7 @@ pub(super) fn cut_at(bytes: &[u8], mark: u8) -> Option<(&[u8], &[u8])>
     }
 }
 
-/// What stands behind the first word of a line and the space after it, where that word is the key.
+/// What stands after the first word of a line and the space after it, where that word is the key.
 #[tactic(auto, unfolding(crate::specs::SetupReading::behind_key))]
 pub(super) fn behind<'a>(line: &'a [u8], key: &[u8]) -> Option<&'a [u8]>
     ensures { option_map (λ rest. rest.now) result ≡ behind_key key.now line.now }

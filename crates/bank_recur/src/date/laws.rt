@@ -28,7 +28,7 @@ pub fn series_rises()
         → kth_date first freq k ≡ Some b → j < k → a.0 <ℤ b.0 }
 {}
 
-/// Behind a place without a date no place has one.
+/// After a place without a date no place has one.
 pub fn series_ends()
     ensures { (first : Day) (freq : Freq) (j k : ℕ) → IsDay first.0 → kth_date first freq j ≡ None → j ≤ k
         → kth_date first freq k ≡ None }

@@ -43,7 +43,7 @@ pub fn due_work_is_one()
         → IsDueRun setup S at other → events ≡ other }
 {}
 
-/// Behind a run of due work nothing is due at its moment, unless it has stopped at 100,000 events.
+/// After a run of due work nothing is due at its moment, unless it has stopped at 100,000 events.
 pub fn due_work_is_done()
     ensures { (setup : Setup) (S : State) (at : Moment) (events : List Event) → IsDueRun setup S at events
         → (length events ≡ 100000) ⊎ (due setup (after_events setup S at events) at ≡ None) }

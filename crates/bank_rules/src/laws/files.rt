@@ -43,7 +43,7 @@ pub fn files_may_come_again()
         ≡ raised (after_all setup (state_after setup S at (File user file)) run) again }
 {}
 
-/// The name of a file is kept behind it with the bytes that it got, and stays kept while no file of the same user tells by
+/// The name of a file is kept after it with the bytes that it got, and stays kept while no file of the same user tells by
 /// its OLDFILEUID that the reply was received.
 pub fn names_stay_kept()
     ensures kept { (setup : Setup) (S : State) (user : UserId) (at : Moment) (file : RequestFile) (name : List ℕ)

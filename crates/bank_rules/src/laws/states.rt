@@ -25,7 +25,7 @@ ghost use Rattle.bank_rules.specs.Runs.{AreLegal, Happening, after_all};
 ghost use Rattle.bank_rules.specs.Stages.{IsSoundStage, Leads, MayCome, Stage, after_stage};
 ghost use Rattle.bank_rules.specs.Standing.{IsSoundState};
 
-/// Every state that a bank comes to is sound, and whatever leads from one to the next adds only entries that may come behind
+/// Every state that a bank comes to is sound, and whatever leads from one to the next adds only entries that may come after
 /// those before them: each stage of a step, each ask of a file, and each event.
 pub fn every_state_is_sound()
     ensures opening { (setup : Setup) → IsWithinLimits setup → IsSoundState setup opening_state }

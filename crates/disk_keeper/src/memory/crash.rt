@@ -48,7 +48,7 @@ fn crash_of(
     Ok(crash)
 }
 
-// What a read shows behind one more change.
+// What a read shows after one more change.
 fn shown_behind(alloc: Global, shown: &[u8], change: &Change) -> Result<Vec<u8>, AllocError>
     ensures { IfOk result (λ new. (found : List ℕ) (changes : List TheChange) → shown.now ≡ image found changes
         → new.items ≡ image found (change.now ∷ changes)) }
@@ -65,7 +65,7 @@ fn shown_behind(alloc: Global, shown: &[u8], change: &Change) -> Result<Vec<u8>,
     }
 }
 
-// What a crash may leave behind one more change.
+// What a crash may leave after one more change.
 fn crash_behind(
     alloc: Global,
     shown: &[u8],

@@ -90,7 +90,7 @@ fn freq_named(word: &Cursor<'_>) -> Option<Freq>
 fn freq_among<'f>(word: &Cursor<'_>, freqs: &'f [Freq]) -> Option<&'f Freq>
     ensures { option_map (λ freq. freq.now) result ≡ find (λ freq. bytes_eq (value_of word.now.node.text) (freq_word freq)) freqs.now }
 {
-    freqs.iter().find(|freq| word.value_eq(word_of(**freq)))
+    freqs.iter().find(|freq| word.value_eq((**freq).word()))
 }
 
 /// Writes how a transfer recurs.
@@ -101,7 +101,7 @@ pub(crate) fn print_recur(recur: Recur, sheet: &mut Sheet) -> Result<(), OutOfMe
 {
     sheet.start(b"RECURRINST")?;
     print_count(recur.count, sheet)?;
-    sheet.element(b"FREQ", word_of(recur.freq))?;
+    sheet.element(b"FREQ", recur.freq.word())?;
     sheet.end(b"RECURRINST")
 }
 
@@ -114,22 +114,5 @@ fn print_count(count: Option<u32>, sheet: &mut Sheet) -> Result<(), OutOfMemory>
     match count {
         Some(count) => sheet.number(b"NINSTS", u64::from(count)),
         None => Ok(()),
-    }
-}
-
-/// The word of a frequency.
-fn word_of(freq: Freq) -> &'static [u8]
-    ensures { result.now ≡ freq_word freq }
-{
-    match freq {
-        Freq::Weekly => b"WEEKLY",
-        Freq::Biweekly => b"BIWEEKLY",
-        Freq::TwiceMonthly => b"TWICEMONTHLY",
-        Freq::Monthly => b"MONTHLY",
-        Freq::FourWeeks => b"FOURWEEKS",
-        Freq::Bimonthly => b"BIMONTHLY",
-        Freq::Quarterly => b"QUARTERLY",
-        Freq::Semiannually => b"SEMIANNUALLY",
-        Freq::Annually => b"ANNUALLY",
     }
 }

@@ -4,7 +4,6 @@ ghost use Rattle.std.specs.Prelude.{◌≡◌, ◌++◌, OnOk};
 ghost use Rattle.std.specs.Io.{StartsWith};
 ghost use Rattle.ofx_types.specs.Calendar.{IsMoment};
 ghost use Rattle.ofx_types.specs.FormWords.{Gives};
-ghost use Rattle.ofx_types.specs.TransferForm.{code_word};
 ghost use Rattle.ofx_types.specs.TransferReading as reading;
 ghost use Rattle.ofx_types.specs.TransferText as form;
 
@@ -57,19 +56,7 @@ pub(crate) fn print_processing(
     ensures kept { StartsWith sheet.new sheet.old }
 {
     sheet.start(b"XFERPRCSTS")?;
-    sheet.element(b"XFERPRCCODE", word_of(code))?;
+    sheet.element(b"XFERPRCCODE", code.word())?;
     sheet.moment(b"DTXFERPRC", stamp)?;
     sheet.end(b"XFERPRCSTS")
-}
-
-/// The word of a code.
-fn word_of(code: XferCode) -> &'static [u8]
-    ensures { result.now ≡ code_word code }
-{
-    match code {
-        XferCode::Waiting => b"WILLPROCESSON",
-        XferCode::Posted => b"POSTEDON",
-        XferCode::NoFunds => b"NOFUNDSON",
-        XferCode::Cancelled => b"CANCELEDON",
-    }
 }

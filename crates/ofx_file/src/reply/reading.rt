@@ -22,8 +22,8 @@ use std::alloc::Global;
 /// | Fault | Where |
 /// |---|---|
 /// | `Header(at)` | the header's first bad line begins at `at`, or the header is cut there |
-/// | `Syntax(at)` | behind a header, `at` is the place of the leftmost fault of the tags |
-/// | `Form(at)` | behind a header and tags without a fault, `at` is the place of the first fault of the forms |
+/// | `Syntax(at)` | after a header, `at` is the place of the leftmost fault of the tags |
+/// | `Form(at)` | after a header and tags without a fault, `at` is the place of the first fault of the forms |
 /// | `OutOfMemory` | memory for the tags or for the reply's texts is refused |
 ///
 /// Places count from the first byte.

@@ -63,7 +63,7 @@ fn header_of(reply: &ReplyFile) -> Result<Header, OutOfMemory>
     })
 }
 
-/// Appends what stands behind the header.
+/// Appends what stands after the header.
 #[tactic(auto, using(msg_parts::proofs::Joined::aggregate_of_three))]
 fn body(reply: &ReplyFile, sheet: &mut Sheet) -> Result<(), OutOfMemory>
     requires { IsPrintable reply.now }

@@ -47,7 +47,7 @@ fn header_of(file: &RequestFile) -> Result<Header, OutOfMemory>
     })
 }
 
-/// Appends what stands behind the header.
+/// Appends what stands after the header.
 #[tactic(auto, using(msg_parts::proofs::Joined::aggregate_of_three))]
 fn body(file: &RequestFile, at: Moment, sheet: &mut Sheet) -> Result<(), OutOfMemory>
     requires { IsPrintableFile file.now at }

@@ -15,7 +15,7 @@ use std::{fs, io};
 /// Whom the file is for: its owner alone.
 const MODE: u32 = 0o600;
 
-/// What the name of the file has behind it while a new text is written.
+/// What the name of the file has after it while a new text is written.
 const BESIDE: &str = ".new";
 
 /// A text in a file, for one run at a time. A save writes the new text into a file beside it, whose name has `.new` at its
@@ -74,7 +74,7 @@ fn folder_of(path: &str) -> &str {
     }
 }
 
-// Puts what the file holds behind what `into` holds. What is no file, as a folder, is refused.
+// Puts what the file holds after what `into` holds. What is no file, as a folder, is refused.
 fn read_text<R: Files>(rt: &R, path: &str, into: &mut Vec<u8>) -> io::Result<()> {
     let mut file = match File::open(rt, path) {
         Ok(file) => file,

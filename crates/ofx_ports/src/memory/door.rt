@@ -22,7 +22,7 @@ enum Given {
     After(Snapshot<Given>, Snapshot<MemLink>),
 }
 
-/// A doorway that gives the links of a list in order, and is closed behind the last one. It has room from the start for
+/// A doorway that gives the links of a list in order, and is closed after the last one. It has room from the start for
 /// all of them to come back.
 #[derive(Drop)]
 pub struct MemDoor {

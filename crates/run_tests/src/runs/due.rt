@@ -27,7 +27,7 @@ const MONTHLY: [(&str, &str); 4] = [
     ),
 ];
 
-/// What stands before the lines of the due runs, and what behind them.
+/// What stands before the lines of the due runs, and what after them.
 fn parted<'a>(written: &'a str, lines: &str) -> (&'a str, &'a str) {
     written.split_once(lines).unwrap_or((written, ""))
 }

@@ -29,7 +29,7 @@ fn the_number_of_a_letters_entry_is_told(rt: HostRuntime) -> Result<(), Fail> {
 
 /// A read of the input and a write of the line that fail, what is told, what is written, and which answer of the clock is
 /// next.
-const FAILING: [(u64, u64, u8, &str, usize); 3] = [
+const FAILING: &[(u64, u64, u8, &str, usize)] = &[
     (2, 99, 5, "", 0),
     (3, 99, 5, "", 0),
     (99, 2, 6, "MAIL ", 1),
@@ -38,7 +38,8 @@ const FAILING: [(u64, u64, u8, &str, usize); 3] = [
 #[test]
 fn a_call_that_fails_stops_a_letter(rt: HostRuntime) -> Result<(), Fail> {
     let alloc = rt.alloc();
-    for (read, write, status, line, next) in FAILING {
+    for case in FAILING.iter() {
+        let (read, write, status, line, next) = *case;
         let setup = MemSource::new(alloc, SETUP)?;
         let input = MemSource::failing(alloc, b"Hi", 1, &[read])?;
         let out = MemSink::failing(alloc, ROOM, 5, &[write])?;

@@ -11,7 +11,7 @@ use std::test::Fail;
 /// 1 February 2024 at 12:00:00.
 const NEXT_NOON: Moment = Moment(1_706_788_800);
 
-/// A synchronisation of them from the beginning, and one behind the first entry.
+/// A synchronisation of them from the beginning, and one after the first entry.
 const FROM_0: [(&str, &str); 2] = [
     (
         STATEMENT,
@@ -39,7 +39,7 @@ const STATEMENT_REPLY: &str = "\
     <STMTRS>\r\n\
     <CURDEF>USD\r\n";
 
-/// What stands behind it.
+/// What stands after it.
 const STATEMENT_REPLY_END: &str = "\
     <BANKTRANLIST>\r\n\
     <DTSTART>19000101000000\r\n\
@@ -68,7 +68,7 @@ const TOKEN_0: [(&str, &str); 2] = [
 /// What the file with the transfer is told, which is posted at once.
 const DONE: [(&str, &str); 4] = [POSTED, PAID, SOURCE_BALANCE, SOURCE_BALANCE];
 
-/// The poll comes a day later than the transfer behind it, which names no day: it is due on its own one.
+/// The poll comes a day later than the transfer after it, which names no day: it is due on its own one.
 #[test]
 fn a_poll_raises_no_business_day(rt: HostRuntime) -> Result<(), Fail> {
     let alloc = rt.alloc();
@@ -94,7 +94,7 @@ const WAITING: [(&str, &str); 2] = [
 
 const AT_ONCE: [(&str, &str); 2] = [TRANSFER, ("<TRNUID>t1", "<TRNUID>t2")];
 
-/// The first synchronisation comes on the day before the due day, the second behind the due work of that day.
+/// The first synchronisation comes on the day before the due day, the second after the due work of that day.
 #[test]
 fn a_posting_is_told_by_the_next_synchronisation(rt: HostRuntime) -> Result<(), Fail> {
     let alloc = rt.alloc();

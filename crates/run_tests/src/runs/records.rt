@@ -26,13 +26,14 @@ fn run_over(
 const SECOND: [u64; 1] = [3];
 
 /// Which calls land though they fail, and how many records stand then.
-const LANDINGS: [(&[u64], u64); 2] = [(&[], 1), (&SECOND, 2)];
+const LANDINGS: &[(&[u64], u64)] = &[(&[], 1), (&SECOND, 2)];
 
 /// Nothing is written for the second file. The records that stand open the next run.
 #[test]
 fn an_append_that_fails_stops_the_run(rt: HostRuntime) -> Result<(), Fail> {
     let alloc = rt.alloc();
-    for (landing, count) in LANDINGS {
+    for case in LANDINGS.iter() {
+        let (landing, count) = *case;
         let mut keeper = MemKeeper::failing(alloc, &SECOND, landing)?;
         let (told, written) = run_over(alloc, &NAMES, &mut keeper)?;
         assert_eq!(rt; told, end(8, Note::Plain));
@@ -61,7 +62,7 @@ fn a_fetch_that_fails_stops_the_run(rt: HostRuntime) -> Result<(), Fail> {
 
 /// A record of an unknown version, and the record of a posting of transfer 1 at the sample's moment, of which a bank that
 /// opens has none; and what is told of each.
-const STRANGE: [(&[u8], Note); 2] = [
+const STRANGE: &[(&[u8], Note)] = &[
     (&[2], Note::Record(1, 0)),
     (
         &[
@@ -74,7 +75,8 @@ const STRANGE: [(&[u8], Note); 2] = [
 #[test]
 fn records_of_another_bank_stop_the_run(rt: HostRuntime) -> Result<(), Fail> {
     let alloc = rt.alloc();
-    for (record, note) in STRANGE {
+    for case in STRANGE.iter() {
+        let (record, note) = *case;
         let mut keeper = MemKeeper::new(alloc);
         keeper.append(record)?;
         let (told, written) = run_over(alloc, &NAMES, &mut keeper)?;
@@ -137,7 +139,7 @@ fn unfailing(alloc: Global, due: &str) -> Result<String, Fail> {
 
 /// An append of a first run that fails, which calls land then, and what is still due to the second run. The run settles by
 /// its first call. The last append that lands isn't here, since the plain file is refused by 2019 then.
-const APPENDS: [(u64, &[u64], &str); 7] = [
+const APPENDS: &[(u64, &[u64], &str)] = &[
     (2, &[], "DUE 2\n"),
     (2, &[2], "DUE 2\n"),
     (3, &[], "DUE 2\n"),
@@ -151,7 +153,8 @@ const APPENDS: [(u64, &[u64], &str); 7] = [
 #[test]
 fn a_run_behind_a_failed_append_goes_on(rt: HostRuntime) -> Result<(), Fail> {
     let alloc = rt.alloc();
-    for (call, landing, due) in APPENDS {
+    for case in APPENDS.iter() {
+        let (call, landing, due) = *case;
         let mut keeper = MemKeeper::failing(alloc, &[call], landing)?;
         let (stopped, status, written) = run_twice(alloc, &mut keeper)?;
         assert_eq!(rt; stopped, 8);
@@ -163,7 +166,7 @@ fn a_run_behind_a_failed_append_goes_on(rt: HostRuntime) -> Result<(), Fail> {
 
 /// A call of a second run over the same frames that fails, and which calls land then. That run settles, fetches four times,
 /// and appends for the two files.
-const REPEATED: [(u64, &[u64]); 8] = [
+const REPEATED: &[(u64, &[u64])] = &[
     (7, &[]),
     (8, &[]),
     (9, &[]),
@@ -178,7 +181,8 @@ const REPEATED: [(u64, &[u64]); 8] = [
 #[test]
 fn a_run_behind_a_failed_call_repeats(rt: HostRuntime) -> Result<(), Fail> {
     let alloc = rt.alloc();
-    for (call, landing) in REPEATED {
+    for case in REPEATED.iter() {
+        let (call, landing) = *case;
         let mut keeper = MemKeeper::failing(alloc, &[call], landing)?;
         let _ = run_by_days(alloc, &week(alloc)?, &mut keeper)?;
         let (stopped, status, written) = run_twice(alloc, &mut keeper)?;

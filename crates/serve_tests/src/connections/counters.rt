@@ -6,6 +6,7 @@ use super::office::setup;
 use super::{NOON, Outcome, ROOM, posted, reply, sample_replies, sample_reply, sample_times};
 use bank_connection::Served;
 use bank_counter::{SoloOffice, serve_connection};
+use bank_samples::keys::keys;
 use bank_samples::sample::{reply_with, request_with};
 use bank_samples::transfer::{PAID, POSTED, SOURCE_BALANCE, TRANSFER};
 use bank_shared::{Bank, BankName, Opened};
@@ -40,7 +41,7 @@ const FIRST: [(&str, &str); 6] = [
 fn opened(alloc: Global, keeper: MemKeeper) -> Result<Opened<MemKeeper, OfxPrinter>, Fail>
     requires { is_some keeper.landed ≡ false }
 {
-    match Opened::open(alloc, keeper, setup(alloc)?, OfxPrinter) {
+    match Opened::open(alloc, keys()?, keeper, setup(alloc)?, OfxPrinter) {
         Ok(opened) => Ok(opened),
         Err((fault, _)) => Err(Fail::from(fault)),
     }
@@ -116,7 +117,7 @@ fn a_shared_bank_answers_http_1_0_once(rt: HostRuntime) -> Result<(), Fail> {
     Ok(())
 }
 
-/// The named file with the transfer twice, behind a first append that fails: where its record has landed the second reply is of
+/// The named file with the transfer twice, after a first append that fails: where its record has landed the second reply is of
 /// the first moment, and otherwise of the second one.
 #[test]
 fn a_file_whose_append_failed_happens_once(rt: HostRuntime) -> Result<(), Fail> {

@@ -3,8 +3,10 @@
 ghost use Rattle.std.specs.Prelude.{◌≡◌, ◌<◌, [], None, IfOk, IfErr, IfSome, OnErr, true, false, length};
 ghost use Rattle.bank_model.specs.SetupForm.{IsWithinLimits};
 
-use bank_connection::{Office, newest_are_told};
+use bank_connection::Office;
+use bank_connection::laws::newest_are_told;
 use bank_model::{Event, Setup, SubmitFault};
+use bank_samples::keys::keys;
 use bank_samples::sample::SETUP;
 use bank_solo::SoloBank;
 use ofx_file::OfxPrinter;
@@ -34,7 +36,7 @@ impl BookOffice {
     pub fn open(alloc: Global, failing: u64) -> Result<BookOffice, Fail> {
         Ok(BookOffice {
             alloc,
-            bank: SoloBank::begin(alloc, setup(alloc)?, OfxPrinter)?,
+            bank: SoloBank::begin(alloc, keys()?, setup(alloc)?, OfxPrinter)?,
             made: 0,
             failing,
         })

@@ -10,7 +10,7 @@ use std::net::TcpStream;
 use std::test::Fail;
 use std::time::Duration;
 
-/// The sample's request, which says that the connection ends behind its reply.
+/// The sample's request, which says that the connection ends after its reply.
 fn last_request(alloc: Global) -> Result<Vec<u8>, Fail> {
     let request = request_with(alloc, &[])?;
     let (_, file) = request.split_once("\n").unwrap_or(("", ""));

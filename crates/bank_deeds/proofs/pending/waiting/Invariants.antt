@@ -8,6 +8,6 @@ use Rattle.bank_deeds.proofs.pending.waiting.Given as goal
 abbrev pub invariant-loop-id : goal.invariant-loop-id
 invariant-loop-id l = l.ids.items ≡ filter (λ (one : ℕ). waits_for l.model (row_of one (drafted l.draft).entries)) (take l.id-index l.id-items)
 
--- and behind them those among the first that the draft made
+-- and after them those among the first that the draft made
 abbrev pub invariant-loop-entry : goal.invariant-loop-entry
 invariant-loop-entry l = l.ids.items ≡ l.initial.ids.items ++ filter (λ (one : ℕ). waits_for l.model (row_of one (drafted l.draft).entries)) (ids_new (take l.entry-index l.entry-items))

@@ -1,5 +1,5 @@
 use Rattle.std.proofs.Common.{arith}
-use Rattle.bank_frames.proofs.Writing.{written_more, rest_length}
+use Rattle.ofx_ports.proofs.Writing.{written_more, rest_length}
 use Rattle.bank_frames.proofs.output.write_whole.Goals as goal
 
 pub loop-done-preserved : goal.loop-done-preserved

@@ -1,6 +1,7 @@
-use Rattle.bank_laws.proofs.Lost.{lost_after, lost_refresh, name_taken}
+use Rattle.bank_laws.proofs.Lost.{lost_after, lost_refresh}
 use Rattle.bank_laws.proofs.Named.{lost_below}
 use Rattle.bank_laws.proofs.stores.stores_are_lost_where_told.Goals as goal
+use Rattle.bank_model.proofs.TakenStores.{name_taken}
 
 pub returns-clause-after : goal.returns-clause-after
 returns-clause-after c = lost_after

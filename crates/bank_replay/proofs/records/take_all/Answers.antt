@@ -1,7 +1,7 @@
 use Rattle.std.proofs.Common.{◌≡◌, arith, refl, ◌∙◌}
 use Rattle.std.proofs.lemmas.Result.{err_from_is_err_and}
 use Rattle.ofx_ports.proofs.ToldLaws.{Stays-refl, Stays-trans}
-use Rattle.bank_replay.proofs.Taking.{none_taken, one_more, has_cause, all_taken, counts_behind, counts_done}
+use Rattle.bank_replay.proofs.Taking.{none_taken, one_more, has_cause, all_taken, counts_behind, counts_done, counts_refused}
 use Rattle.bank_replay.specs.declared.fault.OpenFault.TheVariants.{Read}
 use Rattle.bank_replay.proofs.records.take_all.Goals as goal
 
@@ -16,6 +16,11 @@ pub returns-in_err-take_kept-clause-faults : goal.returns-in_err-take_kept-claus
 returns-in_err-take_kept-clause-faults g c =
     let p = err_from_is_err_and c.from_residual-in_err-take_kept.result c.from_residual-in_err-take_kept.ensures.1 in
     rw (p.1, p.2) (counts_behind (g.K.Keeper.faults c.args.keeper.now) (g.K.Keeper.faults c.loop-before.keeper) (g.K.Keeper.faults c.take_kept.new.keeper) c.in_err-take_kept.field-0.0 Read c.loop-before.invariant.faults c.in_err-take_kept.ensures.faults)
+
+pub returns-in_err-into_parts-clause-faults : goal.returns-in_err-into_parts-clause-faults
+returns-in_err-into_parts-clause-faults g c =
+    let p = err_from_is_err_and c.from_residual-in_err-into_parts.result c.from_residual-in_err-into_parts.ensures.1 in
+    rw (p.1, p.2) (counts_refused (g.K.Keeper.faults c.args.keeper.now) (g.K.Keeper.faults c.loop-before.keeper) c.loop-before.invariant.faults)
 
 pub returns-in_err-take_kept-clause-list : goal.returns-in_err-take_kept-clause-list
 returns-in_err-take_kept-clause-list g c = Stays-trans (g.K.Keeper.records c.args.keeper.now) (g.K.Keeper.records c.loop-before.keeper) (g.K.Keeper.records c.take_kept.new.keeper) c.loop-before.invariant.list c.take_kept.ensures.list

@@ -10,3 +10,6 @@ returns-in-Err-open-clause-refused g c other =
     (outside (g.A.Source.left c.read_setup.new.source) (g.A.Source.faults c.read_setup.new.source) (g.K.Keeper.records c.in-Err-open.keeper) (g.K.Keeper.faults c.in-Err-open.keeper))
     c.in-Ok.found c.in-Err-open.fault c.end_told-in-Err-open.result c.in-Ok.ensures.found
     (rw (c.end_told-in-Err-open.ensures, c.opening_stop.ensures) refl) c.in-Err-open.ensures.cause c.in-Err-open.ensures.failed
+
+pub returns-in-Ok-open-clause-unread : goal.returns-in-Ok-open-clause-unread
+returns-in-Ok-open-clause-unread g c usage = absurd (usage c.in-Some.plan c.in-Some.ensures)

@@ -4,7 +4,7 @@ use Rattle.bank_session.specs.Turns.{turn_view}
 use Rattle.bank_session.proofs.Standing.{Standing}
 use Rattle.bank_session.proofs.run.answer_frames.Given as goal
 
--- the run stands behind so many turns, in which so many bytes are read
+-- the run stands after so many turns, in which so many bytes are read
 abbrev pub invariant-loop-turns : goal.invariant-loop-turns
 invariant-loop-turns g l = record {
   standing : Standing l.fn.desk.setup l.fn.desk.state l.at

@@ -1,7 +1,7 @@
 use Rattle.std.proofs.Common.{arith, refl, sym, subst}
 use Rattle.bank_model.specs.Sound.{IsSoundPair}
-use Rattle.bank_sound.proofs.Each.{all_by_index, all_from}
 use Rattle.bank_sound.proofs.file.are_sound_pairs.Goals as goal
+use Rattle.bank_model.proofs.Lists.{all_by_index, all_from}
 
 pub returns-then-not-is_sound_pair : goal.returns-then-not-is_sound_pair
 returns-then-not-is_sound_pair c = ((λ is. absurd cc), λ all. (let here = c.is_sound_pair.ensures.1 (subst (IsSoundPair c.args.family) (sym c.deed-item.is) (all_by_index (IsSoundPair c.args.family) c.args.deeds.now c.loop-deed.deed-index c.deed-item.result all c.loop-deed-test.true)) in cc))

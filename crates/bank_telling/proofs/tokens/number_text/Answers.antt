@@ -1,7 +1,7 @@
 use Rattle.std.proofs.Common.{◌++◌, ap, ◌∙◌, arith}
 use Rattle.std.specs.Fmt.{decimal}
 use Rattle.ofx_types.specs.TextRules.{trimmed}
-use Rattle.bank_telling.proofs.TokenLemmas.{decimal_trimmed}
+use Rattle.bank_model.proofs.Ink.{decimal_trimmed}
 use Rattle.bank_telling.proofs.tokens.number_text.Goals as goal
 
 pub returns-in-Ok : goal.returns-in-Ok

@@ -1,6 +1,6 @@
 use Rattle.std.proofs.Common.{◌∙◌, arith}
 use Rattle.std.proofs.KnownBytes.{Keeps-trans}
-use Rattle.http_link.proofs.Written.{written_more, rest_length}
+use Rattle.ofx_ports.proofs.Writing.{rest_length, written_more}
 use Rattle.http_link.proofs.reply.write_all.Goals as goal
 
 pub loop-done-preserved : goal.loop-done-preserved

@@ -5,7 +5,7 @@ use Rattle.sqlite_keeper.proofs.Sending.{keeper_send}
 use Rattle.sqlite_keeper.specs.contracts.keeper.SqliteKeeper.{the_row}
 use Rattle.ofxbank.proofs.serve.served.Goals as goal
 
--- behind the call nothing of the keeper is seen
+-- after the call nothing of the keeper is seen
 pub served_over-requires-in-None-strip_prefix-send-K : goal.served_over-requires-in-None-strip_prefix-send-K
 served_over-requires-in-None-strip_prefix-send-K g c κs within = record {
   owned = keeper_send.owned;

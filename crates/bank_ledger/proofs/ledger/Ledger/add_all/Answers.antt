@@ -3,7 +3,7 @@ use Rattle.bank_ledger.specs.declared.row_change.RowChange.{RowChange}
 use Rattle.bank_model.specs.declared.entry.Entry.{Entry}
 use Rattle.bank_model.specs.declared.event.State.{State}
 use Rattle.bank_ledger.proofs.StateParts.{state_of}
-use Rattle.bank_ledger.proofs.TakingIn.{gives_next, known_next, taken_more, rest_more}
+use Rattle.bank_ledger.proofs.TakingIn.{gives_next, known_next, number_next, taken_more, rest_more}
 use Rattle.bank_ledger.proofs.ledger.Ledger.add_all.Goals as goal
 
 pub add-requires-clause-gives : goal.add-requires-clause-gives
@@ -11,6 +11,12 @@ add-requires-clause-gives c =
     let all = c.loop-row_change.invariant.items ∙ c.into_iter-row_change-iterator.ensures.into_iter_gives.0 in
     let next = ap (λ (l : List RowChange). c.loop-row_change.yielded ++ l) (sym c.in-Some.ensures.steps.0) ∙ all in
     gives_next c.args.self.now.state.entries c.args.entries.items c.loop-row_change.self.state.entries c.args.row_changes.items c.loop-row_change.yielded _ c.in-Some-next.entry c.in-Some.row_change _ c.requires.given next
+    (sym c.loop-row_change.invariant.rest ∙ c.in-Some-next.ensures.cases.0)
+    (ap (λ (S : State). S.entries) c.loop-row_change.invariant.state)
+
+pub add-requires-clause-number : goal.add-requires-clause-number
+add-requires-clause-number c =
+    number_next c.args.self.now.state.entries c.args.entries.items c.loop-row_change.self.state.entries c.loop-row_change.yielded c.in-Some-next.entry _ c.requires.numbered
     (sym c.loop-row_change.invariant.rest ∙ c.in-Some-next.ensures.cases.0)
     (ap (λ (S : State). S.entries) c.loop-row_change.invariant.state)
 

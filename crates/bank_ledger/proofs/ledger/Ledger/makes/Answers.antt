@@ -16,4 +16,4 @@ none_makes last id place entries none =
 pub returns-in-None : goal.returns-in-None
 returns-in-None c =
     subst (λ (v : LedgerView). false ≡ (is_some (date_to_make c.args.last c.args.id v.state.entries) && eqb c.args.place (next_place c.args.id v.state.entries))) c.self.view_is
-    (none_makes c.args.last c.args.id c.args.place c.self.inside.entries.items (c.in-None.ensures.stood_for c.self.inside.entries.items c.self.invariant.1))
+    (none_makes c.args.last c.args.id c.args.place c.self.inside.history.entries (c.in-None.ensures.stood_for c.self.inside.history.entries c.self.invariant.1))

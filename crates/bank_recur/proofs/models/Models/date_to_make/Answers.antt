@@ -1,5 +1,4 @@
 use Rattle.std.proofs.Common.{◌∙◌, ap}
-use Rattle.bank_recur.specs.ModelsView.{ModelsView, series_found}
 use Rattle.bank_recur.specs.Spawning.{date_found}
 use Rattle.bank_recur.proofs.SpawnLemmas.{date_is}
 use Rattle.bank_recur.proofs.models.Models.date_to_make.Goals as goal
@@ -7,5 +6,5 @@ use Rattle.bank_recur.proofs.models.Models.date_to_make.Goals as goal
 pub returns : goal.returns
 returns c entries stands =
     c.next_date.ensures
-    ∙ ap (date_found c.args.last) (c.own.ensures ∙ ap (series_found c.args.id) (c.deref.ensures.value ∙ ap (λ (v : ModelsView). v.series) c.self.view_is))
+    ∙ ap (date_found c.args.last) c.own.ensures
     ∙ date_is c.args.last c.args.self.now entries c.args.id stands

@@ -8,9 +8,9 @@ use Rattle.event_codec.specs.Records.{Codes}
 use Rattle.bank_shared.specs.declared.step.Step.{Step}
 use Rattle.bank_shared.specs.Views.{JournalView}
 use Rattle.bank_shared.specs.Kept.{pending_of, KeeperView, IsTrue}
-use Rattle.bank_shared.specs.Calls.{IsAsBefore, FailsToKeep}
+use Rattle.bank_shared.specs.Calls.{Answers, IsAsBefore, FailsToKeep}
 use Rattle.bank_shared.proofs.Truth.{truth_moved, truth_refused, truth_answered, truth_failed}
-use Rattle.bank_shared.proofs.Committing.{seen, none_pending, named_again, balanced_again, codes_again, keeps_not}
+use Rattle.bank_shared.proofs.Committing.{seen, none_pending, named_again, balanced_again, codes_again, answers_it, keeps_not}
 use Rattle.bank_shared.proofs.journal.Journal.commit.Goals as goal
 
 pub answer-requires-clause-named : goal.answer-requires-clause-named
@@ -97,3 +97,23 @@ returns-in-Err-OutOfMemory-clause-balanced g c =
     (c.make_ready.ensures.setup ∙ ap (λ (v : JournalView). v.setup) c.self.view_is)
     (c.make_ready.ensures.state ∙ ap (λ (v : JournalView). v.state) c.self.view_is)
     c.make_ready.ensures.accounts c.requires.balanced
+
+pub answer-requires-clause-balanced : goal.answer-requires-clause-balanced
+answer-requires-clause-balanced g c =
+    balanced_again c.args.self.now.setup c.make_ready.new.book.setup c.args.self.now.state c.make_ready.new.book.state c.args.held.now c.make_ready.new.held
+    (c.make_ready.ensures.setup ∙ ap (λ (v : JournalView). v.setup) c.self.view_is)
+    (c.make_ready.ensures.state ∙ ap (λ (v : JournalView). v.state) c.self.view_is)
+    c.make_ready.ensures.accounts c.requires.balanced
+
+pub returns-in-Ok-clause-answers : goal.returns-in-Ok-clause-answers
+returns-in-Ok-clause-answers g c =
+    let before : KeeperView = record { records = g.K.Keeper.records c.self.inside.keeper; landed = g.K.Keeper.landed c.self.inside.keeper; unsettled = g.K.Keeper.unsettled c.self.inside.keeper; faults = g.K.Keeper.faults c.self.inside.keeper } in
+    let after : KeeperView = record { records = g.K.Keeper.records c.append.new.self; landed = g.K.Keeper.landed c.append.new.self; unsettled = g.K.Keeper.unsettled c.append.new.self; faults = g.K.Keeper.faults c.append.new.self } in
+    let opened = g.K.Keeper.records c.self.inside.opened.value in
+    let none : c.self.inside.pending ≡ None = none_pending c.self.inside.pending (ap (λ (v : JournalView). v.pending) c.self.view_is ∙ c.requires.settled) in
+    let ready = c.in_ok-ready.ready in
+    let known = c.in_ok-ready.ensures in
+    let codes : Codes c.items.result.now c.args.at c.args.event.now = codes_again ready.rec c.items.result.now c.args.at c.args.at c.args.event.now c.args.event.now c.items.ensures refl refl known.rec in
+    subst (λ (v : JournalView). Answers v (seen c.answer.new.book c.answer.new.log.items c.self.inside.pending opened after) c.args.event.now c.args.at c.answer.result.items) c.self.view_is
+    (answers_it c.self.inside.book c.make_ready.new.book c.answer.new.book c.self.inside.log.items c.make_ready.new.log.items c.answer.new.log.items c.self.inside.pending ready.step opened before after c.args.event.now c.args.at ready.reply c.answer.result.items c.items.result.now
+    c.make_ready.ensures.setup c.make_ready.ensures.state c.make_ready.ensures.log c.answer.ensures.setup c.answer.ensures.state c.answer.ensures.log known.event known.at known.reply c.answer.ensures.reply none codes c.in-Ok.ensures.list.0 c.in-Ok.ensures.faults.later)

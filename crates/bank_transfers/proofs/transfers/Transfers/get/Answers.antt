@@ -1,14 +1,18 @@
-use Rattle.std.proofs.Common.{◌∙◌, sym, subst, ap}
-use Rattle.bank_transfers.specs.TransfersView.{TransfersView, row_found, StandsFor}
-use Rattle.bank_transfers.proofs.StandsLemmas.{own_found, posted_found}
+use Rattle.std.proofs.Common.{ap, sym, subst, ◌∙◌}
+use Rattle.std.specs.Option.{option_or}
+use Rattle.bank_transfers.specs.Held.{settled_rows}
+use Rattle.bank_transfers.specs.TransfersView.{TransfersView, StandsFor, row_found}
 use Rattle.bank_transfers.proofs.transfers.Transfers.get.Goals as goal
 
 pub returns-in-Some : goal.returns-in-Some
 returns-in-Some c entries stands =
     let held = subst (λ (v : TransfersView). StandsFor v entries) (sym c.self.view_is) stands in
-    own_found c.self.inside.rows.items c.self.inside.postings.items _ c.args.id entries c.in-Some.row.now held (c.in-Some.ensures ∙ ap (row_found c.args.id) c.deref.ensures.value)
+    ap (λ found. option_or found (row_found c.args.id (settled_rows c.self.inside.closed.rows c.self.inside.postings.postings))) c.in-Some.ensures
+    ∙ held.rows c.args.id
 
 pub returns-in-None : goal.returns-in-None
 returns-in-None c entries stands =
     let held = subst (λ (v : TransfersView). StandsFor v entries) (sym c.self.view_is) stands in
-    posted_found c.self.inside.rows.items c.self.inside.postings.items _ c.args.id entries _ held (c.in-None.ensures ∙ ap (row_found c.args.id) c.deref.ensures.value) (rw c.deref-in-None.ensures.value at c.posted_row.ensures)
+    c.settled_row.ensures
+    ∙ ap (λ found. option_or found (row_found c.args.id (settled_rows c.self.inside.closed.rows c.self.inside.postings.postings))) c.in-None.ensures
+    ∙ held.rows c.args.id

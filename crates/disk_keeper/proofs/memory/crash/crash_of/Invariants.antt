@@ -1,4 +1,4 @@
--- What a read shows, and what a crash left, behind the changes so far.
+-- What a read shows, and what a crash left, after the changes so far.
 use Rattle.std.proofs.Common.{◌≡◌, take}
 use Rattle.std.specs.Prelude.{reverse}
 use Rattle.disk_keeper.specs.Disk.{image, MayLeave}

@@ -1,0 +1,9 @@
+use Rattle.std.proofs.Common.{ap}
+use Rattle.bank_history.specs.Chain.{number_or_none}
+use Rattle.bank_history.proofs.history.last_at.Goals as goal
+
+pub returns-in-Some : goal.returns-in-Some
+returns-in-Some c = ap number_or_none c.in-Some.ensures.value
+
+pub returns-in-None : goal.returns-in-None
+returns-in-None c = ap number_or_none c.in-None.ensures.value

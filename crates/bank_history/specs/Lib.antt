@@ -1,0 +1,2 @@
+pub mod HistoryView
+pub mod Chain

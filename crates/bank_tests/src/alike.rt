@@ -1,0 +1,203 @@
+//! What finds by hashes, or keeps an order, answers as plain lists do that are searched from the front, in 10,000 calls
+//! that dice choose.
+
+ghost use Rattle.std.specs.Prelude.{◌≡◌, IfOk};
+ghost use Rattle.ofx_types.specs.Calendar.{IsDay};
+
+mod lists;
+mod rows;
+mod series;
+mod transfers;
+
+use crate::sample::account;
+use bank_recur::Models;
+use lists::{Dice, PlainRecords};
+use ofx_types::{Cents, Day, FileUid, Freq, ModelRow, Recur, TrnUid, UserId};
+use once_records::Records;
+use series::{PlainModels, PlainSeries};
+use std::alloc::Global;
+use std::hash::RandomState;
+use std::test::Fail;
+
+/// How many calls.
+const CALLS: u32 = 10_000;
+
+/// Uses up a uid that the user hasn't used, and answers whether it was used before.
+fn use_up(records: &mut Records, user: UserId, name: &[u8]) -> Result<bool, Fail> {
+    let uid = TrnUid::new(name).ok().ok_or("a uid")?;
+    let there = records.used(user, &uid);
+    if !there {
+        records.reserve(1, 0)?;
+        records.use_up(user, uid);
+    }
+    Ok(there)
+}
+
+/// Keeps a reply of this one byte for a file that has none, and answers the first byte of the one before.
+fn keep(
+    alloc: Global,
+    records: &mut Records,
+    user: UserId,
+    name: &[u8],
+    byte: u8,
+) -> Result<Option<u8>, Fail> {
+    let file = FileUid::new(name).ok().ok_or("a file's uid")?;
+    if records.kept(user, &file).is_none() {
+        records.reserve(0, 1)?;
+        records.keep(user, file, Vec::from_slice(alloc, &[byte])?);
+        return Ok(None);
+    }
+    match records.kept(user, &file) {
+        Some([first, ..]) => Ok(Some(*first)),
+        _ => Err("a kept reply".into()),
+    }
+}
+
+/// Makes the same call of both, and answers whether they answer alike.
+fn alike(
+    alloc: Global,
+    records: &mut Records,
+    plain: &mut PlainRecords,
+    dice: &mut Dice,
+) -> Result<bool, Fail> {
+    let owner = dice.roll(3);
+    let name = [97 + dice.roll(26), 97 + dice.roll(26)];
+    let user = UserId(u32::from(owner));
+    match dice.roll(3) {
+        0 => Ok(use_up(records, user, &name)? == plain.use_up(owner, name)?),
+        1 => {
+            let byte = dice.roll(200);
+            let before = keep(alloc, records, user, &name, byte)?;
+            Ok(before == plain.keep(owner, name, byte)?)
+        }
+        _ => {
+            let file = FileUid::new(&name).ok().ok_or("a file's uid")?;
+            Ok(records.release(user, &file) == plain.release(owner, name))
+        }
+    }
+}
+
+#[test]
+fn used_uids_and_kept_replies_are_those_of_lists(rt: HostRuntime) -> Result<(), Fail> {
+    let alloc = rt.alloc();
+    let mut records = Records::new(alloc, RandomState::new(&rt)?);
+    let mut plain = PlainRecords::new(alloc);
+    let mut dice = Dice::new();
+    for _ in 0..CALLS {
+        assert!(rt; alike(alloc, &mut records, &mut plain, &mut dice)?);
+    }
+    Ok(())
+}
+
+/// One of six days, from 5 February 2024 on.
+fn first_day(dice: &mut Dice) -> Day
+    ensures { IsDay result.0 }
+{
+    match dice.roll(6) {
+        0 => Day(19_758),
+        1 => Day(19_759),
+        2 => Day(19_765),
+        3 => Day(19_772),
+        4 => Day(19_800),
+        _ => Day(19_900),
+    }
+}
+
+/// A row of this recurring transfer.
+fn row(alloc: Global, id: u64, freq: Freq, count: Option<u32>, first: Day) -> Result<ModelRow, Fail>
+    ensures { IfOk result (λ row. row.first ≡ first) }
+{
+    let from = account(alloc, "1001")?;
+    let to = account(alloc, "1002")?;
+    Ok(ModelRow {
+        id,
+        recur: Recur { count, freq },
+        from,
+        to,
+        amount: Cents(100),
+        first,
+    })
+}
+
+/// A recurring transfer is new, or begins anew, in both.
+fn put(
+    alloc: Global,
+    models: &mut Models,
+    plain: &mut PlainModels,
+    id: u64,
+    dice: &mut Dice,
+) -> Result<(), Fail> {
+    let first = first_day(dice);
+    let count = u32::from(dice.roll(20));
+    let (freq, step) = match dice.roll(3) {
+        0 => (Freq::Weekly, 7),
+        1 => (Freq::Biweekly, 14),
+        _ => (Freq::FourWeeks, 28),
+    };
+    models.reserve(1)?;
+    models.put(row(alloc, id, freq, Some(count), first)?);
+    let cancelled = match plain.find(id) {
+        Some(one) => one.cancelled,
+        None => false,
+    };
+    plain.keep(PlainSeries {
+        id,
+        next: first.0,
+        step,
+        count,
+        place: 0,
+        cancelled,
+    })?;
+    Ok(())
+}
+
+/// A recurring transfer that is there makes its next transfer, or is cancelled, in both.
+fn change(models: &mut Models, plain: &mut PlainModels, id: u64, cancel: bool) -> Result<(), Fail> {
+    let one = match plain.find(id) {
+        Some(one) => one,
+        None => return Ok(()),
+    };
+    if cancel {
+        models.cancel(id);
+        plain.keep(PlainSeries {
+            id,
+            next: one.next,
+            step: one.step,
+            count: one.count,
+            place: one.place,
+            cancelled: true,
+        })?;
+        return Ok(());
+    }
+    if models.get(id).is_some() && models.next_k(id) < 999 {
+        models.spawned(id);
+        plain.keep(PlainSeries {
+            id,
+            next: one.next.wrapping_add(one.step),
+            step: one.step,
+            count: one.count,
+            place: one.place.wrapping_add(1),
+            cancelled: one.cancelled,
+        })?;
+    }
+    Ok(())
+}
+
+#[test]
+fn the_next_transfer_is_that_of_a_list(rt: HostRuntime) -> Result<(), Fail> {
+    let alloc = rt.alloc();
+    let mut models = Models::new(alloc);
+    let mut plain = PlainModels::new(alloc);
+    let mut dice = Dice::new();
+    for _ in 0..CALLS {
+        let id = u64::from(dice.roll(200));
+        match dice.roll(40) {
+            0 => change(&mut models, &mut plain, id, true)?,
+            1..=19 => put(alloc, &mut models, &mut plain, id, &mut dice)?,
+            _ => change(&mut models, &mut plain, id, false)?,
+        }
+        let last = 19_750 + i32::from(dice.roll(255));
+        assert!(rt; models.next_spawn(Day(last)) == plain.first(last));
+    }
+    Ok(())
+}

@@ -1,0 +1,257 @@
+-- The first of the tasks in order is the one that is to be done first.
+use Rattle.std.proofs.Common.{◌≡◌, ℕ, ◌<◌, ◌⊎◌, inl, inr, Bool, true, false, cond, eqb, ◌&&◌, ◌||◌, List, [], ◌∷◌, map, filter, fold, Option, None, Some, ℤ, refl, sym, ap, ◌∙◌, subst, arith}
+use Rattle.std.specs.Prelude.{int_le, int_lt, nat_lt, ◌<ℤ◌}
+use Rattle.std.proofs.lemmas.Bool.{eqb-true, eq-eqb}
+use Rattle.std.proofs.lemmas.Bool.Decides.{nat_tests}
+use Rattle.std.proofs.lemmas.Int.{ints}
+use Rattle.std.proofs.lemmas.Cmp.{ranked, int_ranked, int_cmp_total, nat_cmp_total}
+use Rattle.std.specs.List.{AllByRecursion, slice_get}
+use Rattle.std.specs.List.Sorted.{IsStrictlySortedBy}
+use Rattle.std.specs.Option.{option_map, option_copied}
+use Rattle.std.specs.Ordering.{eq_by_cmp, is_eq, ordering_then, int_cmp, nat_cmp, ordering_reverse, MatchOrdering}
+use Rattle.std.specs.declared.cmp.Ordering.{Ordering}
+use Rattle.std.specs.declared.cmp.Ordering.TheVariants.{Less, Equal, Greater}
+use Rattle.ofx_types.specs.declared.number.Day.{Day}
+use Rattle.ofx_types.specs.declared.transfer.TransferRow.{TransferRow}
+use Rattle.bank_model.specs.Due.{Task, is_before, or_earlier, first_task, task_of}
+use Rattle.bank_transfers.specs.declared.waiting.Made.{Made}
+use Rattle.bank_transfers.specs.declared.waiting.DueTask.{DueTask}
+use Rattle.bank_transfers.specs.Order.{has, is_key, Lists}
+use Rattle.bank_transfers.specs.TransfersView.{row_found, row_at, RiseById}
+use Rattle.bank_transfers.specs.Waiting.{WaitingView, AreRows, task_order, task_key, AreListed}
+use Rattle.bank_transfers.proofs.RisingLemmas.{each_found}
+
+-- ---- the order of two tasks
+
+-- an earlier day, or the same day and a lesser number
+abbrev Earlier : ℤ → ℤ → ℕ → ℕ → Type 0
+Earlier x y m n = (x <ℤ y) ⊎ ((x ≡ y) × (m < n))
+
+less_parts : (x y : ℤ) (m n : ℕ) → ordering_then (int_cmp x y) (nat_cmp m n) ≡ Less → Earlier x y m n
+less_parts x y m n is = by (int_cmp x y) (int_ranked x y (int_cmp x y) refl) is
+  where
+    low : (s : Ordering) → MatchOrdering s (m < n) (m ≡ n) (n < m) → s ≡ Less → m < n
+    low Less rank less = rank
+    low Equal rank less = cc
+    low Greater rank less = cc
+
+    by : (r : Ordering) → MatchOrdering r (x <ℤ y) (x ≡ y) (y <ℤ x) → ordering_then r (nat_cmp m n) ≡ Less → Earlier x y m n
+    by Less rank less = inl rank
+    by Equal rank less = inr (rank, low (nat_cmp m n) (ranked m n (nat_cmp m n) refl) less)
+    by Greater rank less = cc
+
+equal_parts : (x y : ℤ) (m n : ℕ) → ordering_then (int_cmp x y) (nat_cmp m n) ≡ Equal → (x ≡ y) × (m ≡ n)
+equal_parts x y m n is = by (int_cmp x y) (int_ranked x y (int_cmp x y) refl) is
+  where
+    low : (s : Ordering) → MatchOrdering s (m < n) (m ≡ n) (n < m) → s ≡ Equal → m ≡ n
+    low Less rank less = cc
+    low Equal rank less = rank
+    low Greater rank less = cc
+
+    by : (r : Ordering) → MatchOrdering r (x <ℤ y) (x ≡ y) (y <ℤ x) → ordering_then r (nat_cmp m n) ≡ Equal → (x ≡ y) × (m ≡ n)
+    by Less rank same = cc
+    by Equal rank same = (rank, low (nat_cmp m n) (ranked m n (nat_cmp m n) refl) same)
+    by Greater rank same = cc
+
+lesser : (x y : ℤ) (m n : ℕ) → x <ℤ y → ((int_lt y x || (int_le y x && nat_lt n m)) ≡ false) × ((int_lt x y || (int_le x y && nat_lt m n)) ≡ true)
+lesser x y m n less = (grind (arith, ints, nat_tests), grind (arith, ints, nat_tests))
+
+same_day : (x : ℤ) (m n : ℕ) → m < n → ((int_lt x x || (int_le x x && nat_lt n m)) ≡ false) × ((int_lt x x || (int_le x x && nat_lt m n)) ≡ true)
+same_day x m n less = (grind (arith, ints, nat_tests), grind (arith, ints, nat_tests))
+
+itself : (x : ℤ) (m : ℕ) → (int_lt x x || (int_le x x && nat_lt m m)) ≡ false
+itself x m = grind (arith, ints, nat_tests)
+
+later_day : (x y z : ℤ) → x <ℤ y → int_le x z ≡ false → int_le y z ≡ false
+later_day x y z less late = grind (arith, ints)
+
+-- a task equals itself
+own : (key : DueTask) → eq_by_cmp task_order key key ≡ true
+own key = ap (λ r. is_eq (ordering_then r (nat_cmp key.id key.id))) (day_itself key.day.0) ∙ ap is_eq (id_itself key.id)
+  where
+    turns : (r : Ordering) → r ≡ ordering_reverse r → r ≡ Equal
+    turns Less is = cc
+    turns Equal is = refl
+    turns Greater is = cc
+
+    day_itself : (x : ℤ) → int_cmp x x ≡ Equal
+    day_itself x = turns (int_cmp x x) (int_cmp_total.antisymm x x)
+
+    id_itself : (n : ℕ) → nat_cmp n n ≡ Equal
+    id_itself n = turns (nat_cmp n n) (nat_cmp_total.antisymm n n)
+
+-- ---- the least of some tasks
+
+-- A task comes after another, or is the same.
+abbrev Follows : Task → Task → Type 0
+Follows first task = (is_before task first ≡ false) × (is_before first task ≡ false → task ≡ first)
+
+abbrev IsIn : Task → List Task → Type 0
+IsIn task [] = ⊥
+IsIn task (one ∷ tasks) = (one ≡ task) ⊎ IsIn task tasks
+
+stays : (first : Task) (tasks : List Task) → AllByRecursion (Follows first) tasks → fold or_earlier (Some first) tasks ≡ Some first
+stays first [] follow = refl
+stays first (task ∷ tasks) follow =
+    ap (λ b. fold or_earlier (cond b (Some task) (Some first)) tasks) follow.0.0 ∙ stays first tasks follow.1
+
+comes : (first before : Task) (tasks : List Task) → Follows first before → AllByRecursion (Follows first) tasks → IsIn first tasks → fold or_earlier (Some before) tasks ≡ Some first
+comes first before [] behind follow is = absurd is
+comes first before (task ∷ tasks) behind follow (inl same) =
+    (elim (is_before first before) as (λ b. is_before first before ≡ b → fold or_earlier (cond (is_before task before) (Some task) (Some before)) tasks ≡ Some first) [
+      | true ↦ (λ early. ap (λ (t : Task). fold or_earlier (cond (is_before t before) (Some t) (Some before)) tasks) same ∙ ap (λ b. fold or_earlier (cond b (Some first) (Some before)) tasks) early ∙ stays first tasks follow.1)
+      | false ↦ (λ late. ap (λ (t : Task). fold or_earlier (cond (is_before t before) (Some t) (Some before)) tasks) same ∙ ap (λ b. fold or_earlier (cond b (Some first) (Some before)) tasks) late
+          ∙ ap (λ (t : Task). fold or_earlier (Some t) tasks) (behind.1 late) ∙ stays first tasks follow.1)
+    ]) refl
+comes first before (task ∷ tasks) behind follow (inr rest) =
+    elim (is_before task before) as (λ b. fold or_earlier (cond b (Some task) (Some before)) tasks ≡ Some first) [
+      | true ↦ comes first task tasks follow.0 follow.1 rest
+      | false ↦ comes first before tasks behind follow.1 rest
+    ]
+
+least : (first : Task) (tasks : List Task) → AllByRecursion (Follows first) tasks → IsIn first tasks → first_task tasks ≡ Some first
+least first [] follow is = absurd is
+least first (task ∷ tasks) follow (inl same) = ap (λ (t : Task). fold or_earlier (Some t) tasks) same ∙ stays first tasks follow.1
+least first (task ∷ tasks) follow (inr rest) = comes first task tasks follow.0 follow.1 rest
+
+-- ---- the tasks of rows
+
+abbrev task_held : DueTask → Task
+task_held task = record { day = task.day; id = task.id }
+
+-- what is the same as the first of tasks in order, or one of those after it
+abbrev IsBehind : DueTask → DueTask → Type 0
+IsBehind first task = (task_order task first ≡ Equal) ⊎ (task_order first task ≡ Less)
+
+equal_is : (r : Ordering) → is_eq r ≡ true → r ≡ Equal
+equal_is Less is = cc
+equal_is Equal is = refl
+equal_is Greater is = cc
+
+one_of : (first key : DueTask) (tasks : List DueTask) → AllByRecursion (λ (task : DueTask). task_order first task ≡ Less) tasks → has task_order tasks key ≡ true → task_order first key ≡ Less
+one_of first key [] above is = cc
+one_of first key (task ∷ tasks) above is =
+    (elim (eq_by_cmp task_order key task) as (λ b. eq_by_cmp task_order key task ≡ b → (b || has task_order tasks key) ≡ true → task_order first key ≡ Less) [
+      | true ↦ (λ same any. subst (λ (t : DueTask). task_order first t ≡ Less) (sym (same_task key task (equal_is (task_order key task) same))) above.0)
+      | false ↦ (λ other rest. one_of first key tasks above.1 rest)
+    ]) refl is
+  where
+    same_task : (a b : DueTask) → task_order a b ≡ Equal → a ≡ b
+    same_task a b same = let both = equal_parts a.day.0 b.day.0 a.id b.id same in (λ i. record { day = record { 0 = both.0 i }; id = both.1 i })
+
+behind_first : (first key : DueTask) (tasks : List DueTask) → IsStrictlySortedBy task_order (first ∷ tasks) → has task_order (first ∷ tasks) key ≡ true → IsBehind first key
+unfolding IsStrictlySortedBy
+behind_first first key tasks sorted is =
+    (elim (eq_by_cmp task_order key first) as (λ b. eq_by_cmp task_order key first ≡ b → (b || has task_order tasks key) ≡ true → IsBehind first key) [
+      | true ↦ (λ same any. inl (equal_is (task_order key first) same))
+      | false ↦ (λ other rest. inr (one_of first key tasks sorted.0 rest))
+    ]) refl is
+
+follows_of : (first key : DueTask) → IsBehind first key → Follows (task_held first) (task_held key)
+follows_of first key (inl same) =
+    let both = equal_parts key.day.0 first.day.0 key.id first.id same in
+    let is : task_held key ≡ task_held first = (λ i. record { day = record { 0 = both.0 i }; id = both.1 i }) in
+    (ap (λ (t : Task). is_before t (task_held first)) is ∙ itself first.day.0 first.id, λ late. is)
+follows_of first key (inr less) = by (less_parts first.day.0 key.day.0 first.id key.id less)
+  where
+    never : is_before (task_held first) (task_held key) ≡ true → is_before (task_held first) (task_held key) ≡ false → task_held key ≡ task_held first
+    never early late = let no : true ≡ false = sym early ∙ late in cc
+
+    by : Earlier first.day.0 key.day.0 first.id key.id → Follows (task_held first) (task_held key)
+    by (inl low) = let both = lesser first.day.0 key.day.0 first.id key.id low in (both.0, never both.1)
+    by (inr low) =
+        let both = subst (λ (y : ℤ). ((int_lt y first.day.0 || (int_le y first.day.0 && nat_lt key.id first.id)) ≡ false) × ((int_lt first.day.0 y || (int_le first.day.0 y && nat_lt first.id key.id)) ≡ true)) low.0 (same_day first.day.0 first.id key.id low.1) in
+        (both.0, never both.1)
+
+not_due : (first key : DueTask) (day : Day) → IsBehind first key → int_le first.day.0 day.0 ≡ false → int_le key.day.0 day.0 ≡ false
+not_due first key day (inl same) late = ap (λ (x : ℤ). int_le x day.0) (equal_parts key.day.0 first.day.0 key.id first.id same).0 ∙ late
+not_due first key day (inr less) late = by (less_parts first.day.0 key.day.0 first.id key.id less)
+  where
+    by : Earlier first.day.0 key.day.0 first.id key.id → int_le key.day.0 day.0 ≡ false
+    by (inl low) = later_day first.day.0 key.day.0 day.0 low late
+    by (inr low) = ap (λ (x : ℤ). int_le x day.0) (sym low.0) ∙ late
+
+-- ---- the rows that are due
+
+abbrev due : Day → List TransferRow → List TransferRow
+due day rows = filter (λ (row : TransferRow). int_le row.due.0 day.0) rows
+
+abbrev AreBehind : DueTask → List TransferRow → Type 0
+AreBehind first rows = AllByRecursion (λ (row : TransferRow). IsBehind first (task_key row)) rows
+
+due_follow : (first : DueTask) (day : Day) (rows : List TransferRow) → AreBehind first rows → AllByRecursion (Follows (task_held first)) (map task_of (due day rows))
+due_follow first day [] behind = tt
+due_follow first day (row ∷ rows) behind =
+    elim (int_le row.due.0 day.0) as (λ b. AllByRecursion (Follows (task_held first)) (map task_of (cond b (row ∷ due day rows) (due day rows)))) [
+      | true ↦ (follows_of first (task_key row) behind.0, due_follow first day rows behind.1)
+      | false ↦ due_follow first day rows behind.1
+    ]
+
+none_due : (first : DueTask) (day : Day) (rows : List TransferRow) → AreBehind first rows → int_le first.day.0 day.0 ≡ false → due day rows ≡ []
+none_due first day [] behind late = refl
+none_due first day (row ∷ rows) behind late =
+    ap (λ b. cond b (row ∷ due day rows) (due day rows)) (not_due first (task_key row) day behind.0 late) ∙ none_due first day rows behind.1 late
+
+in_due : (day : Day) (id : ℕ) (row : TransferRow) (rows : List TransferRow) → row_found id rows ≡ Some row → int_le row.due.0 day.0 ≡ true → IsIn (task_of row) (map task_of (due day rows))
+in_due day id row [] found now = cc
+in_due day id row (one ∷ rows) found now =
+    (elim (eqb one.id id) as (λ b. cond b (Some one) (row_found id rows) ≡ Some row → IsIn (task_of row) (map task_of (cond (int_le one.due.0 day.0) (one ∷ due day rows) (due day rows)))) [
+      | true ↦ (λ same. let is : one ≡ row = cc in
+          subst (λ b. IsIn (task_of row) (map task_of (cond b (one ∷ due day rows) (due day rows)))) (sym (ap (λ (r : TransferRow). int_le r.due.0 day.0) is ∙ now)) (inl (ap task_of is)))
+      | false ↦ (λ rest. skip (int_le one.due.0 day.0) (in_due day id row rows rest now))
+    ]) found
+  where
+    skip : (b : Bool) → IsIn (task_of row) (map task_of (due day rows)) → IsIn (task_of row) (map task_of (cond b (one ∷ due day rows) (due day rows)))
+    skip true is = inr is
+    skip false is = is
+
+-- ---- the first of what lists rows
+
+-- a row's key is listed
+listed_key : (waiting : WaitingView) (tasks : List DueTask) (made : List Made) (rows : List TransferRow) → AreListed waiting.rows tasks made → AreRows waiting rows → (row : TransferRow) → row_found row.id rows ≡ Some row → has task_order tasks (task_key row) ≡ true
+listed_key waiting tasks made rows listed are row found =
+    listed.by_day.are (task_key row) ∙ ap (is_key task_order task_key (task_key row)) (are.found row.id ∙ found) ∙ own (task_key row)
+
+all_behind : (waiting : WaitingView) (first : DueTask) (tasks : List DueTask) (made : List Made) (all : List TransferRow) → AreListed waiting.rows (first ∷ tasks) made → AreRows waiting all → (rows : List TransferRow) → AllByRecursion (λ (row : TransferRow). row_found row.id all ≡ Some row) rows → AreBehind first rows
+all_behind waiting first tasks made all listed are [] found = tt
+all_behind waiting first tasks made all listed are (row ∷ rows) found = (
+  behind_first first (task_key row) tasks listed.by_day.sorted (listed_key waiting (first ∷ tasks) made all listed are row found.0),
+  all_behind waiting first tasks made all listed are rows found.1,
+)
+
+-- The row of the first task is found.
+its_row : (waiting : WaitingView) (first : DueTask) (tasks : List DueTask) (made : List Made) (rows : List TransferRow) → AreListed waiting.rows (first ∷ tasks) made → AreRows waiting rows → (found : Option TransferRow) → row_found first.id rows ≡ found → (row : TransferRow) × (found ≡ Some row) × (task_held first ≡ task_of row)
+its_row waiting first tasks made rows listed are found is =
+    by found (sym (ap (is_key task_order task_key first) (are.found first.id ∙ is)) ∙ sym (listed.by_day.are first) ∙ ap (λ b. b || has task_order tasks first) (own first))
+  where
+    by : (f : Option TransferRow) → is_key task_order task_key first f ≡ true → (row : TransferRow) × (f ≡ Some row) × (task_held first ≡ task_of row)
+    by None never = cc
+    by (Some row) same =
+        let both = equal_parts first.day.0 row.due.0 first.id row.id (equal_is (task_order first (task_key row)) same) in
+        (row, refl, λ i. record { day = record { 0 = both.0 i }; id = both.1 i })
+
+abbrev first_id : Day → List TransferRow → Option ℕ
+first_id day rows = option_map (λ (task : Task). task.id) (first_task (map task_of (due day rows)))
+
+first_of : (waiting : WaitingView) (first : DueTask) (tasks : List DueTask) (made : List Made) (rows : List TransferRow) (day : Day) → AreListed waiting.rows (first ∷ tasks) made → AreRows waiting rows → (b : Bool) → int_le first.day.0 day.0 ≡ b → cond b (Some first.id) None ≡ first_id day rows
+first_of waiting first tasks made rows day listed are false late =
+    sym (ap (λ (l : List TransferRow). option_map (λ (task : Task). task.id) (first_task (map task_of l))) (none_due first day rows (all_behind waiting first tasks made rows listed are rows (each_found rows are.rise)) late))
+first_of waiting first tasks made rows day listed are true now =
+    let its = its_row waiting first tasks made rows listed are (row_found first.id rows) refl in
+    let row = its.0 in
+    let same : task_held first ≡ task_of row = its.2 in
+    let is_in = in_due day first.id row rows its.1 (ap (λ (t : Task). int_le t.day.0 day.0) (sym same) ∙ now) in
+    sym (ap (option_map (λ (task : Task). task.id)) (least (task_held first) (map task_of (due day rows)) (due_follow first day rows (all_behind waiting first tasks made rows listed are rows (each_found rows are.rise))) (subst (λ (t : Task). IsIn t (map task_of (due day rows))) (sym same) is_in)))
+
+pub first_due : (waiting : WaitingView) (first : DueTask) (tasks : List DueTask) (made : List Made) (rows : List TransferRow) (day : Day) → AreListed waiting.rows tasks made → AreRows waiting rows → slice_get tasks 0 ≡ Some first → cond (int_le first.day.0 day.0) (Some first.id) None ≡ first_id day rows
+first_due waiting first [] made rows day listed are is = cc
+first_due waiting first (task ∷ tasks) made rows day listed are is =
+    let same : task ≡ first = cc in
+    ap (λ (t : DueTask). cond (int_le t.day.0 day.0) (Some t.id) None) (sym same) ∙ first_of waiting task tasks made rows day listed are (int_le task.day.0 day.0) refl
+
+-- Where nothing is listed, no row is due.
+pub nothing_due : (waiting : WaitingView) (tasks : List DueTask) (made : List Made) (rows : List TransferRow) (day : Day) → AreListed waiting.rows tasks made → AreRows waiting rows → slice_get tasks 0 ≡ None → None ≡ first_id day rows
+nothing_due waiting (task ∷ tasks) made rows day listed are is = cc
+nothing_due waiting [] made [] day listed are is = refl
+nothing_due waiting [] made (row ∷ rows) day listed are is =
+    let no : false ≡ true = listed_key waiting [] made (row ∷ rows) listed are row (each_found (row ∷ rows) are.rise).0 in cc

@@ -1,0 +1,16 @@
+use Rattle.std.proofs.Common.{◌≡◌, ℕ, List, map, filter, ◌==◌, sym, subst}
+use Rattle.std.proofs.lemmas.Result.{IfOk-weaker}
+use Rattle.ofx_types.specs.declared.transfer.TransferRow.{TransferRow}
+use Rattle.bank_model.specs.declared.entry.Entry.{Entry}
+use Rattle.bank_model.specs.Models.{all_waiting, waiting_of}
+use Rattle.bank_transfers.specs.TransfersView.{TransfersView, StandsFor}
+use Rattle.bank_transfers.proofs.transfers.Transfers.waiting.Goals as goal
+
+pub returns : goal.returns
+unfolding waiting_of
+returns c =
+    IfOk-weaker c.of_model.result _ _
+    (λ ids is entries stands.
+    let held = subst (λ (v : TransfersView). StandsFor v entries) (sym c.self.view_is) stands in
+    is (all_waiting entries) (record { found = held.waiting; rise = held.rise }))
+    c.of_model.ensures

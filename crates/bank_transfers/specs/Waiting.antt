@@ -1,0 +1,41 @@
+-- The transfers that wait, as they are held.
+use Rattle.std.specs.Prelude.{◌≡◌, ℕ, List, Option}
+use Rattle.std.specs.Option.{IfSome}
+use Rattle.std.specs.Ordering.{ordering_then, int_cmp, nat_cmp}
+use Rattle.std.specs.declared.cmp.Ordering.{Ordering}
+use Rattle.ofx_types.specs.declared.transfer.TransferRow.{TransferRow}
+use Rattle.bank_transfers.specs.Order.{Lists}
+use Rattle.bank_transfers.specs.TransfersView.{row_found, row_at, RiseById}
+use Rattle.bank_transfers.specs.declared.waiting.DueTask.{DueTask}
+use Rattle.bank_transfers.specs.declared.waiting.Made.{Made}
+
+-- The rows of the transfers that wait, each under its id, and for how many more there is room.
+pub record WaitingView : Type 0 where
+  pub rows : List (ℕ × TransferRow)
+  pub room : ℕ
+
+-- The transfers that wait have just these rows, whose ids rise.
+pub record AreRows (waiting : WaitingView) (rows : List TransferRow) : Type 0 where
+  pub found : (id : ℕ) → row_at waiting.rows id ≡ row_found id rows
+  pub rise : RiseById rows
+
+-- The earlier due day comes first, and on one day the lesser id.
+abbrev pub task_order : DueTask → DueTask → Ordering
+task_order a b = ordering_then (int_cmp a.day.0 b.day.0) (nat_cmp a.id b.id)
+
+-- The transfers of one recurring transfer stand together, by their ids.
+abbrev pub made_order : Made → Made → Ordering
+made_order a b = ordering_then (nat_cmp a.model b.model) (nat_cmp a.id b.id)
+
+abbrev pub task_key : TransferRow → DueTask
+task_key row = record { day = row.due; id = row.id }
+
+abbrev pub made_key : TransferRow → Made
+made_key row = record { model = row.model; id = row.id }
+
+-- What lists the rows that stand under ids: each row stands under its own, and the tasks and the transfers that recurring
+-- ones made are those of the rows.
+pub record AreListed (rows : List (ℕ × TransferRow)) (tasks : List DueTask) (made : List Made) : Type 0 where
+  pub keyed : (id : ℕ) → IfSome (row_at rows id) (λ (row : TransferRow). row.id ≡ id)
+  pub by_day : Lists task_order (λ (task : DueTask). task.id) task_key tasks (row_at rows)
+  pub by_model : Lists made_order (λ (one : Made). one.id) made_key made (row_at rows)
