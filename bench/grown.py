@@ -1,7 +1,8 @@
-"""A bank that has grown: its setup, the file of its records, and the files that are asked of it."""
+"""Banks that have grown: their setup, the files of their records, and the files that are asked of them."""
 import sys
 from contextlib import closing
 from datetime import datetime
+from functools import lru_cache
 
 from kept import open_new
 from samples import ROOT, sample_file
@@ -10,17 +11,21 @@ sys.path.append(ROOT + "/cases")
 from reference.events import File
 from reference.header import Header
 from reference.records import record_of
-from reference.requests import Account, Request, Terms, Transfer
+from reference.requests import Account, Period, Request, Statement, Terms, Transfer
 from written.record_file import INSERT
 
 # Users and accounts come in pairs: two accounts are of two users.
-TRANSFERS, STATEMENTS, REFRESHES = 0, 1, 2  # which pair is asked for what
+TRANSFERS, STATEMENTS, REFRESHES, PASTS = 0, 1, 2, 3  # which pair is asked for what
 LINES, ROWS = 10, 50  # of a statement and of a refresh
-DAYS = (datetime(2024, 1, 31, 12), datetime(2024, 2, 1, 12))  # of the bank's entries, and of the last ten
+# Of the first ten of the bank's entries, of all others, and of the last ten.
+PAST, DAY, LAST = datetime(2024, 1, 10, 12), datetime(2024, 1, 31, 12), datetime(2024, 2, 1, 12)
 AT = "20240202120000"  # of the run
-LATER = "20240310120000"  # of a run in which all that was made is due
-WEEKS = 5  # that a recurring transfer goes on, all of them within LEAD
+# Moments a week apart from each other, in each of which a recurring transfer makes its next transfer and one is posted.
+WEEKS = ["20240209120000", "20240216120000", "20240223120000", "20240301120000", "20240308120000"]
+MADE = 5  # transfers that a recurring one makes at once, since they are within LEAD
 BANK = b"121099999"
+NOWHERE = b"99999"  # no account of the bank
+NO_NUMBER = b"0000000000"  # where a record's number comes
 
 
 def number_of(place):
@@ -42,38 +47,64 @@ def places(pair, number):
     return (2 * pair, 2 * pair + 1) if number % 2 else (2 * pair + 1, 2 * pair)
 
 
-NOWHERE = b"99999"  # no account of the bank
 
-
-def record(pair, number, ends, day, is_refused=False):
-    """A file of one transfer of 0.01 by a user of this pair. One that is refused goes to no account of the bank: it uses
-    up its TRNUID and adds no entry."""
+@lru_cache(maxsize=None)
+def record(pair, ends, at, is_refused=False):
+    """A file of one transfer of 0.01 by a user of this pair, which has no number yet. One that is refused goes to no account of
+    the bank: it uses up its TRNUID and adds no entry."""
     source, target = (number_of(place) for place in ends)
     ends = (Account(BANK, name, b"CHECKING") for name in (source, NOWHERE if is_refused else target))
-    deed = Transfer(b"x%d" % number, b"INTRARQ", None, Terms(*ends, 1, None))
-    return record_of(File(2 * pair, Request(Header(b"160", None, None, (), 0), b"", b"", (deed,))), day)
+    return file_record(pair, Transfer(b"x" + NO_NUMBER, b"INTRARQ", None, Terms(*ends, 1, None)), None, at)
+
+
+@lru_cache(maxsize=None)
+def named_record(pair, at):
+    """A file with a name and a statement, which has no number yet."""
+    account = Account(BANK, number_of(2 * pair), b"CHECKING")
+    return file_record(pair, Statement(b"s" + NO_NUMBER, account, Period(None, None, True)), name_of(0), at)
+
+
+def file_record(pair, ask, name, at):
+    return record_of(File(2 * pair, Request(Header(b"160", None, name, (), 0), b"", b"", (ask,))), at)
+
+
+def name_of(number):
+    return b"alice-20240131-%010d" % number
+
+
+def numbered(record, number):
+    return record.replace(NO_NUMBER, b"%010d" % number)
 
 
 def records(entries, pairs):
-    """The records of so many transfers among so many pairs: those of the refreshed account, those of all others, and at last
-    the ten of the statements' period."""
+    """The records of so many transfers among so many pairs: those of the statement of a period long past, those of the refreshed
+    account, those of all others, and at last those of the other statement."""
     others = [pair for pair in range(pairs) if pair != REFRESHES]
     for number in range(1, entries + 1):
-        if number <= ROWS:
+        if number <= LINES:
+            made = record(PASTS, places(PASTS, number), PAST)
+        elif number <= LINES + ROWS:
             # An account is told of those that went out of it.
-            yield record(REFRESHES, number, places(REFRESHES, 1), DAYS[0])
+            made = record(REFRESHES, places(REFRESHES, 1), DAY)
         elif number <= entries - LINES:
             pair = others[number % len(others)]
-            yield record(pair, number, places(pair, number), DAYS[0])
+            made = record(pair, places(pair, number), DAY)
         else:
-            yield record(STATEMENTS, number, places(STATEMENTS, number), DAYS[1])
+            made = record(STATEMENTS, places(STATEMENTS, number), LAST)
+        yield numbered(made, number)
 
 
 def refused_records(count, pairs):
     """The records of so many transfers that are refused."""
     for number in range(1, count + 1):
         pair = number % pairs
-        yield record(pair, number, places(pair, number), DAYS[0], is_refused=True)
+        yield numbered(record(pair, places(pair, number), DAY, is_refused=True), number)
+
+
+def named_records(count, pairs):
+    """The records of so many files with names, each with a statement, whose replies are kept."""
+    for number in range(1, count + 1):
+        yield numbered(named_record(number % pairs, DAY), number)
 
 
 def make_records(path, records):
@@ -89,9 +120,9 @@ def account(place, end):
         end, BANK, number_of(place), end)
 
 
-def framed(pair, asks):
+def framed(pair, asks, name=b"NONE"):
     """The frame of a file of a user of this pair."""
-    file = sample_file().replace(b"<USERID>alice\r\n", b"<USERID>u%d\r\n" % (2 * pair))
+    file = sample_file().replace(b"NEWFILEUID:NONE", b"NEWFILEUID:" + name).replace(b"<USERID>alice\r\n", b"<USERID>u%d\r\n" % (2 * pair))
     file = file.replace(b"<USERPASS>secret\r\n", b"<USERPASS>p%d\r\n" % (2 * pair))
     start, end = file[:file.index(b"<STMTTRNRQ>")], file[file.index(b"</BANKMSGSRQV1>"):]
     whole = start + asks + end
@@ -113,12 +144,13 @@ def transfers(first, files, in_a_file):
 
 
 def model(number):
-    """A recurring transfer that makes its transfers in five weeks."""
+    """A recurring transfer that makes its transfers every week."""
     source, target = places(TRANSFERS, number)
     return (
         b"<RECINTRATRNRQ>\r\n<TRNUID>m%d\r\n<RECINTRARQ>\r\n<RECURRINST>\r\n<NINSTS>%d\r\n<FREQ>WEEKLY\r\n"
         b"</RECURRINST>\r\n<INTRARQ>\r\n<XFERINFO>\r\n%s%s<TRNAMT>0.01\r\n<DTDUE>20240203\r\n</XFERINFO>\r\n</INTRARQ>\r\n"
-        b"</RECINTRARQ>\r\n</RECINTRATRNRQ>\r\n") % (number, WEEKS, account(source, b"FROM"), account(target, b"TO"))
+        b"</RECINTRARQ>\r\n</RECINTRATRNRQ>\r\n") % (
+            number, MADE + len(WEEKS), account(source, b"FROM"), account(target, b"TO"))
 
 
 def models(count, in_a_file):
@@ -128,14 +160,29 @@ def models(count, in_a_file):
         for start in range(0, count, in_a_file)]
 
 
-def statement():
-    """A statement with the ten lines of its period."""
-    return framed(STATEMENTS, (
-        b"<STMTTRNRQ>\r\n<TRNUID>s1\r\n<STMTRQ>\r\n%s<INCTRAN>\r\n<DTSTART>20240201\r\n<INCLUDE>Y\r\n</INCTRAN>\r\n"
-        b"</STMTRQ>\r\n</STMTTRNRQ>\r\n") % account(2 * STATEMENTS, b"FROM"))
+def statement(pair, period, name=b"NONE"):
+    """A statement of a pair's first account, with the lines of a period."""
+    return framed(pair, (
+        b"<STMTTRNRQ>\r\n<TRNUID>s1\r\n<STMTRQ>\r\n%s<INCTRAN>\r\n%s<INCLUDE>Y\r\n</INCTRAN>\r\n"
+        b"</STMTRQ>\r\n</STMTTRNRQ>\r\n") % (account(2 * pair, b"FROM"), period), name)
+
+
+def last_statement():
+    """A statement of the bank's last day, with ten lines."""
+    return statement(STATEMENTS, b"<DTSTART>20240201\r\n")
+
+
+def past_statement():
+    """A statement of a day long past, with ten lines."""
+    return statement(PASTS, b"<DTSTART>20240110\r\n<DTEND>20240111\r\n")
 
 
 def refresh():
     """All transfers of an account that has fifty."""
     return framed(REFRESHES, (
         b"<INTRASYNCRQ>\r\n<REFRESH>Y\r\n<REJECTIFMISSING>N\r\n%s</INTRASYNCRQ>\r\n") % account(2 * REFRESHES, b"FROM"))
+
+
+def kept_file():
+    """The first of the files with names once more, where there are two pairs or more."""
+    return statement(1, b"", name_of(1))

@@ -6,6 +6,7 @@ mod due;
 mod entries;
 mod mail;
 mod models;
+mod names;
 mod pending;
 mod rows;
 mod transfers;

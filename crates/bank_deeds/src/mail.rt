@@ -12,6 +12,7 @@ ghost use Rattle.bank_model.specs.Sound.{IsSoundDeed};
 ghost use Rattle.bank_ledger.specs.DraftView.{drafted, HasAdded};
 ghost use Rattle.bank_deeds.specs.Unrefused.{IsUnrefused};
 
+use crate::names::own_name;
 use bank_ledger::{Draft, RowChange, own_uid};
 use bank_model::Entry;
 use ofx_types::{
@@ -36,7 +37,7 @@ pub(crate) fn take_mail_about(
         (asked.BankMail about.now mail.now))) }
 {
     let object = draft.letter_object_of(about);
-    let account = about.copy()?;
+    let account = own_name(draft.setup(), about)?;
     let row = mail_row(draft, draft.user(), Some(account), mail)?;
     let uid = trnuid.copy()?;
     enter_mail(draft, uid, object, row)?;

@@ -36,7 +36,7 @@ pub(crate) fn take_model(
         (done draft.old.setup (drafted draft.old) draft.old.user draft.old.at trnuid.now (deeds.Model recur info.now))) }
 {
     let number = draft.count() + 1;
-    let row = new_model(number, draft.day(), recur, info)?;
+    let row = new_model(draft.setup(), number, draft.day(), recur, info)?;
     let object = draft.model_object_of(&info.from);
     let entry = new_model_entry(number, object, trnuid, &row)?;
     draft.enter(entry, RowChange::Model(row))?;
@@ -150,7 +150,7 @@ fn changed(
         (model_of id (drafted draft.now).entries) ≡ Some changed) }
 {
     match draft.model(id) {
-        Some(row) => changed_model(draft.day(), recur, info, row),
+        Some(row) => changed_model(draft.setup(), draft.day(), recur, info, row),
         None => unreachable!(),
     }
 }

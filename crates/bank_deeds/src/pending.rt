@@ -157,7 +157,7 @@ fn row_with_terms(draft: &Draft<'_>, info: &XferInfo, id: u64) -> Result<Transfe
         (row_of id (drafted draft.now).entries) ≡ Some changed) }
 {
     match draft.row(id) {
-        Some(row) => with_terms(info, row),
+        Some(row) => with_terms(draft.setup(), info, row),
         None => unreachable!(),
     }
 }

@@ -7,6 +7,8 @@ ghost use Rattle.bank_model.specs.Judging as judging;
 ghost use Rattle.bank_model.specs.Deeds as deeds;
 ghost use Rattle.bank_model.specs.Due as due_work;
 
+use crate::names::own_name;
+use bank_model::Setup;
 use ofx_types::{
     Day, Duplicate, ModelRow, Moment, OutOfMemory, Recur, TransferRow, XferCode, XferInfo,
 };
@@ -15,6 +17,7 @@ use ofx_values::midnight;
 /// The row of a new transfer, which is due on a business day or waits.
 #[tactic(auto, unfolding(bank_model::specs::Deeds::new_row))]
 pub(crate) fn new_row(
+    setup: &Setup,
     id: u64,
     at: Moment,
     day: Day,
@@ -29,8 +32,8 @@ pub(crate) fn new_row(
     Ok(TransferRow {
         id,
         model: 0,
-        from: info.from.copy()?,
-        to: info.to.copy()?,
+        from: own_name(setup, &info.from)?,
+        to: own_name(setup, &info.to)?,
         amount: info.amount,
         due,
         code: if posted {
@@ -45,6 +48,7 @@ pub(crate) fn new_row(
 /// The row of a transfer that waits, changed on a business day.
 #[tactic(auto, unfolding(bank_model::specs::Deeds::changed_row))]
 pub(crate) fn changed_row(
+    setup: &Setup,
     day: Day,
     info: &XferInfo,
     row: &TransferRow,
@@ -58,7 +62,7 @@ pub(crate) fn changed_row(
         id: row.id,
         model: row.model,
         from: row.from.copy()?,
-        to: info.to.copy()?,
+        to: own_name(setup, &info.to)?,
         amount: info.amount,
         due,
         code: XferCode::Waiting,
@@ -88,6 +92,7 @@ fn is_due(due: Day, day: Day) -> bool
 /// The row of a new recurring transfer.
 #[tactic(auto, unfolding(bank_model::specs::Deeds::new_model))]
 pub(crate) fn new_model(
+    setup: &Setup,
     id: u64,
     day: Day,
     recur: Recur,
@@ -100,8 +105,8 @@ pub(crate) fn new_model(
     Ok(ModelRow {
         id,
         recur,
-        from: info.from.copy()?,
-        to: info.to.copy()?,
+        from: own_name(setup, &info.from)?,
+        to: own_name(setup, &info.to)?,
         amount: info.amount,
         first: due_day(info, day),
     })
@@ -110,6 +115,7 @@ pub(crate) fn new_model(
 /// The row of a recurring transfer, changed on a business day.
 #[tactic(auto, unfolding(bank_model::specs::Deeds::changed_model))]
 pub(crate) fn changed_model(
+    setup: &Setup,
     day: Day,
     recur: Recur,
     info: &XferInfo,
@@ -123,7 +129,7 @@ pub(crate) fn changed_model(
         id: row.id,
         recur,
         from: row.from.copy()?,
-        to: info.to.copy()?,
+        to: own_name(setup, &info.to)?,
         amount: info.amount,
         first: due_day(info, day),
     })
@@ -131,14 +137,18 @@ pub(crate) fn changed_model(
 
 /// The row of a transfer that waits while its recurring transfer is changed.
 #[tactic(auto, unfolding(bank_model::specs::Deeds::with_terms))]
-pub(crate) fn with_terms(info: &XferInfo, row: &TransferRow) -> Result<TransferRow, OutOfMemory>
+pub(crate) fn with_terms(
+    setup: &Setup,
+    info: &XferInfo,
+    row: &TransferRow,
+) -> Result<TransferRow, OutOfMemory>
     ensures { IfOk result (λ changed. changed ≡ deeds.with_terms info.now row.now) }
 {
     Ok(TransferRow {
         id: row.id,
         model: row.model,
         from: row.from.copy()?,
-        to: info.to.copy()?,
+        to: own_name(setup, &info.to)?,
         amount: info.amount,
         due: row.due,
         code: row.code,

@@ -36,7 +36,7 @@ pub(crate) fn transfer(
         (done draft.old.setup (drafted draft.old) draft.old.user draft.old.at trnuid.now (asked.Transfer info.now))) }
 {
     let number = draft.count() + 1;
-    let row = new_row(number, draft.at(), draft.day(), info)?;
+    let row = new_row(draft.setup(), number, draft.at(), draft.day(), info)?;
     let object = draft.object_of(&info.from);
     let entry = new_entry(number, object, trnuid, &row)?;
     draft.settle(entry, row)?;
@@ -95,7 +95,7 @@ fn changed(draft: &Draft<'_>, id: u64, info: &XferInfo) -> Result<TransferRow, O
         (row_of id (drafted draft.now).entries) ≡ Some changed) }
 {
     match draft.row(id) {
-        Some(row) => changed_row(draft.day(), info, row),
+        Some(row) => changed_row(draft.setup(), draft.day(), info, row),
         None => unreachable!(),
     }
 }

@@ -1,13 +1,13 @@
--- The first of the tasks in order is the one that is to be done first.
-use Rattle.std.proofs.Common.{◌≡◌, ℕ, ◌<◌, ◌⊎◌, inl, inr, Bool, true, false, cond, eqb, ◌&&◌, ◌||◌, List, [], ◌∷◌, map, filter, fold, Option, None, Some, ℤ, refl, sym, ap, ◌∙◌, subst, arith}
+-- The last of the tasks in order is the one that is to be done first.
+use Rattle.std.proofs.Common.{◌≡◌, ℕ, suc, ◌<◌, ◌-◌, ◌⊎◌, inl, inr, Bool, true, false, cond, eqb, ◌&&◌, ◌||◌, List, [], ◌∷◌, length, get_or, map, filter, fold, Option, None, Some, ℤ, refl, sym, ap, ◌∙◌, subst, arith}
 use Rattle.std.specs.Prelude.{int_le, int_lt, nat_lt, ◌<ℤ◌}
-use Rattle.std.proofs.lemmas.Bool.{eqb-true, eq-eqb}
 use Rattle.std.proofs.lemmas.Bool.Decides.{nat_tests}
+use Rattle.std.proofs.lemmas.Option.{slice_get-get_or}
 use Rattle.std.proofs.lemmas.Int.{ints}
 use Rattle.std.proofs.lemmas.Cmp.{ranked, int_ranked, int_cmp_total, nat_cmp_total}
 use Rattle.std.specs.List.{AllByRecursion, slice_get}
 use Rattle.std.specs.List.Sorted.{IsStrictlySortedBy}
-use Rattle.std.specs.Option.{option_map, option_copied}
+use Rattle.std.specs.Option.{option_map}
 use Rattle.std.specs.Ordering.{eq_by_cmp, is_eq, ordering_then, int_cmp, nat_cmp, ordering_reverse, MatchOrdering}
 use Rattle.std.specs.declared.cmp.Ordering.{Ordering}
 use Rattle.std.specs.declared.cmp.Ordering.TheVariants.{Less, Equal, Greater}
@@ -16,8 +16,8 @@ use Rattle.ofx_types.specs.declared.transfer.TransferRow.{TransferRow}
 use Rattle.bank_model.specs.Due.{Task, is_before, or_earlier, first_task, task_of}
 use Rattle.bank_transfers.specs.declared.waiting.Made.{Made}
 use Rattle.bank_transfers.specs.declared.waiting.DueTask.{DueTask}
-use Rattle.bank_transfers.specs.Order.{has, is_key, Lists}
-use Rattle.bank_transfers.specs.TransfersView.{row_found, row_at, RiseById}
+use Rattle.bank_transfers.specs.Order.{has, is_key}
+use Rattle.bank_transfers.specs.TransfersView.{row_found}
 use Rattle.bank_transfers.specs.Waiting.{WaitingView, AreRows, task_order, task_key, AreListed}
 use Rattle.bank_transfers.proofs.RisingLemmas.{each_found}
 
@@ -67,7 +67,7 @@ later_day x y z less late = grind (arith, ints)
 
 -- a task equals itself
 own : (key : DueTask) → eq_by_cmp task_order key key ≡ true
-own key = ap (λ r. is_eq (ordering_then r (nat_cmp key.id key.id))) (day_itself key.day.0) ∙ ap is_eq (id_itself key.id)
+own key = ap (λ r. is_eq (ordering_then r (nat_cmp key.id.0 key.id.0))) (day_itself key.day.0.0) ∙ ap is_eq (id_itself key.id.0)
   where
     turns : (r : Ordering) → r ≡ ordering_reverse r → r ≡ Equal
     turns Less is = cc
@@ -117,58 +117,85 @@ least first (task ∷ tasks) follow (inr rest) = comes first task tasks follow.0
 -- ---- the tasks of rows
 
 abbrev task_held : DueTask → Task
-task_held task = record { day = task.day; id = task.id }
+task_held task = record { day = task.day.0; id = task.id.0 }
 
--- what is the same as the first of tasks in order, or one of those after it
+-- what is the same as the last of tasks in order, or one of those before it
 abbrev IsBehind : DueTask → DueTask → Type 0
-IsBehind first task = (task_order task first ≡ Equal) ⊎ (task_order first task ≡ Less)
+IsBehind last task = (task_order task last ≡ Equal) ⊎ (task_order task last ≡ Less)
+
+abbrev IsLast : DueTask → List DueTask → Type 0
+IsLast last [] = ⊥
+IsLast last (task ∷ []) = task ≡ last
+IsLast last (task ∷ next ∷ tasks) = IsLast last (next ∷ tasks)
+
+last_is : (last : DueTask) (tasks : List DueTask) → slice_get tasks (length tasks - 1) ≡ Some last → IsLast last tasks
+last_is last [] is = cc
+last_is last (task ∷ []) is = let first : suc 0 - 1 ≡ 0 = omega arith in let same : Some task ≡ Some last = ap (slice_get (task ∷ [])) (sym first) ∙ is in cc
+last_is last (task ∷ next ∷ tasks) is =
+    let behind : suc (suc (length tasks)) - 1 ≡ suc (suc (length tasks) - 1) = omega arith in
+    last_is last (next ∷ tasks) (ap (slice_get (task ∷ next ∷ tasks)) (sym behind) ∙ is)
 
 equal_is : (r : Ordering) → is_eq r ≡ true → r ≡ Equal
 equal_is Less is = cc
 equal_is Equal is = refl
 equal_is Greater is = cc
 
-one_of : (first key : DueTask) (tasks : List DueTask) → AllByRecursion (λ (task : DueTask). task_order first task ≡ Less) tasks → has task_order tasks key ≡ true → task_order first key ≡ Less
-one_of first key [] above is = cc
-one_of first key (task ∷ tasks) above is =
-    (elim (eq_by_cmp task_order key task) as (λ b. eq_by_cmp task_order key task ≡ b → (b || has task_order tasks key) ≡ true → task_order first key ≡ Less) [
-      | true ↦ (λ same any. subst (λ (t : DueTask). task_order first t ≡ Less) (sym (same_task key task (equal_is (task_order key task) same))) above.0)
-      | false ↦ (λ other rest. one_of first key tasks above.1 rest)
-    ]) refl is
-  where
-    same_task : (a b : DueTask) → task_order a b ≡ Equal → a ≡ b
-    same_task a b same = let both = equal_parts a.day.0 b.day.0 a.id b.id same in (λ i. record { day = record { 0 = both.0 i }; id = both.1 i })
+same_task : (a b : DueTask) → task_order a b ≡ Equal → a ≡ b
+same_task a b same =
+    let both = equal_parts b.day.0.0 a.day.0.0 b.id.0 a.id.0 same in
+    let day = sym both.0 in
+    let id = sym both.1 in
+    (λ i. record { day = record { 0 = record { 0 = day i } }; id = record { 0 = id i } })
 
-behind_first : (first key : DueTask) (tasks : List DueTask) → IsStrictlySortedBy task_order (first ∷ tasks) → has task_order (first ∷ tasks) key ≡ true → IsBehind first key
+last_among : (last : DueTask) (tasks : List DueTask) → IsLast last tasks → has task_order tasks last ≡ true
+last_among last [] end = absurd end
+last_among last (task ∷ []) end = ap (λ (t : DueTask). eq_by_cmp task_order last t || false) end ∙ ap (λ b. b || false) (own last)
+last_among last (task ∷ next ∷ tasks) end = ap (λ b. eq_by_cmp task_order last task || b) (last_among last (next ∷ tasks) end) ∙ or_true (eq_by_cmp task_order last task)
+  where
+    or_true : (b : Bool) → (b || true) ≡ true
+    or_true true = refl
+    or_true false = refl
+
+before_last : (last task : DueTask) (tasks : List DueTask) → AllByRecursion (λ (t : DueTask). task_order task t ≡ Less) tasks → IsLast last tasks → task_order task last ≡ Less
+before_last last task [] above end = absurd end
+before_last last task (next ∷ []) above end = ap (task_order task) (sym end) ∙ above.0
+before_last last task (next ∷ more ∷ tasks) above end = before_last last task (more ∷ tasks) above.1 end
+
+behind_last : (last key : DueTask) (tasks : List DueTask) → IsStrictlySortedBy task_order tasks → IsLast last tasks → has task_order tasks key ≡ true → IsBehind last key
 unfolding IsStrictlySortedBy
-behind_first first key tasks sorted is =
-    (elim (eq_by_cmp task_order key first) as (λ b. eq_by_cmp task_order key first ≡ b → (b || has task_order tasks key) ≡ true → IsBehind first key) [
-      | true ↦ (λ same any. inl (equal_is (task_order key first) same))
-      | false ↦ (λ other rest. inr (one_of first key tasks sorted.0 rest))
+behind_last last key [] sorted end is = cc
+behind_last last key (task ∷ []) sorted end is =
+    (elim (eq_by_cmp task_order key task) as (λ b. eq_by_cmp task_order key task ≡ b → (b || false) ≡ true → IsBehind last key) [
+      | true ↦ (λ same any. inl (ap (task_order key) (sym end) ∙ equal_is (task_order key task) same))
+      | false ↦ (λ other rest. cc)
+    ]) refl is
+behind_last last key (task ∷ next ∷ tasks) sorted end is =
+    (elim (eq_by_cmp task_order key task) as (λ b. eq_by_cmp task_order key task ≡ b → (b || has task_order (next ∷ tasks) key) ≡ true → IsBehind last key) [
+      | true ↦ (λ same any. inr (ap (λ (t : DueTask). task_order t last) (same_task key task (equal_is (task_order key task) same)) ∙ before_last last task (next ∷ tasks) sorted.0 end))
+      | false ↦ (λ other rest. behind_last last key (next ∷ tasks) sorted.1 end rest)
     ]) refl is
 
 follows_of : (first key : DueTask) → IsBehind first key → Follows (task_held first) (task_held key)
 follows_of first key (inl same) =
-    let both = equal_parts key.day.0 first.day.0 key.id first.id same in
-    let is : task_held key ≡ task_held first = (λ i. record { day = record { 0 = both.0 i }; id = both.1 i }) in
-    (ap (λ (t : Task). is_before t (task_held first)) is ∙ itself first.day.0 first.id, λ late. is)
-follows_of first key (inr less) = by (less_parts first.day.0 key.day.0 first.id key.id less)
+    let is : task_held key ≡ task_held first = ap task_held (same_task key first same) in
+    (ap (λ (t : Task). is_before t (task_held first)) is ∙ itself first.day.0.0 first.id.0, λ late. is)
+follows_of first key (inr less) = by (less_parts first.day.0.0 key.day.0.0 first.id.0 key.id.0 less)
   where
     never : is_before (task_held first) (task_held key) ≡ true → is_before (task_held first) (task_held key) ≡ false → task_held key ≡ task_held first
     never early late = let no : true ≡ false = sym early ∙ late in cc
 
-    by : Earlier first.day.0 key.day.0 first.id key.id → Follows (task_held first) (task_held key)
-    by (inl low) = let both = lesser first.day.0 key.day.0 first.id key.id low in (both.0, never both.1)
+    by : Earlier first.day.0.0 key.day.0.0 first.id.0 key.id.0 → Follows (task_held first) (task_held key)
+    by (inl low) = let both = lesser first.day.0.0 key.day.0.0 first.id.0 key.id.0 low in (both.0, never both.1)
     by (inr low) =
-        let both = subst (λ (y : ℤ). ((int_lt y first.day.0 || (int_le y first.day.0 && nat_lt key.id first.id)) ≡ false) × ((int_lt first.day.0 y || (int_le first.day.0 y && nat_lt first.id key.id)) ≡ true)) low.0 (same_day first.day.0 first.id key.id low.1) in
+        let both = subst (λ (y : ℤ). ((int_lt y first.day.0.0 || (int_le y first.day.0.0 && nat_lt key.id.0 first.id.0)) ≡ false) × ((int_lt first.day.0.0 y || (int_le first.day.0.0 y && nat_lt first.id.0 key.id.0)) ≡ true)) low.0 (same_day first.day.0.0 first.id.0 key.id.0 low.1) in
         (both.0, never both.1)
 
-not_due : (first key : DueTask) (day : Day) → IsBehind first key → int_le first.day.0 day.0 ≡ false → int_le key.day.0 day.0 ≡ false
-not_due first key day (inl same) late = ap (λ (x : ℤ). int_le x day.0) (equal_parts key.day.0 first.day.0 key.id first.id same).0 ∙ late
-not_due first key day (inr less) late = by (less_parts first.day.0 key.day.0 first.id key.id less)
+not_due : (first key : DueTask) (day : Day) → IsBehind first key → int_le first.day.0.0 day.0 ≡ false → int_le key.day.0.0 day.0 ≡ false
+not_due first key day (inl same) late = ap (λ (t : DueTask). int_le t.day.0.0 day.0) (same_task key first same) ∙ late
+not_due first key day (inr less) late = by (less_parts first.day.0.0 key.day.0.0 first.id.0 key.id.0 less)
   where
-    by : Earlier first.day.0 key.day.0 first.id key.id → int_le key.day.0 day.0 ≡ false
-    by (inl low) = later_day first.day.0 key.day.0 day.0 low late
+    by : Earlier first.day.0.0 key.day.0.0 first.id.0 key.id.0 → int_le key.day.0.0 day.0 ≡ false
+    by (inl low) = later_day first.day.0.0 key.day.0.0 day.0 low late
     by (inr low) = ap (λ (x : ℤ). int_le x day.0) (sym low.0) ∙ late
 
 -- ---- the rows that are due
@@ -187,7 +214,7 @@ due_follow first day (row ∷ rows) behind =
       | false ↦ due_follow first day rows behind.1
     ]
 
-none_due : (first : DueTask) (day : Day) (rows : List TransferRow) → AreBehind first rows → int_le first.day.0 day.0 ≡ false → due day rows ≡ []
+none_due : (first : DueTask) (day : Day) (rows : List TransferRow) → AreBehind first rows → int_le first.day.0.0 day.0 ≡ false → due day rows ≡ []
 none_due first day [] behind late = refl
 none_due first day (row ∷ rows) behind late =
     ap (λ b. cond b (row ∷ due day rows) (due day rows)) (not_due first (task_key row) day behind.0 late) ∙ none_due first day rows behind.1 late
@@ -205,53 +232,52 @@ in_due day id row (one ∷ rows) found now =
     skip true is = inr is
     skip false is = is
 
--- ---- the first of what lists rows
+-- ---- the last of what lists rows
 
 -- a row's key is listed
 listed_key : (waiting : WaitingView) (tasks : List DueTask) (made : List Made) (rows : List TransferRow) → AreListed waiting.rows tasks made → AreRows waiting rows → (row : TransferRow) → row_found row.id rows ≡ Some row → has task_order tasks (task_key row) ≡ true
 listed_key waiting tasks made rows listed are row found =
     listed.by_day.are (task_key row) ∙ ap (is_key task_order task_key (task_key row)) (are.found row.id ∙ found) ∙ own (task_key row)
 
-all_behind : (waiting : WaitingView) (first : DueTask) (tasks : List DueTask) (made : List Made) (all : List TransferRow) → AreListed waiting.rows (first ∷ tasks) made → AreRows waiting all → (rows : List TransferRow) → AllByRecursion (λ (row : TransferRow). row_found row.id all ≡ Some row) rows → AreBehind first rows
-all_behind waiting first tasks made all listed are [] found = tt
-all_behind waiting first tasks made all listed are (row ∷ rows) found = (
-  behind_first first (task_key row) tasks listed.by_day.sorted (listed_key waiting (first ∷ tasks) made all listed are row found.0),
-  all_behind waiting first tasks made all listed are rows found.1,
+all_behind : (waiting : WaitingView) (first : DueTask) (tasks : List DueTask) (made : List Made) (all : List TransferRow) → AreListed waiting.rows tasks made → IsLast first tasks → AreRows waiting all → (rows : List TransferRow) → AllByRecursion (λ (row : TransferRow). row_found row.id all ≡ Some row) rows → AreBehind first rows
+all_behind waiting first tasks made all listed end are [] found = tt
+all_behind waiting first tasks made all listed end are (row ∷ rows) found = (
+  behind_last first (task_key row) tasks listed.by_day.sorted end (listed_key waiting tasks made all listed are row found.0),
+  all_behind waiting first tasks made all listed end are rows found.1,
 )
 
--- The row of the first task is found.
-its_row : (waiting : WaitingView) (first : DueTask) (tasks : List DueTask) (made : List Made) (rows : List TransferRow) → AreListed waiting.rows (first ∷ tasks) made → AreRows waiting rows → (found : Option TransferRow) → row_found first.id rows ≡ found → (row : TransferRow) × (found ≡ Some row) × (task_held first ≡ task_of row)
-its_row waiting first tasks made rows listed are found is =
-    by found (sym (ap (is_key task_order task_key first) (are.found first.id ∙ is)) ∙ sym (listed.by_day.are first) ∙ ap (λ b. b || has task_order tasks first) (own first))
+-- The row of a task is found.
+its_row : (waiting : WaitingView) (task : DueTask) (tasks : List DueTask) (made : List Made) (rows : List TransferRow) → AreListed waiting.rows tasks made → has task_order tasks task ≡ true → AreRows waiting rows → (found : Option TransferRow) → row_found task.id.0 rows ≡ found
+    → (row : TransferRow) × (found ≡ Some row) × (task_held task ≡ task_of row)
+its_row waiting task tasks made rows listed there are found is =
+    by found (sym (ap (is_key task_order task_key task) (are.found task.id.0 ∙ is)) ∙ sym (listed.by_day.are task) ∙ there)
   where
-    by : (f : Option TransferRow) → is_key task_order task_key first f ≡ true → (row : TransferRow) × (f ≡ Some row) × (task_held first ≡ task_of row)
+    by : (f : Option TransferRow) → is_key task_order task_key task f ≡ true → (row : TransferRow) × (f ≡ Some row) × (task_held task ≡ task_of row)
     by None never = cc
-    by (Some row) same =
-        let both = equal_parts first.day.0 row.due.0 first.id row.id (equal_is (task_order first (task_key row)) same) in
-        (row, refl, λ i. record { day = record { 0 = both.0 i }; id = both.1 i })
+    by (Some row) same = (row, refl, ap task_held (same_task task (task_key row) (equal_is (task_order task (task_key row)) same)))
 
 abbrev first_id : Day → List TransferRow → Option ℕ
 first_id day rows = option_map (λ (task : Task). task.id) (first_task (map task_of (due day rows)))
 
-first_of : (waiting : WaitingView) (first : DueTask) (tasks : List DueTask) (made : List Made) (rows : List TransferRow) (day : Day) → AreListed waiting.rows (first ∷ tasks) made → AreRows waiting rows → (b : Bool) → int_le first.day.0 day.0 ≡ b → cond b (Some first.id) None ≡ first_id day rows
-first_of waiting first tasks made rows day listed are false late =
-    sym (ap (λ (l : List TransferRow). option_map (λ (task : Task). task.id) (first_task (map task_of l))) (none_due first day rows (all_behind waiting first tasks made rows listed are rows (each_found rows are.rise)) late))
-first_of waiting first tasks made rows day listed are true now =
-    let its = its_row waiting first tasks made rows listed are (row_found first.id rows) refl in
+first_of : (waiting : WaitingView) (first : DueTask) (tasks : List DueTask) (made : List Made) (rows : List TransferRow) (day : Day) → AreListed waiting.rows tasks made → IsLast first tasks → AreRows waiting rows → (b : Bool) → int_le first.day.0.0 day.0 ≡ b → cond b (Some first.id.0) None ≡ first_id day rows
+first_of waiting first tasks made rows day listed end are false late =
+    sym (ap (λ (l : List TransferRow). option_map (λ (task : Task). task.id) (first_task (map task_of l))) (none_due first day rows (all_behind waiting first tasks made rows listed end are rows (each_found rows are.rise)) late))
+first_of waiting first tasks made rows day listed end are true now =
+    let its = its_row waiting first tasks made rows listed (last_among first tasks end) are (row_found first.id.0 rows) refl in
     let row = its.0 in
     let same : task_held first ≡ task_of row = its.2 in
-    let is_in = in_due day first.id row rows its.1 (ap (λ (t : Task). int_le t.day.0 day.0) (sym same) ∙ now) in
-    sym (ap (option_map (λ (task : Task). task.id)) (least (task_held first) (map task_of (due day rows)) (due_follow first day rows (all_behind waiting first tasks made rows listed are rows (each_found rows are.rise))) (subst (λ (t : Task). IsIn t (map task_of (due day rows))) (sym same) is_in)))
+    let is_in = in_due day first.id.0 row rows its.1 (ap (λ (t : Task). int_le t.day.0 day.0) (sym same) ∙ now) in
+    sym (ap (option_map (λ (task : Task). task.id)) (least (task_held first) (map task_of (due day rows)) (due_follow first day rows (all_behind waiting first tasks made rows listed end are rows (each_found rows are.rise))) (subst (λ (t : Task). IsIn t (map task_of (due day rows))) (sym same) is_in)))
 
-pub first_due : (waiting : WaitingView) (first : DueTask) (tasks : List DueTask) (made : List Made) (rows : List TransferRow) (day : Day) → AreListed waiting.rows tasks made → AreRows waiting rows → slice_get tasks 0 ≡ Some first → cond (int_le first.day.0 day.0) (Some first.id) None ≡ first_id day rows
-first_due waiting first [] made rows day listed are is = cc
-first_due waiting first (task ∷ tasks) made rows day listed are is =
-    let same : task ≡ first = cc in
-    ap (λ (t : DueTask). cond (int_le t.day.0 day.0) (Some t.id) None) (sym same) ∙ first_of waiting task tasks made rows day listed are (int_le task.day.0 day.0) refl
+pub first_due : (waiting : WaitingView) (first : DueTask) (tasks : List DueTask) (made : List Made) (rows : List TransferRow) (day : Day) → AreListed waiting.rows tasks made → AreRows waiting rows → slice_get tasks (length tasks - 1) ≡ Some first → cond (int_le first.day.0.0 day.0) (Some first.id.0) None ≡ first_id day rows
+first_due waiting first tasks made rows day listed are is = first_of waiting first tasks made rows day listed (last_is first tasks is) are (int_le first.day.0.0 day.0) refl
 
 -- Where nothing is listed, no row is due.
-pub nothing_due : (waiting : WaitingView) (tasks : List DueTask) (made : List Made) (rows : List TransferRow) (day : Day) → AreListed waiting.rows tasks made → AreRows waiting rows → slice_get tasks 0 ≡ None → None ≡ first_id day rows
-nothing_due waiting (task ∷ tasks) made rows day listed are is = cc
+pub nothing_due : (waiting : WaitingView) (tasks : List DueTask) (made : List Made) (rows : List TransferRow) (day : Day) → AreListed waiting.rows tasks made → AreRows waiting rows → slice_get tasks (length tasks - 1) ≡ None → None ≡ first_id day rows
+nothing_due waiting (task ∷ tasks) made rows day listed are is =
+    let inside : suc (length tasks) - 1 < suc (length tasks) = omega arith in
+    let some = slice_get-get_or (task ∷ tasks) (suc (length tasks) - 1) task inside in
+    let no : Some (get_or (task ∷ tasks) (suc (length tasks) - 1) task) ≡ None = sym some ∙ is in cc
 nothing_due waiting [] made [] day listed are is = refl
 nothing_due waiting [] made (row ∷ rows) day listed are is =
     let no : false ≡ true = listed_key waiting [] made (row ∷ rows) listed are row (each_found (row ∷ rows) are.rise).0 in cc

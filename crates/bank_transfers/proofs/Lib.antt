@@ -3,6 +3,7 @@ pub mod WaitingLemmas
 pub mod HeldLemmas
 pub mod StandsLemmas
 pub mod OnceLemmas
+pub mod ChainLemmas
 pub mod LineLemmas
 pub mod OrderLemmas
 pub mod ListedLemmas

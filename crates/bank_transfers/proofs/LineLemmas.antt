@@ -1,15 +1,14 @@
 -- The lines of a statement, one posting after another, and those of an account's postings alone.
-use Rattle.std.proofs.Common.{◌≡◌, ℕ, zero, suc, ◌+◌, ◌-◌, ◌<◌, ◌≤◌, ◌⊎◌, ℤ, ◌≤ℤ◌, Bool, true, false, ◌||◌, ◌&&◌, cond, eqb, List, [], ◌∷◌, ◌++◌, length, map, filter, fold, take, reverse, get_or, ltb, Option, None, Some, refl, sym, ap, subst, ◌∙◌, append_assoc, inl, inr, arith}
-use Rattle.std.proofs.Math.ListN.{get_or-append, get_or-map}
-use Rattle.std.proofs.Math.Seq.{take-length, take-suc, take-append_seam, get_or-append_seam}
-use Rattle.std.proofs.lemmas.Bool.{and_parts, and_right, or_parts, eq-eqb, eqb-true, ltb-true, ltb-false}
-use Rattle.std.proofs.lemmas.List.{take-append-le, map-append, append-nil, reverse-append, length-map, length-append, length-take-le, get_or-take}
+use Rattle.std.proofs.Common.{◌≡◌, ℕ, zero, suc, ◌+◌, ◌-◌, ◌<◌, ◌≤◌, ℤ, ◌≤ℤ◌, Bool, true, false, not, ◌||◌, ◌&&◌, cond, eqb, List, [], ◌∷◌, ◌++◌, length, map, filter, fold, take, reverse, get_or, Option, None, Some, refl, sym, ap, subst, ◌∙◌, append_assoc, arith}
+use Rattle.std.proofs.Math.Seq.{take-suc}
+use Rattle.std.proofs.lemmas.Bool.{and_parts, and_right, or_parts, eq-eqb}
+use Rattle.std.proofs.lemmas.List.{map-append, append-nil, reverse-append, length-take-le}
 use Rattle.std.proofs.lemmas.List.Folds.{find-append}
 use Rattle.std.proofs.lemmas.List.Elements.{filter-append}
 use Rattle.std.proofs.lemmas.Option.{slice_get-get_or}
 use Rattle.std.proofs.lemmas.Int.{ints}
-use Rattle.std.specs.Prelude.{int_le, int_lt, ◌<ℤ◌}
-use Rattle.std.specs.List.{All, AllByRecursion, find, slice_get}
+use Rattle.std.specs.Prelude.{int_le, int_lt}
+use Rattle.std.specs.List.{find, slice_get}
 use Rattle.std.specs.Option.{option_map, option_or}
 use Rattle.std.specs.Str.{bytes_eq}
 use Rattle.ofx_types.specs.AccountForm.{same_account, kind_word}
@@ -18,11 +17,12 @@ use Rattle.ofx_types.specs.declared.number.Moment.{Moment}
 use Rattle.ofx_types.specs.declared.reply.StatementLine.{StatementLine}
 use Rattle.ofx_types.proofs.Bytes.{bytes_eq_is}
 use Rattle.bank_model.specs.Ledger.{Posting, is_about, is_before_end, is_within_period, line_for, lines_of}
-use Rattle.bank_transfers.specs.Chain.{key_step, is_of, place_or_none, key_of, touches, place_before, last_by, posting_of, postings_of, AreLinked, IsUpTo, IsBefore, AreUpTo}
+use Rattle.bank_transfers.specs.Chain.{key_step, is_of, key_of, touches, place_before, last_by, posting_of, postings_of, PassesAt, IsBetween, IsLinked, AreLinked}
 use Rattle.bank_transfers.specs.Lines.{lines_for}
-use Rattle.bank_transfers.specs.PostingsView.{IsPosted}
-use Rattle.bank_transfers.specs.TransfersView.{IsWithinAmounts}
+use Rattle.bank_transfers.specs.Link.{is_outside, next}
+use Rattle.bank_transfers.specs.declared.link.Link.{Link}
 use Rattle.bank_transfers.specs.declared.postings.Linked.{Linked}
+use Rattle.bank_transfers.proofs.ChainLemmas.{last_within, last_passes, passes_in, posting_is, link_at, before_within}
 
 one_line : (name : AcctName) (posting : Posting) (more : List Posting) (listed : Bool) → map (line_for name) (cond listed (posting ∷ more) more) ≡ cond listed (line_for name posting ∷ []) [] ++ map (line_for name) more
 one_line name posting more true = refl
@@ -41,49 +41,6 @@ lines_push name start end postings posting =
     ap (map (line_for name)) (filter-append listed postings (posting ∷ []))
     ∙ map-append (line_for name) (filter listed postings) (filter listed (posting ∷ []))
     ∙ ap (λ ls. map (line_for name) (filter listed postings) ++ ls) (one_line name posting [] (listed posting) ∙ append-nil (cond (listed posting) (line_for name posting ∷ []) []))
-
--- ---- the last posting that passes a test
-
-pub last_within : (test : Posting → Bool) (postings : List Posting) → last_by test postings ≤ length postings
-last_within test [] = omega arith
-last_within test (posting ∷ more) = bound (test posting) (last_by test more) (last_within test more)
-  where
-    bound : (b : Bool) (n : ℕ) → n ≤ length more → place_before b n ≤ suc (length more)
-    bound true zero h = omega arith
-    bound false zero h = omega arith
-    bound b (suc n) h = omega (arith, h)
-
-pub last_push : (test : Posting → Bool) (postings : List Posting) (posting : Posting) → last_by test (postings ++ posting ∷ []) ≡ cond (test posting) (length postings + 1) (last_by test postings)
-last_push test [] posting = one (test posting)
-  where
-    one : (b : Bool) → place_before b 0 ≡ cond b 1 0
-    one true = refl
-    one false = refl
-last_push test (p ∷ more) posting = ap (place_before (test p)) (last_push test more posting) ∙ by (test posting)
-  where
-    suc_next : (n : ℕ) → place_before (test p) (n + 1) ≡ suc n + 1
-    suc_next n =
-        let next : n + 1 ≡ suc n = omega arith in
-        let after : suc (suc n) ≡ suc n + 1 = omega arith in
-        ap (place_before (test p)) next ∙ after
-
-    by : (b : Bool) → place_before (test p) (cond b (length more + 1) (last_by test more)) ≡ cond b (suc (length more) + 1) (place_before (test p) (last_by test more))
-    by true = suc_next (length more)
-    by false = refl
-
--- The posting at the place passes.
-abbrev pub passes_at : (Posting → Bool) → ℕ → List Posting → Type 0
-passes_at test zero postings = Unit {0}
-passes_at test (suc k) postings = (d : Posting) → test (get_or postings k d) ≡ true
-
-pub last_passes : (test : Posting → Bool) (postings : List Posting) → passes_at test (last_by test postings) postings
-last_passes test [] = tt
-last_passes test (posting ∷ more) = by (test posting) (last_by test more) refl (last_passes test more)
-  where
-    by : (b : Bool) (n : ℕ) → test posting ≡ b → passes_at test n more → passes_at test (place_before b n) (posting ∷ more)
-    by true zero is rest = λ d. is
-    by false zero is rest = tt
-    by b (suc n) is rest = λ d. rest d
 
 -- ---- postings of other accounts tell nothing
 
@@ -137,7 +94,7 @@ one_reversed name start end posting = by (is_about name posting && is_within_per
 -- After the place stand the lines that were found so far, the last of them first.
 pub record IsAt (name : AcctName) (start : Moment) (end : Option Moment) (postings : List Posting) (place : ℕ) (lines : List StatementLine) : Type 0 where
   pub within : place ≤ length postings
-  pub passes : passes_at (touches (key_of name)) place postings
+  pub passes : PassesAt (touches (key_of name)) place postings
   pub told : lines_of name start end postings ≡ lines_of name start end (take place postings) ++ reverse lines
 
 pub at_last : (name : AcctName) (start : Moment) (end : Option Moment) (postings : List Posting) (place : ℕ) (lines : List StatementLine) → place ≡ last_by (touches (key_of name)) postings → lines ≡ [] → IsAt name start end postings place lines
@@ -148,40 +105,12 @@ at_last name start end postings place lines is none =
       told = silent name start end postings ∙ sym (append-nil (lines_of name start end (take (last_by (touches (key_of name)) postings) postings)));
     }))
 
-before_is : (key : ℕ) (held : List Linked) (k : ℕ) (linked : Linked) → AreLinked held → k < length held → linked ≡ get_or held k linked → touches key (posting_of linked) ≡ true
-    → cond (eqb (key_of linked.row.from) key) linked.from_before linked.to_before ≡ last_by (touches key) (take k (postings_of held))
-before_is key held k linked are within is passes =
-    let from : linked.from_before ≡ last_by (touches (key_of linked.row.from)) (take k (postings_of held)) =
-    subst (λ (l : Linked). l.from_before ≡ last_by (touches (key_of l.row.from)) (take k (postings_of held))) (sym is) (are k linked within).0 in
-    let to : linked.to_before ≡ last_by (touches (key_of linked.row.to)) (take k (postings_of held)) =
-    subst (λ (l : Linked). l.to_before ≡ last_by (touches (key_of l.row.to)) (take k (postings_of held))) (sym is) (are k linked within).1 in
-    by (eqb (key_of linked.row.from) key) refl from to passes
-  where
-    by : (b : Bool) → eqb (key_of linked.row.from) key ≡ b → linked.from_before ≡ last_by (touches (key_of linked.row.from)) (take k (postings_of held))
-        → linked.to_before ≡ last_by (touches (key_of linked.row.to)) (take k (postings_of held)) → (b || eqb (key_of linked.row.to) key) ≡ true
-        → cond b linked.from_before linked.to_before ≡ last_by (touches key) (take k (postings_of held))
-    by true same from to passes = from ∙ ap (λ n. last_by (touches n) (take k (postings_of held))) (eqb-true (key_of linked.row.from) key same)
-    by false same from to passes = to ∙ ap (λ n. last_by (touches n) (take k (postings_of held))) (eqb-true (key_of linked.row.to) key passes)
-
-passes_in : (test : Posting → Bool) (place k : ℕ) (postings : List Posting) → place ≤ k → passes_at test place (take k postings) → passes_at test place postings
-passes_in test zero k postings le passes = tt
-passes_in test (suc j) k postings le passes = λ d. sym (ap test (get_or-take k postings j d (omega (arith, le)))) ∙ passes d
-
--- the posting at a place
-posting_is : (held : List Linked) (k : ℕ) (linked : Linked) → linked ≡ get_or held k linked → get_or (postings_of held) k (posting_of linked) ≡ posting_of linked
-posting_is held k linked is = get_or-map posting_of held k linked ∙ ap posting_of (sym is)
-
-pub amount_at : (held : List Linked) (k : ℕ) (linked : Linked) → All IsPosted (postings_of held) → k < length held → linked ≡ get_or held k linked → IsWithinAmounts linked.row
-amount_at held k linked all within is =
-    let count : length (postings_of held) ≡ length held = length-map held posting_of in
-    (subst IsPosted (posting_is held k linked is) (all k (posting_of linked) (omega (arith, within, count)))).0
-
-pub one_back : (name : AcctName) (start : Moment) (end : Option Moment) (held : List Linked) (place before : ℕ) (linked : Linked) (lines more : List StatementLine) → AreLinked held → 0 < place
-    → linked ≡ get_or held (place - 1) linked → before ≡ cond (eqb (key_of linked.row.from) (key_of name)) linked.from_before linked.to_before
+one_back : (name : AcctName) (start : Moment) (end : Option Moment) (held : List Linked) (place : ℕ) (linked : Linked) (link : Link) (lines more : List StatementLine) → 0 < place
+    → linked ≡ get_or held (place - 1) linked → IsLinked (key_of name) link (place - 1) (postings_of held)
     → more ≡ lines ++ lines_for name start end (posting_of linked) → IsAt name start end (postings_of held) place lines
-    → (before < place) × IsAt name start end (postings_of held) before more
-one_back name start end held zero before linked lines more are there is goes listed at = absurd (omega (arith, there))
-one_back name start end held (suc k) before linked lines more are there is goes listed at =
+    → (link.before < place) × IsAt name start end (postings_of held) link.before more
+one_back name start end held zero linked link lines more there is leads listed at = absurd (omega (arith, there))
+one_back name start end held (suc k) linked link lines more there is leads listed at =
     let test = touches (key_of name) in
     let all = postings_of held in
     let front = take k all in
@@ -189,16 +118,15 @@ one_back name start end held (suc k) before linked lines more are there is goes 
     let here : linked ≡ get_or held k linked = subst (λ n. linked ≡ get_or held n linked) same is in
     let within : suc k ≤ length all = at.within in
     let inside : k < length all = omega (arith, within) in
-    let count : length all ≡ length held = length-map held posting_of in
-    let touched : test (posting_of linked) ≡ true = sym (ap test (posting_is held k linked here)) ∙ at.passes (posting_of linked) in
-    let found : before ≡ last_by test front = goes ∙ before_is (key_of name) held k linked are (subst (λ n. k < n) count inside) here touched in
+    let before = link.before in
+    let found : before ≡ last_by test front = leads.before ∙ ap (λ n. last_by test (take n all)) same in
     let bound : last_by test front ≤ length front = last_within test front in
     let size : length front ≡ k = length-take-le k all (omega (arith, inside)) in
     let little : before ≤ k = omega (arith, found, bound, size) in (
       omega (arith, little),
       record {
         within = omega (arith, little, inside);
-        passes = passes_in test before k all little (subst (λ n. passes_at test n front) (sym found) (last_passes test front));
+        passes = passes_in test before k all little (subst (λ n. PassesAt test n front) (sym found) (last_passes test front));
         told = at.told
             ∙ ap (λ l. lines_of name start end l ++ reverse lines) (take-suc all k (posting_of linked) inside ∙ ap (λ (p : Posting). front ++ p ∷ []) (posting_is held k linked here))
             ∙ ap (λ ls. ls ++ reverse lines) (lines_push name start end front (posting_of linked))
@@ -209,95 +137,78 @@ one_back name start end held (suc k) before linked lines more are there is goes 
       },
     )
 
--- ---- postings before a period
+-- ---- over postings that are outside of a period
 
-not_within : (start at : ℤ) → at <ℤ start → int_le start at ≡ false
-not_within start at before = grind (arith, ints)
-
-pub is_earlier : (at start : ℤ) → int_lt at start ≡ true → at <ℤ start
-is_earlier at start is = grind (arith, ints)
-
--- Postings before a period have no lines of it.
-past_lines : (name : AcctName) (start : Moment) (end : Option Moment) (postings : List Posting) → AllByRecursion (IsBefore start.0) postings → lines_of name start end postings ≡ []
-unfolding lines_of
-past_lines name start end [] before = refl
-past_lines name start end (posting ∷ more) before =
-    lines_cons name start end posting more
-    ∙ ap (λ b. cond (is_about name posting && (b && is_before_end end posting.row.stamp.0)) (line_for name posting ∷ []) [] ++ lines_of name start end more) (not_within start.0 posting.row.stamp.0 before.0)
-    ∙ ap (λ b. cond b (line_for name posting ∷ []) [] ++ lines_of name start end more) (and_right (is_about name posting) false refl)
-    ∙ past_lines name start end more before.1
-
-pub begun_at : (name : AcctName) (start : Moment) (end : Option Moment) (postings : List Posting) (place begun : ℕ) (lines : List StatementLine)
-    → (begun ≡ place) ⊎ ((begun ≡ 0) × AllByRecursion (IsBefore start.0) (take place postings)) → IsAt name start end postings place lines → IsAt name start end postings begun lines
-begun_at name start end postings place begun lines (inl same) at = subst (λ n. IsAt name start end postings n lines) (sym same) at
-begun_at name start end postings place begun lines (inr past) at =
-    subst (λ n. IsAt name start end postings n lines) (sym past.0) (record {
-      within = omega arith;
-      passes = tt;
-      told = at.told ∙ ap (λ ls. ls ++ reverse lines) (past_lines name start end (take place postings) past.1 ∙ sym (past_lines name start end [] tt));
-    })
-
-pub begun_within : (place begun : ℕ) {P : Type 0} → (begun ≡ place) ⊎ ((begun ≡ 0) × P) → begun ≤ place
-begun_within place begun (inl same) = omega (arith, same)
-begun_within place begun (inr none) = omega (arith, none.0)
-
-later : (low high : ℤ) (postings : List Posting) → low ≤ℤ high → AllByRecursion (IsUpTo low) postings → AllByRecursion (IsUpTo high) postings
-later low high [] up all = tt
-later low high (posting ∷ more) up all = (omega (arith, ints, up, all.0), later low high more up all.1)
-
-pub earlier_than : (latest start : ℤ) (postings : List Posting) → latest <ℤ start → AllByRecursion (IsUpTo latest) postings → AllByRecursion (IsBefore start) postings
-earlier_than latest start [] up all = tt
-earlier_than latest start (posting ∷ more) up all = (omega (arith, ints, up, all.0), earlier_than latest start more up all.1)
-
--- Where the latest stamp up to a place is before a moment, so are all stamps up to it.
-pub all_before : (start : ℤ) (held : List Linked) (place : ℕ) (linked : Linked) → AreUpTo held → 0 < place → place ≤ length held → linked ≡ get_or held (place - 1) linked → linked.latest.0 <ℤ start
-    → AllByRecursion (IsBefore start) (take place (postings_of held))
-all_before start held zero linked are there within is before = absurd (omega (arith, there))
-all_before start held (suc k) linked are there within is before =
-    let same : suc k - 1 ≡ k = omega arith in
-    let here : linked ≡ get_or held k linked = subst (λ n. linked ≡ get_or held n linked) same is in
-    let next : k + 1 ≡ suc k = omega arith in
-    let inside : k < length held = omega (arith, within) in
-    subst (λ n. AllByRecursion (IsBefore start) (take n (postings_of held))) next
-    (earlier_than linked.latest.0 start (take (k + 1) (postings_of held)) before
-    (subst (λ (l : Linked). AllByRecursion (IsUpTo l.latest.0) (take (k + 1) (postings_of held))) (sym here) (are k linked inside)))
-
-pub all_up_to : (held : List Linked) (k : ℕ) (linked : Linked) (latest : ℤ) → AreUpTo held → k + 1 ≡ length held → linked ≡ get_or held k linked → linked.latest.0 ≤ℤ latest → AllByRecursion (IsUpTo latest) (postings_of held)
-all_up_to held k linked latest are size is up =
-    let within : k < length held = omega (arith, size) in
-    let all : take (k + 1) (postings_of held) ≡ postings_of held = ap (λ n. take n (postings_of held)) (size ∙ sym (length-map held posting_of)) ∙ take-length (postings_of held) in
-    later linked.latest.0 latest (postings_of held) up
-    (subst (λ (l : List Posting). AllByRecursion (IsUpTo linked.latest.0) l) all
-    (subst (λ (l : Linked). AllByRecursion (IsUpTo l.latest.0) (take (k + 1) (postings_of held))) (sym is) (are k linked within)))
-
-all_one_more : (P : Posting → Type 0) (postings : List Posting) (posting : Posting) → AllByRecursion P postings → P posting → AllByRecursion P (postings ++ posting ∷ [])
-all_one_more P [] posting all one = (one, tt)
-all_one_more P (p ∷ postings) posting all one = (all.0, all_one_more P postings posting all.1 one)
-
-pub up_to_push : (held : List Linked) (linked : Linked) → AreUpTo held → AllByRecursion (IsUpTo linked.latest.0) (postings_of held) → linked.row.stamp.0 ≤ℤ linked.latest.0 → AreUpTo (held ++ linked ∷ [])
-up_to_push held linked are all one k d within = by (ltb k (length held)) refl
+not_within : (start : Moment) (end : Option Moment) (least greatest at : ℤ) → (int_lt greatest start.0 || not (is_before_end end least)) ≡ true → least ≤ℤ at → at ≤ℤ greatest → (int_le start.0 at && is_before_end end at) ≡ false
+not_within start end least greatest at out low high = by (int_lt greatest start.0) refl out
   where
-    whole : postings_of (held ++ linked ∷ []) ≡ postings_of held ++ posting_of linked ∷ []
-    whole = map-append posting_of held (linked ∷ [])
+    past : int_lt greatest start.0 ≡ true → int_le start.0 at ≡ false
+    past is = grind (arith, ints)
 
-    count : length (postings_of held) ≡ length held
-    count = length-map held posting_of
+    after : (end : Option Moment) → not (is_before_end end least) ≡ true → is_before_end end at ≡ false
+    after None late = cc
+    after (Some end) late = grind (arith, ints)
 
-    before : k < length held → AllByRecursion (IsUpTo (get_or (held ++ linked ∷ []) k d).latest.0) (take (k + 1) (postings_of (held ++ linked ∷ [])))
-    before less =
-        subst (λ (l : List Posting). AllByRecursion (IsUpTo (get_or (held ++ linked ∷ []) k d).latest.0) l) (sym (ap (take (k + 1)) whole ∙ take-append-le (k + 1) (postings_of held) (posting_of linked ∷ []) (omega (arith, less, count))))
-        (subst (λ (l : Linked). AllByRecursion (IsUpTo l.latest.0) (take (k + 1) (postings_of held))) (sym (get_or-append held (linked ∷ []) d k less)) (are k d less))
+    by : (b : Bool) → int_lt greatest start.0 ≡ b → (b || not (is_before_end end least)) ≡ true → (int_le start.0 at && is_before_end end at) ≡ false
+    by true is out = ap (λ b. b && is_before_end end at) (past is)
+    by false is out = and_right (int_le start.0 at) (is_before_end end at) (after end out)
 
-    last : k ≡ length held → AllByRecursion (IsUpTo (get_or (held ++ linked ∷ []) k d).latest.0) (take (k + 1) (postings_of (held ++ linked ∷ [])))
-    last is =
-        let size : length (postings_of held ++ posting_of linked ∷ []) ≡ k + 1 = length-append (postings_of held) (posting_of linked ∷ []) ∙ omega (arith, is, count) in
-        subst (λ (l : List Posting). AllByRecursion (IsUpTo (get_or (held ++ linked ∷ []) k d).latest.0) l) (sym (ap (take (k + 1)) whole ∙ ap (λ n. take n (postings_of held ++ posting_of linked ∷ [])) (sym size) ∙ take-length (postings_of held ++ posting_of linked ∷ [])))
-        (subst (λ (l : Linked). AllByRecursion (IsUpTo l.latest.0) (postings_of held ++ posting_of linked ∷ [])) (sym (ap (λ n. get_or (held ++ linked ∷ []) n d) is ∙ get_or-append_seam held linked [] d))
-        (all_one_more (IsUpTo linked.latest.0) (postings_of held) (posting_of linked) all one))
+outside_silent : (name : AcctName) (start : Moment) (end : Option Moment) (link : Link) (posting : Posting) → is_outside link start end ≡ true → (touches (key_of name) posting ≡ true → IsBetween link.least link.greatest posting) → lines_for name start end posting ≡ []
+outside_silent name start end link posting out between = by (touches (key_of name) posting) refl
+  where
+    by : (b : Bool) → touches (key_of name) posting ≡ b → lines_for name start end posting ≡ []
+    by true touched =
+        let its = between touched in
+        ap (λ b. cond b (line_for name posting ∷ []) []) (and_right (is_about name posting) (is_within_period start end posting) (not_within start end link.least.0 link.greatest.0 posting.row.stamp.0 out its.0 its.1))
+    by false apart = lines_silent name start end posting apart
 
-    by : (b : Bool) → ltb k (length held) ≡ b → AllByRecursion (IsUpTo (get_or (held ++ linked ∷ []) k d).latest.0) (take (k + 1) (postings_of (held ++ linked ∷ [])))
-    by true less = before (ltb-true k (length held) less)
-    by false less = last (let up = ltb-false k (length held) less in let size = length-append held (linked ∷ []) in omega (arith, up, within, size))
+silent_over : (name : AcctName) (start : Moment) (end : Option Moment) (postings : List Posting) (d : Posting) (skip steps : ℕ) → ((k : ℕ) → skip ≤ k → k < skip + steps → lines_for name start end (get_or postings k d) ≡ []) → skip + steps ≤ length postings
+    → lines_of name start end (take (skip + steps) postings) ≡ lines_of name start end (take skip postings)
+silent_over name start end postings d skip zero none within = let same : skip + 0 ≡ skip = omega arith in ap (λ n. lines_of name start end (take n postings)) same
+silent_over name start end postings d skip (suc steps) none within =
+    let next : skip + suc steps ≡ suc (skip + steps) = omega arith in
+    ap (λ n. lines_of name start end (take n postings)) next
+    ∙ ap (lines_of name start end) (take-suc postings (skip + steps) d (omega (arith, within)))
+    ∙ lines_push name start end (take (skip + steps) postings) (get_or postings (skip + steps) d)
+    ∙ ap (λ ls. lines_of name start end (take (skip + steps) postings) ++ ls) (none (skip + steps) (omega arith) (omega arith))
+    ∙ append-nil (lines_of name start end (take (skip + steps) postings))
+    ∙ silent_over name start end postings d skip steps (λ k low high. none k low (omega (arith, high))) (omega (arith, within))
+
+-- Where all that a link skips is outside of the period, the walk goes on from there.
+next_back : (name : AcctName) (start : Moment) (end : Option Moment) (postings : List Posting) (d : Posting) (k : ℕ) (link : Link) (lines : List StatementLine) → IsLinked (key_of name) link k postings → link.before ≤ k
+    → IsAt name start end postings link.before lines → (next link start end ≤ link.before) × IsAt name start end postings (next link start end) lines
+next_back name start end postings d k link lines linked little at = by (is_outside link start end) refl
+  where
+    steps : link.skip + (link.before - link.skip) ≡ link.before
+    steps = omega (arith, linked.skip)
+
+    by : (b : Bool) → is_outside link start end ≡ b → (cond b link.skip link.before ≤ link.before) × IsAt name start end postings (cond b link.skip link.before) lines
+    by true out = (
+      linked.skip,
+      record {
+        within = omega (arith, linked.skip, at.within);
+        passes = linked.lands;
+        told = at.told
+            ∙ ap (λ ls. ls ++ reverse lines) (ap (λ n. lines_of name start end (take n postings)) (sym steps)
+            ∙ silent_over name start end postings d link.skip (link.before - link.skip)
+            (λ j low high. outside_silent name start end link (get_or postings j d) out (linked.stamps j d low (omega (arith, high, steps, little))))
+            (omega (arith, steps, at.within)));
+      },
+    )
+    by false within = (omega arith, at)
+
+-- One step of the walk: the posting at the place is told, where a statement tells of it, and the walk goes on before it.
+pub step_back : (name : AcctName) (start : Moment) (end : Option Moment) (held : List Linked) (place goes : ℕ) (linked : Linked) (link : Link) (lines more : List StatementLine) → AreLinked held → 0 < place
+    → linked ≡ get_or held (place - 1) linked → link ≡ cond (eqb (key_of linked.row.from) (key_of name)) linked.from_link linked.to_link → goes ≡ next link start end
+    → more ≡ lines ++ lines_for name start end (posting_of linked) → IsAt name start end (postings_of held) place lines
+    → (goes < place) × IsAt name start end (postings_of held) goes more
+step_back name start end held place goes linked link lines more are there is its goes_is listed at =
+    let within : place ≤ length (postings_of held) = at.within in
+    let leads : IsLinked (key_of name) link (place - 1) (postings_of held) =
+    subst (λ (l : Link). IsLinked (key_of name) l (place - 1) (postings_of held)) (sym its) (link_at (key_of name) held place linked are there within at.passes is) in
+    let back = one_back name start end held place linked link lines more there is leads listed at in
+    let on = next_back name start end (postings_of held) (posting_of linked) (place - 1) link more leads (before_within (key_of name) link (place - 1) (postings_of held) (omega (arith, within)) leads) back.1 in
+    (omega (arith, goes_is, on.0, back.0), subst (λ n. IsAt name start end (postings_of held) n more) (sym goes_is) on.1)
 
 pub at_first : (name : AcctName) (start : Moment) (end : Option Moment) (postings : List Posting) (place : ℕ) (lines all : List StatementLine) → IsAt name start end postings place lines → place ≡ 0 → all ≡ reverse lines → all ≡ lines_of name start end postings
 unfolding lines_of
@@ -343,57 +254,3 @@ last_row id held (suc k) linked is there at =
 pub no_row : (id : ℕ) (held : List Linked) (place : ℕ) → place ≡ last_by (is_of id) (postings_of held) → place ≡ 0
     → None ≡ option_map (λ (p : Posting). p.row) (find (is_of id) (reverse (postings_of held)))
 no_row id held place is none = sym (ap (option_map (λ (p : Posting). p.row)) (found_last (is_of id) (postings_of held) ∙ ap (λ n. at_place n (postings_of held)) (sym is ∙ none)))
-
--- ---- one posting more
-
-abbrev Links : Linked → List Posting → Type 0
-Links l front = (l.from_before ≡ last_by (touches (key_of l.row.from)) front) × (l.to_before ≡ last_by (touches (key_of l.row.to)) front)
-
-pub linked_push : (held : List Linked) (linked : Linked) → AreLinked held → linked.from_before ≡ last_by (touches (key_of linked.row.from)) (postings_of held)
-    → linked.to_before ≡ last_by (touches (key_of linked.row.to)) (postings_of held) → AreLinked (held ++ linked ∷ [])
-linked_push held linked are from to k d within = by (ltb k (length held)) refl
-  where
-    all : postings_of (held ++ linked ∷ []) ≡ postings_of held ++ posting_of linked ∷ []
-    all = map-append posting_of held (linked ∷ [])
-
-    count : length (postings_of held) ≡ length held
-    count = length-map held posting_of
-
-    earlier : k < length held → Links (get_or (held ++ linked ∷ []) k d) (take k (postings_of (held ++ linked ∷ [])))
-    earlier less =
-        subst (λ (l : List Posting). Links (get_or (held ++ linked ∷ []) k d) l) (sym (ap (take k) all ∙ take-append-le k (postings_of held) (posting_of linked ∷ []) (omega (arith, less, count))))
-        (subst (λ (l : Linked). Links l (take k (postings_of held))) (sym (get_or-append held (linked ∷ []) d k less)) (are k d less))
-
-    last : k ≡ length held → Links (get_or (held ++ linked ∷ []) k d) (take k (postings_of (held ++ linked ∷ [])))
-    last is =
-        subst (λ (l : List Posting). Links (get_or (held ++ linked ∷ []) k d) l) (sym (ap (take k) all ∙ ap (λ n. take n (postings_of held ++ posting_of linked ∷ [])) (is ∙ sym count) ∙ take-append_seam (postings_of held) (posting_of linked ∷ [])))
-        (subst (λ (l : Linked). Links l (postings_of held)) (sym (ap (λ n. get_or (held ++ linked ∷ []) n d) is ∙ get_or-append_seam held linked [] d)) (from, to))
-
-    by : (b : Bool) → ltb k (length held) ≡ b → Links (get_or (held ++ linked ∷ []) k d) (take k (postings_of (held ++ linked ∷ [])))
-    by true less = earlier (ltb-true k (length held) less)
-    by false less = last (let up = ltb-false k (length held) less in let size = length-append held (linked ∷ []) in omega (arith, up, within, size))
-
-pub lasts_set : (from to key place : ℕ) (found : Option ℕ) (postings : List Posting) (posting : Posting) → place ≡ length postings + 1 → key_of posting.row.from ≡ from → key_of posting.row.to ≡ to
-    → place_or_none found ≡ last_by (touches key) postings
-    → place_or_none (cond (eqb to key) (Some place) (cond (eqb from key) (Some place) found)) ≡ last_by (touches key) (postings ++ posting ∷ [])
-lasts_set from to key place found postings posting is from_is to_is before =
-    set_is (eqb from key) (eqb to key)
-    ∙ (λ i. cond (eqb (sym from_is i) key || eqb (sym to_is i) key) (is i) (before i))
-    ∙ sym (last_push (touches key) postings posting)
-  where
-    set_is : (b c : Bool) → place_or_none (cond c (Some place) (cond b (Some place) found)) ≡ cond (b || c) place (place_or_none found)
-    set_is true true = refl
-    set_is true false = refl
-    set_is false true = refl
-    set_is false false = refl
-
-pub id_set : (id key place : ℕ) (found : Option ℕ) (postings : List Posting) (posting : Posting) → place ≡ length postings + 1 → posting.row.id ≡ id
-    → place_or_none found ≡ last_by (is_of key) postings → place_or_none (cond (eqb id key) (Some place) found) ≡ last_by (is_of key) (postings ++ posting ∷ [])
-id_set id key place found postings posting is same before =
-    set_is (eqb id key)
-    ∙ (λ i. cond (eqb (sym same i) key) (is i) (before i))
-    ∙ sym (last_push (is_of key) postings posting)
-  where
-    set_is : (b : Bool) → place_or_none (cond b (Some place) found) ≡ cond b place (place_or_none found)
-    set_is true = refl
-    set_is false = refl

@@ -1,7 +1,6 @@
 -- Keys that list rows: with one row less or more, and what the order of the keys tells of the rows.
-use Rattle.std.proofs.Common.{◌≡◌, ℕ, zero, suc, ◌<◌, ◌≤◌, Bool, true, false, not, cond, eqb, ltb, leb, ◌&&◌, ◌||◌, List, [], ◌∷◌, ◌++◌, map, filter, length, get_or, take, drop, Option, None, Some, refl, sym, ap, ◌∙◌, subst, arith}
+use Rattle.std.proofs.Common.{◌≡◌, ℕ, zero, suc, ◌<◌, ◌≤◌, Bool, true, false, not, cond, eqb, ◌&&◌, ◌||◌, List, [], ◌∷◌, filter, length, get_or, take, drop, Option, None, Some, refl, sym, ap, ◌∙◌, subst, arith}
 use Rattle.std.proofs.lemmas.Bool.{eqb-true, eq-eqb, cond-true, cond-false}
-use Rattle.std.specs.List.{AllByRecursion}
 use Rattle.std.specs.List.Sorted.{IsStrictlySortedBy}
 use Rattle.std.specs.Option.{IfSome}
 use Rattle.std.specs.Ordering.{eq_by_cmp, is_eq, ordering_then, int_cmp, nat_cmp}
@@ -109,11 +108,11 @@ equal_is Greater is = cc
 same_number : (a b : Ordering) (m n : ℕ) → b ≡ nat_cmp m n → is_eq (ordering_then a b) ≡ true → m ≡ n
 same_number a b m n cmp is = exact_unsigned m n (sym cmp ∙ equal_is b (second_equal a b is))
 
-task_same : (k l : DueTask) → eq_by_cmp task_order k l ≡ true → k.id ≡ l.id
-task_same k l is = same_number (int_cmp k.day.0 l.day.0) (nat_cmp k.id l.id) k.id l.id refl is
+task_same : (k l : DueTask) → eq_by_cmp task_order k l ≡ true → k.id.0 ≡ l.id.0
+task_same k l is = sym (same_number (int_cmp l.day.0.0 k.day.0.0) (nat_cmp l.id.0 k.id.0) l.id.0 k.id.0 refl is)
 
 made_same : (k l : Made) → eq_by_cmp made_order k l ≡ true → k.id ≡ l.id
-made_same k l is = same_number (nat_cmp k.model l.model) (nat_cmp k.id l.id) k.id l.id refl is
+made_same k l is = same_number (nat_cmp l.model.0 k.model.0) (nat_cmp k.id l.id) k.id l.id refl is
 
 -- ---- what lists rows
 
@@ -129,7 +128,7 @@ module _ (rows after : List (ℕ × TransferRow)) (tasks : List DueTask) (made :
   pub listed_same : ((q : ℕ) → row_at after q ≡ row_at rows q) → AreListed after tasks made
   listed_same is = record {
     keyed = λ id. subst (λ (f : Option TransferRow). IfSome f (λ (row : TransferRow). row.id ≡ id)) (sym (is id)) (listed.keyed id);
-    by_day = lists_same task_order (λ (task : DueTask). task.id) task_key task_same (λ row. refl) tasks (row_at rows) (row_at after) listed.by_day is;
+    by_day = lists_same task_order (λ (task : DueTask). task.id.0) task_key task_same (λ row. refl) tasks (row_at rows) (row_at after) listed.by_day is;
     by_model = lists_same made_order (λ (one : Made). one.id) made_key made_same (λ row. refl) made (row_at rows) (row_at after) listed.by_model is;
   }
 
@@ -138,7 +137,7 @@ module _ (rows after : List (ℕ × TransferRow)) (tasks : List DueTask) (made :
       → IsStrictlySortedBy made_order fewer → ((k : Made) → has made_order fewer k ≡ (has made_order made k && not (eq_by_cmp made_order k (made_key row)))) → AreListed after less fewer
   listed_less row less fewer there out tasks_sorted tasks_less made_sorted made_less = record {
     keyed = λ id. keyed_less (row_at rows id) (row_at after id) id (eqb row.id id) (listed.keyed id) (out id);
-    by_day = lists_less task_order (λ (task : DueTask). task.id) task_key task_same (λ r. refl) tasks less (row_at rows) (row_at after) row listed.by_day there out tasks_sorted tasks_less;
+    by_day = lists_less task_order (λ (task : DueTask). task.id.0) task_key task_same (λ r. refl) tasks less (row_at rows) (row_at after) row listed.by_day there out tasks_sorted tasks_less;
     by_model = lists_less made_order (λ (one : Made). one.id) made_key made_same (λ r. refl) made fewer (row_at rows) (row_at after) row listed.by_model there out made_sorted made_less;
   }
 
@@ -147,7 +146,7 @@ module _ (rows after : List (ℕ × TransferRow)) (tasks : List DueTask) (made :
       → IsStrictlySortedBy made_order others → ((k : Made) → has made_order others k ≡ (eq_by_cmp made_order k (made_key row) || has made_order made k)) → AreListed after more others
   listed_more row more others new put tasks_sorted tasks_more made_sorted made_more = record {
     keyed = λ id. keyed_more (row_at rows id) (row_at after id) id row (eqb row.id id) refl (listed.keyed id) (put id);
-    by_day = lists_more task_order (λ (task : DueTask). task.id) task_key task_same (λ r. refl) tasks more (row_at rows) (row_at after) row listed.by_day new put tasks_sorted tasks_more;
+    by_day = lists_more task_order (λ (task : DueTask). task.id.0) task_key task_same (λ r. refl) tasks more (row_at rows) (row_at after) row listed.by_day new put tasks_sorted tasks_more;
     by_model = lists_more made_order (λ (one : Made). one.id) made_key made_same (λ r. refl) made others (row_at rows) (row_at after) row listed.by_model new put made_sorted made_more;
   }
 

@@ -1,15 +1,16 @@
 -- How the postings of an account are found: each posting leads to the one before it that is about an account of the same
 -- key. Places count from 1, and 0 is none.
-use Rattle.std.specs.Prelude.{◌≡◌, ℕ, zero, suc, ◌+◌, ◌*◌, ◌%◌, ◌^◌, ◌<◌, ℤ, ◌≤ℤ◌, ◌<ℤ◌, Bool, ◌||◌, ◌==◌, if◌then◌else◌, List, [], ◌∷◌, map, fold, take, length, slice_index_or, Option, None, Some}
-use Rattle.std.specs.List.{AllByRecursion}
+use Rattle.std.specs.Prelude.{◌≡◌, ℕ, zero, suc, ◌+◌, ◌*◌, ◌%◌, ◌^◌, ◌<◌, ◌≤◌, ◌≤ℤ◌, Bool, true, ◌||◌, ◌==◌, if◌then◌else◌, List, [], ◌∷◌, map, fold, take, length, slice_index_or, Option, None, Some}
 use Rattle.std.specs.Map.{lookup}
 use Rattle.ofx_types.specs.declared.account.AcctName.{AcctName}
+use Rattle.ofx_types.specs.declared.number.Moment.{Moment}
 use Rattle.bank_model.specs.Ledger.{Posting}
+use Rattle.bank_transfers.specs.declared.link.Link.{Link}
 use Rattle.bank_transfers.specs.declared.postings.Linked.{Linked}
 
 -- the key of an account, from its number
 abbrev pub key_step : ℕ → ℕ → ℕ
-key_step key byte = (key * 31 % 2 ^ 64 + byte) % 2 ^ 64
+key_step key byte = (key * 257 % 2 ^ 64 + byte) % 2 ^ 64
 
 abbrev pub key_of : AcctName → ℕ
 key_of name = fold key_step 0 name.number
@@ -36,23 +37,33 @@ posting_of linked = record { number = linked.number; row = linked.row }
 abbrev pub postings_of : List Linked → List Posting
 postings_of held = map posting_of held
 
--- Each posting leads to the last one before it that is about an account of its source's key, and of its destination's.
+-- The posting at a place passes a test; at 0 there is none.
+abbrev pub PassesAt : (Posting → Bool) → ℕ → List Posting → Type 0
+PassesAt test zero postings = Unit {0}
+PassesAt test (suc k) postings = (d : Posting) → test (slice_index_or postings k d) ≡ true
+
+-- A stamp is from one moment to another, both included.
+abbrev pub IsBetween : Moment → Moment → Posting → Type 0
+IsBetween least greatest posting = (least.0 ≤ℤ posting.row.stamp.0) × (posting.row.stamp.0 ≤ℤ greatest.0)
+
+-- Stamps are from one moment to another: those of the postings of a key after one place, up to another.
+abbrev pub AreBetween : ℕ → Moment → Moment → ℕ → ℕ → List Posting → Type 0
+AreBetween key least greatest after place postings = (k : ℕ) (d : Posting) → after ≤ k → k < place
+    → touches key (slice_index_or postings k d) ≡ true → IsBetween least greatest (slice_index_or postings k d)
+
+-- A posting behind k others leads back to the last one of a key before it, and skips to one that is no later; stamps after
+-- that one up to its own are between the least and the greatest.
+pub record IsLinked (key : ℕ) (link : Link) (k : ℕ) (postings : List Posting) : Type 0 where
+  pub before : link.before ≡ last_by (touches key) (take k postings)
+  pub skip : link.skip ≤ link.before
+  pub lands : PassesAt (touches key) link.skip postings
+  pub stamps : AreBetween key link.least link.greatest link.skip (k + 1) postings
+
+-- Each posting leads back to those of its source's key, and of its destination's.
 abbrev pub AreLinked : List Linked → Type 0
 AreLinked held = (k : ℕ) (d : Linked) → k < length held
-    → ((slice_index_or held k d).from_before ≡ last_by (touches (key_of (slice_index_or held k d).row.from)) (take k (postings_of held)))
-    × ((slice_index_or held k d).to_before ≡ last_by (touches (key_of (slice_index_or held k d).row.to)) (take k (postings_of held)))
-
--- A posting's stamp is no later than this moment.
-abbrev pub IsUpTo : ℤ → Posting → Type 0
-IsUpTo latest posting = posting.row.stamp.0 ≤ℤ latest
-
--- A posting's stamp is before this moment.
-abbrev pub IsBefore : ℤ → Posting → Type 0
-IsBefore start posting = posting.row.stamp.0 <ℤ start
-
--- Each posting knows the latest stamp up to it.
-abbrev pub AreUpTo : List Linked → Type 0
-AreUpTo held = (k : ℕ) (d : Linked) → k < length held → AllByRecursion (IsUpTo (slice_index_or held k d).latest.0) (take (k + 1) (postings_of held))
+    → IsLinked (key_of (slice_index_or held k d).row.from) (slice_index_or held k d).from_link k (postings_of held)
+    × IsLinked (key_of (slice_index_or held k d).row.to) (slice_index_or held k d).to_link k (postings_of held)
 
 abbrev pub place_or_none : Option ℕ → ℕ
 place_or_none None = 0

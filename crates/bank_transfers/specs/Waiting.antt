@@ -1,5 +1,5 @@
 -- The transfers that wait, as they are held.
-use Rattle.std.specs.Prelude.{◌≡◌, ℕ, List, Option}
+use Rattle.std.specs.Prelude.{◌≡◌, ℕ, ◌<◌, ◌≤◌, List, length, slice_index_or}
 use Rattle.std.specs.Option.{IfSome}
 use Rattle.std.specs.Ordering.{ordering_then, int_cmp, nat_cmp}
 use Rattle.std.specs.declared.cmp.Ordering.{Ordering}
@@ -19,23 +19,27 @@ pub record AreRows (waiting : WaitingView) (rows : List TransferRow) : Type 0 wh
   pub found : (id : ℕ) → row_at waiting.rows id ≡ row_found id rows
   pub rise : RiseById rows
 
--- The earlier due day comes first, and on one day the lesser id.
+-- The later due day comes first, and on one day the greater id.
 abbrev pub task_order : DueTask → DueTask → Ordering
-task_order a b = ordering_then (int_cmp a.day.0 b.day.0) (nat_cmp a.id b.id)
+task_order a b = ordering_then (int_cmp b.day.0.0 a.day.0.0) (nat_cmp b.id.0 a.id.0)
 
--- The transfers of one recurring transfer stand together, by their ids.
+-- The transfers of one recurring transfer stand together, by their ids, and before those of one with a lesser id.
 abbrev pub made_order : Made → Made → Ordering
-made_order a b = ordering_then (nat_cmp a.model b.model) (nat_cmp a.id b.id)
+made_order a b = ordering_then (nat_cmp b.model.0 a.model.0) (nat_cmp a.id b.id)
+
+-- the ids of the recurring transfers don't rise
+abbrev pub AreFalling : List Made → Type 0
+AreFalling made = (i j : ℕ) (d : Made) → i ≤ j → j < length made → (slice_index_or made j d).model.0 ≤ (slice_index_or made i d).model.0
 
 abbrev pub task_key : TransferRow → DueTask
-task_key row = record { day = row.due; id = row.id }
+task_key row = record { day = record { 0 = row.due }; id = record { 0 = row.id } }
 
 abbrev pub made_key : TransferRow → Made
-made_key row = record { model = row.model; id = row.id }
+made_key row = record { model = record { 0 = row.model }; id = row.id }
 
 -- What lists the rows that stand under ids: each row stands under its own, and the tasks and the transfers that recurring
 -- ones made are those of the rows.
 pub record AreListed (rows : List (ℕ × TransferRow)) (tasks : List DueTask) (made : List Made) : Type 0 where
   pub keyed : (id : ℕ) → IfSome (row_at rows id) (λ (row : TransferRow). row.id ≡ id)
-  pub by_day : Lists task_order (λ (task : DueTask). task.id) task_key tasks (row_at rows)
+  pub by_day : Lists task_order (λ (task : DueTask). task.id.0) task_key tasks (row_at rows)
   pub by_model : Lists made_order (λ (one : Made). one.id) made_key made (row_at rows)

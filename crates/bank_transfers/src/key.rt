@@ -11,7 +11,7 @@ pub(crate) fn key_of(name: &AcctName) -> u64
 {
     let mut key = 0u64;
     for byte in name.number.as_bytes() {
-        key = key.wrapping_mul(31).wrapping_add(*byte as u64);
+        key = key.wrapping_mul(257).wrapping_add(*byte as u64);
     }
     key
 }

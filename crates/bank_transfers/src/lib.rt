@@ -8,6 +8,7 @@
 mod judging;
 mod key;
 pub mod laws;
+mod link;
 mod order;
 mod posted;
 mod postings;

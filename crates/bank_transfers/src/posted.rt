@@ -29,7 +29,7 @@ pub(crate) fn is_within(at: Moment, period: (Moment, Option<Moment>)) -> bool
 }
 
 /// Whether the moment is before the end of a period, where it ends.
-fn is_before(at: Moment, end: Option<Moment>) -> bool
+pub(crate) fn is_before(at: Moment, end: Option<Moment>) -> bool
     ensures { result ≡ is_before_end end at.0 }
 {
     match end {

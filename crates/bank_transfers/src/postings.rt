@@ -1,34 +1,34 @@
 //! The posted transfers of a bank in the order of posting, and which of them are an account's.
 
-ghost use Rattle.std.specs.Prelude.{◌≡◌, ℕ, ◌+◌, ◌<◌, ◌≤◌, ◌⊎◌, ◌≤ℤ◌, ◌∷◌, ◌++◌, ◌==◌, ◌&&◌, [], true, Some, length, take, reverse, if◌then◌else◌, IfOk, OnOk, int_lt};
-ghost use Rattle.std.specs.List.{All, AllByRecursion, find};
+ghost use Rattle.std.specs.Prelude.{◌≡◌, ℕ, ◌+◌, ◌-◌, ◌<◌, ◌≤◌, ◌∷◌, ◌++◌, ◌==◌, ◌&&◌, [], true, Some, length, reverse, if◌then◌else◌, IfOk, OnOk};
+ghost use Rattle.std.specs.List.{All, find};
 ghost use Rattle.std.specs.HashMap.{spare};
 ghost use Rattle.std.specs.Option.{option_copied, option_map};
 ghost use Rattle.std.specs.Map.{lookup};
 ghost use Rattle.bank_model.specs.Ledger as ledger;
-ghost use Rattle.bank_model.specs.Ledger.{lines_of, is_within_period, line_for};
+ghost use Rattle.bank_model.specs.Ledger.{Posting, lines_of, is_within_period, line_for};
 ghost use Rattle.bank_transfers.specs.Chain as chain;
-ghost use Rattle.bank_transfers.specs.Chain.{place_or_none, posting_of, postings_of, IsUpTo, IsBefore, AreUpTo};
+ghost use Rattle.bank_transfers.specs.Chain.{touches, last_by, place_or_none, posting_of, postings_of, PassesAt, IsLinked, AreLinked};
 ghost use Rattle.bank_transfers.specs.Lines.{lines_for};
 ghost use Rattle.bank_transfers.specs.PostingsView.{IsPosted};
 ghost use Rattle.bank_transfers.specs.TransfersView.{IsWithinAmounts};
 
 use crate::key::key_of;
+use crate::link::Link;
 use crate::posted::{is_about, is_within, part};
 use ofx_types::{AcctName, Lines, Moment, OutOfMemory, Sequence, StatementLine, TransferRow};
 use std::alloc::Global;
 use std::collections::HashMap;
 use std::marker::Model;
 
-/// A posted transfer: the number of the entry that posted it (FITID), its row, the places of the last postings before it that
-/// are about accounts of the keys of its source and of its destination, and the latest stamp up to it.
+/// A posted transfer: the number of the entry that posted it (FITID), its row, and how it leads back to earlier postings that are
+/// about accounts of the keys of its source and of its destination.
 #[derive(Debug, Drop)]
 pub(crate) struct Linked {
     number: u64,
     row: TransferRow,
-    from_before: usize,
-    to_before: usize,
-    latest: Moment,
+    from_link: Link,
+    to_link: Link,
 }
 
 impl Linked {
@@ -54,22 +54,15 @@ impl Linked {
         }
     }
 
-    /// The place of the last posting before it that is about an account of the key, which it is about.
-    fn before(&self, key: u64) -> usize
-        ensures { result ≡ (if chain.key_of self.now.row.from == key then self.now.from_before else self.now.to_before) }
+    /// How it leads back to earlier postings of a key that is its source's or its destination's.
+    fn link(&self, key: u64) -> Link
+        ensures { result ≡ (if chain.key_of self.now.row.from == key then self.now.from_link else self.now.to_link) }
     {
         if key_of(&self.row.from) == key {
-            self.from_before
+            self.from_link
         } else {
-            self.to_before
+            self.to_link
         }
-    }
-
-    /// Whether it and all postings before it are before the moment.
-    fn is_past(&self, start: Moment) -> bool
-        ensures { result ≡ int_lt self.now.latest.0 start.0 }
-    {
-        self.latest.0 < start.0
     }
 }
 
@@ -87,7 +80,7 @@ impl Model for Postings {
     ghost use Rattle.std.specs.Prelude.{◌+◌, ◌*◌, ◌≤◌, vec_len, vec_capacity};
     ghost use Rattle.std.specs.List.{All};
     ghost use Rattle.std.specs.HashMap.{spare};
-    ghost use Rattle.bank_transfers.specs.Chain.{postings_of, touches, is_of, AreLinked, AreUpTo, HasLasts};
+    ghost use Rattle.bank_transfers.specs.Chain.{postings_of, touches, is_of, AreLinked, HasLasts};
     ghost use Rattle.bank_transfers.specs.PostingsView.{PostingsView, IsPosted};
 
     ghost Value = { PostingsView };
@@ -97,7 +90,7 @@ impl Model for Postings {
       room = p.left;
     } };
 
-    ghost invariant = { λ p. All IsPosted (postings_of p.held.items) × AreLinked p.held.items × AreUpTo p.held.items
+    ghost invariant = { λ p. All IsPosted (postings_of p.held.items) × AreLinked p.held.items
         × HasLasts touches p.accounts.entries (postings_of p.held.items) × HasLasts is_of p.ids.entries (postings_of p.held.items)
         × (vec_len p.held + p.left ≤ vec_capacity p.held) × (2 * p.left ≤ spare p.accounts) × (p.left ≤ spare p.ids) };
 }
@@ -143,15 +136,13 @@ impl Postings {
         let from = key_of(&row.from);
         let to = key_of(&row.to);
         let id = row.id;
-        let latest = latest_with(&self.held, row.stamp);
-        let from_before = last_at(&self.accounts, from);
-        let to_before = last_at(&self.accounts, to);
+        let from_link = link_to(&self.held, last_at(&self.accounts, from), from, row.stamp);
+        let to_link = link_to(&self.held, last_at(&self.accounts, to), to, row.stamp);
         let linked = Linked {
             number,
             row,
-            from_before,
-            to_before,
-            latest,
+            from_link,
+            to_link,
         };
         self.held.push_reserved(linked);
         set_place(&mut self.accounts, from, place);
@@ -175,8 +166,7 @@ impl Postings {
 
     /// What a statement of the account tells of a period.
     ///
-    /// It goes from each posting to the one before it, from the account's last one on, and no further than to postings of which
-    /// none is in the period, nor any before.
+    /// It goes back from the account's last posting: to the one before it, or over many at once where none of them is in the period.
     pub(crate) fn lines(
         &self,
         alloc: Global,
@@ -187,49 +177,50 @@ impl Postings {
     {
         let key = key_of(name);
         let mut lines = Vec::new(alloc);
-        let mut place = begun(&self.held, last_at(&self.accounts, key), period.0);
+        let mut place = last_at(&self.accounts, key);
         while place > 0 {
             let linked = &self.held[place - 1];
             push_listed(&mut lines, linked, name, period)?;
-            place = begun(&self.held, linked.before(key), period.0);
+            place = linked.link(key).next(period);
         }
         lines.reverse();
         Ok(Sequence::from_vec(lines))
     }
 }
 
-/// The latest stamp of postings and one more.
-fn latest_with(held: &[Linked], stamp: Moment) -> Moment
-    requires { AreUpTo held.now }
-    ensures all { AllByRecursion (IsUpTo result.0) (postings_of held.now) }
-    ensures more { stamp.0 ≤ℤ result.0 }
-{
-    if held.is_empty() {
-        return stamp;
-    }
-    let last = &held[held.len() - 1];
-    later(last.latest, stamp)
-}
-
-/// The later of two moments.
-fn later(moment: Moment, other: Moment) -> Moment
-    ensures moment { moment.0 ≤ℤ result.0 }
-    ensures other { other.0 ≤ℤ result.0 }
-{
-    if moment.0 < other.0 { other } else { moment }
-}
-
-/// The place, where a period may have begun by its posting, and otherwise 0.
-fn begun(held: &[Linked], place: usize, start: Moment) -> usize
+/// How the posting at a place leads back to earlier ones of a key that is its source's or its destination's.
+fn link_at(held: &[Linked], place: usize, key: u64) -> Link
+    requires linked { AreLinked held.now }
+    requires some { 0 < place }
     requires bound { place ≤ length held.now }
-    requires latest { AreUpTo held.now }
-    ensures { (result ≡ place) ⊎ ((result ≡ 0) × AllByRecursion (IsBefore start.0) (take place (postings_of held.now))) }
+    requires passes { PassesAt (touches key) place (postings_of held.now) }
+    ensures { IsLinked key result (place - 1) (postings_of held.now) }
 {
-    if place > 0 && held[place - 1].is_past(start) {
-        0
-    } else {
-        place
+    held[place - 1].link(key)
+}
+
+/// How a new posting leads back to those of a key before it, of which the last has that place.
+///
+/// Where that one's skip, and the skip from where it lands, are over equally many postings, the new one skips over both and itself.
+/// So there are skips of every power of two, and a few of them lead to any place.
+fn link_to(held: &[Linked], before: usize, key: u64, stamp: Moment) -> Link
+    requires linked { AreLinked held.now }
+    requires before { before ≡ last_by (touches key) (postings_of held.now) }
+    ensures { (posting : Posting) → posting.row.stamp ≡ stamp
+        → IsLinked key result (length held.now) (postings_of held.now ++ posting ∷ []) }
+{
+    if before == 0 {
+        return Link::to(before, stamp);
     }
+    let last = link_at(held, before, key);
+    if last.skip == 0 {
+        return Link::to(before, stamp);
+    }
+    let earlier = link_at(held, last.skip, key);
+    if last.rank != earlier.rank {
+        return Link::to(before, stamp);
+    }
+    Link::over(before, stamp, last, earlier)
 }
 
 /// The place at a key, or 0.

@@ -29,20 +29,13 @@ impl Model for Rows {
 }
 
 impl Rows {
-    /// No rows, and no room. Takes no memory.
+    /// No rows. Takes no memory.
     pub(crate) fn new(alloc: Global) -> Rows
         ensures { result.rows ≡ [] }
     {
         Rows {
             held: IndexMap::new(alloc),
         }
-    }
-
-    /// The rows, lent.
-    pub(crate) fn as_slice(&self) -> &[TransferRow]
-        ensures { result.now ≡ self.now.rows }
-    {
-        self.held.values().as_slice()
     }
 
     /// The row of the transfer with this id, lent.

@@ -3,35 +3,36 @@
 
 ghost use Rattle.std.specs.Prelude.{◌≡◌, ◌+◌, ◌<◌, ◌≤◌, ℕ, List, None, Some, if◌then◌else◌, ◌==◌, map, filter, int_le, nat_le, nat_lt, not, IfOk, OnOk};
 ghost use Rattle.std.specs.Option.{option_copied, option_map};
-ghost use Rattle.std.specs.List.Sorted.{IsNonDecreasingBy};
 ghost use Rattle.ofx_types.specs.declared.transfer.TransferRow.{TransferRow};
 ghost use Rattle.bank_model.specs.Due.{first_task, task_of};
 ghost use Rattle.bank_transfers.specs.Waiting as waiting;
 ghost use Rattle.bank_transfers.specs.TransfersView.{row_at};
-ghost use Rattle.bank_transfers.specs.Waiting.{AreRows};
+ghost use Rattle.bank_transfers.specs.Waiting.{AreRows, AreFalling};
 
 use crate::order::{put_key, take_key};
 use ofx_types::{Day, OutOfMemory, TransferRow};
 use std::alloc::Global;
+use std::cmp::Reverse;
 use std::collections::HashMap;
 use std::marker::Model;
 
-/// A transfer that is to be posted: the day on which it is due, and its id (SRVRTID).
+/// A transfer that is to be posted: the day on which it is due, and its id (SRVRTID). What is to be done later comes first.
 #[derive(Clone, Copy, Debug, PartialEq, Eq, PartialOrd, Ord)]
 pub(crate) struct DueTask {
-    pub(crate) day: Day,
-    pub(crate) id: u64,
+    pub(crate) day: Reverse<Day>,
+    pub(crate) id: Reverse<u64>,
 }
 
-/// A transfer with the id of the recurring transfer that made it (RECSRVRTID, 0 is none), and its own (SRVRTID).
+/// A transfer with the id of the recurring transfer that made it (RECSRVRTID, 0 is none), and its own (SRVRTID). The greater id of a
+/// recurring transfer comes first, so those that none made come last.
 #[derive(Clone, Copy, Debug, PartialEq, Eq, PartialOrd, Ord)]
 pub(crate) struct Made {
-    pub(crate) model: u64,
+    pub(crate) model: Reverse<u64>,
     pub(crate) id: u64,
 }
 
-/// The rows of the transfers that wait. The one that is due first is the first of the tasks, which stand in the order in which
-/// they are to be done; and those of a recurring transfer stand one after another.
+/// The rows of the transfers that wait. The one that is due first is the last of the tasks, where it is taken without moving the
+/// others. Those of a recurring transfer stand one after another, and a new one that none made is behind all.
 #[derive(Debug, Drop)]
 pub(crate) struct Waiting {
     held: HashMap<u64, TransferRow>,
@@ -55,7 +56,7 @@ impl Model for Waiting {
 }
 
 impl Waiting {
-    /// No transfer waits, and there is no room. Takes no memory.
+    /// No transfer waits. Takes no memory.
     pub(crate) fn new(alloc: Global) -> Waiting
         ensures { (id : ℕ) → row_at result.rows id ≡ None }
     {
@@ -122,7 +123,7 @@ impl Waiting {
         ensures { (rows : List TransferRow) → AreRows self.now rows
             → result ≡ option_map (λ task. task.id) (first_task (map task_of (filter (λ (row : TransferRow). int_le row.due.0 day.0) rows))) }
     {
-        match self.tasks.first() {
+        match self.tasks.last() {
             Some(task) => due_by(*task, day),
             None => None,
         }
@@ -145,8 +146,8 @@ fn task_key(row: &TransferRow) -> DueTask
     ensures { result ≡ waiting.task_key row.now }
 {
     DueTask {
-        day: row.due,
-        id: row.id,
+        day: Reverse(row.due),
+        id: Reverse(row.id),
     }
 }
 
@@ -154,36 +155,36 @@ fn made_key(row: &TransferRow) -> Made
     ensures { result ≡ waiting.made_key row.now }
 {
     Made {
-        model: row.model,
+        model: Reverse(row.model),
         id: row.id,
     }
 }
 
 /// The id of the task's transfer, where it is due on or before the day.
 fn due_by(task: DueTask, day: Day) -> Option<u64>
-    ensures { result ≡ (if int_le task.day.0 day.0 then Some task.id else None) }
+    ensures { result ≡ (if int_le task.day.0.0 day.0 then Some task.id.0 else None) }
 {
-    if task.day.0 <= day.0 {
-        Some(task.id)
+    if task.day.0.0 <= day.0 {
+        Some(task.id.0)
     } else {
         None
     }
 }
 
-/// Those of a recurring transfer and of the later ones.
+/// Those of a recurring transfer and of those with lesser ids.
 fn from(made: &[Made], model: u64) -> &[Made]
-    requires { IsNonDecreasingBy (λ (m : Made). m.model) made.now }
-    ensures { result.now ≡ filter (λ (m : Made). not (nat_lt m.model model)) made.now }
+    requires { AreFalling made.now }
+    ensures { result.now ≡ filter (λ (m : Made). not (nat_lt model m.model.0)) made.now }
 {
-    let first = made.partition_point(|m| m.model < model);
+    let first = made.partition_point(|m| m.model.0 > model);
     &made[first..]
 }
 
-/// Those of a recurring transfer and of the earlier ones.
+/// Those of a recurring transfer and of those with greater ids.
 fn up_to(made: &[Made], model: u64) -> &[Made]
-    requires { IsNonDecreasingBy (λ (m : Made). m.model) made.now }
-    ensures { result.now ≡ filter (λ (m : Made). nat_le m.model model) made.now }
+    requires { AreFalling made.now }
+    ensures { result.now ≡ filter (λ (m : Made). nat_le model m.model.0) made.now }
 {
-    let last = made.partition_point(|m| m.model <= model);
+    let last = made.partition_point(|m| m.model.0 >= model);
     &made[..last]
 }

@@ -4,7 +4,7 @@ use ofx_types::{AcctName, Deed, ObjectName};
 
 /// What one file asks.
 #[derive(Debug, Drop)]
-pub(crate) enum Errand {
+pub enum Errand {
     /// The statement of an account, and all four synchronisations.
     Look(AcctName),
     /// A deed, with the synchronisation of its object.

@@ -19,6 +19,7 @@ mod wish;
 
 pub use answering::first_unanswered;
 pub use client::Client;
+pub use errand::Errand;
 pub use fault::ClientFault;
 pub use report::{Report, ReportLines};
 pub use wish::Wish;

@@ -31,9 +31,19 @@ fn served_over(
     failing: u64,
 ) -> Result<Outcome, Fail> {
     let mut office = BookOffice::open(alloc, failing)?;
+    served_by(alloc, &mut office, incoming, outgoing)
+}
+
+/// The same by the office of that bank.
+fn served_by(
+    alloc: Global,
+    office: &mut BookOffice,
+    incoming: MemSource,
+    outgoing: MemSink,
+) -> Result<Outcome, Fail> {
     let mut clock = MemClock::new(alloc, &[NOON])?;
     let mut link = MemLink::of(incoming, outgoing);
-    let served = serve_link(alloc, &mut office, &mut link, &mut clock);
+    let served = serve_link(alloc, office, &mut link, &mut clock);
     Ok((served, link.held().to_vec(alloc)?))
 }
 

@@ -17,7 +17,7 @@ use bank_samples::sample::{SETUP, request_with};
 use bank_samples::transfer::TRANSFER;
 use bank_samples::words::texts;
 use bank_server::{AllEnd, serve_all, serve_open};
-use bank_shared::{Bank, BankName, Opened};
+use bank_shared::{Bank, BankName, Opened, Pass};
 use both::BothGate;
 use ofx_file::OfxPrinter;
 use ofx_ports::{
@@ -88,8 +88,19 @@ fn connected<N: BankName, R: Wait>(
     requires opening { opened.state ≡ N.opening }
 {
     let (bank, mut pass) = Bank::<N, _, _>::begin(opened);
+    connected_by(rt, alloc, &bank, &mut pass, link)
+}
+
+/// The same by a caller of the bank.
+fn connected_by<N: BankName, R: Wait>(
+    rt: &R,
+    alloc: Global,
+    bank: &Bank<N, MemKeeper, OfxPrinter>,
+    pass: &mut Pass,
+    link: &mut MemLink,
+) -> Result<Served, Fail> {
     let mut clock = MemClock::new(alloc, &[NOON])?;
-    Ok(serve_connection(&bank, rt, alloc, &mut pass, link, &mut clock, &OpenGate)?)
+    Ok(serve_connection(bank, rt, alloc, pass, link, &mut clock, &OpenGate)?)
 }
 
 /// How all workers of a bank that has opened end.

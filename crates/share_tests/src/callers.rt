@@ -62,8 +62,7 @@ fn advanced<N: BankName, R: Wait>(
     }
 }
 
-/// What two callers of a bank of the sample's setup are told by turns: of a transfer that is due on the next day, of a poll, of
-/// what is due on that day, and of a poll again.
+/// What two callers of a bank of the sample's setup are told by turns.
 fn told_by_turns<N: BankName, R: Wait>(
     rt: &R,
     alloc: Global,
@@ -72,16 +71,28 @@ fn told_by_turns<N: BankName, R: Wait>(
     requires setup { opened.setup ≡ N.setup }
     requires opening { opened.state ≡ N.opening }
 {
-    let waiting = request_with(alloc, &[TRANSFER, DUE_LATER])?;
-    let poll = request_with(alloc, &POLL)?;
     let (bank, mut first) = Bank::<N, _, _>::begin(opened);
     let mut second = bank.door(&mut first);
+    told_to_both(rt, alloc, &bank, &mut first, &mut second)
+}
+
+/// What both callers are told: of a transfer that is due on the next day, of a poll, of what is due on that day, and of a poll
+/// again.
+fn told_to_both<N: BankName, R: Wait>(
+    rt: &R,
+    alloc: Global,
+    bank: &Bank<N, MemKeeper, OfxPrinter>,
+    first: &mut Pass,
+    second: &mut Pass,
+) -> Result<String, Fail> {
+    let waiting = request_with(alloc, &[TRANSFER, DUE_LATER])?;
+    let poll = request_with(alloc, &POLL)?;
     let mut told = String::new(alloc);
-    told.push_str(&asked(rt, alloc, &bank, &mut first, &waiting, NOON)?)?;
-    told.push_str(&asked(rt, alloc, &bank, &mut second, &poll, NOON)?)?;
-    told.push_str(&advanced(rt, alloc, &bank, &mut first, NEXT_DAY)?)?;
-    told.push_str(&asked(rt, alloc, &bank, &mut second, &poll, NEXT_DAY)?)?;
-    told.push_str(&advanced(rt, alloc, &bank, &mut second, NEXT_DAY)?)?;
+    told.push_str(&asked(rt, alloc, bank, first, &waiting, NOON)?)?;
+    told.push_str(&asked(rt, alloc, bank, second, &poll, NOON)?)?;
+    told.push_str(&advanced(rt, alloc, bank, first, NEXT_DAY)?)?;
+    told.push_str(&asked(rt, alloc, bank, second, &poll, NEXT_DAY)?)?;
+    told.push_str(&advanced(rt, alloc, bank, second, NEXT_DAY)?)?;
     Ok(told)
 }
 

@@ -44,8 +44,7 @@ fn run_at<N: BankName, R: Wait>(
     }
 }
 
-/// What runs of due work answer in a bank with two transfers that are due on the next day, one on the day before and two on that
-/// day, and what the statement after them tells.
+/// What runs of due work answer in a bank that has opened, and what the statement after them tells.
 fn told_of_runs<N: BankName, R: Wait>(
     rt: &R,
     alloc: Global,
@@ -54,15 +53,25 @@ fn told_of_runs<N: BankName, R: Wait>(
     requires setup { opened.setup ≡ N.setup }
     requires opening { opened.state ≡ N.opening }
 {
-    let waiting = [TRANSFER, DUE_LATER, RENAMED, TRANSFER, DUE_LATER_TOO];
     let (bank, mut pass) = Bank::<N, _, _>::begin(opened);
+    runs_at(rt, alloc, &bank, &mut pass)
+}
+
+/// The same of a bank with two transfers that are due on the next day, in one run on the day before and two on that day.
+fn runs_at<N: BankName, R: Wait>(
+    rt: &R,
+    alloc: Global,
+    bank: &Bank<N, MemKeeper, OfxPrinter>,
+    pass: &mut Pass,
+) -> Result<(String, String), Fail> {
+    let waiting = [TRANSFER, DUE_LATER, RENAMED, TRANSFER, DUE_LATER_TOO];
     let file = request_with(alloc, &waiting)?;
-    let _waits = asked(rt, alloc, &bank, &mut pass, &file, NOON)?;
-    let mut told = run_at(rt, alloc, &bank, &mut pass, NOON)?;
-    told.push_str(&run_at(rt, alloc, &bank, &mut pass, NEXT_DAY)?)?;
-    told.push_str(&run_at(rt, alloc, &bank, &mut pass, NEXT_DAY)?)?;
+    let _waits = asked(rt, alloc, bank, pass, &file, NOON)?;
+    let mut told = run_at(rt, alloc, bank, pass, NOON)?;
+    told.push_str(&run_at(rt, alloc, bank, pass, NEXT_DAY)?)?;
+    told.push_str(&run_at(rt, alloc, bank, pass, NEXT_DAY)?)?;
     let plain = request_with(alloc, &[])?;
-    let statement = asked(rt, alloc, &bank, &mut pass, &plain, NEXT_DAY)?;
+    let statement = asked(rt, alloc, bank, pass, &plain, NEXT_DAY)?;
     Ok((told, statement))
 }
 

@@ -62,10 +62,20 @@ fn told<N: BankName>(
 {
     let (_, journal, accounts) = opened.solo::<N>();
     let mut teller = Teller::with_accounts(alloc, journal, accounts)?;
+    told_by(alloc, &mut teller, clock, calls)
+}
+
+/// What the calls of a teller tell, and the log.
+fn told_by<N: BankName>(
+    alloc: Global,
+    teller: &mut Teller<N, MemKeeper, OfxPrinter>,
+    clock: &mut MemClock,
+    calls: &[Call<'_>],
+) -> Result<String, Fail> {
     let mut told = String::new(alloc);
     for call in calls {
         let at = clock.now();
-        told.push_str(&answer(alloc, &mut teller, call, at)?)?;
+        told.push_str(&answer(alloc, teller, call, at)?)?;
     }
     for item in teller.journal().log() {
         told.push_str(&line(alloc, item)?)?;

@@ -9,7 +9,7 @@ use bank_counter::{SoloOffice, serve_connection};
 use bank_samples::keys::keys;
 use bank_samples::sample::{reply_with, request_with};
 use bank_samples::transfer::{PAID, POSTED, SOURCE_BALANCE, TRANSFER};
-use bank_shared::{Bank, BankName, Opened};
+use bank_shared::{Bank, BankName, Opened, Pass};
 use ofx_file::OfxPrinter;
 use ofx_ports::{MemClock, MemKeeper, MemLink, MemSink, MemSource, OpenGate};
 use ofx_types::Moment;
@@ -58,11 +58,20 @@ fn shared<N: BankName, R: Wait>(
     requires opening { opened.state ≡ N.opening }
 {
     let (bank, mut pass) = Bank::<N, _, _>::begin(opened);
+    served_by(rt, alloc, &bank, &mut pass, bytes)
+}
+
+/// The same by a caller of the bank.
+fn served_by<N: BankName, R: Wait>(
+    rt: &R,
+    alloc: Global,
+    bank: &Bank<N, MemKeeper, OfxPrinter>,
+    pass: &mut Pass,
+    bytes: &[u8],
+) -> Result<Outcome, Fail> {
     let mut clock = MemClock::new(alloc, &[NOON])?;
     let mut link = MemLink::of(MemSource::new(alloc, bytes)?, MemSink::new(alloc, ROOM)?);
-    let served = serve_connection(
-        &bank, rt, alloc, &mut pass, &mut link, &mut clock, &OpenGate,
-    );
+    let served = serve_connection(bank, rt, alloc, pass, &mut link, &mut clock, &OpenGate);
     Ok((served, link.held().to_vec(alloc)?))
 }
 
@@ -77,6 +86,15 @@ fn alone<N: BankName>(
     requires opening { opened.state ≡ N.opening }
 {
     let mut office = SoloOffice::<N, _, _>::new(alloc, opened)?;
+    served_alone(alloc, &mut office, bytes)
+}
+
+/// The same by the bank's office.
+fn served_alone<N: BankName>(
+    alloc: Global,
+    office: &mut SoloOffice<N, MemKeeper, OfxPrinter>,
+    bytes: &[u8],
+) -> Result<(Outcome, usize), Fail> {
     let mut clock = MemClock::new(alloc, &[NOON, AN_HOUR_LATER])?;
     let mut link = MemLink::of(MemSource::new(alloc, bytes)?, MemSink::new(alloc, ROOM)?);
     let served = office.serve(alloc, &mut link, &mut clock);

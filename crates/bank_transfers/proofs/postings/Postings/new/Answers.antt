@@ -8,7 +8,6 @@ invariant_of-result c =
     rw (c.new.ensures.items, c.new-2.ensures.empty, c.new-3.ensures.empty) (
       All-nil IsPosted,
       (λ k d within. absurd (omega (arith, within))),
-      (λ k d within. absurd (omega (arith, within))),
       (λ key. refl),
       (λ key. refl),
       omega arith,

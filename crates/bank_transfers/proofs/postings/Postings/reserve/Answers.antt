@@ -6,7 +6,7 @@ pub invariant_of-self : goal.invariant_of-self
 invariant_of-self c =
     let i = c.self.invariant in
     let held = c.reserve.ensures in
-    rw held.items (i.0, i.1, i.2, i.3, i.4, omega (arith, i.5, held.len, held.capacity), i.6, i.7)
+    rw held.items (i.0, i.1, i.2, i.3, omega (arith, i.4, held.len, held.capacity), i.5, i.6)
 
 pub invariant_of-self-in_err-reserve-2 : goal.invariant_of-self-in_err-reserve-2
 invariant_of-self-in_err-reserve-2 c =
@@ -16,12 +16,11 @@ invariant_of-self-in_err-reserve-2 c =
     rw held.items (
       i.0,
       i.1,
-      i.2,
-      (λ key. ap place_or_none (accounts.entries.2 key) ∙ i.3 key),
-      i.4,
-      omega (arith, i.5, held.len, held.capacity),
-      omega (arith, i.6, accounts.spare),
-      i.7,
+      (λ key. ap place_or_none (accounts.entries.2 key) ∙ i.2 key),
+      i.3,
+      omega (arith, i.4, held.len, held.capacity),
+      omega (arith, i.5, accounts.spare),
+      i.6,
     )
 
 pub invariant_of-self-in_err-reserve-3 : goal.invariant_of-self-in_err-reserve-3
@@ -33,12 +32,11 @@ invariant_of-self-in_err-reserve-3 c =
     rw held.items (
       i.0,
       i.1,
-      i.2,
-      (λ key. ap place_or_none (accounts.entries.2 key) ∙ i.3 key),
-      (λ key. ap place_or_none (ids.entries.2 key) ∙ i.4 key),
-      omega (arith, i.5, held.len, held.capacity),
-      omega (arith, i.6, accounts.spare),
-      omega (arith, i.7, ids.spare),
+      (λ key. ap place_or_none (accounts.entries.2 key) ∙ i.2 key),
+      (λ key. ap place_or_none (ids.entries.2 key) ∙ i.3 key),
+      omega (arith, i.4, held.len, held.capacity),
+      omega (arith, i.5, accounts.spare),
+      omega (arith, i.6, ids.spare),
     )
 
 pub invariant_of-self-then-self-postings : goal.invariant_of-self-then-self-postings
@@ -50,9 +48,8 @@ invariant_of-self-then-self-postings c =
     rw held.items (
       i.0,
       i.1,
-      i.2,
-      (λ key. ap place_or_none (accounts.entries.2 key) ∙ i.3 key),
-      (λ key. ap place_or_none (ids.entries.2 key) ∙ i.4 key),
+      (λ key. ap place_or_none (accounts.entries.2 key) ∙ i.2 key),
+      (λ key. ap place_or_none (ids.entries.2 key) ∙ i.3 key),
       omega (arith, c.in_ok-reserve.ensures.ok),
       omega (arith, c.in_ok-reserve-2.ensures.ok),
       omega (arith, c.in_ok-reserve-3.ensures.ok),
@@ -67,10 +64,9 @@ invariant_of-self-else-self-postings c =
     rw held.items (
       i.0,
       i.1,
-      i.2,
-      (λ key. ap place_or_none (accounts.entries.2 key) ∙ i.3 key),
-      (λ key. ap place_or_none (ids.entries.2 key) ∙ i.4 key),
-      omega (arith, i.5, held.len, held.capacity),
-      omega (arith, i.6, accounts.spare),
-      omega (arith, i.7, ids.spare),
+      (λ key. ap place_or_none (accounts.entries.2 key) ∙ i.2 key),
+      (λ key. ap place_or_none (ids.entries.2 key) ∙ i.3 key),
+      omega (arith, i.4, held.len, held.capacity),
+      omega (arith, i.5, accounts.spare),
+      omega (arith, i.6, ids.spare),
     )
