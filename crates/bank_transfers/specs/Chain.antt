@@ -51,7 +51,7 @@ abbrev pub AreBetween : ℕ → Moment → Moment → ℕ → ℕ → List Posti
 AreBetween key least greatest after place postings = (k : ℕ) (d : Posting) → after ≤ k → k < place
     → touches key (slice_index_or postings k d) ≡ true → IsBetween least greatest (slice_index_or postings k d)
 
--- A posting behind k others leads back to the last one of a key before it, and skips to one that is no later; stamps after
+-- A posting after k others leads back to the last one of a key before it, and skips to one that is no later; stamps after
 -- that one up to its own are between the least and the greatest.
 pub record IsLinked (key : ℕ) (link : Link) (k : ℕ) (postings : List Posting) : Type 0 where
   pub before : link.before ≡ last_by (touches key) (take k postings)

@@ -32,7 +32,7 @@ pub(crate) struct Made {
 }
 
 /// The rows of the transfers that wait. The one that is due first is the last of the tasks, where it is taken without moving the
-/// others. Those of a recurring transfer stand one after another, and a new one that none made is behind all.
+/// others. Those of a recurring transfer stand one after another, and a new one that none made comes after all.
 #[derive(Debug, Drop)]
 pub(crate) struct Waiting {
     held: HashMap<u64, TransferRow>,
