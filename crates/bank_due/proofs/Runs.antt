@@ -1,12 +1,12 @@
 -- A run of due work so far, one look more, and each of its ends.
-use Rattle.std.proofs.Common.{◌≡◌, ℕ, ◌+◌, ◌<◌, List, [], ◌∷◌, ◌++◌, length, Option, None, Some, Ok, Err, refl, sym, ap, ◌∙◌, subst, arith, length-append}
+use Rattle.std.proofs.Common.{◌≡◌, ℕ, ◌+◌, ◌<◌, List, [], ◌∷◌, ◌++◌, length, Option, None, Some, Err, refl, sym, ap, ◌∙◌, subst, arith, length-append}
 use Rattle.ofx_types.specs.declared.number.Moment.{Moment}
 use Rattle.bank_model.specs.declared.event.Event.{Event}
 use Rattle.bank_model.specs.declared.submit.SubmitFault.{SubmitFault}
 use Rattle.bank_model.specs.declared.submit.SubmitFault.TheVariants as refused
 use Rattle.bank_shared.specs.Calls.{DoesDue, Advances, FailsToAdvance}
 use Rattle.bank_shared.specs.Views.{JournalView}
-use Rattle.bank_shared.specs.declared.advance.Advance.TheVariants.{Done, Gone, Nothing}
+use Rattle.bank_shared.specs.declared.advance.Advance.TheVariants.{Done, Gone}
 use Rattle.bank_due.specs.DueRuns.{Knows, DoesEach, id_in, fault_of, RunsDue}
 use Rattle.bank_due.specs.declared.fault.DueFault.TheVariants as faults
 
@@ -24,10 +24,6 @@ through P Q R None (Some v) c f p q = absurd p
 through P Q R (Some u) None c f p q = absurd p
 through P Q R (Some u) (Some v) None f p q = absurd q
 through P Q R (Some u) (Some v) (Some w) f p q = f u v w p q
-
-pub start : (at : Moment) (k : Option JournalView) → Knows k k (HasDone at 0)
-start at None = tt
-start at (Some v) = record { events = []; counted = refl; does = refl }
 
 each-more : (old between new : JournalView) (at : Moment) (events : List Event) (event : Event) → DoesEach old between at events → DoesDue between new event at → DoesEach old new at (events ++ event ∷ [])
 each-more old between new at [] event does due = (new, subst (λ (v : JournalView). DoesDue v new event at) does due, refl)
@@ -47,15 +43,6 @@ done at n event a b c p q = through (HasDone at n) (λ old new. Advances old new
 -- where the journal is told, no event that was due is gone
 pub gone : (at : Moment) (n : ℕ) (event : Event) (a b c : Option JournalView) → Knows a b (HasDone at n) → Knows b c (λ old new. Advances old new at (Gone event)) → Knows a c (HasDone at n)
 gone at n event a b c p q = through (HasDone at n) (λ old new. Advances old new at (Gone event)) (HasDone at n) a b c (λ u v w had no. absurd no) p q
-
-pub nothing : (at : Moment) (n : ℕ) (a b c : Option JournalView) → Knows a b (HasDone at n) → Knows b c (λ old new. Advances old new at Nothing) → Knows a c (λ old new. RunsDue old new at (Ok n))
-nothing at n a b c p q = through (HasDone at n) (λ old new. Advances old new at Nothing) (λ old new. RunsDue old new at (Ok n)) a b c (λ u v w had due. record {
-  events = had.events;
-  between = v;
-  counted = had.counted;
-  does = had.does;
-  nothing = due;
-}) p q
 
 -- the last event that a run may have
 pub left : (at : Moment) (n : ℕ) (event : Event) (a b c : Option JournalView) → n + 1 ≡ 100000 → Knows a b (HasDone at n) → Knows b c (λ old new. Advances old new at (Done event))

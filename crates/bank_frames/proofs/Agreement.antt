@@ -4,7 +4,7 @@ use Rattle.std.specs.Fmt.{decimal}
 use Rattle.std.proofs.lemmas.List.{take_at, drop_at, length-take-le, take-append-drop}
 use Rattle.std.proofs.lemmas.Fmt.{decimal_injective}
 use Rattle.bank_frames.specs.Frames.{request, due_work, IsLength, length_line, frame_head, frame, frame_of, BeginsNoFrame}
-use Rattle.bank_frames.specs.HeadOf.{BeginsFrame, BeginsDue}
+use Rattle.bank_frames.specs.FrameHead.{BeginsFrame, BeginsDue}
 use Rattle.bank_frames.specs.declared.frame_head.FrameSize.{FrameSize}
 use Rattle.bank_frames.proofs.HeadLines.{head_ends_line, one_end, line_is_short, head_regrouped}
 

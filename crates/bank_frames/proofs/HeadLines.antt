@@ -5,8 +5,8 @@ use Rattle.std.proofs.lemmas.List.{get_or_at, get_or_append_left, take_at, take-
 use Rattle.std.proofs.lemmas.Fmt.{length-decimal-le, digits_decimal}
 use Rattle.std.proofs.lemmas.Str.Parse.{not_in_digits}
 use Rattle.bank_frames.specs.Frames.{Content, request, due_work, IsLength, length_line, frame_head, frame_of, Fits, BeginsNoFrame}
-use Rattle.bank_frames.specs.Heads.{EndsLine, HasNoLineEnd}
-use Rattle.bank_frames.specs.HeadOf.{BeginsFrame, BeginsDue, IsNoFirstLine}
+use Rattle.bank_frames.specs.FirstLine.{EndsLine, HasNoLineEnd}
+use Rattle.bank_frames.specs.FrameHead.{BeginsFrame, BeginsDue, IsNoFirstLine}
 use Rattle.bank_frames.proofs.Lengths.{own}
 
 -- no LF stands in the line of a length

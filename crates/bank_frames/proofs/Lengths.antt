@@ -5,7 +5,7 @@ use Rattle.std.specs.Fmt.{decimal}
 use Rattle.std.proofs.lemmas.Str.Parse.{IsNumeralModel, numerals_by_fold, tells_all_ascii_digits}
 use Rattle.std.proofs.lemmas.Fmt.{digits_decimal, digits_value-decimal, length-decimal-le, decimal_nonempty, first_decimal, decimal_digit, decimal-digits_value}
 use Rattle.bank_frames.specs.Frames.{IsLength}
-use Rattle.bank_frames.specs.Heads.{number_from, MayBeLength}
+use Rattle.bank_frames.specs.FirstLine.{number_from, MayBeLength}
 
 pub own : IsNumeralModel (λ ds. all_ascii_digits ds ≡ true) (number_from 0)
 own = numerals_by_fold _ tells_all_ascii_digits number_from (search rules)

@@ -2,4 +2,4 @@ mod Lengths
 mod HeadLines
 pub mod Agreement
 mod Windows
-mod Coming
+mod NextFrame

@@ -1,7 +1,7 @@
 pub mod Frames
-pub mod Heads
-pub mod HeadOf
+pub mod FirstLine
+pub mod FrameHead
 pub mod Reads
 pub mod Window
-pub mod Coming
+pub mod NextFrame
 pub mod Lines

@@ -4,8 +4,8 @@ ghost use Rattle.std.specs.Prelude.{◌≡◌, ℕ, ◌≤◌, ◌+◌, ◌*◌,
 ghost use Rattle.std.specs.Str.{all_ascii_digits};
 ghost use Rattle.std.specs.Fmt.{decimal};
 ghost use Rattle.bank_frames.specs.Frames.{IsLength, length_line};
-ghost use Rattle.bank_frames.specs.Heads.{number_from, MayBeLength, EndsLine, HasNoLineEnd};
-ghost use Rattle.bank_frames.specs.HeadOf.{IsHeadOf, IsFirstLine, IsNoFirstLine};
+ghost use Rattle.bank_frames.specs.FirstLine.{number_from, MayBeLength, EndsLine, HasNoLineEnd};
+ghost use Rattle.bank_frames.specs.FrameHead.{IsHeadOf, IsFirstLine, IsNoFirstLine};
 
 /// The most bytes of a request file.
 pub const MOST_FILE: usize = 262_144;

@@ -3,7 +3,7 @@
 ghost use Rattle.std.specs.Prelude.{◌≡◌, ◌<◌, ◌^◌, IfOk, OnErr, IsErr};
 ghost use Rattle.std.specs.Io.KnownBytes.{Keeps, prepend_known};
 ghost use Rattle.ofx_ports.specs.Faults.{CountsFaults};
-ghost use Rattle.bank_frames.specs.Coming.{ShowsFront, IsLast, IsNext, size_of};
+ghost use Rattle.bank_frames.specs.NextFrame.{ShowsFront, IsLast, IsNext, size_of};
 ghost use Rattle.bank_frames.specs.Frames.{BeginsNoFrame};
 
 use crate::ahead::Ahead;

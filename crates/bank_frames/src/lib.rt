@@ -6,12 +6,10 @@ mod ahead;
 mod frame_head;
 mod frames;
 mod lines;
-mod output;
 mod whole;
 
 pub use ahead::Ahead;
 pub use frame_head::FrameSize;
 pub use frames::{Frame, Next, next_frame};
 pub use lines::{bad_file_line, due_work_line, due_work_room, framed, letter_line};
-pub use output::write_whole;
 pub use whole::{MOST_WHOLE, read_whole};

@@ -14,7 +14,7 @@ use Rattle.bank_model.specs.declared.setup.draft.Draft.{Draft}
 use Rattle.bank_model.specs.SetupForm.{IsWord, lines_of, AreLines, KeepsLineLimits, SpellsSetup}
 use Rattle.bank_model.specs.SetupFault.{lines_in, lines_within, BeginSetup, AreLinesOf, IsWrongAt, IsLackingAt, IsTooWideAt, IsSetupFault}
 use Rattle.bank_model.specs.SetupOutcome.{IsRefusalOf, NamesFaultOf, Answers}
-use Rattle.bank_model.specs.SetupReading.{◌>>=◌, unless, Gives, behind_key, is_word_form, bank_at, limit_at, number_within, with_format, with_bank, with_lead, with_window, with_entries, unread, or_fault_at, with_line, with_lines, left_in, objects_fit, IsBounded, lacks_line, judged, setup_at}
+use Rattle.bank_model.specs.SetupReading.{◌>>=◌, unless, ReadsSetup, behind_key, is_word_form, bank_at, limit_at, number_within, with_format, with_bank, with_lead, with_window, with_entries, unread, or_fault_at, with_line, with_lines, left_in, objects_fit, IsBounded, lacks_line, judged, setup_at}
 use Rattle.bank_model.proofs.SetupWords.{bind_some, unless_some, chosen_some, some_is, behind_back, word_parts}
 use Rattle.bank_model.proofs.SetupNumbers.{within_back}
 use Rattle.bank_model.proofs.SetupLines.{ok_is, taken_some, lines_back, lines_there}
@@ -358,7 +358,7 @@ fault_there bytes k fault = by_kind bytes k fault
 -- ---- the answers of a reader
 
 abbrev Read : List ℕ → Result Setup SetupFault → Type 0
-Read bytes result = Gives (λ (s : Setup). s) result (setup_at bytes)
+Read bytes result = ReadsSetup (λ (s : Setup). s) result (setup_at bytes)
 
 pub found_back : (bytes : List ℕ) (result : Result Setup SetupFault) → Read bytes result → IfOk result (λ s. SpellsSetup bytes s)
 found_back bytes (Ok s) gives = setup_back bytes s gives

@@ -32,9 +32,9 @@ Names (faults.SetupLine k) read = read ≡ Err k
 Names faults.OutOfMemory read = Unit {0}
 
 -- What a function returned, seen by view, is what reading gives, unless memory was refused.
-abbrev pub Gives : {X Y : Type 0} → (X → Y) → Result X SetupFault → Result Y ℕ → Type 0
-Gives view (Ok x) read = read ≡ Ok (view x)
-Gives view (Err fault) read = Names fault read
+abbrev pub ReadsSetup : {X Y : Type 0} → (X → Y) → Result X SetupFault → Result Y ℕ → Type 0
+ReadsSetup view (Ok x) read = read ≡ Ok (view x)
+ReadsSetup view (Err fault) read = Names fault read
 
 -- the bytes before and after the first byte that is the mark
 unfoldable pub cut : ℕ → List ℕ → Option (List ℕ × List ℕ)

@@ -9,6 +9,7 @@ pub mod codes;
 mod directory;
 mod entry;
 mod event;
+pub mod laws;
 mod log;
 mod named;
 mod objects;
@@ -25,7 +26,5 @@ pub use log::{Ending, LogItem};
 pub use objects::is_poll;
 pub use once::{KeptReply, UsedPair};
 pub use printer::Printer;
-pub use setup::{
-    AccountLine, Accounts, Owners, Setup, SetupFault, User, Users, one_fault, one_setup,
-};
+pub use setup::{AccountLine, Accounts, Owners, Setup, SetupFault, User, Users};
 pub use submit::SubmitFault;

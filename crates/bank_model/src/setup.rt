@@ -10,7 +10,6 @@ mod words;
 
 use crate::directory::Directory;
 use ofx_types::{AcctName, Cents, OutOfMemory, Text, UserId};
-pub use reading::{one_fault, one_setup};
 
 /// A user of the bank.
 #[derive(Debug, Drop)]

@@ -11,7 +11,7 @@ use Rattle.bank_model.specs.declared.event.State.{State}
 use Rattle.event_codec.specs.Records.{Reopens}
 use Rattle.bank_replay.proofs.OneOpening.{ReopeningGoesOn}
 use Rattle.bank_replay.specs.Opening.{Stands, BeginWith, HasCause}
-use Rattle.bank_replay.specs.Replay.{IsKept, IsUnread, IsNotTaken, IsOfTheOutside}
+use Rattle.bank_replay.specs.Replay.{IsKept, IsNotTaken, IsOfTheOutside}
 use Rattle.bank_replay.specs.declared.fault.OpenFault.{OpenFault}
 use Rattle.bank_replay.specs.declared.fault.OpenFault.TheVariants.{Read, Record, Illegal, OutOfMemory}
 
@@ -99,13 +99,6 @@ outside_cause setup told OutOfMemory outside = tt
 pub has_cause : (setup : Setup) (told now : Option (List (List ℕ))) (count : ℕ) (state : State) (rec : List ℕ) (fault : OpenFault) → HasTaken setup told count state → Stays told now → IsOfTheOutside fault ⊎ (IsKept now (count + 1) rec × IsNotTaken setup state (count + 1) rec fault) → HasCause setup told fault
 has_cause setup told now count state rec fault taken stays (inl outside) = outside_cause setup told fault outside
 has_cause setup told now count state rec fault taken stays (inr why) = stopped setup told now count state rec fault taken stays why.0 why.1
-
--- What isn't read isn't taken.
-pub unread : (setup : Setup) (state : State) (number : ℕ) (rec : List ℕ) (fault : OpenFault) → IsUnread number rec fault → IsNotTaken setup state number rec fault
-unread setup state number rec Read why = absurd why
-unread setup state number rec (Record told place) why = why
-unread setup state number rec (Illegal told) why = absurd why
-unread setup state number rec OutOfMemory why = tt
 
 nothing_more : (records more all : List (List ℕ)) → all ≡ records ++ more → length all ≡ length records → all ≡ records
 nothing_more records [] all is same = is ∙ append-nil records

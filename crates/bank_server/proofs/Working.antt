@@ -1,9 +1,8 @@
 -- A worker so far, one turn more, and each of its ends.
-use Rattle.std.proofs.Common.{◌≡◌, ℕ, zero, suc, ◌+◌, ◌<◌, ◌≤◌, ◌⊎◌, inl, inr, Bool, true, false, List, [], ◌∷◌, ◌++◌, length, map, filter, Option, None, Some, Result, refl, sym, ap, ◌∙◌, subst, arith, length-append, append-nil, rules}
+use Rattle.std.proofs.Common.{◌≡◌, ℕ, zero, suc, ◌+◌, ◌<◌, Bool, true, false, List, [], ◌∷◌, ◌++◌, length, map, filter, Option, None, Some, Result, refl, sym, ap, ◌∙◌, subst, arith, length-append, rules}
 use Rattle.std.proofs.lemmas.List.Elements.{filter-append}
-use Rattle.ofx_ports.specs.Faults.{Rose}
 use Rattle.ofx_ports.specs.Told.{Grows, Stays}
-use Rattle.ofx_ports.proofs.ToldLaws.{Grows-nil, Grows-trans, Grows-kept}
+use Rattle.ofx_ports.proofs.ToldLaws.{Grows-trans, Grows-kept}
 use Rattle.ofx_types.specs.declared.number.Moment.{Moment}
 use Rattle.bank_model.specs.declared.setup.Setup.{Setup}
 use Rattle.bank_due.specs.declared.fault.DueFault.{DueFault}
@@ -11,8 +10,7 @@ use Rattle.bank_server.specs.Connected.{Faces, DoorView, around_link}
 use Rattle.bank_connection.specs.Connection.{Converses}
 use Rattle.http_link.specs.declared.served.Served.{Served}
 use Rattle.http_link.specs.declared.served.ServeError.{ServeError}
-use Rattle.bank_server.specs.Turns.{Turn, DoesDueAt, TakesTurn, AreTurns, links_given, links_back, due_ends, is_missed, missed_in, greatest, HasServedAll, HasNoDoor, Works}
-use Rattle.bank_server.specs.declared.worker.WorkerEnd.{WorkerEnd}
+use Rattle.bank_server.specs.Turns.{Turn, DoesDueAt, TakesTurn, AreTurns, links_given, links_back, due_ends, is_missed, missed_in, HasServedAll, HasNoDoor}
 
 -- so many links were served, and so many due runs missed, and the worker goes on
 pub record SoFar {L : Type 0} (faces : Faces L) (setup : Setup) (before now : DoorView L) (shown shown' : Option (List Moment)) (served missed : ℕ) : Type 0 where
@@ -22,16 +20,6 @@ pub record SoFar {L : Type 0} (faces : Faces L) (setup : Setup) (before now : Do
   pub back : Grows before.back now.back (links_back turns)
   pub served_is : served ≡ length turns
   pub missed_is : missed ≡ missed_in (due_ends turns)
-
-pub start : {L : Type 0} (faces : Faces L) (setup : Setup) (door : DoorView L) (shown : Option (List Moment)) → SoFar faces setup door door shown shown 0 0
-start faces setup door shown = record {
-  turns = [];
-  are_turns = refl;
-  given = Grows-nil door.given;
-  back = Grows-nil door.back;
-  served_is = refl;
-  missed_is = refl;
-}
 
 turns-more : {L : Type 0} (faces : Faces L) (setup : Setup) (shown mid late : Option (List Moment)) (turns : List (Turn L)) (turn : Turn L)
     → AreTurns faces setup shown mid turns → TakesTurn faces setup mid late turn → AreTurns faces setup shown late (turns ++ turn ∷ [])
@@ -64,41 +52,3 @@ more {L} faces setup before now mid next shown s0 s1 s2 served missed at due giv
       served_is = omega (arith, so.served_is, length-append so.turns (turn ∷ []));
       missed_is = ap (λ n. n + missed_in (due ∷ [])) so.missed_is ∙ (sym (missed-more (due_ends so.turns) due) ∙ ap missed_in (sym (map-more (λ (t : Turn L). t.due) so.turns turn)));
     }
-
--- it has served as many as it may
-pub all_served : {L : Type 0} (faces : Faces L) (setup : Setup) (most : ℕ) (before now : DoorView L) (shown shown' : Option (List Moment)) (end : WorkerEnd)
-    → SoFar faces setup before now shown shown' end.served end.missed → end.served ≡ greatest most → end.status.0 ≡ 0
-    → Works faces setup most before now shown shown' end
-all_served faces setup most before now shown shown' end so all status = record {
-  turns = so.turns;
-  between = shown';
-  are_turns = so.are_turns;
-  given = so.given;
-  back = so.back;
-  served = so.served_is;
-  few = omega (arith, all);
-  ends = inl (record { all = all; status = status; missed = so.missed_is; unread = refl });
-}
-
--- after one more due run its doorway gave no link
-pub no_door : {L : Type 0} (faces : Faces L) (setup : Setup) (most : ℕ) (before now after : DoorView L) (shown s0 s1 : Option (List Moment)) (missed : ℕ) (at : Moment) (due : Result ℕ DueFault) (end : WorkerEnd)
-    → SoFar faces setup before now shown s0 end.served missed → DoesDueAt s0 s1 at due → Grows now.given after.given [] → Stays now.back after.back
-    → end.missed ≡ missed + missed_in (due ∷ []) → end.served ≤ greatest most
-    → ((end.status.0 ≡ 0) × Rose before.closings after.closings) ⊎ ((end.status.0 ≡ 5) × Rose before.faults after.faults)
-    → Works faces setup most before after shown s1 end
-no_door faces setup most before now after shown s0 s1 missed at due end so does gives keeps counted few cause = record {
-  turns = so.turns;
-  between = s0;
-  are_turns = so.are_turns;
-  given = subst (Grows before.given after.given) (append-nil (links_given so.turns)) (Grows-trans before.given now.given after.given (links_given so.turns) [] so.given gives);
-  back = Grows-kept before.back now.back after.back (links_back so.turns) so.back keeps;
-  served = so.served_is;
-  few = few;
-  ends = inr (record {
-    at = at;
-    due = due;
-    does = does;
-    missed = counted ∙ (ap (λ n. n + missed_in (due ∷ [])) so.missed_is ∙ sym (missed-more (due_ends so.turns) due));
-    cause = cause;
-  });
-}

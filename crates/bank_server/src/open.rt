@@ -10,8 +10,10 @@ ghost use Rattle.bank_server.specs.Words.{AreServeWords, IsServeUsage};
 ghost use Rattle.bank_server.specs.Opening.{outside, RefusesOpening};
 
 use crate::plan::{Plan, plan_of};
-use bank_model::{Printer, one_setup};
-use bank_session::{Stop, end_told, one_bank, opening_stop, read_setup};
+use bank_model::Printer;
+use bank_model::laws::one_setup;
+use bank_session::laws::one_bank;
+use bank_session::{Stop, end_told, opening_stop, read_setup};
 use bank_shared::Opened;
 use ofx_ports::{Keeper, Source};
 use ofx_types::{Text, Told};

@@ -14,7 +14,7 @@ use Rattle.bank_session.specs.PortsView.{PortsView, ports_view}
 use Rattle.bank_session.specs.Stopping.{stop_of}
 use Rattle.bank_session.specs.DueEnd.{DueEnds}
 use Rattle.bank_session.specs.Run.{EndsWithBank, EndsSo, told_of, told}
-use Rattle.bank_session.specs.Exact.{IsDueInterrupted, RefusesSetup, RefusesRecord, RefusesIllegal, DoesAll, IsDueCommand}
+use Rattle.bank_session.specs.Statuses.{IsDueInterrupted, RefusesSetup, RefusesRecord, RefusesIllegal, DoesAll, IsDueCommand}
 use Rattle.bank_desk.specs.declared.fault.DeskFault.{DeskFault}
 use Rattle.bank_desk.specs.declared.fault.DeskFault.TheVariants.{NoMemory, AppendFailed}
 use Rattle.bank_session.specs.declared.stop.Stop.{Stop}

@@ -1,5 +1,5 @@
 pub mod ToldLemmas
-pub mod Standing
+pub mod BetweenTurns
 pub mod MomentLemmas
 pub mod SetupSource
 pub mod CommandWords
@@ -8,7 +8,7 @@ pub mod RunLemmas
 pub mod OpeningLemmas
 pub mod Stopping
 pub mod Unopened
-pub mod ExactLemmas
+pub mod StatusLemmas
 pub mod DueCommand
 pub mod MailLemmas
 pub mod LineLemmas

@@ -24,7 +24,7 @@ use Rattle.bank_session.specs.Stopping.{stop_of}
 use Rattle.bank_session.specs.Letters.{IsBody, IsBodyOf, HasNoBody, IsNoBody, ReadsBody}
 use Rattle.bank_session.specs.MailEnd.{StopsReading, LetterEnds, MailEnds}
 use Rattle.bank_session.specs.Run.{EndsSo, told_of, told}
-use Rattle.bank_session.specs.Exact.{IsInterrupted, RefusesSetup, RefusesRecord, RefusesIllegal, Brings, RefusesBody, RefusesUser, RefusesFull, WritesIt, IsMailCommand}
+use Rattle.bank_session.specs.Statuses.{IsInterrupted, RefusesSetup, RefusesRecord, RefusesIllegal, Brings, RefusesBody, RefusesUser, RefusesFull, WritesIt, IsMailCommand}
 use Rattle.bank_desk.specs.declared.fault.DeskFault.{DeskFault}
 use Rattle.bank_desk.specs.declared.fault.DeskFault.TheVariants.{NoMemory, AppendFailed}
 use Rattle.bank_session.specs.declared.stop.LetterFault.TheVariants as faults

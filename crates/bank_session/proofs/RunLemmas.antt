@@ -9,15 +9,15 @@ use Rattle.bank_model.specs.declared.event.State.{State}
 use Rattle.bank_core.specs.BookView.{BookView}
 use Rattle.bank_frames.specs.Frames.{Content, request, due_work, frame_head, frame_of, Fits, BeginsNoFrame}
 use Rattle.bank_session.specs.Answers.{AnswersFrame, Turn, AreTurns, read_in, written_in, records_in, AreMoments, IsPrefixKept, IsKeptWhereRefused}
-use Rattle.bank_frames.specs.Coming.{IsNoFrame}
+use Rattle.bank_frames.specs.NextFrame.{IsNoFrame}
 use Rattle.bank_session.specs.PortsView.{PortsView}
 use Rattle.bank_session.specs.Turns.{TurnView, turn_view, FrameAnswered, FrameStops}
 use Rattle.bank_session.specs.TurnResult.{TurnMade, NoTurn, TurnStops}
 use Rattle.bank_session.specs.RunEnd.{Taken, Finished, StoppedBetween, StoppedAtFrame, RunEnds}
-use Rattle.bank_session.specs.EndOrStop.{EndOrStop}
+use Rattle.bank_session.specs.AfterLastFrame.{AfterLastFrame}
 use Rattle.bank_session.specs.declared.stop.Stop.{Stop}
 use Rattle.bank_session.specs.declared.stop.Stop.TheVariants as stops
-use Rattle.bank_session.proofs.Standing.{Standing}
+use Rattle.bank_session.proofs.BetweenTurns.{BetweenTurns}
 use Rattle.bank_frames.proofs.Agreement.{head_is_short}
 use Rattle.ofx_ports.proofs.ToldLaws.{Stays-refl, Grows-trans, Grows-kept}
 use Rattle.ofx_ports.proofs.FaultLaws.{Rose-later}
@@ -52,7 +52,7 @@ of_run own setup P same known = subst P same known
 
 -- no turn is taken yet
 pub stands_first : (at : Option Moment) (book : BookView) (left : Option (List ℕ)) (reads : ℕ) (held : Option (List ℕ)) (writes : ℕ) (records : Option (List (List ℕ))) (keeps : ℕ) (shown : Option (List Moment)) →
-    Standing book.setup book.state at (turn_view left reads held writes records keeps shown) 0 0 book (turn_view (prepend_known [] left) reads held writes records keeps shown)
+    BetweenTurns book.setup book.state at (turn_view left reads held writes records keeps shown) 0 0 book (turn_view (prepend_known [] left) reads held writes records keeps shown)
 stands_first at book left reads held writes records keeps shown = record {
   turns = [];
   counted = refl;
@@ -74,8 +74,8 @@ stands_first at book left reads held writes records keeps shown = record {
 
 -- one turn more is taken
 pub next_turn : (setup : Setup) (start : State) (at : Option Moment) (found now then : TurnView) (count place : ℕ) (book after : BookView) (size : ℕ) →
-    Standing setup start at found count place book now → TurnMade at book after now then size → now.reads ≤ then.reads → now.writes ≤ then.writes → now.keeps ≤ then.keeps →
-    Standing setup start at found (count + 1) (place + size) after then
+    BetweenTurns setup start at found count place book now → TurnMade at book after now then size → now.reads ≤ then.reads → now.writes ≤ then.writes → now.keeps ≤ then.keeps →
+    BetweenTurns setup start at found (count + 1) (place + size) after then
 next_turn setup start at found now then count place book after size standing made reads writes keeps =
     let it : FrameAnswered made.moment size book after now then = made.happened in
     let turn : Turn = record { content = it.content; at = made.moment; line = it.line; records = it.answers.0 } in
@@ -107,7 +107,7 @@ frame_is_small at book after now then size made =
 
 -- the turns of a run that stands, with what is still to come
 taken_of : (setup : Setup) (start : State) (at : Option Moment) (before after : PortsView) (count place : ℕ) (book : BookView) (now : TurnView) (ahead : List ℕ) →
-    (standing : Standing setup start at (found_in before) count place book now) → count ≤ 1000000 → Keeps now.coming (prepend_known ahead after.input_left) → Taken setup start before after standing.turns book.state ahead
+    (standing : BetweenTurns setup start at (found_in before) count place book now) → count ≤ 1000000 → Keeps now.coming (prepend_known ahead after.input_left) → Taken setup start before after standing.turns book.state ahead
 taken_of setup start at before after count place book now ahead standing few kept = record {
   are_turns = standing.are_turns;
   few = omega (arith, standing.counted);
@@ -121,7 +121,7 @@ stuck (Some rest) full h = (h.0, inl h.1)
 
 -- where no frame comes it stops at the place after the frames so far
 pub stopped_at_frame : (setup : Setup) (start : State) (at : Option Moment) (before after : PortsView) (count place : ℕ) (book : BookView) (now : TurnView) (ahead : List ℕ) →
-    Standing setup start at (found_in before) count place book now → count ≤ 1000000 → NoTurn now (left_in ahead after) → IfSome (prepend_known ahead after.input_left) IsNoFrame → StoppedAtFrame setup start at before after place
+    BetweenTurns setup start at (found_in before) count place book now → count ≤ 1000000 → NoTurn now (left_in ahead after) → IfSome (prepend_known ahead after.input_left) IsNoFrame → StoppedAtFrame setup start at before after place
 stopped_at_frame setup start at before after count place book now ahead standing few none no_frame = record {
   turns = standing.turns;
   state = book.state;
@@ -136,7 +136,7 @@ stopped_at_frame setup start at before after count place book now ahead standing
 
 -- a run that finds nothing more has answered every frame
 pub finished : (setup : Setup) (start : State) (at : Option Moment) (before after : PortsView) (count place : ℕ) (book : BookView) (now : TurnView) (ahead : List ℕ) →
-    Standing setup start at (found_in before) count place book now → count ≤ 1000000 → NoTurn now (left_in ahead after) → IsAtEnd (prepend_known ahead after.input_left) → Finished setup start at before after
+    BetweenTurns setup start at (found_in before) count place book now → count ≤ 1000000 → NoTurn now (left_in ahead after) → IsAtEnd (prepend_known ahead after.input_left) → Finished setup start at before after
 finished setup start at before after count place book now ahead standing few none at_end = record {
   turns = standing.turns;
   state = book.state;
@@ -150,7 +150,7 @@ finished setup start at before after count place book now ahead standing few non
 
 -- where a frame isn't answered whole the run stops
 stopped_in_frame : (setup : Setup) (start : State) (at : Option Moment) (before after : PortsView) (count place : ℕ) (book : BookView) (now : TurnView) (ahead : List ℕ) (moment : Moment) (stop : Stop) →
-    Standing setup start at (found_in before) count place book now → count < 1000000 → AreMoments at now.shown after.shown (moment ∷ []) → FrameStops moment book now (left_in ahead after) stop → RunEnds at setup start before after (Err stop)
+    BetweenTurns setup start at (found_in before) count place book now → count < 1000000 → AreMoments at now.shown after.shown (moment ∷ []) → FrameStops moment book now (left_in ahead after) stop → RunEnds at setup start before after (Err stop)
 stopped_in_frame setup start at before after count place book now ahead moment stops.WriteFailed standing few moments h = (
   record {
     turns = standing.turns;
@@ -221,7 +221,7 @@ stopped_in_frame setup start at before after count place book now ahead moment (
 
 -- where a read fails it stops before a frame
 stopped_in_read : (setup : Setup) (start : State) (at : Option Moment) (before after : PortsView) (count place : ℕ) (book : BookView) (now : TurnView) (ahead : List ℕ) →
-    Standing setup start at (found_in before) count place book now → count < 1000000 → TurnStops at book now (left_in ahead after) ahead stops.ReadFailed → RunEnds at setup start before after (Err stops.ReadFailed)
+    BetweenTurns setup start at (found_in before) count place book now → count < 1000000 → TurnStops at book now (left_in ahead after) ahead stops.ReadFailed → RunEnds at setup start before after (Err stops.ReadFailed)
 stopped_in_read setup start at before after count place book now ahead standing few h = (
   record {
     turns = standing.turns;
@@ -238,7 +238,7 @@ stopped_in_read setup start at before after count place book now ahead standing 
 
 -- where a turn fails the run stops
 pub stopped_in_turn : (setup : Setup) (start : State) (at : Option Moment) (before after : PortsView) (count place : ℕ) (book : BookView) (now : TurnView) (ahead : List ℕ) (stop : Stop) →
-    Standing setup start at (found_in before) count place book now → count < 1000000 → TurnStops at book now (left_in ahead after) ahead stop → RunEnds at setup start before after (Err stop)
+    BetweenTurns setup start at (found_in before) count place book now → count < 1000000 → TurnStops at book now (left_in ahead after) ahead stop → RunEnds at setup start before after (Err stop)
 stopped_in_turn setup start at before after count place book now ahead stops.ReadFailed standing few h = stopped_in_read setup start at before after count place book now ahead standing few h
 stopped_in_turn setup start at before after count place book now ahead stop standing few h = stopped_in_frame setup start at before after count place book now ahead h.moment stop standing few h.moments h.happened
 
@@ -249,7 +249,7 @@ over (Some rest) full is_full h = (h, inr is_full)
 
 -- after the last frame that a run answers the input ends, or the run stops
 pub ended_behind : (setup : Setup) (start : State) (at : Option Moment) (before after : PortsView) (count place : ℕ) (book : BookView) (coming : Option (List ℕ)) (reads : ℕ) (ahead : List ℕ) (end : Result (Unit {0}) Stop) →
-    Standing setup start at (found_in before) count place book (turn_view coming reads after.held after.out_faults after.records after.keeper_faults after.shown) → count ≡ 1000000 → EndOrStop coming place ahead after.input_left reads after.input_faults end → RunEnds at setup start before after end
+    BetweenTurns setup start at (found_in before) count place book (turn_view coming reads after.held after.out_faults after.records after.keeper_faults after.shown) → count ≡ 1000000 → AfterLastFrame coming place ahead after.input_left reads after.input_faults end → RunEnds at setup start before after end
 ended_behind setup start at before after count place book coming reads ahead (Ok done) standing full h = record {
   turns = standing.turns;
   state = book.state;
@@ -293,7 +293,7 @@ ended_behind setup start at before after count place book coming reads ahead (Er
 ended_behind setup start at before after count place book coming reads ahead (Err (stops.Letter fault)) standing full h = absurd h
 
 -- a run that stops before its first frame has taken no turn
-pub stopped_at_once : (at : Option Moment) (book : BookView) (before after : PortsView) → Standing book.setup book.state at (found_in before) 0 0 book (left_in [] after) → StoppedBetween book.setup book.state at before after
+pub stopped_at_once : (at : Option Moment) (book : BookView) (before after : PortsView) → BetweenTurns book.setup book.state at (found_in before) 0 0 book (left_in [] after) → StoppedBetween book.setup book.state at before after
 stopped_at_once at book before after standing = record {
   turns = standing.turns;
   state = book.state;

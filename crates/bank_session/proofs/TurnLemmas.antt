@@ -8,7 +8,7 @@ use Rattle.ofx_types.specs.declared.number.Moment.{Moment}
 use Rattle.bank_core.specs.BookView.{BookView}
 use Rattle.bank_frames.specs.Frames.{Content, IsLength, length_line, frame, frame_head, frame_of, Fits}
 use Rattle.bank_session.specs.Answers.{AreMoments}
-use Rattle.bank_frames.specs.Coming.{HoldsFile, HoldsFrame, file_in, content_in, size_of}
+use Rattle.bank_frames.specs.NextFrame.{HoldsFile, HoldsFrame, file_in, content_in, size_of}
 use Rattle.bank_session.specs.Stopping.{stop_of}
 use Rattle.bank_session.specs.Turns.{TurnView, HasNoLine, FrameStays, FrameStops}
 use Rattle.bank_session.specs.TurnResult.{TurnStops}

@@ -13,7 +13,7 @@ use Rattle.ofx_types.specs.declared.told.Told.{Told}
 use Rattle.bank_session.specs.PortsView.{PortsView}
 use Rattle.bank_session.specs.SetupRead.{IsSetupOf, IsNoSetup}
 use Rattle.bank_session.specs.Run.{NeverOpens, told_of, told}
-use Rattle.bank_session.specs.Exact.{HasRecords, Opens, IsInterrupted, IsDueInterrupted, RefusesSetup, RefusesRecord, RefusesIllegal}
+use Rattle.bank_session.specs.Statuses.{HasRecords, Opens, IsInterrupted, IsDueInterrupted, RefusesSetup, RefusesRecord, RefusesIllegal}
 use Rattle.bank_session.specs.declared.stop.RecordsFault.TheVariants.{NoForm, NotLegal}
 use Rattle.bank_session.specs.declared.stop.Stop.{Stop}
 use Rattle.bank_session.specs.declared.stop.Stop.TheVariants as stops

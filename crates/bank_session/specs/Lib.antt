@@ -12,8 +12,8 @@ pub mod RunEnd
 pub mod DueEnd
 pub mod Letters
 pub mod MailEnd
-pub mod EndOrStop
+pub mod AfterLastFrame
 pub mod Run
-pub mod Exact
+pub mod Statuses
 pub mod Determined
 pub mod BooksKept

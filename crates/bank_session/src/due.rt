@@ -10,8 +10,7 @@ use crate::opening::open_desk;
 use crate::setup_source::read_setup;
 use crate::stop::Stop;
 use bank_desk::Desk;
-use bank_frames::write_whole;
-use ofx_ports::{Clock, Failed, Keeper, Sink, Source};
+use ofx_ports::{Clock, Failed, Keeper, Sink, Source, write_whole};
 use std::alloc::Global;
 use std::hash::RandomState;
 

@@ -23,7 +23,7 @@ mod turn;
 mod words;
 
 pub use answer::{answer_files, answer_told, end_told};
-pub use opening::{one_bank, opening_stop};
+pub use opening::opening_stop;
 pub use ports::Ports;
 pub use setup_source::read_setup;
 pub use stop::{LetterFault, RecordsFault, Stop};

@@ -1,4 +1,4 @@
-//! Why a run stops whose bank doesn't open, and that its records come to one thing.
+//! The bank opens from its records, and why a run stops whose bank doesn't.
 
 ghost use Rattle.std.specs.Prelude.{◌≡◌, ◌≤◌, false, IfOk, IfErr};
 ghost use Rattle.ofx_ports.specs.Told.{Stays};
@@ -6,13 +6,11 @@ ghost use Rattle.bank_model.specs.SetupForm.{IsWithinLimits};
 ghost use Rattle.bank_replay.specs.Opening.{Stands};
 ghost use Rattle.bank_session.specs.RecordsRead as records;
 ghost use Rattle.bank_session.specs.RecordsRead.{StopsOpening};
-ghost use Rattle.bank_session.specs.OneBank.{OneBank};
 
 use crate::stop::{RecordsFault, Stop};
 use bank_desk::Desk;
 use bank_model::Setup;
 use bank_replay::OpenFault;
-use bank_replay::laws::{causes_open_nothing, one_cause, one_opening};
 use ofx_ports::Keeper;
 use std::alloc::Global;
 use std::hash::RandomState;
@@ -49,13 +47,4 @@ pub fn open_desk<K: Keeper>(
         Ok(desk) => Ok(desk),
         Err(fault) => Err(opening_stop(fault)),
     }
-}
-
-/// What the records of a bank come to is one thing: a state, a first record without a form, or a first one that isn't legal.
-pub fn one_bank()
-    ensures { OneBank }
-{
-    one_opening();
-    one_cause();
-    causes_open_nothing();
 }

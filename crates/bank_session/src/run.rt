@@ -5,7 +5,7 @@ ghost use Rattle.std.specs.Io.KnownBytes.{prepend_known};
 ghost use Rattle.bank_session.specs.WordsRead.{IsLawful};
 ghost use Rattle.bank_session.specs.PortsView.{ports_view};
 ghost use Rattle.bank_session.specs.RunEnd.{RunEnds};
-ghost use Rattle.bank_session.specs.EndOrStop.{EndOrStop};
+ghost use Rattle.bank_session.specs.AfterLastFrame.{AfterLastFrame};
 
 use crate::stop::Stop;
 use crate::turn::{Step, take_turn};
@@ -58,7 +58,7 @@ pub fn answer_frames<B: Source, W: Sink, K: Keeper, C: Clock>(
 
 /// The end of an input of which no more frames are answered, after this many bytes.
 fn end_of_input<B: Source>(place: u64, ahead: &mut Ahead, input: &mut B) -> Result<(), Stop>
-    ensures end { EndOrStop (prepend_known ahead.old (B.left input.old)) place ahead.new (B.left input.new) (B.faults input.old) (B.faults input.new) result }
+    ensures end { AfterLastFrame (prepend_known ahead.old (B.left input.old)) place ahead.new (B.left input.new) (B.faults input.old) (B.faults input.new) result }
     ensures reads { B.faults input.old ≤ B.faults input.new }
     ensures kept { result ≢ Err Stop.KeeperFailed }
 {

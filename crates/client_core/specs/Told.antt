@@ -22,9 +22,9 @@ IsRefusal given (faults.Signon code) = given ≡ Err (faults.Signon code)
 IsRefusal given (faults.Shape number) = given ≡ Err (faults.Shape number)
 
 -- A call answers what its rule gives.
-abbrev pub Gives : {A : Type 0} → Result A ClientFault → Result A ClientFault → Type 0
-Gives given (Ok x) = given ≡ Ok x
-Gives given (Err fault) = IsRefusal given fault
+abbrev pub FollowsRule : {A : Type 0} → Result A ClientFault → Result A ClientFault → Type 0
+FollowsRule given (Ok x) = given ≡ Ok x
+FollowsRule given (Err fault) = IsRefusal given fault
 
 -- ---- replies
 

@@ -6,7 +6,7 @@ ghost use Rattle.client_saved.specs.Bounds.{IsName, IsSoundState};
 ghost use Rattle.client_core.specs.Objects as objects;
 ghost use Rattle.client_core.specs.Wishes as wishes;
 ghost use Rattle.client_core.specs.Making as rules;
-ghost use Rattle.client_core.specs.Told.{IsRefusal, Gives};
+ghost use Rattle.client_core.specs.Told.{IsRefusal, FollowsRule};
 
 use crate::errand::Errand;
 use crate::fault::ClientFault;
@@ -52,7 +52,7 @@ fn modifying(
     amount: Cents,
     due: Day,
 ) -> Result<Errand, ClientFault>
-    ensures { Gives (wishes.modifying id to.now amount due (wishes.transfer_kept id stores.now)) result }
+    ensures { FollowsRule (wishes.modifying id to.now amount due (wishes.transfer_kept id stores.now)) result }
 {
     match transfer_kept(stores, id) {
         None => Err(ClientFault::NoRow(id)),
@@ -69,7 +69,7 @@ fn modifying(
 }
 
 fn cancelling(stores: &[Store], id: u64) -> Result<Errand, ClientFault>
-    ensures { Gives (wishes.cancelling id (wishes.transfer_kept id stores.now)) result }
+    ensures { FollowsRule (wishes.cancelling id (wishes.transfer_kept id stores.now)) result }
 {
     match transfer_kept(stores, id) {
         None => Err(ClientFault::NoRow(id)),
@@ -78,7 +78,7 @@ fn cancelling(stores: &[Store], id: u64) -> Result<Errand, ClientFault>
 }
 
 fn stopping(stores: &[Store], id: u64) -> Result<Errand, ClientFault>
-    ensures { Gives (wishes.stopping id (wishes.model_kept id stores.now)) result }
+    ensures { FollowsRule (wishes.stopping id (wishes.model_kept id stores.now)) result }
 {
     match model_kept(stores, id) {
         None => Err(ClientFault::NoRow(id)),
@@ -122,7 +122,7 @@ fn errand_of(
     wish: &Wish,
     at: Moment,
 ) -> Result<Errand, ClientFault>
-    ensures { Gives (wishes.errand_of client.now wish.now at) result }
+    ensures { FollowsRule (wishes.errand_of client.now wish.now at) result }
 {
     match wish {
         Wish::Sync(account) => Ok(Errand::Look(account.copy()?)),

@@ -71,18 +71,10 @@ digit_ink d less = grind (arith, common_steps)
 digit_ends : (front : List ℕ) (d : ℕ) → d < 10 → Ends (front ++ (48 + d) ∷ [])
 digit_ends front d less = record { front = front; last = 48 + d; parts = refl; is_ink = digit_ink d less }
 
-digit_begins : (d : ℕ) → d < 10 → Begins ((48 + d) ∷ [])
-digit_begins d less = record { first = 48 + d; rest = []; parts = refl; is_ink = digit_ink d less }
-
 pub decimal_ends : (n : ℕ) → n < 2 ^ 64 → Ends (decimal n)
 decimal_ends = decimal_by_steps (λ n ds. Ends ds)
     (λ n h. digit_ends [] n h)
     (λ n ds h p. digit_ends ds (n % 10) (omega arith))
-
-pub decimal_begins : (n : ℕ) → n < 2 ^ 64 → Begins (decimal n)
-decimal_begins = decimal_by_steps (λ n ds. Begins ds)
-    (λ n h. digit_begins n h)
-    (λ n ds h p. begins_append ds ((48 + n % 10) ∷ []) p)
 
 -- ---- lines
 

@@ -13,7 +13,7 @@ use Rattle.ofx_types.specs.declared.request.RequestFile.{RequestFile}
 use Rattle.ofx_file.specs.Printable.{IsPrintableFile}
 use Rattle.client_saved.specs.declared.state.ClientState.{ClientState}
 use Rattle.client_core.specs.Making.{poll_of}
-use Rattle.client_core.specs.Told.{Gives}
+use Rattle.client_core.specs.Told.{FollowsRule}
 use Rattle.client_core.specs.declared.fault.ClientFault.{ClientFault}
 use Rattle.client_run.specs.Views.{LinkView, OutView}
 use Rattle.client_run.specs.Commands.{Checks, JudgesNews}
@@ -67,8 +67,8 @@ checks_by pass client account file at link link' shown shown' out out' ahead' go
 
 -- A reply that is accepted is told by its lines, and any other by why it isn't.
 pub news_told : (asks : List Ask) (reply : ReplyFile) (lines : List (List ℕ)) (out out' : OutView) (told : Result (Unit {0}) PutFault) (end : Result (Unit {0}) Stop)
-    → Gives (news asks reply) (Ok lines) → Prints (printed lines) out out' told → end ≡ print_end told → JudgesNews asks (Ok reply) out out' end
+    → FollowsRule (news asks reply) (Ok lines) → Prints (printed lines) out out' told → end ≡ print_end told → JudgesNews asks (Ok reply) out out' end
 news_told asks reply lines out out' told end gives prints end_is = (Ok lines, gives, (told, prints, end_is))
 
-pub news_refused : (asks : List Ask) (reply : ReplyFile) (fault : ClientFault) (out : OutView) → Gives (news asks reply) (Err fault) → JudgesNews asks (Ok reply) out out (Err (stops.Refused fault))
+pub news_refused : (asks : List Ask) (reply : ReplyFile) (fault : ClientFault) (out : OutView) → FollowsRule (news asks reply) (Err fault) → JudgesNews asks (Ok reply) out out (Err (stops.Refused fault))
 news_refused asks reply fault out gives = (Err fault, gives, (refl, refl))

@@ -12,7 +12,7 @@ use Rattle.client_saved.specs.declared.state.Outstanding.{Outstanding}
 use Rattle.client_core.specs.ClientForm.{discarded}
 use Rattle.client_core.specs.Accepting.{Accepted, accepted, accepted_to, accepted_unless, refusal_for, with_replies}
 use Rattle.client_core.specs.Making.{made, made_for, with_file}
-use Rattle.client_core.specs.Told.{Gives}
+use Rattle.client_core.specs.Told.{FollowsRule}
 use Rattle.client_core.specs.Wishes.{errand_of}
 use Rattle.client_core.specs.declared.fault.ClientFault.{ClientFault}
 use Rattle.client_core.specs.declared.wish.Wish.{Wish}
@@ -37,9 +37,6 @@ use Rattle.client_run.proofs.Opened.{OneState, NoneSaved, one_client, saved_fill
 record Same (client next : ClientState) : Type 0 where
   pub name : next.name ≡ client.name
   pub user : next.user ≡ client.user
-
-same_by : (client next : ClientState) → next ≡ client → Same client next
-same_by client next e = record { name = ap (λ (c : ClientState). c.name) e; user = ap (λ (c : ClientState). c.user) e }
 
 unless_same : (client : ClientState) (file : RequestFile) (reply : ReplyFile) (refusal : Option ClientFault) (taken : Accepted) → accepted_unless client file reply refusal ≡ Ok taken → Same client taken.after
 unless_same client file reply (Some fault) taken e = absurd cc
@@ -101,7 +98,7 @@ takes_on : (order : Order) (bytes : List ℕ) (kept : Result (Unit {0}) PutFault
 takes_on order bytes (Err fault) store store' out out' client next client' end same client_is saves prints saved = absurd (saved fault prints.0)
 takes_on order bytes (Ok done) store store' out out' client next client' end same client_is saves prints saved = saved_on order store store' client next client' same client_is saves
 
-goes_on : (order : Order) (client : ClientState) (reply : ReplyFile) (judged : Result Accepted ClientFault) (store : StoreView) (out : OutView) (client' : ClientState) (store' : StoreView) (out' : OutView) (end : Result (Unit {0}) Stop) → Gives (accepted client reply) judged → GoesBy client judged store out client' store' out' end → IsSaved end → KeepsOn order store client store' client'
+goes_on : (order : Order) (client : ClientState) (reply : ReplyFile) (judged : Result Accepted ClientFault) (store : StoreView) (out : OutView) (client' : ClientState) (store' : StoreView) (out' : OutView) (end : Result (Unit {0}) Stop) → FollowsRule (accepted client reply) judged → GoesBy client judged store out client' store' out' end → IsSaved end → KeepsOn order store client store' client'
 goes_on order client reply (Err fault) store out client' store' out' end gives leaves saved = as_before order store store' client client' leaves.client_is leaves.store_is
 goes_on order client reply (Ok taken) store out client' store' out' end gives takes saved =
     takes_on order (printed taken.lines) takes.kept store store' out out' client taken.after client' end (accepted_same client reply taken gives) takes.client_is takes.saves takes.prints saved
@@ -128,7 +125,7 @@ resumes_on : (order : Order) (pass : List ℕ) (outstanding : Option Outstanding
 resumes_on order pass None client link store out client' ahead' link' store' out' end (end_is, client_is, ahead_is, link_is, store_is, out_is) saved = as_before order store store' client client' client_is store_is
 resumes_on order pass (Some kept) client link store out client' ahead' link' store' out' end settles saved = settles_on order pass client [] link store out client' ahead' link' store' out' end settles saved
 
-keeps_on : (order : Order) (judged : Result ClientState ClientFault) (client : ClientState) (wish : Wish) (at : Moment) (store : StoreView) (client' : ClientState) (store' : StoreView) (end : Result (Unit {0}) Stop) → Gives (made client wish at) judged → KeepsMade judged client store client' store' end → IsSaved end → KeepsOn order store client store' client'
+keeps_on : (order : Order) (judged : Result ClientState ClientFault) (client : ClientState) (wish : Wish) (at : Moment) (store : StoreView) (client' : ClientState) (store' : StoreView) (end : Result (Unit {0}) Stop) → FollowsRule (made client wish at) judged → KeepsMade judged client store client' store' end → IsSaved end → KeepsOn order store client store' client'
 keeps_on order (Err fault) client wish at store client' store' end gives (end_is, client_is, store_is) saved = as_before order store store' client client' client_is store_is
 keeps_on order (Ok next) client wish at store client' store' end gives (Err fault, client_is, saves, end_is) saved = absurd (saved fault end_is)
 keeps_on order (Ok next) client wish at store client' store' end gives (Ok done, client_is, saves, end_is) saved = saved_on order store store' client next client' (made_same client next wish at gives) client_is saves

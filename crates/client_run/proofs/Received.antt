@@ -7,13 +7,12 @@ use Rattle.ofx_types.specs.declared.fault.FileFault.{FileFault}
 use Rattle.ofx_types.specs.declared.fault.FileFault.TheVariants as files
 use Rattle.ofx_types.specs.declared.reply.ReplyFile.{ReplyFile}
 use Rattle.ofx_file.specs.Outcome.{IsRefusal}
-use Rattle.http_link.specs.Answers.{HoldsReply, HasNoReply}
+use Rattle.http_link.specs.Answers.{HoldsReply}
 use Rattle.http_link.specs.declared.answer.Answer.{Answer}
-use Rattle.http_link.specs.declared.answer.CallFault.{CallFault}
 use Rattle.http_link.specs.declared.answer.CallFault.TheVariants as links
 use Rattle.client_run.specs.Views.{LinkView}
 use Rattle.client_run.specs.Exchange.{IsReply, BeginsWith, BringsNothing, ReadsBody, IsNoReplyAt}
-use Rattle.client_run.specs.Stopping.{call_stop, body_stop}
+use Rattle.client_run.specs.Stopping.{body_stop}
 use Rattle.client_run.specs.declared.stop.CallStop.{CallStop}
 use Rattle.client_run.specs.declared.stop.CallStop.TheVariants as calls
 
@@ -60,14 +59,6 @@ body_faulty bytes answer (files.Header at) holds found is = faulty_at bytes answ
 body_faulty bytes answer (files.Syntax at) holds found is = faulty_at bytes answer at holds found (inr (inl is))
 body_faulty bytes answer (files.Form at) holds found is = faulty_at bytes answer at holds found (inr (inr is))
 body_faulty bytes answer files.OutOfMemory holds found is = tt
-
--- No reply file comes where no reply does, and none where the body of one brings none.
-pub no_reply_brings : (bytes : List ℕ) (before after : LinkView) (fault : CallFault)
-    → HasNoReply bytes after.left before.read_faults after.read_faults fault → BringsNothing bytes before after (call_stop fault)
-no_reply_brings bytes before after links.ReadFault none = none
-no_reply_brings bytes before after links.BadHead none = none
-no_reply_brings bytes before after (links.Cut count) none = none
-no_reply_brings bytes before after links.OutOfMemory none = tt
 
 no_body : (bytes : List ℕ) (answer : Answer) (before after : LinkView) (stop : CallStop)
     → ReadsBody bytes answer (Err stop) → BringsNothing bytes before after stop

@@ -13,7 +13,7 @@ use Rattle.bank_laws.specs.Histories.{IsInOrder}
 use Rattle.client_saved.specs.declared.state.ClientState.{ClientState}
 use Rattle.client_saved.specs.declared.state.Outstanding.{Outstanding}
 use Rattle.client_core.specs.Accepting.{Accepted, accepted, with_replies}
-use Rattle.client_core.specs.Told.{Gives}
+use Rattle.client_core.specs.Told.{FollowsRule}
 use Rattle.client_core.specs.declared.fault.ClientFault.{ClientFault}
 use Rattle.client_core.specs.declared.fault.ClientFault.TheVariants as faults
 use Rattle.client_laws.specs.Answers.{bank_reply}
@@ -32,7 +32,7 @@ abbrev IsTaken : Accepted → ClientState → Result (Unit {0}) Stop → Type 0
 IsTaken taken client' end = (client' ≡ taken.after) ⊎ (end ≡ Err (stops.Refused faults.OutOfMemory))
 
 goes : (client : ClientState) (taken : Accepted) (judged : Result Accepted ClientFault) (store : StoreView) (out : OutView) (client' : ClientState) (store' : StoreView) (out' : OutView) (end : Result (Unit {0}) Stop)
-    → Gives (Ok taken) judged → GoesBy client judged store out client' store' out' end → IsTaken taken client' end
+    → FollowsRule (Ok taken) judged → GoesBy client judged store out client' store' out' end → IsTaken taken client' end
 goes client taken (Ok told) store out client' store' out' end gives by =
     let same : taken ≡ told = cc in inl (by.client_is ∙ ap (λ (a : Accepted). a.after) (sym same))
 goes client taken (Err faults.OutOfMemory) store out client' store' out' end gives by = inr by.end_is
@@ -46,7 +46,7 @@ judged : (client : ClientState) (taken : Accepted) (reply told : ReplyFile) (sto
     → told ≡ reply → accepted client reply ≡ Ok taken → Judges client told store out client' store' out' end → IsTaken taken client' end
 judged client taken reply told store out client' store' out' end same accepts (judgement, gives, by) =
     goes client taken judgement store out client' store' out' end
-    (subst (λ (given : Result Accepted ClientFault). Gives given judgement) (ap (accepted client) same ∙ accepts) gives) by
+    (subst (λ (given : Result Accepted ClientFault). FollowsRule given judgement) (ap (accepted client) same ∙ accepts) gives) by
 
 unspelled : FaultsSpellNoReply → (body : List ℕ) (reply : ReplyFile) (at : ℕ) → SpellsReply body reply → IsNoReplyAt body at → ⊥
 unspelled never body reply at spells (inl fault) = never body reply (files.Header at) spells fault

@@ -19,7 +19,7 @@ use Rattle.client_saved.specs.declared.state.Outstanding.{Outstanding}
 use Rattle.client_core.specs.Accepting.{Accepted, accepted, accepted_to, accepted_unless, refusal_for, same_name}
 use Rattle.client_core.specs.Answering.{first_unanswered}
 use Rattle.client_core.specs.Making.{made, made_for, poll_of}
-use Rattle.client_core.specs.Told.{Gives, IsRefusal}
+use Rattle.client_core.specs.Told.{FollowsRule, IsRefusal}
 use Rattle.client_core.specs.Wishes.{errand_of, modifying, cancelling, stopping, transfer_kept, model_kept}
 use Rattle.client_core.specs.declared.fault.ClientFault.{ClientFault}
 use Rattle.client_core.specs.declared.fault.ClientFault.TheVariants as faults
@@ -139,7 +139,7 @@ prints_work : (bytes : List ℕ) (kept : Result (Unit {0}) PutFault) (out out' :
 prints_work bytes (Err fault) out out' end (end_is, same) = subst IsWorkEnd (sym end_is) tt
 prints_work bytes (Ok done) out out' end (told, prints, end_is) = subst IsWorkEnd (sym end_is) (print_works told)
 
-goes_work : (client : ClientState) (reply : ReplyFile) (judged : Result Accepted ClientFault) (store : StoreView) (out : OutView) (client' : ClientState) (store' : StoreView) (out' : OutView) (end : Result (Unit {0}) Stop) → Gives (accepted client reply) judged → GoesBy client judged store out client' store' out' end → IsWorkEnd end
+goes_work : (client : ClientState) (reply : ReplyFile) (judged : Result Accepted ClientFault) (store : StoreView) (out : OutView) (client' : ClientState) (store' : StoreView) (out' : OutView) (end : Result (Unit {0}) Stop) → FollowsRule (accepted client reply) judged → GoesBy client judged store out client' store' out' end → IsWorkEnd end
 goes_work client reply (Err fault) store out client' store' out' end gives leaves = subst IsWorkEnd (sym leaves.end_is) (refused_so (accepted client reply) fault gives (accepted_named client reply))
 goes_work client reply (Ok taken) store out client' store' out' end gives takes = prints_work (printed taken.lines) takes.kept out out' end takes.prints
 
@@ -159,7 +159,7 @@ resumes_work : (pass : List ℕ) (outstanding : Option Outstanding) (client : Cl
 resumes_work pass None client link store out client' ahead' link' store' out' end resumes = subst IsWorkEnd (sym resumes.0) tt
 resumes_work pass (Some kept) client link store out client' ahead' link' store' out' end settles = settles_work pass client [] link store out client' ahead' link' store' out' end settles
 
-keeps_work : (judged : Result ClientState ClientFault) (client : ClientState) (wish : Wish) (at : Moment) (store : StoreView) (client' : ClientState) (store' : StoreView) (end : Result (Unit {0}) Stop) → Gives (made client wish at) judged → KeepsMade judged client store client' store' end → IsWorkEnd end
+keeps_work : (judged : Result ClientState ClientFault) (client : ClientState) (wish : Wish) (at : Moment) (store : StoreView) (client' : ClientState) (store' : StoreView) (end : Result (Unit {0}) Stop) → FollowsRule (made client wish at) judged → KeepsMade judged client store client' store' end → IsWorkEnd end
 keeps_work (Err fault) client wish at store client' store' end gives keeps = subst IsWorkEnd (sym keeps.0) (refused_so (made client wish at) fault gives (made_named client wish at))
 keeps_work (Ok next) client wish at store client' store' end gives (kept, client_is, saves, end_is) = subst IsWorkEnd (sym end_is) (keep_works kept)
 
@@ -178,7 +178,7 @@ acts_work pass wish client before after end acts =
     makes_work pass wish acts.later acts.ahead acts.first acts.between after end
     (resumes_work pass client.outstanding client before.link before.store before.out acts.later acts.ahead acts.between.link acts.between.store acts.between.out acts.first acts.resumes) acts.makes
 
-tells_work : (asks : List Ask) (reply : ReplyFile) (judged : Result (List (List ℕ)) ClientFault) (out out' : OutView) (end : Result (Unit {0}) Stop) → Gives (news asks reply) judged → TellsNews judged out out' end → IsWorkEnd end
+tells_work : (asks : List Ask) (reply : ReplyFile) (judged : Result (List (List ℕ)) ClientFault) (out out' : OutView) (end : Result (Unit {0}) Stop) → FollowsRule (news asks reply) judged → TellsNews judged out out' end → IsWorkEnd end
 tells_work asks reply (Err fault) out out' end gives tells = subst IsWorkEnd (sym tells.0) (refused_so (news asks reply) fault gives (news_named asks reply))
 tells_work asks reply (Ok lines) out out' end gives (told, prints, end_is) = subst IsWorkEnd (sym end_is) (print_works told)
 

@@ -9,7 +9,7 @@ use Rattle.ofx_types.specs.declared.reply.ReplyFile.{ReplyFile}
 use Rattle.client_saved.specs.declared.state.ClientState.{ClientState}
 use Rattle.client_saved.specs.declared.state.Outstanding.{Outstanding}
 use Rattle.client_core.specs.Making.{made, poll_of}
-use Rattle.client_core.specs.Told.{Gives}
+use Rattle.client_core.specs.Told.{FollowsRule}
 use Rattle.client_core.specs.declared.fault.ClientFault.{ClientFault}
 use Rattle.client_core.specs.declared.wish.Wish.{Wish}
 use Rattle.client_core.specs.declared.wish.Wish.TheVariants as wishes
@@ -47,7 +47,7 @@ pub record Makes (wish : Wish) (client : ClientState) (store : StoreView) (shown
   pub at : Moment
   pub reads : Grows shown shown' (at ∷ [])
   pub judged : Result ClientState ClientFault
-  pub gives : Gives (made client wish at) judged
+  pub gives : FollowsRule (made client wish at) judged
   pub keeps : KeepsMade judged client store client' store' end
 
 -- Only a file that is saved is sent. The clock isn't read again.
@@ -92,7 +92,7 @@ TellsNews (Ok lines) out out' end = (told : Result (Unit {0}) PutFault) × Print
 abbrev pub JudgesNews : List Ask → Result ReplyFile CallStop → OutView → OutView → Result (Unit {0}) Stop → Type 0
 JudgesNews asks (Err stop) out out' end = (end ≡ Err (stops.Call stop)) × (out' ≡ out)
 JudgesNews asks (Ok reply) out out' end =
-    (judged : Result (List (List ℕ)) ClientFault) × Gives (news asks reply) judged × TellsNews judged out out' end
+    (judged : Result (List (List ℕ)) ClientFault) × FollowsRule (news asks reply) judged × TellsNews judged out out' end
 
 -- The poll file of the account is sent, as made at the moment that the clock shows, and the newest tokens are told. An outstanding
 -- file is left alone.

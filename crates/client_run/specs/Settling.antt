@@ -6,7 +6,7 @@ use Rattle.client_saved.specs.declared.state.ClientState.{ClientState}
 use Rattle.client_saved.specs.declared.state.Outstanding.{Outstanding}
 use Rattle.client_core.specs.ClientForm.{discarded}
 use Rattle.client_core.specs.Accepting.{Accepted, accepted}
-use Rattle.client_core.specs.Told.{Gives}
+use Rattle.client_core.specs.Told.{FollowsRule}
 use Rattle.client_core.specs.declared.fault.ClientFault.{ClientFault}
 use Rattle.client_run.specs.Views.{LinkView, StoreView, OutView}
 use Rattle.client_run.specs.Exchange.{request_bytes, Exchanges}
@@ -48,7 +48,7 @@ GoesBy client (Ok taken) store out client' store' out' end = Takes taken store o
 -- A reply is taken in by the rule of `accepted`, unless memory is refused.
 abbrev pub Judges : ClientState → ReplyFile → StoreView → OutView → ClientState → StoreView → OutView → Result (Unit {0}) Stop → Type 0
 Judges client reply store out client' store' out' end =
-    (judged : Result Accepted ClientFault) × Gives (accepted client reply) judged × GoesBy client judged store out client' store' out' end
+    (judged : Result Accepted ClientFault) × FollowsRule (accepted client reply) judged × GoesBy client judged store out client' store' out' end
 
 -- what a run ends with that gave a file up
 abbrev pub given_up : CallStop → Result (Unit {0}) PutFault → Stop

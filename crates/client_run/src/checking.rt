@@ -2,7 +2,7 @@
 
 ghost use Rattle.std.specs.Prelude.{◌≡◌, ℕ, List, [], ◌++◌, Ok, OnOk};
 ghost use Rattle.ofx_file.specs.Printable.{IsPrintableFile};
-ghost use Rattle.client_core.specs.Told.{Gives};
+ghost use Rattle.client_core.specs.Told.{FollowsRule};
 ghost use Rattle.client_run.specs.Commands.{Checks, JudgesNews};
 ghost use Rattle.client_run.specs.Exchange.{request_bytes, Exchanges};
 ghost use Rattle.client_run.specs.Lines as rules;
@@ -75,7 +75,7 @@ fn tell_all(
 /// The lines that tell of a reply to a poll.
 #[tactic(auto, unfolding(crate::specs::Lines::news))]
 fn news(alloc: Global, asks: &[Ask], reply: &ReplyFile) -> Result<ReportLines, ClientFault>
-    ensures { Gives (rules.news asks.now reply.now) result }
+    ensures { FollowsRule (rules.news asks.now reply.now) result }
 {
     if reply.signon != SIGNED_ON {
         return Err(ClientFault::Signon(reply.signon));

@@ -4,8 +4,7 @@ ghost use Rattle.std.specs.Prelude.{◌≡◌, ℕ, List, ◌++◌, IfOk, OnOk};
 ghost use Rattle.client_run.specs.Lines as rules;
 ghost use Rattle.client_run.specs.Lines.{printed, Prints};
 
-use bank_frames::write_whole;
-use ofx_ports::{Failed, PutFault, Sink};
+use ofx_ports::{Failed, PutFault, Sink, write_whole};
 use ofx_types::{OutOfMemory, Text};
 use std::alloc::Global;
 

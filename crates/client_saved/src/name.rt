@@ -3,7 +3,7 @@
 ghost use Rattle.std.specs.Prelude.{◌≡◌, ◌≤◌, length, IfOk, MatchBool};
 ghost use Rattle.std.specs.List.{list_all};
 ghost use Rattle.std.specs.Char.{is_ascii_alphanumeric};
-ghost use Rattle.record_fields.specs.Answers.{Gives};
+ghost use Rattle.record_fields.specs.Answers.{ReadsField};
 ghost use Rattle.client_saved.specs.Bounds.{IsName};
 ghost use Rattle.client_saved.specs.Reading.{name_at};
 
@@ -32,7 +32,7 @@ fn is_alphanumeric(bytes: &[u8]) -> bool
 #[tactic(auto, unfolding(crate::specs::Reading::name_at))]
 pub(crate) fn get_name(alloc: Global, text: &[u8], at: usize) -> Result<(Text, usize), RecordFault>
     requires { at ≤ length text.now }
-    ensures gives { Gives result (name_at text.now at) }
+    ensures gives { ReadsField result (name_at text.now at) }
     ensures within { IfOk result (λ found. found.1 ≤ length text.now) }
 {
     let (name, next) = get_filled_text(alloc, text, at, 12)?;

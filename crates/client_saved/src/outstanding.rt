@@ -3,7 +3,7 @@
 ghost use Rattle.std.specs.Prelude.{◌≡◌, ◌≤◌, ◌++◌, [], length, IfOk, OnOk};
 ghost use Rattle.std.specs.Option.{IfSome};
 ghost use Rattle.bank_model.specs.Sound.{IsSound};
-ghost use Rattle.record_fields.specs.Answers.{Gives};
+ghost use Rattle.record_fields.specs.Answers.{ReadsField};
 ghost use Rattle.record_fields.specs.FieldCoding.{optional_bytes};
 ghost use Rattle.record_fields.specs.FieldReading.{optional_at};
 ghost use Rattle.event_codec.specs.Coding.{file_bytes};
@@ -24,7 +24,7 @@ use std::alloc::Global;
 #[tactic(auto, unfolding(event_codec::specs::Reading::version_at))]
 fn get_version(text: &[u8], at: usize) -> Result<(u16, usize), RecordFault>
     requires { at ≤ length text.now }
-    ensures gives { Gives result (version_at text.now at) }
+    ensures gives { ReadsField result (version_at text.now at) }
     ensures within { IfOk result (λ found. found.1 ≤ length text.now) }
 {
     let (version, next) = get_u16(text, at)?;
@@ -52,7 +52,7 @@ fn get_outstanding(
     at: usize,
 ) -> Result<(Outstanding, usize), RecordFault>
     requires { at ≤ length text.now }
-    ensures gives { Gives result (outstanding_at user.now text.now at) }
+    ensures gives { ReadsField result (outstanding_at user.now text.now at) }
     ensures within { IfOk result (λ found. found.1 ≤ length text.now) }
 {
     let (moment, next) = get_moment(text, at)?;
@@ -80,7 +80,7 @@ pub(crate) fn get_optional_outstanding(
     at: usize,
 ) -> Result<(Option<Outstanding>, usize), RecordFault>
     requires { at ≤ length text.now }
-    ensures gives { Gives result (optional_at (outstanding_at user.now) text.now at) }
+    ensures gives { ReadsField result (optional_at (outstanding_at user.now) text.now at) }
     ensures within { IfOk result (λ found. found.1 ≤ length text.now) }
 {
     let (is_there, next) = get_flag(text, at)?;

@@ -3,7 +3,7 @@
 ghost use Rattle.std.specs.Prelude.{◌≡◌, ◌≤◌, ◌++◌, length, IfOk, OnOk};
 ghost use Rattle.std.specs.Option.{IfSome};
 ghost use Rattle.bank_model.specs.Sound.{IsSoundAccount};
-ghost use Rattle.record_fields.specs.Answers.{Gives, GivesBy};
+ghost use Rattle.record_fields.specs.Answers.{ReadsField, ReadsFieldBy};
 ghost use Rattle.record_fields.specs.FieldCoding.{optional_bytes, acct_bytes};
 ghost use Rattle.record_fields.specs.FieldReading.{optional_at};
 ghost use Rattle.record_fields.specs.PartReading.{acct_at};
@@ -30,7 +30,7 @@ fn get_about(
     at: usize,
 ) -> Result<(Option<AcctName>, usize), RecordFault>
     requires { at ≤ length text.now }
-    ensures gives { Gives result (optional_at acct_at text.now at) }
+    ensures gives { ReadsField result (optional_at acct_at text.now at) }
     ensures within { IfOk result (λ found. found.1 ≤ length text.now) }
 {
     let (is_there, next) = get_flag(text, at)?;
@@ -57,7 +57,7 @@ fn put_about(about: &Option<AcctName>, out: &mut Vec<u8>) -> Result<(), OutOfMem
 #[tactic(auto, unfolding(crate::specs::Reading::mail_row_at))]
 fn get_mail_row(alloc: Global, text: &[u8], at: usize) -> Result<(MailRow, usize), RecordFault>
     requires { at ≤ length text.now }
-    ensures gives { Gives result (mail_row_at text.now at) }
+    ensures gives { ReadsField result (mail_row_at text.now at) }
     ensures within { IfOk result (λ found. found.1 ≤ length text.now) }
 {
     let (about, next) = get_about(alloc, text, at)?;
@@ -100,7 +100,7 @@ fn row_of(
     at: usize,
 ) -> Result<(Row, usize), RecordFault>
     requires { at ≤ length text.now }
-    ensures gives { GivesBy (λ found. (seen found.0, found.1)) result (row_of family (bound_behind 0 before) first text.now at) }
+    ensures gives { ReadsFieldBy (λ found. (seen found.0, found.1)) result (row_of family (bound_behind 0 before) first text.now at) }
     ensures within { IfOk result (λ found. found.1 ≤ length text.now) }
 {
     match family {
@@ -133,7 +133,7 @@ pub(crate) fn get_row(
     at: usize,
 ) -> Result<(Row, usize), RecordFault>
     requires { at ≤ length text.now }
-    ensures gives { GivesBy (λ found. (seen found.0, found.1)) result (row_at family (bound_behind 0 before) text.now at) }
+    ensures gives { ReadsFieldBy (λ found. (seen found.0, found.1)) result (row_at family (bound_behind 0 before) text.now at) }
     ensures within { IfOk result (λ found. found.1 ≤ length text.now) }
 {
     let (kind, next) = get_u8(text, at)?;

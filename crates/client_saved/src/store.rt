@@ -3,7 +3,7 @@
 ghost use Rattle.std.specs.Prelude.{◌≡◌, ◌<◌, ◌≤◌, ◌^◌, ◌++◌, [], length, IfOk, OnOk};
 ghost use Rattle.std.specs.List.{AllByRecursion};
 ghost use Rattle.ofx_types.specs.SyncForm.{object_family};
-ghost use Rattle.record_fields.specs.Answers.{Gives, GivesBy};
+ghost use Rattle.record_fields.specs.Answers.{ReadsField, ReadsFieldBy};
 ghost use Rattle.client_store.specs.RowForm.{all_seen, IsRising};
 ghost use Rattle.client_saved.specs.Bounds.{IsSoundRow, IsSoundStore};
 ghost use Rattle.client_saved.specs.Coding.{row_bytes, counted_bytes, store_bytes};
@@ -30,7 +30,7 @@ fn rows_from(
     at: usize,
 ) -> Result<(Sequence<Row>, usize), RecordFault>
     requires { at ≤ length text.now }
-    ensures gives { GivesBy (λ found. (all_seen found.0, found.1)) result (rows_from count family 0 text.now at) }
+    ensures gives { ReadsFieldBy (λ found. (all_seen found.0, found.1)) result (rows_from count family 0 text.now at) }
     ensures within { IfOk result (λ found. found.1 ≤ length text.now) }
 {
     let mut rows = Sequence::new(alloc);
@@ -53,7 +53,7 @@ fn get_rows(
     at: usize,
 ) -> Result<(Sequence<Row>, usize), RecordFault>
     requires { at ≤ length text.now }
-    ensures gives { GivesBy (λ found. (all_seen found.0, found.1)) result (rows_at family text.now at) }
+    ensures gives { ReadsFieldBy (λ found. (all_seen found.0, found.1)) result (rows_at family text.now at) }
     ensures within { IfOk result (λ found. found.1 ≤ length text.now) }
 {
     let (count, next) = get_u64(text, at)?;
@@ -83,7 +83,7 @@ fn get_new_object(
     at: usize,
 ) -> Result<(ObjectName, usize), RecordFault>
     requires { at ≤ length text.now }
-    ensures gives { Gives result (new_object_at before.now text.now at) }
+    ensures gives { ReadsField result (new_object_at before.now text.now at) }
     ensures within { IfOk result (λ found. found.1 ≤ length text.now) }
 {
     let (object, next) = get_object(alloc, text, at)?;
@@ -113,7 +113,7 @@ fn get_store(
     at: usize,
 ) -> Result<(Store, usize), RecordFault>
     requires { at ≤ length text.now }
-    ensures gives { Gives result (store_at before.now text.now at) }
+    ensures gives { ReadsField result (store_at before.now text.now at) }
     ensures within { IfOk result (λ found. found.1 ≤ length text.now) }
 {
     let (object, next) = get_new_object(alloc, before, text, at)?;
@@ -144,7 +144,7 @@ fn stores_from(
     at: usize,
 ) -> Result<(Stores, usize), RecordFault>
     requires { at ≤ length text.now }
-    ensures gives { Gives result (stores_from count [] text.now at) }
+    ensures gives { ReadsField result (stores_from count [] text.now at) }
     ensures within { IfOk result (λ found. found.1 ≤ length text.now) }
 {
     let mut stores = Sequence::new(alloc);
@@ -165,7 +165,7 @@ pub(crate) fn get_stores(
     at: usize,
 ) -> Result<(Stores, usize), RecordFault>
     requires { at ≤ length text.now }
-    ensures gives { Gives result (stores_at text.now at) }
+    ensures gives { ReadsField result (stores_at text.now at) }
     ensures within { IfOk result (λ found. found.1 ≤ length text.now) }
 {
     let (count, next) = get_u64(text, at)?;

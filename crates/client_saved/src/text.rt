@@ -1,7 +1,7 @@
 //! A whole saved text.
 
 ghost use Rattle.std.specs.Prelude.{◌≡◌, ℕ, ◌≤◌, ◌++◌, ◌⊎◌, length, Ok, Err, IfOk, OnOk, IsErrAnd};
-ghost use Rattle.record_fields.specs.Answers.{Gives};
+ghost use Rattle.record_fields.specs.Answers.{ReadsField};
 ghost use Rattle.client_saved.specs.declared.state.ClientState.{ClientState};
 ghost use Rattle.client_saved.specs.declared.state.StoreFault.{StoreFault};
 ghost use Rattle.client_saved.specs.Bounds.{IsSoundState};
@@ -82,7 +82,7 @@ fn read_text(alloc: Global, text: &[u8]) -> Result<ClientState, StoreFault>
 
 #[tactic(auto, unfolding(crate::specs::Reading::state_read))]
 fn read_whole(alloc: Global, text: &[u8]) -> Result<ClientState, RecordFault>
-    ensures { Gives result (state_read text.now) }
+    ensures { ReadsField result (state_read text.now) }
 {
     let (state, next) = get_state(alloc, text, 0)?;
     if next != text.len() {
@@ -94,7 +94,7 @@ fn read_whole(alloc: Global, text: &[u8]) -> Result<ClientState, RecordFault>
 #[tactic(auto, unfolding(crate::specs::Reading::coding_at))]
 fn get_coding(text: &[u8], at: usize) -> Result<(u8, usize), RecordFault>
     requires { at ≤ length text.now }
-    ensures gives { Gives result (coding_at text.now at) }
+    ensures gives { ReadsField result (coding_at text.now at) }
     ensures within { IfOk result (λ found. found.1 ≤ length text.now) }
 {
     let (version, next) = get_u8(text, at)?;
@@ -107,7 +107,7 @@ fn get_coding(text: &[u8], at: usize) -> Result<(u8, usize), RecordFault>
 #[tactic(auto, unfolding(crate::specs::Reading::state_at))]
 fn get_state(alloc: Global, text: &[u8], at: usize) -> Result<(ClientState, usize), RecordFault>
     requires { at ≤ length text.now }
-    ensures gives { Gives result (state_at text.now at) }
+    ensures gives { ReadsField result (state_at text.now at) }
     ensures within { IfOk result (λ found. found.1 ≤ length text.now) }
 {
     let (_, next) = get_coding(text, at)?;

@@ -2,7 +2,7 @@
 
 ghost use Rattle.std.specs.Prelude.{◌≡◌, ◌≤◌, ◌++◌, length, nat_le, slice_get, IfOk, OnOk};
 ghost use Rattle.bank_model.specs.Sound.{IsSoundAccount};
-ghost use Rattle.record_fields.specs.Answers.{Gives};
+ghost use Rattle.record_fields.specs.Answers.{ReadsField};
 ghost use Rattle.record_fields.specs.FieldReading.{choice_at};
 ghost use Rattle.client_store.specs.RowForm.{bound_behind};
 ghost use Rattle.client_saved.specs.Bounds.{IsSoundTransfer, IsSoundModel};
@@ -53,7 +53,7 @@ fn put_standing(code: XferCode, stamp: Moment, out: &mut Vec<u8>) -> Result<(), 
 #[tactic(auto, unfolding(record_fields::specs::FieldReading::choice_at))]
 fn get_code(text: &[u8], at: usize) -> Result<(XferCode, usize), RecordFault>
     requires { at ≤ length text.now }
-    ensures gives { Gives result (choice_at transfer_codes text.now at) }
+    ensures gives { ReadsField result (choice_at transfer_codes text.now at) }
     ensures within { IfOk result (λ found. found.1 ≤ length text.now) }
 {
     let (number, next) = get_u8(text, at)?;
@@ -81,7 +81,7 @@ fn get_rising_id(
     at: usize,
 ) -> Result<(u64, usize), RecordFault>
     requires { at ≤ length text.now }
-    ensures gives { Gives result (rising_id_at (bound_behind 0 before) first text.now at) }
+    ensures gives { ReadsField result (rising_id_at (bound_behind 0 before) first text.now at) }
     ensures within { IfOk result (λ found. found.1 ≤ length text.now) }
 {
     let (id, next) = get_id(text, at)?;
@@ -100,7 +100,7 @@ pub(crate) fn get_transfer(
     at: usize,
 ) -> Result<(TransferRow, usize), RecordFault>
     requires { at ≤ length text.now }
-    ensures gives { Gives result (transfer_at (bound_behind 0 before) first text.now at) }
+    ensures gives { ReadsField result (transfer_at (bound_behind 0 before) first text.now at) }
     ensures within { IfOk result (λ found. found.1 ≤ length text.now) }
 {
     let (id, next) = get_rising_id(before, first, text, at)?;
@@ -173,7 +173,7 @@ pub(crate) fn get_model(
     at: usize,
 ) -> Result<(ModelRow, usize), RecordFault>
     requires { at ≤ length text.now }
-    ensures gives { Gives result (model_at (bound_behind 0 before) first text.now at) }
+    ensures gives { ReadsField result (model_at (bound_behind 0 before) first text.now at) }
     ensures within { IfOk result (λ found. found.1 ≤ length text.now) }
 {
     let (id, next) = get_rising_id(before, first, text, at)?;

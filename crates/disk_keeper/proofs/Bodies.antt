@@ -25,9 +25,6 @@ behind_less m n [] le p = tt
 behind_less m n (Write at size bytes ∷ more) le p = (omega (arith, le, p.0), behind_less m n more le p.1)
 behind_less m n (Sync ∷ more) le p = p
 
-pub behind_none : (n : ℕ) (h : History) (a : Option History) → a ≡ Some h → WritesBehind n h a
-behind_none n h a is = ([], is, tt)
-
 -- a write, whatever came of it
 pub behind_write : (r : Result (Unit {0}) Failed) (a b : Option History) (h : History) (at : ℕ) (bytes : List ℕ)
     → OnOk r (GoesOn a b (write_of at bytes ∷ [])) → OnErr r (Breaks at (length bytes) a b) → a ≡ Some h → WritesBehind at h b

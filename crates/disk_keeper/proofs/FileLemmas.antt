@@ -124,9 +124,6 @@ length-blocks (r ∷ rs) = omega (arith, length-blocks rs, length-append (block 
 pub marked : (rs : List (List ℕ)) (rest : List ℕ) → has_mark (front rs ++ rest) ≡ true
 marked rs rest = refl
 
-behind_front : (rs : List (List ℕ)) (rest : List ℕ) → drop 8 (front rs ++ rest) ≡ blocks rs ++ rest
-behind_front rs rest = refl
-
 -- what is found in a file of records and more
 pub found_behind : (rs : List (List ℕ)) (rest : List ℕ) → HaveSizes rs → (most : ℕ) → most ≡ length (front rs ++ rest) - length rs
     → found_in (front rs ++ rest) ≡ all_joined rs (records_from most (1 + length rs) rest)

@@ -14,7 +14,7 @@ use Rattle.disk_keeper.specs.Appending.{IsSettled, Appends, ReachedBy}
 use Rattle.disk_keeper.specs.Passing.{Holds, Passed}
 use Rattle.disk_keeper.specs.Reading.{IsRecord}
 use Rattle.ofx_ports.specs.declared.fault.FetchFault.{FetchFault}
-use Rattle.disk_keeper.specs.Standing.{Standing, records_on, landed_on, settled_on, Lists, ListsWith, NowLeaves, SettlesWith}
+use Rattle.disk_keeper.specs.DiskKeeperView.{DiskKeeperView, records_on, landed_on, settled_on, Lists, ListsWith, NowLeaves, SettlesWith}
 use Rattle.disk_keeper.specs.Opening.{OpensTold, Opens}
 use Rattle.disk_keeper.specs.declared.fault.DiskFault.{DiskFault}
 use Rattle.disk_keeper.specs.Keeping.{is_begun, opened_by, NextWithin, Stands, Keeps}
@@ -460,7 +460,7 @@ kept_found a b d end quiet same synced found h is =
     }
 
 -- what opening comes to, by what is told
-pub opens_by : {D : Type 0} (history : D → Option History) (a : Option History) (r : Result (Standing D) (DiskFault D)) → ((h : History) → a ≡ Some h → OpensTold (shown h) r history) → Opens history a r
+pub opens_by : {D : Type 0} (history : D → Option History) (a : Option History) (r : Result (DiskKeeperView D) (DiskFault D)) → ((h : History) → a ≡ Some h → OpensTold (shown h) r history) → Opens history a r
 opens_by history None r by_told = tt
 opens_by history (Some h) r by_told = by_told h refl
 

@@ -9,7 +9,7 @@ use Rattle.disk_keeper.specs.declared.appending.Reached.TheVariants.{Acknowledge
 use Rattle.disk_keeper.specs.declared.change.Change.{Change}
 use Rattle.disk_keeper.specs.declared.change.Change.TheVariants.{Write, Sync}
 use Rattle.disk_keeper.proofs.DiskLemmas.{told_on, told_broken, torn_overlaid, front_overlaid, front_torn, same_told}
-use Rattle.disk_keeper.proofs.Bodies.{after_after, image_told}
+use Rattle.disk_keeper.proofs.Bodies.{image_told}
 use Rattle.disk_keeper.proofs.Gates.{same_front, within_file, torn_gate, gate_opened}
 
 -- what a crash may leave after the last change
@@ -21,12 +21,6 @@ leaves_last P h (change ∷ more) all = all.0
 pub throughout_map : (P Q : List ℕ → Type 0) (h : History) (more : List Change) → ((c : List ℕ) → P c → Q c) → LeavesThroughout P h more → LeavesThroughout Q h more
 throughout_map P Q h [] f all = λ c left. f c (all c left)
 throughout_map P Q h (change ∷ more) f all = ((λ c left. f c (all.0 c left)), throughout_map P Q h more f all.1)
-
--- the moments of further changes
-pub throughout_on : (P : List ℕ → Type 0) (h : History) (more first : List Change) → LeavesThroughout P h first → LeavesThroughout P (after h first) more → LeavesThroughout P h (more ++ first)
-throughout_on P h [] first all then_more = all
-throughout_on P h (change ∷ more) first all then_more =
-    (subst (Leaves P) (after_after h (change ∷ more) first) then_more.0, throughout_on P h more first all then_more.1)
 
 -- Writes after a place leave what stands in front of it.
 front_left : (n : ℕ) (F : List ℕ) (h : History) (more : List Change) → WriteBehind n more → Leaves (λ c. take n c ≡ F) h → LeavesThroughout (λ c. take n c ≡ F) h more

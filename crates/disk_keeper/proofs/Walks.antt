@@ -1,5 +1,5 @@
 -- What stands behind the gates that were passed.
-use Rattle.std.proofs.Common.{◌≡◌, ◌≢◌, ◌⊎◌, inl, inr, ℕ, zero, suc, ◌+◌, ◌-◌, ◌<◌, ◌≤◌, ◌^◌, List, [], ◌∷◌, ◌++◌, length, take, drop, get_or, Bool, true, false, Option, Some, None, Result, Ok, Err, refl, sym, ◌∙◌, ap, subst, arith, append_assoc, length-append, length-take, length-drop, take-append-drop}
+use Rattle.std.proofs.Common.{◌≡◌, ◌≢◌, ℕ, zero, suc, ◌+◌, ◌-◌, ◌<◌, ◌≤◌, ◌^◌, List, [], ◌∷◌, ◌++◌, length, take, drop, get_or, true, false, Option, Some, None, Result, Ok, Err, refl, sym, ◌∙◌, ap, subst, arith, append_assoc, length-append, length-take, length-drop, take-append-drop}
 use Rattle.std.proofs.lemmas.List.{append-nil, take_at, drop_at, drop_more, drop_all, drop-drop, length-take-le, length_push}
 use Rattle.std.proofs.lemmas.Bool.Decides.{nat_tests}
 use Rattle.ofx_types.proofs.Bytes.{bytes_eq_is}
@@ -10,9 +10,6 @@ use Rattle.disk_keeper.specs.declared.reading.Gate.{Gate}
 use Rattle.disk_keeper.specs.declared.reading.Found.TheVariants.{Past}
 use Rattle.disk_keeper.proofs.FileLemmas.{all_joined, all_joined-Err, found_behind, cut_read, end_read, length-front, length-blocks, marked}
 use Rattle.disk_keeper.proofs.Gates.{front_push, length-front_push, sizes_push}
-
-false_or : (b : Bool) → (b ≡ false) ⊎ (b ≡ true)
-false_or = elim [ true ↦ inr refl | false ↦ inl refl ]
 
 whole_long : (behind : List ℕ) (size : ℕ) → is_whole behind ≡ true → next_size behind ≡ size → 8 + size ≤ length behind
 whole_long behind size whole is = grind (arith, nat_tests)

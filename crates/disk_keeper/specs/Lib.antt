@@ -4,7 +4,7 @@ pub mod Layout
 pub mod Appending
 pub mod Reading
 pub mod Bounds
-pub mod Standing
+pub mod DiskKeeperView
 pub mod Opening
 pub mod Memory
 pub mod FileOnDisk

@@ -5,7 +5,7 @@ ghost use Rattle.ofx_ports.specs.Faults.{CountsFaults};
 ghost use Rattle.ofx_ports.specs.Told.{Stays};
 ghost use Rattle.ofx_ports.specs.Kept.{Appended, TellsLanding, counted};
 ghost use Rattle.disk_keeper.specs.Disk.{LeavesOnly, TellsOn};
-ghost use Rattle.disk_keeper.specs.Standing.{records_on, landed_on, acknowledged, Lists, ListsWith, NowLeaves, SettlesWith};
+ghost use Rattle.disk_keeper.specs.DiskKeeperView.{records_on, landed_on, acknowledged, Lists, ListsWith, NowLeaves, SettlesWith};
 
 use crate::appending::{Reached, append_record};
 use crate::begun::Begun;
@@ -42,11 +42,11 @@ pub struct DiskKeeper<D: Disk> {
 }
 
 impl<D: Disk> Model for DiskKeeper<D> {
-    ghost use Rattle.disk_keeper.specs.Standing.{Standing, standing_code};
+    ghost use Rattle.disk_keeper.specs.DiskKeeperView.{DiskKeeperView, keeper_code};
 
-    ghost Value = { Standing D };
+    ghost Value = { DiskKeeperView D };
 
-    ghost coded = { standing_code D.code };
+    ghost coded = { keeper_code D.code };
 
     ghost use Rattle.disk_keeper.specs.Keeping.{is_begun, IsSound};
 

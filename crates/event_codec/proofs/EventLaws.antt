@@ -14,7 +14,7 @@ use Rattle.event_codec.specs.Coding.{coded, event_bytes, file_bytes}
 use Rattle.event_codec.specs.Records.{Codes, Reopens}
 use Rattle.bank_model.specs.Events.{IsSameEvent, without_signon}
 use Rattle.event_codec.specs.Reading.{behind_version, placed, record_read, fault_of, IsRecordFault}
-use Rattle.record_fields.specs.Answers.{GivesWhole}
+use Rattle.record_fields.specs.Answers.{ReadsRecord}
 use Rattle.record_fields.specs.Fields.{IsBytes}
 use Rattle.event_codec.proofs.RecordLaws.{record_codes, record_again}
 
@@ -26,11 +26,11 @@ whole x = Ok x
 
 -- ---- what was read of a record
 
-pub is_found : (rec : List ℕ) (r : Result (Event × Moment) RecordFault) → IsBytes rec → GivesWhole r (record_read rec) → IfOk r (λ found. Codes rec found.1 found.0)
+pub is_found : (rec : List ℕ) (r : Result (Event × Moment) RecordFault) → IsBytes rec → ReadsRecord r (record_read rec) → IfOk r (λ found. Codes rec found.1 found.0)
 is_found rec (Ok found) bytes h = (record_codes rec found bytes h).0
 is_found rec (Err fault) bytes h = tt
 
-pub is_nameless : (rec : List ℕ) (r : Result (Event × Moment) RecordFault) → IsBytes rec → GivesWhole r (record_read rec) → IfOk r (λ found. found.0 ≡ without_signon found.0)
+pub is_nameless : (rec : List ℕ) (r : Result (Event × Moment) RecordFault) → IsBytes rec → ReadsRecord r (record_read rec) → IfOk r (λ found. found.0 ≡ without_signon found.0)
 is_nameless rec (Ok found) bytes h = (record_codes rec found bytes h).1
 is_nameless rec (Err fault) bytes h = tt
 

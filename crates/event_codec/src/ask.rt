@@ -7,7 +7,7 @@ ghost use Rattle.ofx_types.specs.DeedForm.{family_of};
 ghost use Rattle.ofx_types.specs.SyncForm.{is_mail_family};
 ghost use Rattle.ofx_types.specs.PrintedFile.{is_mail_ask};
 ghost use Rattle.bank_model.specs.Sound.{IsSoundAsk};
-ghost use Rattle.record_fields.specs.Answers.{Gives};
+ghost use Rattle.record_fields.specs.Answers.{ReadsField};
 ghost use Rattle.record_fields.specs.FieldCoding.{optional_bytes, moment_bytes};
 ghost use Rattle.event_codec.specs.Coding.{period_bytes, ask_bytes, asks_bytes};
 ghost use Rattle.record_fields.specs.FieldReading.{optional_at, moment_at};
@@ -25,7 +25,7 @@ use std::alloc::Global;
 #[tactic(auto, unfolding(record_fields::specs::FieldReading::optional_at))]
 fn get_optional_moment(rec: &[u8], at: usize) -> Result<(Option<Moment>, usize), RecordFault>
     requires { at ≤ length rec.now }
-    ensures gives { Gives result (optional_at moment_at rec.now at) }
+    ensures gives { ReadsField result (optional_at moment_at rec.now at) }
     ensures within { IfOk result (λ found. found.1 ≤ length rec.now) }
 {
     let (is_there, next) = get_flag(rec, at)?;
@@ -52,7 +52,7 @@ fn put_optional_moment(moment: Option<Moment>, out: &mut Vec<u8>) -> Result<(), 
 #[tactic(auto, unfolding(crate::specs::AskReading::period_at))]
 fn get_period(rec: &[u8], at: usize) -> Result<(Period, usize), RecordFault>
     requires { at ≤ length rec.now }
-    ensures gives { Gives result (period_at rec.now at) }
+    ensures gives { ReadsField result (period_at rec.now at) }
     ensures within { IfOk result (λ found. found.1 ≤ length rec.now) }
 {
     let (start, next) = get_optional_moment(rec, at)?;
@@ -81,7 +81,7 @@ fn put_period(period: Period, out: &mut Vec<u8>) -> Result<(), OutOfMemory>
 #[tactic(auto, unfolding(record_fields::specs::FieldReading::optional_at))]
 fn get_optional_period(rec: &[u8], at: usize) -> Result<(Option<Period>, usize), RecordFault>
     requires { at ≤ length rec.now }
-    ensures gives { Gives result (optional_at period_at rec.now at) }
+    ensures gives { ReadsField result (optional_at period_at rec.now at) }
     ensures within { IfOk result (λ found. found.1 ≤ length rec.now) }
 {
     let (is_there, next) = get_flag(rec, at)?;
@@ -130,7 +130,7 @@ fn is_mail_deed(deed: &Deed) -> bool
 #[tactic(auto, unfolding(crate::specs::AskReading::statement_at))]
 fn statement(alloc: Global, rec: &[u8], at: usize) -> Result<(Ask, usize), RecordFault>
     requires { at ≤ length rec.now }
-    ensures gives { Gives result (statement_at rec.now at) }
+    ensures gives { ReadsField result (statement_at rec.now at) }
     ensures within { IfOk result (λ found. found.1 ≤ length rec.now) }
 {
     let (uid, next) = get_given_uid(rec, at)?;
@@ -158,7 +158,7 @@ fn one(
     at: usize,
 ) -> Result<(Ask, usize), RecordFault>
     requires { at ≤ length rec.now }
-    ensures gives { Gives result (one_at is_behind_mail rec.now at) }
+    ensures gives { ReadsField result (one_at is_behind_mail rec.now at) }
     ensures within { IfOk result (λ found. found.1 ≤ length rec.now) }
 {
     let (uid, next) = get_given_uid(rec, at)?;
@@ -174,7 +174,7 @@ fn sync(
     at: usize,
 ) -> Result<(Ask, usize), RecordFault>
     requires { at ≤ length rec.now }
-    ensures gives { Gives result (sync_ask_at is_behind_mail rec.now at) }
+    ensures gives { ReadsField result (sync_ask_at is_behind_mail rec.now at) }
     ensures within { IfOk result (λ found. found.1 ≤ length rec.now) }
 {
     let (ask, next) = get_sync(alloc, is_behind_mail, rec, at)?;
@@ -191,7 +191,7 @@ fn ask_of(
     next: usize,
 ) -> Result<(Ask, usize), RecordFault>
     requires { next ≤ length rec.now }
-    ensures gives { Gives result (ask_of kind is_behind_mail rec.now at next) }
+    ensures gives { ReadsField result (ask_of kind is_behind_mail rec.now at next) }
     ensures within { IfOk result (λ found. found.1 ≤ length rec.now) }
 {
     match kind {
@@ -212,7 +212,7 @@ fn get_ask(
     at: usize,
 ) -> Result<(Ask, usize), RecordFault>
     requires { at ≤ length rec.now }
-    ensures gives { Gives result (ask_at is_behind_mail rec.now at) }
+    ensures gives { ReadsField result (ask_at is_behind_mail rec.now at) }
     ensures within { IfOk result (λ found. found.1 ≤ length rec.now) }
 {
     let (kind, next) = get_u8(rec, at)?;
@@ -222,7 +222,7 @@ fn get_ask(
 /// This many asks, those to the bank before mail.
 fn asks_from(alloc: Global, count: u16, rec: &[u8], at: usize) -> Result<(Asks, usize), RecordFault>
     requires { at ≤ length rec.now }
-    ensures gives { Gives result (asks_from count false rec.now at) }
+    ensures gives { ReadsField result (asks_from count false rec.now at) }
     ensures within { IfOk result (λ found. found.1 ≤ length rec.now) }
 {
     let mut asks = Sequence::new(alloc);
@@ -243,7 +243,7 @@ fn asks_from(alloc: Global, count: u16, rec: &[u8], at: usize) -> Result<(Asks, 
 #[tactic(auto, unfolding(crate::specs::AskReading::asks_at))]
 pub fn get_asks(alloc: Global, rec: &[u8], at: usize) -> Result<(Asks, usize), RecordFault>
     requires { at ≤ length rec.now }
-    ensures gives { Gives result (asks_at rec.now at) }
+    ensures gives { ReadsField result (asks_at rec.now at) }
     ensures within { IfOk result (λ found. found.1 ≤ length rec.now) }
 {
     let (count, next) = get_u16(rec, at)?;

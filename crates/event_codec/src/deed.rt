@@ -3,7 +3,7 @@
 ghost use Rattle.std.specs.Prelude.{◌≡◌, ◌≤◌, ◌++◌, ◌∷◌, length, IfOk, OnOk};
 ghost use Rattle.std.specs.Io.{StartsWith};
 ghost use Rattle.bank_model.specs.Sound.{IsSoundDeed};
-ghost use Rattle.record_fields.specs.Answers.{Gives};
+ghost use Rattle.record_fields.specs.Answers.{ReadsField};
 ghost use Rattle.record_fields.specs.FieldCoding.{u64_bytes};
 ghost use Rattle.event_codec.specs.Coding.{deed_bytes};
 ghost use Rattle.event_codec.specs.AskReading.{is_wanted, deed_at, deed_of, transfer_at, modify_transfer_at, cancel_transfer_at, model_at, modify_model_at, cancel_model_at, bank_mail_at, mail_deed_at};
@@ -37,7 +37,7 @@ pub(crate) fn get_deed(
     at: usize,
 ) -> Result<(Deed, usize), RecordFault>
     requires { at ≤ length rec.now }
-    ensures gives { Gives result (deed_at wanted rec.now at) }
+    ensures gives { ReadsField result (deed_at wanted rec.now at) }
     ensures within { IfOk result (λ found. found.1 ≤ length rec.now) }
 {
     let (kind, next) = get_u8(rec, at)?;
@@ -56,7 +56,7 @@ fn deed_of(
     next: usize,
 ) -> Result<(Deed, usize), RecordFault>
     requires { next ≤ length rec.now }
-    ensures gives { Gives result (deed_of kind rec.now at next) }
+    ensures gives { ReadsField result (deed_of kind rec.now at next) }
     ensures within { IfOk result (λ found. found.1 ≤ length rec.now) }
 {
     match kind {
@@ -75,7 +75,7 @@ fn deed_of(
 #[tactic(auto, unfolding(crate::specs::AskReading::transfer_at))]
 fn transfer(alloc: Global, rec: &[u8], at: usize) -> Result<(Deed, usize), RecordFault>
     requires { at ≤ length rec.now }
-    ensures gives { Gives result (transfer_at rec.now at) }
+    ensures gives { ReadsField result (transfer_at rec.now at) }
     ensures within { IfOk result (λ found. found.1 ≤ length rec.now) }
 {
     let (info, next) = get_info(alloc, rec, at)?;
@@ -85,7 +85,7 @@ fn transfer(alloc: Global, rec: &[u8], at: usize) -> Result<(Deed, usize), Recor
 #[tactic(auto, unfolding(crate::specs::AskReading::modify_transfer_at))]
 fn modify_transfer(alloc: Global, rec: &[u8], at: usize) -> Result<(Deed, usize), RecordFault>
     requires { at ≤ length rec.now }
-    ensures gives { Gives result (modify_transfer_at rec.now at) }
+    ensures gives { ReadsField result (modify_transfer_at rec.now at) }
     ensures within { IfOk result (λ found. found.1 ≤ length rec.now) }
 {
     let (id, next) = get_id(rec, at)?;
@@ -96,7 +96,7 @@ fn modify_transfer(alloc: Global, rec: &[u8], at: usize) -> Result<(Deed, usize)
 #[tactic(auto, unfolding(crate::specs::AskReading::cancel_transfer_at))]
 fn cancel_transfer(rec: &[u8], at: usize) -> Result<(Deed, usize), RecordFault>
     requires { at ≤ length rec.now }
-    ensures gives { Gives result (cancel_transfer_at rec.now at) }
+    ensures gives { ReadsField result (cancel_transfer_at rec.now at) }
     ensures within { IfOk result (λ found. found.1 ≤ length rec.now) }
 {
     let (id, next) = get_id(rec, at)?;
@@ -106,7 +106,7 @@ fn cancel_transfer(rec: &[u8], at: usize) -> Result<(Deed, usize), RecordFault>
 #[tactic(auto, unfolding(crate::specs::AskReading::model_at))]
 fn model(alloc: Global, rec: &[u8], at: usize) -> Result<(Deed, usize), RecordFault>
     requires { at ≤ length rec.now }
-    ensures gives { Gives result (model_at rec.now at) }
+    ensures gives { ReadsField result (model_at rec.now at) }
     ensures within { IfOk result (λ found. found.1 ≤ length rec.now) }
 {
     let (recur, next) = get_recur(rec, at)?;
@@ -117,7 +117,7 @@ fn model(alloc: Global, rec: &[u8], at: usize) -> Result<(Deed, usize), RecordFa
 #[tactic(auto, unfolding(crate::specs::AskReading::modify_model_at))]
 fn modify_model(alloc: Global, rec: &[u8], at: usize) -> Result<(Deed, usize), RecordFault>
     requires { at ≤ length rec.now }
-    ensures gives { Gives result (modify_model_at rec.now at) }
+    ensures gives { ReadsField result (modify_model_at rec.now at) }
     ensures within { IfOk result (λ found. found.1 ≤ length rec.now) }
 {
     let (id, next) = get_id(rec, at)?;
@@ -130,7 +130,7 @@ fn modify_model(alloc: Global, rec: &[u8], at: usize) -> Result<(Deed, usize), R
 #[tactic(auto, unfolding(crate::specs::AskReading::cancel_model_at))]
 fn cancel_model(rec: &[u8], at: usize) -> Result<(Deed, usize), RecordFault>
     requires { at ≤ length rec.now }
-    ensures gives { Gives result (cancel_model_at rec.now at) }
+    ensures gives { ReadsField result (cancel_model_at rec.now at) }
     ensures within { IfOk result (λ found. found.1 ≤ length rec.now) }
 {
     let (id, next) = get_id(rec, at)?;
@@ -141,7 +141,7 @@ fn cancel_model(rec: &[u8], at: usize) -> Result<(Deed, usize), RecordFault>
 #[tactic(auto, unfolding(crate::specs::AskReading::bank_mail_at))]
 fn bank_mail(alloc: Global, rec: &[u8], at: usize) -> Result<(Deed, usize), RecordFault>
     requires { at ≤ length rec.now }
-    ensures gives { Gives result (bank_mail_at rec.now at) }
+    ensures gives { ReadsField result (bank_mail_at rec.now at) }
     ensures within { IfOk result (λ found. found.1 ≤ length rec.now) }
 {
     let (account, next) = get_acct(alloc, rec, at)?;
@@ -152,7 +152,7 @@ fn bank_mail(alloc: Global, rec: &[u8], at: usize) -> Result<(Deed, usize), Reco
 #[tactic(auto, unfolding(crate::specs::AskReading::mail_deed_at))]
 fn mail_deed(alloc: Global, rec: &[u8], at: usize) -> Result<(Deed, usize), RecordFault>
     requires { at ≤ length rec.now }
-    ensures gives { Gives result (mail_deed_at rec.now at) }
+    ensures gives { ReadsField result (mail_deed_at rec.now at) }
     ensures within { IfOk result (λ found. found.1 ≤ length rec.now) }
 {
     let (mail, next) = get_mail(alloc, rec, at)?;

@@ -7,7 +7,7 @@ ghost use Rattle.ofx_types.specs.declared.number.Moment.{Moment};
 ghost use Rattle.bank_model.specs.Sound.{IsSound, IsTextWithin};
 ghost use Rattle.bank_model.specs.declared.event.Event.{Event};
 ghost use Rattle.record_fields.specs.declared.fault.RecordFault.{RecordFault};
-ghost use Rattle.record_fields.specs.Answers.{Gives, GivesWhole};
+ghost use Rattle.record_fields.specs.Answers.{ReadsField, ReadsRecord};
 ghost use Rattle.record_fields.specs.FieldCoding.{u32_bytes, u64_bytes, text_bytes};
 ghost use Rattle.event_codec.specs.Coding.{kind_of_event, file_bytes, event_bytes};
 ghost use Rattle.bank_model.specs.Events.{without_signon};
@@ -123,7 +123,7 @@ pub fn read_event(alloc: Global, rec: &[u8]) -> Result<(Event, Moment), RecordFa
     // The name and the password of a file's user aren't in the record: they are empty.
     ensures nameless { IfOk result (λ found. found.0 ≡ without_signon found.0) }
     // What the record codes is found, unless memory is refused.
-    ensures only { (at : Moment) (event : Event) → Codes rec.now at event → GivesWhole result (Ok (without_signon event, at)) }
+    ensures only { (at : Moment) (event : Event) → Codes rec.now at event → ReadsRecord result (Ok (without_signon event, at)) }
     // A refusal is the record's fault, or memory was refused.
     ensures fault { IfErr result (λ fault. fault ≢ RecordFault.OutOfMemory → IsRecordFault rec.now fault) }
     // A record with a fault is refused.
@@ -135,7 +135,7 @@ pub fn read_event(alloc: Global, rec: &[u8]) -> Result<(Event, Moment), RecordFa
 
 #[tactic(auto, unfolding(crate::specs::Reading::record_read))]
 fn read_record(alloc: Global, rec: &[u8]) -> Result<(Event, Moment), RecordFault>
-    ensures { GivesWhole result (record_read rec.now) }
+    ensures { ReadsRecord result (record_read rec.now) }
 {
     match rec {
         [] => Err(RecordFault::Bad(0)),
@@ -147,7 +147,7 @@ fn read_record(alloc: Global, rec: &[u8]) -> Result<(Event, Moment), RecordFault
 #[tactic(auto, unfolding(crate::specs::Reading::behind_version))]
 fn read_behind_version(alloc: Global, rec: &[u8]) -> Result<(Event, Moment), RecordFault>
     requires { 1 ≤ length rec.now }
-    ensures { Gives result (behind_version rec.now) }
+    ensures { ReadsField result (behind_version rec.now) }
 {
     let (kind, next) = get_kind(rec, 1)?;
     let (at, next) = get_moment(rec, next)?;
@@ -162,7 +162,7 @@ fn read_behind_version(alloc: Global, rec: &[u8]) -> Result<(Event, Moment), Rec
 #[tactic(auto, unfolding(crate::specs::Reading::kind_at))]
 fn get_kind(rec: &[u8], at: usize) -> Result<(u8, usize), RecordFault>
     requires { at ≤ length rec.now }
-    ensures gives { Gives result (kind_at rec.now at) }
+    ensures gives { ReadsField result (kind_at rec.now at) }
     ensures within { IfOk result (λ found. found.1 ≤ length rec.now) }
 {
     let (kind, next) = get_u8(rec, at)?;
@@ -175,7 +175,7 @@ fn get_kind(rec: &[u8], at: usize) -> Result<(u8, usize), RecordFault>
 #[tactic(auto, unfolding(crate::specs::Reading::event_of))]
 fn get_event(alloc: Global, kind: u8, rec: &[u8], at: usize) -> Result<(Event, usize), RecordFault>
     requires { at ≤ length rec.now }
-    ensures gives { Gives result (event_of kind rec.now at) }
+    ensures gives { ReadsField result (event_of kind rec.now at) }
     ensures within { IfOk result (λ found. found.1 ≤ length rec.now) }
 {
     match kind {
@@ -189,7 +189,7 @@ fn get_event(alloc: Global, kind: u8, rec: &[u8], at: usize) -> Result<(Event, u
 #[tactic(auto, unfolding(crate::specs::Reading::version_at))]
 fn get_version(rec: &[u8], at: usize) -> Result<(u16, usize), RecordFault>
     requires { at ≤ length rec.now }
-    ensures gives { Gives result (version_at rec.now at) }
+    ensures gives { ReadsField result (version_at rec.now at) }
     ensures within { IfOk result (λ found. found.1 ≤ length rec.now) }
 {
     let (version, next) = get_u16(rec, at)?;
@@ -212,7 +212,7 @@ fn nothing(alloc: Global) -> Result<Text, OutOfMemory>
 #[tactic(auto, unfolding(crate::specs::Reading::file_event_at))]
 fn file_event(alloc: Global, rec: &[u8], at: usize) -> Result<(Event, usize), RecordFault>
     requires { at ≤ length rec.now }
-    ensures gives { Gives result (file_event_at rec.now at) }
+    ensures gives { ReadsField result (file_event_at rec.now at) }
     ensures within { IfOk result (λ found. found.1 ≤ length rec.now) }
 {
     let (user, next) = get_u32(rec, at)?;
@@ -234,7 +234,7 @@ fn file_event(alloc: Global, rec: &[u8], at: usize) -> Result<(Event, usize), Re
 #[tactic(auto, unfolding(crate::specs::Reading::post_at))]
 fn post(rec: &[u8], at: usize) -> Result<(Event, usize), RecordFault>
     requires { at ≤ length rec.now }
-    ensures gives { Gives result (post_at rec.now at) }
+    ensures gives { ReadsField result (post_at rec.now at) }
     ensures within { IfOk result (λ found. found.1 ≤ length rec.now) }
 {
     let (id, next) = get_id(rec, at)?;
@@ -244,7 +244,7 @@ fn post(rec: &[u8], at: usize) -> Result<(Event, usize), RecordFault>
 #[tactic(auto, unfolding(crate::specs::Reading::spawn_at))]
 fn spawn(rec: &[u8], at: usize) -> Result<(Event, usize), RecordFault>
     requires { at ≤ length rec.now }
-    ensures gives { Gives result (spawn_at rec.now at) }
+    ensures gives { ReadsField result (spawn_at rec.now at) }
     ensures within { IfOk result (λ found. found.1 ≤ length rec.now) }
 {
     let (model, next) = get_id(rec, at)?;
@@ -255,7 +255,7 @@ fn spawn(rec: &[u8], at: usize) -> Result<(Event, usize), RecordFault>
 #[tactic(auto, unfolding(crate::specs::Reading::letter_at))]
 fn letter(alloc: Global, rec: &[u8], at: usize) -> Result<(Event, usize), RecordFault>
     requires { at ≤ length rec.now }
-    ensures gives { Gives result (letter_at rec.now at) }
+    ensures gives { ReadsField result (letter_at rec.now at) }
     ensures within { IfOk result (λ found. found.1 ≤ length rec.now) }
 {
     let (user, next) = get_u32(rec, at)?;

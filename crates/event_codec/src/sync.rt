@@ -4,7 +4,7 @@ ghost use Rattle.std.specs.Prelude.{◌≡◌, ◌≤◌, ◌++◌, false, lengt
 ghost use Rattle.std.specs.Io.{StartsWith};
 ghost use Rattle.std.specs.List.{AllByRecursion};
 ghost use Rattle.bank_model.specs.Sound.{IsSoundObject, IsSoundKind, IsSoundPair, IsSoundSync};
-ghost use Rattle.record_fields.specs.Answers.{Gives};
+ghost use Rattle.record_fields.specs.Answers.{ReadsField};
 ghost use Rattle.record_fields.specs.FieldCoding.{list_bytes};
 ghost use Rattle.event_codec.specs.Coding.{object_bytes, sync_kind_bytes, pair_bytes, sync_bytes};
 ghost use Rattle.event_codec.specs.AskReading.{object_at, object_of, intra_at, rec_intra_at, bank_mail_object_at, sync_kind_at, after_at, pair_at, pairs_from, pairs_at, sync_at};
@@ -25,7 +25,7 @@ use std::alloc::Global;
 /// `Bad(k)` at the first field without a form, at k: its kind, or a field of its account.
 pub fn get_object(alloc: Global, rec: &[u8], at: usize) -> Result<(ObjectName, usize), RecordFault>
     requires { at ≤ length rec.now }
-    ensures gives { Gives result (object_at false rec.now at) }
+    ensures gives { ReadsField result (object_at false rec.now at) }
     ensures within { IfOk result (λ found. found.1 ≤ length rec.now) }
 {
     get_object_behind(alloc, false, rec, at)
@@ -40,7 +40,7 @@ fn get_object_behind(
     at: usize,
 ) -> Result<(ObjectName, usize), RecordFault>
     requires { at ≤ length rec.now }
-    ensures gives { Gives result (object_at is_behind_mail rec.now at) }
+    ensures gives { ReadsField result (object_at is_behind_mail rec.now at) }
     ensures within { IfOk result (λ found. found.1 ≤ length rec.now) }
 {
     let (kind, next) = get_u8(rec, at)?;
@@ -59,7 +59,7 @@ fn object_of(
     next: usize,
 ) -> Result<(ObjectName, usize), RecordFault>
     requires { next ≤ length rec.now }
-    ensures gives { Gives result (object_of kind rec.now at next) }
+    ensures gives { ReadsField result (object_of kind rec.now at next) }
     ensures within { IfOk result (λ found. found.1 ≤ length rec.now) }
 {
     match kind {
@@ -74,7 +74,7 @@ fn object_of(
 #[tactic(auto, unfolding(crate::specs::AskReading::intra_at))]
 fn intra(alloc: Global, rec: &[u8], at: usize) -> Result<(ObjectName, usize), RecordFault>
     requires { at ≤ length rec.now }
-    ensures gives { Gives result (intra_at rec.now at) }
+    ensures gives { ReadsField result (intra_at rec.now at) }
     ensures within { IfOk result (λ found. found.1 ≤ length rec.now) }
 {
     let (account, next) = get_acct(alloc, rec, at)?;
@@ -84,7 +84,7 @@ fn intra(alloc: Global, rec: &[u8], at: usize) -> Result<(ObjectName, usize), Re
 #[tactic(auto, unfolding(crate::specs::AskReading::rec_intra_at))]
 fn rec_intra(alloc: Global, rec: &[u8], at: usize) -> Result<(ObjectName, usize), RecordFault>
     requires { at ≤ length rec.now }
-    ensures gives { Gives result (rec_intra_at rec.now at) }
+    ensures gives { ReadsField result (rec_intra_at rec.now at) }
     ensures within { IfOk result (λ found. found.1 ≤ length rec.now) }
 {
     let (account, next) = get_acct(alloc, rec, at)?;
@@ -94,7 +94,7 @@ fn rec_intra(alloc: Global, rec: &[u8], at: usize) -> Result<(ObjectName, usize)
 #[tactic(auto, unfolding(crate::specs::AskReading::bank_mail_object_at))]
 fn bank_mail(alloc: Global, rec: &[u8], at: usize) -> Result<(ObjectName, usize), RecordFault>
     requires { at ≤ length rec.now }
-    ensures gives { Gives result (bank_mail_object_at rec.now at) }
+    ensures gives { ReadsField result (bank_mail_object_at rec.now at) }
     ensures within { IfOk result (λ found. found.1 ≤ length rec.now) }
 {
     let (account, next) = get_acct(alloc, rec, at)?;
@@ -128,7 +128,7 @@ pub fn put_object(value: &ObjectName, out: &mut Vec<u8>) -> Result<(), OutOfMemo
 #[tactic(auto, unfolding(crate::specs::AskReading::after_at))]
 fn after(alloc: Global, rec: &[u8], at: usize) -> Result<(SyncKind, usize), RecordFault>
     requires { at ≤ length rec.now }
-    ensures gives { Gives result (after_at rec.now at) }
+    ensures gives { ReadsField result (after_at rec.now at) }
     ensures within { IfOk result (λ found. found.1 ≤ length rec.now) }
 {
     let (token, next) = get_filled_text(alloc, rec, at, 64)?;
@@ -138,7 +138,7 @@ fn after(alloc: Global, rec: &[u8], at: usize) -> Result<(SyncKind, usize), Reco
 #[tactic(auto, unfolding(crate::specs::AskReading::sync_kind_at))]
 fn get_sync_kind(alloc: Global, rec: &[u8], at: usize) -> Result<(SyncKind, usize), RecordFault>
     requires { at ≤ length rec.now }
-    ensures gives { Gives result (sync_kind_at rec.now at) }
+    ensures gives { ReadsField result (sync_kind_at rec.now at) }
     ensures within { IfOk result (λ found. found.1 ≤ length rec.now) }
 {
     let (kind, next) = get_u8(rec, at)?;
@@ -175,7 +175,7 @@ fn get_pair(
     at: usize,
 ) -> Result<((TrnUid, Deed), usize), RecordFault>
     requires { at ≤ length rec.now }
-    ensures gives { Gives result (pair_at family rec.now at) }
+    ensures gives { ReadsField result (pair_at family rec.now at) }
     ensures within { IfOk result (λ found. found.1 ≤ length rec.now) }
 {
     let (uid, next) = get_given_uid(rec, at)?;
@@ -192,7 +192,7 @@ fn pairs_from(
     at: usize,
 ) -> Result<(Deeds, usize), RecordFault>
     requires { at ≤ length rec.now }
-    ensures gives { Gives result (pairs_from count family rec.now at) }
+    ensures gives { ReadsField result (pairs_from count family rec.now at) }
     ensures within { IfOk result (λ found. found.1 ≤ length rec.now) }
 {
     let mut pairs = Sequence::new(alloc);
@@ -213,7 +213,7 @@ fn get_pairs(
     at: usize,
 ) -> Result<(Deeds, usize), RecordFault>
     requires { at ≤ length rec.now }
-    ensures gives { Gives result (pairs_at family rec.now at) }
+    ensures gives { ReadsField result (pairs_at family rec.now at) }
     ensures within { IfOk result (λ found. found.1 ≤ length rec.now) }
 {
     let (count, next) = get_u16(rec, at)?;
@@ -252,7 +252,7 @@ pub(crate) fn get_sync(
     at: usize,
 ) -> Result<(SyncAsk, usize), RecordFault>
     requires { at ≤ length rec.now }
-    ensures gives { Gives result (sync_at is_behind_mail rec.now at) }
+    ensures gives { ReadsField result (sync_at is_behind_mail rec.now at) }
     ensures within { IfOk result (λ found. found.1 ≤ length rec.now) }
 {
     let (object, next) = get_object_behind(alloc, is_behind_mail, rec, at)?;

@@ -1,11 +1,10 @@
 -- Heads and bodies of replies in bytes that grow or are cut.
-use Rattle.std.proofs.Common.{◌≡◌, ℕ, ◌+◌, ◌-◌, ◌<◌, ◌≤◌, List, ◌++◌, length, take, drop, Option, Some, inl, inr, refl, sym, ap, ◌∙◌, subst, arith, append_assoc, length-append, length-drop, length-take-le, drop_at}
+use Rattle.std.proofs.Common.{◌≡◌, ℕ, ◌+◌, ◌-◌, ◌<◌, ◌≤◌, List, ◌++◌, length, take, drop, Option, Some, inr, refl, sym, ap, ◌∙◌, subst, arith, append_assoc, length-append, length-drop, length-take-le, drop_at}
 use Rattle.std.proofs.Math.Seq.{take-append-add}
 use Rattle.std.specs.Io.KnownBytes.{IsAtEnd}
 use Rattle.httparse.specs.Grammar.{print_response}
-use Rattle.http_front.specs.Heads.{AwaitsResponse}
 use Rattle.http_front.specs.declared.head.ReplyHead.{ReplyHead}
-use Rattle.http_link.specs.Incoming.{IsDry, HasNoBody}
+use Rattle.http_link.specs.Incoming.{HasNoBody}
 use Rattle.http_link.specs.Answers.{HasReplyHead, LacksReplyBody, HoldsReply, HasNoReply, call_fault}
 use Rattle.http_link.specs.declared.answer.Answer.{Answer}
 use Rattle.http_link.specs.declared.served.ServeError.{ServeError}
@@ -83,11 +82,3 @@ no_reply bytes head rest size left before now WriteFault has low small told is =
 no_reply bytes head rest size left before now (Cut count) has low small told is =
     (is.0, inr (lacks_body bytes head rest size has low small told is.1), is.2)
 no_reply bytes head rest size left before now OutOfMemory has low small told is = tt
-
--- where no more of a head could be read
-pub no_head : (bytes : List ℕ) (left : Option (List ℕ)) (before now : ℕ) (fault : ServeError) → AwaitsResponse bytes → IsDry before now fault
-    → HasNoReply bytes left before now (call_fault fault)
-no_head bytes left before now ReadFault waits dry = (inl waits, dry)
-no_head bytes left before now WriteFault waits dry = absurd dry
-no_head bytes left before now (Cut count) waits dry = absurd dry
-no_head bytes left before now OutOfMemory waits dry = tt

@@ -1,15 +1,13 @@
 -- Heads and bodies in bytes that grow or are cut.
-use Rattle.std.proofs.Common.{◌≡◌, ◌≢◌, ℕ, ◌+◌, ◌-◌, ◌<◌, ◌≤◌, Bool, true, false, not, nat_lt, if◌then◌else◌, List, [], ◌∷◌, ◌++◌, length, take, drop, Option, None, Some, Ok, Err, inl, inr, refl, sym, ap, ◌∙◌, subst, arith, append_assoc, append-nil, length-append, length-drop, length-take-le, take_all, drop_at}
-use Rattle.std.proofs.Math.Seq.{take-append-add, take-length}
+use Rattle.std.proofs.Common.{◌≡◌, ◌≢◌, ℕ, ◌+◌, ◌-◌, ◌<◌, ◌≤◌, List, ◌∷◌, ◌++◌, length, take, drop, Option, None, Some, Ok, Err, inl, inr, refl, sym, ap, ◌∙◌, arith, append_assoc, append-nil, length-append, length-drop, length-take-le, take_all, drop_at}
+use Rattle.std.proofs.Math.Seq.{take-append-add}
 use Rattle.std.specs.Io.KnownBytes.{IsAtEnd}
 use Rattle.httparse.specs.Grammar.{print_request}
 use Rattle.http_front.specs.Heads.{AwaitsRequest}
 use Rattle.http_front.specs.declared.head.Head.{Head}
 use Rattle.ofx_ports.specs.Faults.{Rose}
-use Rattle.http_link.specs.Requests.{HasHead, HasBadHead, head_refusal, length_refusal, IsRefusedByHead, IsWhole, LacksBody, IsUnfinished}
+use Rattle.http_link.specs.Requests.{HasHead, head_refusal, IsWhole, LacksBody, IsUnfinished}
 use Rattle.http_link.specs.Incoming.{GrowsOn, HoldsWhole, HasNoNext, HasNoBody}
-use Rattle.http_link.specs.declared.refusal.Refusal.{Refusal}
-use Rattle.http_link.specs.declared.refusal.Refusal.TheVariants.{BadHead, NotPost, NotFound, NoLength, TooLarge}
 use Rattle.http_link.specs.declared.served.ServeError.{ServeError}
 use Rattle.http_link.specs.declared.served.ServeError.TheVariants.{ReadFault, WriteFault, Cut, OutOfMemory}
 
@@ -42,38 +40,6 @@ head-cut bytes head rest size has low =
     }
 
 -- ---- refusals
-
-too_large : (large : Bool) → (if large then Some TooLarge else None) ≡ Some BadHead → ⊥
-too_large true is = cc
-too_large false is = cc
-
-no_bad_length : (size : Option ℕ) → length_refusal size ≡ Some BadHead → ⊥
-no_bad_length None is = cc
-no_bad_length (Some size) is = too_large (nat_lt 262144 size) is
-
--- a head that tells something is no bad one
-not_bad : (post path : Bool) (size : Option ℕ) → (if not post then Some NotPost else (if not path then Some NotFound else length_refusal size)) ≡ Some BadHead → ⊥
-not_bad false path size is = cc
-not_bad true false size is = cc
-not_bad true true size is = no_bad_length size is
-
-refused_so : (bytes : List ℕ) (head : Head) (refusal : Refusal) → HasHead bytes head [] → head_refusal head ≡ Some refusal → IsRefusedByHead bytes refusal
-refused_so bytes head BadHead has is = absurd (not_bad head.method_is_post head.path_is_ofx head.length is)
-refused_so bytes head NotPost has is = (head, has, is)
-refused_so bytes head NotFound has is = (head, has, is)
-refused_so bytes head NoLength has is = (head, has, is)
-refused_so bytes head TooLarge has is = (head, has, is)
-
-pub refused_by_head : (bytes : List ℕ) (head : Head) (rest : List ℕ) (refusal : Refusal) → HasHead bytes head rest → head_refusal head ≡ Some refusal
-    → IsRefusedByHead (take head.size bytes) refusal
-refused_by_head bytes head rest refusal has is =
-    let cut = head-cut bytes head rest head.size has (omega arith) in
-    let over : head.size - head.size ≡ 0 = omega arith in
-    let nothing : take (head.size - head.size) (drop head.size bytes) ≡ [] = ap (λ (n : ℕ). take n (drop head.size bytes)) over in
-    refused_so (take head.size bytes) head refusal (subst (HasHead (take head.size bytes) head) nothing cut) is
-
-pub refused_bad : (bytes : List ℕ) → HasBadHead bytes → IsRefusedByHead (take (length bytes) bytes) BadHead
-refused_bad bytes bad = rw (take-length bytes) bad
 
 -- ---- bodies
 

@@ -2,17 +2,8 @@
 use Rattle.std.proofs.Common.{ℕ, ◌+◌, ◌≤◌, List, ◌++◌, length, take, Option, Result, Ok, Err, OnErr, sym, subst, arith, length-append}
 use Rattle.std.specs.Io.KnownBytes.{Appends}
 use Rattle.std.proofs.KnownBytes.{Appends-trans}
-use Rattle.std.proofs.lemmas.List.{take-append-le}
 use Rattle.std.proofs.Math.Seq.{take-append-add}
 use Rattle.ofx_ports.specs.Writes.{AppendsPart}
-
--- a front of the first of two texts is a front of both
-pub front_of_first : (before after : Option (List ℕ)) (first second : List ℕ) → AppendsPart before after first → AppendsPart before after (first ++ second)
-front_of_first before after first second part = record {
-  count = part.count;
-  within = omega (arith, part.within, length-append first second);
-  appended = subst (Appends before after) (sym (take-append-le part.count first second part.within)) part.appended;
-}
 
 -- the first of two texts and a front of the second are a front of both
 pub front_of_second : (before mid after : Option (List ℕ)) (first second : List ℕ) → Appends before mid first → AppendsPart mid after second → AppendsPart before after (first ++ second)

@@ -3,7 +3,7 @@
 ghost use Rattle.std.specs.Prelude.{◌≡◌, ◌++◌, OnOk};
 ghost use Rattle.std.specs.Io.{StartsWith};
 ghost use Rattle.std.specs.Option.{ForSome, IfSome};
-ghost use Rattle.ofx_types.specs.FormWords.{Gives};
+ghost use Rattle.ofx_types.specs.FormWords.{ReadsForm};
 ghost use Rattle.ofx_types.specs.Printable.{HasChangeByCode, IsPrintableChange};
 ghost use Rattle.ofx_types.specs.DeedReading as reading;
 ghost use Rattle.ofx_types.specs.DeedReading.{deed_reply_of};
@@ -28,7 +28,7 @@ use std::alloc::Global;
 /// for its texts is refused.
 #[tactic(auto, unfolding(ofx_types::specs::DeedReading::deed_reply_of))]
 pub fn read_reply(alloc: Global, c: &Cursor<'_>) -> Result<DeedReply, TreeFault>
-    ensures { Gives result (deed_reply_of c.now) }
+    ensures { ReadsForm result (deed_reply_of c.now) }
 {
     let family = family_told(c)?;
     let trnuid = read_trnuid(alloc, c)?;
@@ -62,7 +62,7 @@ fn read_change_by_code(
     code: u16,
     c: &Cursor<'_>,
 ) -> Result<Option<Change>, TreeFault>
-    ensures { Gives result (reading.change_by_code code c.now) }
+    ensures { ReadsForm result (reading.change_by_code code c.now) }
 {
     if code == 0 {
         let reply = reply_in(c)?;
@@ -87,7 +87,7 @@ fn reply_in<'t>(c: &Cursor<'t>) -> Result<Cursor<'t>, TreeFault>
 /// The change that one of the six replies is, by its name.
 #[tactic(auto, unfolding(ofx_types::specs::DeedReading::change_of))]
 fn read_change(alloc: Global, reply: &Cursor<'_>) -> Result<Change, TreeFault>
-    ensures { Gives result (reading.change_of reply.now) }
+    ensures { ReadsForm result (reading.change_of reply.now) }
 {
     if reply.name() == b"INTRARS".as_slice() {
         return read_new(alloc, reply);

@@ -2,7 +2,7 @@
 
 ghost use Rattle.std.specs.Prelude.{◌≡◌, ◌++◌, OnOk};
 ghost use Rattle.std.specs.Io.{StartsWith};
-ghost use Rattle.ofx_types.specs.FormWords.{Gives};
+ghost use Rattle.ofx_types.specs.FormWords.{ReadsForm};
 ghost use Rattle.ofx_types.specs.DeedReading as reading;
 ghost use Rattle.ofx_types.specs.DeedReading.{deed_of};
 ghost use Rattle.ofx_types.specs.DeedText as text;
@@ -28,7 +28,7 @@ use std::alloc::Global;
 /// for its texts is refused.
 #[tactic(auto, unfolding(ofx_types::specs::DeedReading::deed_of))]
 pub fn read_deed(alloc: Global, c: &Cursor<'_>) -> Result<(TrnUid, Deed), TreeFault>
-    ensures { Gives result (deed_of c.now) }
+    ensures { ReadsForm result (deed_of c.now) }
 {
     let trnuid = read_own_trnuid(alloc, c)?;
     let request = request_in(c)?;
@@ -52,7 +52,7 @@ fn request_in<'t>(c: &Cursor<'t>) -> Result<Cursor<'t>, TreeFault>
 /// The deed that one of the six requests is, by its name.
 #[tactic(auto, unfolding(ofx_types::specs::DeedReading::request_of))]
 fn read_request(alloc: Global, request: &Cursor<'_>) -> Result<Deed, TreeFault>
-    ensures { Gives result (reading.request_of request.now) }
+    ensures { ReadsForm result (reading.request_of request.now) }
 {
     if request.name() == b"INTRARQ".as_slice() {
         return read_transfer(alloc, request);

@@ -3,7 +3,7 @@
 ghost use Rattle.std.specs.Prelude.{◌≡◌, ◌++◌, OnOk};
 ghost use Rattle.std.specs.Io.{StartsWith};
 ghost use Rattle.ofx_types.specs.Calendar.{IsMoment};
-ghost use Rattle.ofx_types.specs.FormWords.{Gives};
+ghost use Rattle.ofx_types.specs.FormWords.{ReadsForm};
 ghost use Rattle.ofx_types.specs.RequestReading.{signon_of};
 ghost use Rattle.ofx_types.specs.RequestText.{signon_request};
 ghost use Rattle.ofx_types.specs.ReplyReading.{signon_reply_of};
@@ -28,7 +28,7 @@ const MOST_OF_PASS: u32 = 64;
 /// for a text is refused. Places count from the first byte of the body.
 #[tactic(auto, unfolding(ofx_types::specs::RequestReading::signon_of))]
 pub fn read_signon(alloc: Global, c: &Cursor<'_>) -> Result<(Text, Text), TreeFault>
-    ensures { Gives result (signon_of c.now) }
+    ensures { ReadsForm result (signon_of c.now) }
 {
     let user = c.text(alloc, b"USERID", MOST_OF_USER)?;
     let pass = c.text(alloc, b"USERPASS", MOST_OF_PASS)?;

@@ -6,7 +6,7 @@ use Rattle.ofx_types.specs.TextRules.{trimmed, is_refused_in_text}
 use Rattle.ofx_types.specs.TextOutcome.{text_fault, trnuid_fault}
 use Rattle.ofx_types.specs.ValueForm.{value_of}
 use Rattle.ofx_types.specs.Nodes.{Item}
-use Rattle.ofx_types.specs.FormWords.{◌>>=◌, Gives, one, is_text_within, text_at, text_in}
+use Rattle.ofx_types.specs.FormWords.{◌>>=◌, ReadsForm, one, is_text_within, text_at, text_in}
 use Rattle.ofx_types.specs.RequestReading.{unless_zero, trnuid_of}
 use Rattle.ofx_types.specs.declared.text.TextFault.{TextFault}
 use Rattle.ofx_types.specs.declared.text.TextFault.TheVariants.{Empty}
@@ -50,7 +50,7 @@ pub ruleset refused_uids = (trnuid_at-no_text)
 pub value_of-plain : (raw : List ℕ) → list_any (λ b. nat_eq b 38) raw ≡ false → value_of raw ≡ trimmed raw
 value_of-plain raw h = ap trimmed (decoded-plain raw h)
 
-pub gives_same : {A : Type 0} (r s : Result A TreeFault) → r ≡ s → Gives r s
+pub gives_same : {A : Type 0} (r s : Result A TreeFault) → r ≡ s → ReadsForm r s
 gives_same (Ok x) s h = sym h
 gives_same (Err (Missing at)) s h = sym h
 gives_same (Err (Repeated at)) s h = sym h

@@ -3,7 +3,7 @@
 ghost use Rattle.std.specs.Prelude.{◌≡◌, ◌++◌, OnOk, codes};
 ghost use Rattle.std.specs.Io.{StartsWith};
 ghost use Rattle.ofx_types.specs.AccountForm.{kind_word};
-ghost use Rattle.ofx_types.specs.FormWords.{Gives};
+ghost use Rattle.ofx_types.specs.FormWords.{ReadsForm};
 ghost use Rattle.ofx_types.specs.RequestReading as reading;
 ghost use Rattle.ofx_types.specs.MailReading.{account_in};
 ghost use Rattle.ofx_types.specs.CommonText.{account_from};
@@ -23,7 +23,7 @@ const MOST: u32 = 32;
 /// The first fault of its form, with its place; `OutOfMemory` where memory for its texts is refused.
 #[tactic(auto, unfolding(ofx_types::specs::MailReading::account_in))]
 pub fn read_account_in(alloc: Global, message: &Cursor<'_>) -> Result<AcctName, TreeFault>
-    ensures { Gives result (account_in message.now) }
+    ensures { ReadsForm result (account_in message.now) }
 {
     let bankacctfrom = message.one(b"BANKACCTFROM")?;
     read_account(alloc, &bankacctfrom)
@@ -34,7 +34,7 @@ pub fn read_account_in(alloc: Global, message: &Cursor<'_>) -> Result<AcctName, 
 /// The first fault of its form, with its place; `OutOfMemory` where memory for its texts is refused.
 #[tactic(auto, unfolding(ofx_types::specs::RequestReading::account_of))]
 pub fn read_account(alloc: Global, aggregate: &Cursor<'_>) -> Result<AcctName, TreeFault>
-    ensures { Gives result (reading.account_of aggregate.now) }
+    ensures { ReadsForm result (reading.account_of aggregate.now) }
 {
     let bank = aggregate.text(alloc, b"BANKID", MOST)?;
     let number = aggregate.text(alloc, b"ACCTID", MOST)?;

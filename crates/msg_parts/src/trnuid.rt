@@ -4,7 +4,7 @@ ghost use Rattle.std.specs.Prelude.{◌≡◌, ◌++◌, OnOk, codes};
 ghost use Rattle.std.specs.Io.{StartsWith};
 ghost use Rattle.ofx_types.specs.TextRules.{trimmed};
 ghost use Rattle.ofx_types.specs.ValueForm.{value_of};
-ghost use Rattle.ofx_types.specs.FormWords.{Gives, text_in};
+ghost use Rattle.ofx_types.specs.FormWords.{ReadsForm, text_in};
 ghost use Rattle.ofx_types.specs.RequestReading as reading;
 ghost use Rattle.ofx_types.specs.Sheet.{element};
 ghost use Rattle.msg_parts.specs.PartSteps as steps;
@@ -21,7 +21,7 @@ const MOST: u32 = 36;
 ///
 /// `Missing`, `Repeated` or `Value` with its place; `OutOfMemory` where memory to decode its entities is refused.
 pub fn read_own_trnuid(alloc: Global, wrapper: &Cursor<'_>) -> Result<TrnUid, TreeFault>
-    ensures { Gives result (reading.trnuid_of wrapper.now) }
+    ensures { ReadsForm result (reading.trnuid_of wrapper.now) }
 {
     let child = wrapper.one(b"TRNUID")?;
     let place = child.place() as u64;
@@ -33,7 +33,7 @@ pub fn read_own_trnuid(alloc: Global, wrapper: &Cursor<'_>) -> Result<TrnUid, Tr
 /// `Missing`, `Repeated` or `Value` with its place; `OutOfMemory` where memory to decode its entities is refused.
 #[tactic(auto, unfolding(ofx_types::specs::FormWords::text_in, crate::specs::PartSteps::trnuid_at))]
 pub fn read_trnuid(alloc: Global, wrapper: &Cursor<'_>) -> Result<TrnUid, TreeFault>
-    ensures { Gives result (text_in (codes "TRNUID") 36 wrapper.now) }
+    ensures { ReadsForm result (text_in (codes "TRNUID") 36 wrapper.now) }
 {
     let child = wrapper.one(b"TRNUID")?;
     trnuid_at(alloc, child.value(), child.place() as u64)
@@ -42,7 +42,7 @@ pub fn read_trnuid(alloc: Global, wrapper: &Cursor<'_>) -> Result<TrnUid, TreeFa
 /// The uid that a value at a place stands for. It takes memory only where a `&` stands in the value.
 #[tactic(auto, using(crate::proofs::Uids::refused_uids))]
 fn trnuid_at(alloc: Global, value: &[u8], place: u64) -> Result<TrnUid, TreeFault>
-    ensures { Gives result (steps.trnuid_at place (value_of value.now)) }
+    ensures { ReadsForm result (steps.trnuid_at place (value_of value.now)) }
 {
     if !value.contains(&b'&') {
         return plain_trnuid(value, place);

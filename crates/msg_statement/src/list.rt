@@ -5,7 +5,7 @@ ghost use Rattle.std.specs.Io.{StartsWith};
 ghost use Rattle.std.specs.List.{flat_map, AllByRecursion};
 ghost use Rattle.std.specs.Option.{ForSome};
 ghost use Rattle.ofx_types.specs.Calendar.{IsMoment};
-ghost use Rattle.ofx_types.specs.FormWords.{Gives};
+ghost use Rattle.ofx_types.specs.FormWords.{ReadsForm};
 ghost use Rattle.ofx_types.specs.Nodes.{children};
 ghost use Rattle.ofx_types.specs.Printable.{IsPrintableList};
 ghost use Rattle.ofx_types.specs.ReplyForm as form;
@@ -24,7 +24,7 @@ pub(crate) fn read_maybe_list(
     alloc: Global,
     banktranlist: Option<Cursor<'_>>,
 ) -> Result<Option<StatementList>, TreeFault>
-    ensures { Gives result (reading.list_in banktranlist.entry) }
+    ensures { ReadsForm result (reading.list_in banktranlist.entry) }
 {
     match banktranlist {
         None => Ok(None),
@@ -34,7 +34,7 @@ pub(crate) fn read_maybe_list(
 
 #[tactic(auto, unfolding(ofx_types::specs::ReplyReading::list_of))]
 fn read_list(alloc: Global, banktranlist: &Cursor<'_>) -> Result<StatementList, TreeFault>
-    ensures { Gives result (reading.list_of banktranlist.now) }
+    ensures { ReadsForm result (reading.list_of banktranlist.now) }
 {
     let start = banktranlist.moment(b"DTSTART")?;
     let end = banktranlist.moment(b"DTEND")?;
@@ -45,7 +45,7 @@ fn read_list(alloc: Global, banktranlist: &Cursor<'_>) -> Result<StatementList, 
 /// The lines of a list in the order of the file.
 #[tactic(auto, using(crate::proofs::LineSteps::behind))]
 fn read_lines(alloc: Global, banktranlist: &Cursor<'_>) -> Result<Lines, TreeFault>
-    ensures { Gives result (reading.lines_of (children banktranlist.now)) }
+    ensures { ReadsForm result (reading.lines_of (children banktranlist.now)) }
 {
     let mut lines = Lines::new(alloc);
     for child in banktranlist.children() {
@@ -71,7 +71,7 @@ fn put(found: Option<StatementLine>, lines: &mut Lines) -> Result<(), TreeFault>
 /// The line that a child of the list is. A child of another name is skipped.
 #[tactic(auto, unfolding(crate::specs::StatementSteps::line_at))]
 fn line_at(child: &Cursor<'_>) -> Result<Option<StatementLine>, TreeFault>
-    ensures { Gives result (steps.line_at child.now) }
+    ensures { ReadsForm result (steps.line_at child.now) }
 {
     if child.name() == b"STMTTRN".as_slice() {
         return Ok(Some(read_line(child)?));
@@ -82,7 +82,7 @@ fn line_at(child: &Cursor<'_>) -> Result<Option<StatementLine>, TreeFault>
 /// A posted transaction.
 #[tactic(auto, unfolding(ofx_types::specs::ReplyReading::line_of))]
 fn read_line(stmttrn: &Cursor<'_>) -> Result<StatementLine, TreeFault>
-    ensures { Gives result (reading.line_of stmttrn.now) }
+    ensures { ReadsForm result (reading.line_of stmttrn.now) }
 {
     let posted = stmttrn.moment(b"DTPOSTED")?;
     let amount = stmttrn.amount(b"TRNAMT")?;

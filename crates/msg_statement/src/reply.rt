@@ -4,7 +4,7 @@ ghost use Rattle.std.specs.Prelude.{◌≡◌, ◌++◌, OnOk, codes};
 ghost use Rattle.std.specs.Io.{StartsWith};
 ghost use Rattle.std.specs.Option.{option_map, IfSome};
 ghost use Rattle.ofx_types.specs.Calendar.{IsMoment};
-ghost use Rattle.ofx_types.specs.FormWords.{Gives};
+ghost use Rattle.ofx_types.specs.FormWords.{ReadsForm};
 ghost use Rattle.ofx_types.specs.Printable.{HasBodyByCode, IsPrintableBody};
 ghost use Rattle.ofx_types.specs.ReplyForm as form;
 ghost use Rattle.ofx_types.specs.ReplyForm.{ask_reply};
@@ -24,7 +24,7 @@ use std::alloc::Global;
 /// The first fault of its form, with its place; `OutOfMemory` where memory for its texts or its lines is refused.
 #[tactic(auto, unfolding(ofx_types::specs::ReplyReading::statement_reply_of))]
 pub fn read_statement_reply(alloc: Global, c: &Cursor<'_>) -> Result<AskReply, TreeFault>
-    ensures { Gives result (statement_reply_of c.now) }
+    ensures { ReadsForm result (statement_reply_of c.now) }
 {
     let trnuid = read_trnuid(alloc, c)?;
     let code = read_status(c)?;
@@ -39,7 +39,7 @@ fn read_body_by_code(
     code: u16,
     stmttrnrs: &Cursor<'_>,
 ) -> Result<Option<StatementBody>, TreeFault>
-    ensures { Gives result (reading.body_by_code code stmttrnrs.now) }
+    ensures { ReadsForm result (reading.body_by_code code stmttrnrs.now) }
 {
     if code == 0 {
         let stmtrs = stmttrnrs.one(b"STMTRS")?;
@@ -50,7 +50,7 @@ fn read_body_by_code(
 
 #[tactic(auto, unfolding(ofx_types::specs::ReplyReading::body_of))]
 fn read_body(alloc: Global, stmtrs: &Cursor<'_>) -> Result<StatementBody, TreeFault>
-    ensures { Gives result (reading.body_of stmtrs.now) }
+    ensures { ReadsForm result (reading.body_of stmtrs.now) }
 {
     let account = read_account(alloc, &stmtrs.one(b"BANKACCTFROM")?)?;
     let list = read_maybe_list(alloc, stmtrs.maybe(b"BANKTRANLIST")?)?;
@@ -68,7 +68,7 @@ fn read_body(alloc: Global, stmtrs: &Cursor<'_>) -> Result<StatementBody, TreeFa
 /// A balance and the moment at which it was so.
 #[tactic(auto, unfolding(ofx_types::specs::ReplyReading::balance_of))]
 fn read_balance(balance: &Cursor<'_>) -> Result<(Cents, Moment), TreeFault>
-    ensures { Gives result (reading.balance_of balance.now) }
+    ensures { ReadsForm result (reading.balance_of balance.now) }
 {
     let amount = balance.amount(b"BALAMT")?;
     let moment = balance.moment(b"DTASOF")?;

@@ -4,7 +4,7 @@ ghost use Rattle.std.specs.Prelude.{◌≡◌, ◌++◌, OnOk, codes};
 ghost use Rattle.std.specs.Io.{StartsWith};
 ghost use Rattle.std.specs.Option.{option_map, IfSome};
 ghost use Rattle.ofx_types.specs.Calendar.{IsMoment};
-ghost use Rattle.ofx_types.specs.FormWords.{Gives};
+ghost use Rattle.ofx_types.specs.FormWords.{ReadsForm};
 ghost use Rattle.ofx_types.specs.RequestReading as reading;
 ghost use Rattle.ofx_types.specs.RequestReading.{statement_of};
 ghost use Rattle.ofx_types.specs.RequestText as form;
@@ -21,7 +21,7 @@ use std::alloc::Global;
 /// The first fault of its form, with its place; `OutOfMemory` where memory for its texts is refused.
 #[tactic(auto, unfolding(ofx_types::specs::RequestReading::statement_of))]
 pub fn read_statement(alloc: Global, c: &Cursor<'_>) -> Result<Ask, TreeFault>
-    ensures { Gives result (statement_of c.now) }
+    ensures { ReadsForm result (statement_of c.now) }
 {
     let trnuid = read_own_trnuid(alloc, c)?;
     let stmtrq = c.one(b"STMTRQ")?;
@@ -32,7 +32,7 @@ pub fn read_statement(alloc: Global, c: &Cursor<'_>) -> Result<Ask, TreeFault>
 
 /// The period of the transactions, where one is asked for.
 fn read_maybe_period(inctran: Option<Cursor<'_>>) -> Result<Option<Period>, TreeFault>
-    ensures { Gives result (reading.period_in inctran.entry) }
+    ensures { ReadsForm result (reading.period_in inctran.entry) }
 {
     match inctran {
         None => Ok(None),
@@ -42,7 +42,7 @@ fn read_maybe_period(inctran: Option<Cursor<'_>>) -> Result<Option<Period>, Tree
 
 #[tactic(auto, unfolding(ofx_types::specs::RequestReading::period_of))]
 fn read_period(inctran: &Cursor<'_>) -> Result<Period, TreeFault>
-    ensures { Gives result (reading.period_of inctran.now) }
+    ensures { ReadsForm result (reading.period_of inctran.now) }
 {
     let start = inctran.maybe_moment(b"DTSTART")?;
     let end = inctran.maybe_moment(b"DTEND")?;

@@ -2,7 +2,7 @@
 
 ghost use Rattle.std.specs.Prelude.{◌≡◌, ◌++◌, OnOk};
 ghost use Rattle.std.specs.Io.{StartsWith};
-ghost use Rattle.ofx_types.specs.FormWords.{Gives};
+ghost use Rattle.ofx_types.specs.FormWords.{ReadsForm};
 ghost use Rattle.ofx_types.specs.SyncReading as reading;
 ghost use Rattle.ofx_types.specs.PrintedSync as text;
 
@@ -17,7 +17,7 @@ pub(crate) fn read_object(
     family: Family,
     sync: &Cursor<'_>,
 ) -> Result<ObjectName, TreeFault>
-    ensures { Gives result (reading.object_in family sync.now) }
+    ensures { ReadsForm result (reading.object_in family sync.now) }
 {
     match family {
         Family::Intra => Ok(ObjectName::Intra(read_account_in(alloc, sync)?)),

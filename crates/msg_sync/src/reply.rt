@@ -3,7 +3,7 @@
 ghost use Rattle.std.specs.Prelude.{◌≡◌, ◌++◌, OnOk};
 ghost use Rattle.std.specs.Io.{StartsWith};
 ghost use Rattle.std.specs.List.{flat_map, AllByRecursion};
-ghost use Rattle.ofx_types.specs.FormWords.{Gives};
+ghost use Rattle.ofx_types.specs.FormWords.{ReadsForm};
 ghost use Rattle.ofx_types.specs.Nodes.{children};
 ghost use Rattle.ofx_types.specs.DeedText.{deed_reply_text};
 ghost use Rattle.ofx_types.specs.Printable.{HasChangeByCode};
@@ -31,7 +31,7 @@ const MOST: u32 = 64;
 /// for its texts or its answers is refused.
 #[tactic(auto, unfolding(ofx_types::specs::SyncReading::sync_reply_of))]
 pub fn read_sync_reply(alloc: Global, c: &Cursor<'_>) -> Result<SyncReply, TreeFault>
-    ensures { Gives result (sync_reply_of c.now) }
+    ensures { ReadsForm result (sync_reply_of c.now) }
 {
     let family = family_told_of(c)?;
     let token = c.text(alloc, b"TOKEN", MOST)?;
@@ -68,7 +68,7 @@ fn family_told_of(sync: &Cursor<'_>) -> Result<Family, TreeFault>
 /// The answers of this name, in the order of the file.
 #[tactic(auto, using(crate::proofs::Behind::behind, crate::proofs::Deeds::all_replies))]
 fn read_replies(alloc: Global, name: &[u8], sync: &Cursor<'_>) -> Result<DeedReplies, TreeFault>
-    ensures { Gives result (reading.replies_of name.now (children sync.now)) }
+    ensures { ReadsForm result (reading.replies_of name.now (children sync.now)) }
 {
     let mut replies = DeedReplies::new(alloc);
     for child in sync.children() {
@@ -80,7 +80,7 @@ fn read_replies(alloc: Global, name: &[u8], sync: &Cursor<'_>) -> Result<DeedRep
 /// The answer that a child is. A child of another name is skipped.
 #[tactic(auto, unfolding(crate::specs::Listing::form_at))]
 fn reply_at(alloc: Global, name: &[u8], child: &Cursor<'_>) -> Result<Option<DeedReply>, TreeFault>
-    ensures { Gives result (steps.reply_at name.now child.now) }
+    ensures { ReadsForm result (steps.reply_at name.now child.now) }
 {
     if child.name() == name {
         return Ok(Some(read_transaction_reply(alloc, child)?));

@@ -3,7 +3,7 @@
 ghost use Rattle.std.specs.Prelude.{◌≡◌, ◌++◌, OnOk};
 ghost use Rattle.std.specs.Io.{StartsWith};
 ghost use Rattle.std.specs.List.{flat_map, AllByRecursion};
-ghost use Rattle.ofx_types.specs.FormWords.{Gives, one_of};
+ghost use Rattle.ofx_types.specs.FormWords.{ReadsForm, one_of};
 ghost use Rattle.ofx_types.specs.Nodes.{children};
 ghost use Rattle.ofx_types.specs.DeedForm as deeds;
 ghost use Rattle.ofx_types.specs.SyncForm as forms;
@@ -32,7 +32,7 @@ const MOST: u32 = 64;
 /// for its texts or its deeds is refused.
 #[tactic(auto, unfolding(ofx_types::specs::SyncReading::sync_of))]
 pub fn read_sync(alloc: Global, c: &Cursor<'_>) -> Result<SyncAsk, TreeFault>
-    ensures { Gives result (sync_of c.now) }
+    ensures { ReadsForm result (sync_of c.now) }
 {
     let family = family_synced(c)?;
     let choice = c.one_of(b"TOKEN", b"TOKENONLY", b"REFRESH")?;
@@ -51,7 +51,7 @@ pub fn read_sync(alloc: Global, c: &Cursor<'_>) -> Result<SyncAsk, TreeFault>
 /// How much of the history is asked for.
 #[tactic(auto, unfolding(ofx_types::specs::SyncReading::kind_of))]
 fn read_kind(alloc: Global, choice: &Cursor<'_>) -> Result<SyncKind, TreeFault>
-    ensures { Gives result (reading.kind_of choice.now) }
+    ensures { ReadsForm result (reading.kind_of choice.now) }
 {
     if choice.name() == b"TOKEN".as_slice() {
         return Ok(SyncKind::After(choice.own_text(alloc, MOST)?));
@@ -106,7 +106,7 @@ fn deed_name(family: Family) -> &'static [u8]
 /// The deeds of this name, in the order of the file.
 #[tactic(auto, using(crate::proofs::Behind::behind, crate::proofs::Deeds::all_deeds))]
 fn read_deeds(alloc: Global, name: &[u8], sync: &Cursor<'_>) -> Result<Deeds, TreeFault>
-    ensures { Gives result (reading.deeds_of name.now (children sync.now)) }
+    ensures { ReadsForm result (reading.deeds_of name.now (children sync.now)) }
 {
     let mut deeds = Deeds::new(alloc);
     for child in sync.children() {
@@ -122,7 +122,7 @@ fn deed_at(
     name: &[u8],
     child: &Cursor<'_>,
 ) -> Result<Option<(TrnUid, Deed)>, TreeFault>
-    ensures { Gives result (steps.deed_at name.now child.now) }
+    ensures { ReadsForm result (steps.deed_at name.now child.now) }
 {
     if child.name() == name {
         return Ok(Some(read_transaction(alloc, child)?));

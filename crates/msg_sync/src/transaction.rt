@@ -2,7 +2,7 @@
 
 ghost use Rattle.std.specs.Prelude.{◌≡◌, ◌++◌, OnOk};
 ghost use Rattle.std.specs.Io.{StartsWith};
-ghost use Rattle.ofx_types.specs.FormWords.{Gives};
+ghost use Rattle.ofx_types.specs.FormWords.{ReadsForm};
 ghost use Rattle.ofx_types.specs.Printable.{HasChangeByCode};
 ghost use Rattle.ofx_types.specs.SyncReading as reading;
 ghost use Rattle.ofx_types.specs.SyncReading.{transaction_of, transaction_reply_of};
@@ -21,7 +21,7 @@ use std::alloc::Global;
 /// for its texts is refused.
 #[tactic(auto, unfolding(ofx_types::specs::SyncReading::transaction_of))]
 pub fn read_transaction(alloc: Global, c: &Cursor<'_>) -> Result<(TrnUid, Deed), TreeFault>
-    ensures { Gives result (transaction_of c.now) }
+    ensures { ReadsForm result (transaction_of c.now) }
 {
     if is_mail(c) {
         return mail_read_deed(alloc, c);
@@ -59,7 +59,7 @@ pub fn print_transaction(trnuid: &TrnUid, deed: &Deed, out: &mut Sheet) -> Resul
 /// for its texts is refused.
 #[tactic(auto, unfolding(ofx_types::specs::SyncReading::transaction_reply_of))]
 pub fn read_transaction_reply(alloc: Global, c: &Cursor<'_>) -> Result<DeedReply, TreeFault>
-    ensures { Gives result (transaction_reply_of c.now) }
+    ensures { ReadsForm result (transaction_reply_of c.now) }
 {
     if is_mail_reply(c) {
         return mail_read_reply(alloc, c);

@@ -5,14 +5,14 @@ use Rattle.std.proofs.Math.Seq.{drop-append_seam}
 use Rattle.ofx_types.specs.HeaderForm.{SpellsHeader, header_fault}
 use Rattle.ofx_types.specs.FileForm.{HasHeader}
 use Rattle.ofx_types.specs.declared.fault.HeaderFault.{HeaderFault}
-use Rattle.ofx_header.specs.HeaderReading.{Gives, HeaderParts, parts_of, header_at}
+use Rattle.ofx_header.specs.HeaderReading.{ReadsHeader, HeaderParts, parts_of, header_at}
 use Rattle.ofx_header.specs.HeaderLaws.{OneHeader, SpelledIsFaultless, FaultlessIsSpelled, BodyIsBehind}
 use Rattle.ofx_header.specs.declared.values.Header.{Header}
 use Rattle.ofx_header.proofs.Lines.{fault_of}
 use Rattle.ofx_header.proofs.Headers.{ok_is, header_found, header_again, header_fault_is}
 
 abbrev pub Answers : List ℕ → Result (Header × ℕ) HeaderFault → Type 0
-Answers bytes answer = Gives (λ x. parts_of x.0 x.1) answer (header_at bytes)
+Answers bytes answer = ReadsHeader (λ x. parts_of x.0 x.1) answer (header_at bytes)
 
 pub spelled_of_answer : (bytes : List ℕ) (answer : Result (Header × ℕ) HeaderFault) → Answers bytes answer →
     IfOk answer (λ x. SpellsHeader bytes x.0.version x.0.older x.0.newer x.1)

@@ -11,9 +11,9 @@ use Rattle.ofx_types.specs.declared.fault.HeaderFault.TheVariants.{Line, Value, 
 use Rattle.ofx_header.specs.declared.values.Header.{Header}
 
 -- What a function returned, seen by view, is what reading gives.
-abbrev pub Gives : {X Y : Type 0} → (X → Y) → Result X HeaderFault → Result Y HeaderFault → Type 0
-Gives view (Ok x) read = read ≡ Ok (view x)
-Gives view (Err fault) read = read ≡ Err fault
+abbrev pub ReadsHeader : {X Y : Type 0} → (X → Y) → Result X HeaderFault → Result Y HeaderFault → Type 0
+ReadsHeader view (Ok x) read = read ≡ Ok (view x)
+ReadsHeader view (Err fault) read = read ≡ Err fault
 
 -- The bytes after the mark, which is a tag and its colon, on the line that begins at this place and whose LF is so
 -- far after it; and the place after the line.

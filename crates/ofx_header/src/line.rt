@@ -3,7 +3,7 @@
 ghost use Rattle.std.specs.Prelude.{◌≡◌, ◌≤◌, IfOk, length, position};
 ghost use Rattle.ofx_types.specs.HeaderForm.{is_line_feed};
 ghost use Rattle.ofx_header.specs.HeaderReading as header;
-ghost use Rattle.ofx_header.specs.HeaderReading.{Gives};
+ghost use Rattle.ofx_header.specs.HeaderReading.{ReadsHeader};
 
 use ofx_types::HeaderFault;
 
@@ -18,7 +18,7 @@ pub(crate) fn raw_at<'a>(
     mark: &[u8],
 ) -> Result<(&'a [u8], usize), HeaderFault>
     requires { at ≤ length bytes.now }
-    ensures found { Gives (λ x. (x.0.now, x.1)) result (header.raw_at number mark.now bytes.now at) }
+    ensures found { ReadsHeader (λ x. (x.0.now, x.1)) result (header.raw_at number mark.now bytes.now at) }
     ensures within { IfOk result (λ x. x.1 ≤ length bytes.now) }
 {
     let rest = &bytes[at..];

@@ -4,7 +4,7 @@ ghost use Rattle.std.specs.Prelude.{◌≡◌, ◌≤◌, ℕ, List, Option, IfO
 ghost use Rattle.ofx_types.specs.declared.fault.HeaderFault.{HeaderFault};
 ghost use Rattle.ofx_types.specs.HeaderForm.{SpellsHeader, header_fault};
 ghost use Rattle.ofx_header.specs.HeaderReading as header;
-ghost use Rattle.ofx_header.specs.HeaderReading.{Gives, writing_at, line_at, fixed_in, charset_in};
+ghost use Rattle.ofx_header.specs.HeaderReading.{ReadsHeader, writing_at, line_at, fixed_in, charset_in};
 
 use crate::line::raw_at;
 use crate::values::{Header, is_charset, uid_in, version_in};
@@ -33,7 +33,7 @@ pub fn read_header(bytes: &[u8]) -> Result<(Header, usize), HeaderFault>
 /// What the nine lines say, and the place after the ninth.
 #[tactic(auto, unfolding(crate::specs::HeaderReading::header_at))]
 fn lines(bytes: &[u8]) -> Result<(Header, usize), HeaderFault>
-    ensures found { Gives (λ x. header.parts_of x.0 x.1) result (header.header_at bytes.now) }
+    ensures found { ReadsHeader (λ x. header.parts_of x.0 x.1) result (header.header_at bytes.now) }
     ensures within { IfOk result (λ x. x.1 ≤ length bytes.now) }
 {
     let at = fixed_line(bytes, 0, 1, b"OFXHEADER:", b"100")?;
@@ -54,7 +54,7 @@ fn lines(bytes: &[u8]) -> Result<(Header, usize), HeaderFault>
 #[tactic(auto, unfolding(crate::specs::HeaderReading::writing_at))]
 fn writing_lines(bytes: &[u8], at: usize) -> Result<usize, HeaderFault>
     requires { at ≤ length bytes.now }
-    ensures found { Gives (λ next. next) result (writing_at bytes.now at) }
+    ensures found { ReadsHeader (λ next. next) result (writing_at bytes.now at) }
     ensures within { IfOk result (λ next. next ≤ length bytes.now) }
 {
     let at = fixed_line(bytes, at, 4, b"SECURITY:", b"NONE")?;
@@ -73,7 +73,7 @@ fn fixed_line(
     value: &[u8],
 ) -> Result<usize, HeaderFault>
     requires { at ≤ length bytes.now }
-    ensures found { Gives (λ next. (tt, next)) result (line_at (fixed_in value.now) number mark.now bytes.now at) }
+    ensures found { ReadsHeader (λ next. (tt, next)) result (line_at (fixed_in value.now) number mark.now bytes.now at) }
     ensures within { IfOk result (λ next. next ≤ length bytes.now) }
 {
     let (raw, next) = raw_at(bytes, at, number, mark)?;
@@ -87,7 +87,7 @@ fn fixed_line(
 #[tactic(auto, unfolding(crate::specs::HeaderReading::line_at))]
 fn version_line(bytes: &[u8], at: usize) -> Result<(u16, usize), HeaderFault>
     requires { at ≤ length bytes.now }
-    ensures found { Gives (λ x. (x.0, x.1)) result (line_at header.version_in 3 (codes "VERSION:") bytes.now at) }
+    ensures found { ReadsHeader (λ x. (x.0, x.1)) result (line_at header.version_in 3 (codes "VERSION:") bytes.now at) }
     ensures within { IfOk result (λ x. x.1 ≤ length bytes.now) }
 {
     let (raw, next) = raw_at(bytes, at, 3, b"VERSION:")?;
@@ -101,7 +101,7 @@ fn version_line(bytes: &[u8], at: usize) -> Result<(u16, usize), HeaderFault>
 #[tactic(auto, unfolding(crate::specs::HeaderReading::line_at))]
 fn charset_line(bytes: &[u8], at: usize) -> Result<usize, HeaderFault>
     requires { at ≤ length bytes.now }
-    ensures found { Gives (λ next. (tt, next)) result (line_at charset_in 6 (codes "CHARSET:") bytes.now at) }
+    ensures found { ReadsHeader (λ next. (tt, next)) result (line_at charset_in 6 (codes "CHARSET:") bytes.now at) }
     ensures within { IfOk result (λ next. next ≤ length bytes.now) }
 {
     let (raw, next) = raw_at(bytes, at, 6, b"CHARSET:")?;
@@ -120,7 +120,7 @@ fn uid_line(
     mark: &[u8],
 ) -> Result<(Option<FileUid>, usize), HeaderFault>
     requires { at ≤ length bytes.now }
-    ensures found { Gives (λ x. (x.0, x.1)) result (line_at header.uid_in number mark.now bytes.now at) }
+    ensures found { ReadsHeader (λ x. (x.0, x.1)) result (line_at header.uid_in number mark.now bytes.now at) }
     ensures within { IfOk result (λ x. x.1 ≤ length bytes.now) }
 {
     let (raw, next) = raw_at(bytes, at, number, mark)?;

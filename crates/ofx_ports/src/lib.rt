@@ -1,7 +1,8 @@
 //! What a bank and a client ask of the outside: bytes to read and to write, records to keep, a text to keep, the time, links to
 //! peers, and doorways where links come in. Each is a trait whose clauses say what a call does to what the outside tells of
 //! itself, and count its faults. The memory forms tell all that they hold and fail where they are told to. The
-//! adapters stand over the standard library's readers, writers, files, sockets and clocks, and tell nothing.
+//! adapters stand over the standard library's readers, writers, files, sockets and clocks, and tell nothing. `write_whole`
+//! writes bytes whole.
 #![tactic(auto)]
 
 mod adapters;
@@ -12,6 +13,7 @@ mod gate;
 mod keeper;
 mod link;
 mod memory;
+mod output;
 mod sink;
 mod source;
 mod store_keeper;
@@ -36,6 +38,7 @@ pub use memory::schedule::Schedule;
 pub use memory::sink::MemSink;
 pub use memory::source::MemSource;
 pub use memory::store::MemStore;
+pub use output::write_whole;
 pub use sink::Sink;
 pub use source::Source;
 pub use store_keeper::StoreKeeper;

@@ -5,7 +5,7 @@ use Rattle.ofx_types.specs.Sheet.{tag}
 use Rattle.ofx_types.specs.TagForm.{end_tag, IsWhite, Tree, nothing, element, aggregate, Closes, IsElement, Spells, SpellsBody}
 use Rattle.ofx_types.specs.Nodes.{TagNode, nodes_from}
 use Rattle.ofx_tape.proofs.FaultLaws.{Awaits}
-pub use Rattle.ofx_tape.specs.Standing.{join, Frame, Begins, room_in, Stands, names_in, BeginsElement, Waits, StandsBehind, open_node, nodes_behind, open_nodes, built_nodes, open_indices}
+pub use Rattle.ofx_tape.specs.OpenAggregates.{join, Frame, Begins, room_in, Stands, names_in, BeginsElement, Waits, StandsBehind, open_node, nodes_behind, open_nodes, built_nodes, open_indices}
 
 pub spells_join : (first later : Tree) (size room : ℕ) (bytes more rest : List ℕ) → Spells size room bytes first more → Spells size room more later rest →
     Spells size room bytes (join first later) rest

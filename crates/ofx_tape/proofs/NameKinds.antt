@@ -7,7 +7,7 @@ use Rattle.std.specs.Str.{bytes_eq}
 use Rattle.ofx_types.specs.TextRules.{is_white, trim_start}
 use Rattle.ofx_types.specs.TagFault.{is_open}
 use Rattle.ofx_types.specs.TagNames.{is_one_of, is_element, element_names, aggregate_names}
-use Rattle.ofx_tape.specs.Standing.{is_at_tag}
+use Rattle.ofx_tape.specs.OpenAggregates.{is_at_tag}
 
 -- ---- the text after a tag
 

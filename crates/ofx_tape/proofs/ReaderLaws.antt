@@ -12,7 +12,7 @@ use Rattle.ofx_types.specs.TagFault.{is_name_of, tag_fault}
 use Rattle.ofx_types.specs.Nodes.{TagNode, AreNodesOf}
 use Rattle.ofx_types.specs.declared.fault.TapeFault.{TapeFault}
 use Rattle.ofx_types.specs.declared.fault.TapeFault.TheVariants.{Tag, Mismatch, Depth, Cut}
-use Rattle.ofx_tape.specs.Standing.{is_at_tag, front_of, behind_front, IsReading}
+use Rattle.ofx_tape.specs.OpenAggregates.{is_at_tag, front_of, behind_front, IsReading}
 use Rattle.ofx_tape.specs.TagReading.{nodes_in, indices_in, element_in, IsRead, IsTagAt, IsStartAt, IsFaultOfEnd, IsFresh}
 use Rattle.ofx_tape.specs.TapeOutcome.{IsTapeRefusal}
 use Rattle.ofx_tape.specs.TagScan.{BeginsNoTag}

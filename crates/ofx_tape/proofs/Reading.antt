@@ -17,7 +17,7 @@ use Rattle.ofx_tape.proofs.Spelled.{white_avoids}
 use Rattle.ofx_tape.proofs.FaultLaws.{Awaits, inside, past_white, past_element, past_aggregate, past_element_end, past_aggregate_end}
 use Rattle.ofx_tape.proofs.Unambiguous.{same_tag}
 use Rattle.ofx_tape.proofs.Building.{Frame, Begins, BeginsElement, Stands, StandsBehind, join, names_in, open_node, built_nodes, open_indices, stands_open, stands_begin, stands_ended, stands_unended, stands_close, stands_whole, nodes_open, nodes_element, nodes_close}
-pub use Rattle.ofx_tape.specs.Standing.{AreInOfx, IsOutermost, IsReading}
+pub use Rattle.ofx_tape.specs.OpenAggregates.{AreInOfx, IsOutermost, IsReading}
 
 -- ---- which end tag comes next
 

@@ -5,7 +5,7 @@ use Rattle.std.proofs.lemmas.Bool.{ltb-false}
 use Rattle.std.specs.List.{list_all, position_or_len}
 use Rattle.ofx_types.specs.TagNames.{is_name, is_name_byte}
 use Rattle.ofx_tape.specs.TagScan.{IsNoName}
-use Rattle.ofx_tape.specs.Standing.{front_of, behind_front}
+use Rattle.ofx_tape.specs.OpenAggregates.{front_of, behind_front}
 
 -- where the first byte that doesn't pass is, the bytes are split
 found_at : (there : Bool) (n i : ℕ) → cond there (Some n) None ≡ Some i → n ≡ i

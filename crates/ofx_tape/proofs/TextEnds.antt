@@ -5,7 +5,7 @@ use Rattle.std.specs.List.{list_any, position_or_len, before_first}
 use Rattle.ofx_types.specs.TextRules.{is_white, is_refused_in_text, trim_start}
 use Rattle.ofx_types.specs.TagForm.{IsWhite, is_value_byte}
 use Rattle.ofx_types.specs.TagFault.{is_open}
-use Rattle.ofx_tape.specs.Standing.{is_at_tag, front_of, behind_front}
+use Rattle.ofx_tape.specs.OpenAggregates.{is_at_tag, front_of, behind_front}
 use Rattle.ofx_tape.proofs.NameKinds.{white_is_no_tag}
 
 -- ---- the first byte that passes a test

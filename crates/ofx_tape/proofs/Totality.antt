@@ -12,7 +12,7 @@ use Rattle.ofx_types.specs.TagForm.{end_tag, is_value_byte}
 use Rattle.ofx_types.specs.TagFault.{is_name_of, tag_fault}
 use Rattle.ofx_types.specs.Nodes.{TagNode, AreNodesOf}
 use Rattle.ofx_types.specs.declared.fault.TapeFault.{TapeFault}
-use Rattle.ofx_tape.specs.Standing.{is_at_tag, front_of, behind_front, IsReading}
+use Rattle.ofx_tape.specs.OpenAggregates.{is_at_tag, front_of, behind_front, IsReading}
 use Rattle.ofx_tape.specs.TagScan.{IsNoName, BeginsNoTag}
 use Rattle.ofx_tape.specs.TapeOutcome.{FaultlessTagsAreSpelled}
 use Rattle.ofx_tape.proofs.Splitting.{split_whole, front_passes, no_name_at, name_at_is}

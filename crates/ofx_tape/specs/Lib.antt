@@ -3,6 +3,6 @@ pub mod NodeView
 pub mod TapeOutcome
 pub mod NodeCounts
 pub mod TagScan
-pub mod Standing
+pub mod OpenAggregates
 pub mod NamesOfLength
 pub mod TagReading

@@ -8,7 +8,7 @@ use Rattle.ofx_types.specs.Nodes.{TagNode}
 use Rattle.ofx_types.specs.declared.fault.TapeFault.{TapeFault}
 use Rattle.ofx_types.specs.declared.fault.TapeFault.TheVariants.{Tag, Mismatch}
 use Rattle.ofx_tape.specs.NodeView.{node_view}
-use Rattle.ofx_tape.specs.Standing.{is_at_tag, IsReading}
+use Rattle.ofx_tape.specs.OpenAggregates.{is_at_tag, IsReading}
 use Rattle.ofx_tape.specs.TapeOutcome.{IsTapeRefusal}
 use Rattle.ofx_tape.specs.declared.reader.Reader.{Reader}
 

@@ -5,7 +5,7 @@ ghost use Rattle.std.specs.List.{list_all};
 ghost use Rattle.ofx_types.specs.TagForm.{is_value_byte};
 ghost use Rattle.ofx_types.specs.TagNames.{is_name_byte};
 ghost use Rattle.ofx_types.specs.TextRules.{is_refused_in_text, trim_start};
-ghost use Rattle.ofx_tape.specs.Standing.{is_at_tag, front_of, behind_front};
+ghost use Rattle.ofx_tape.specs.OpenAggregates.{is_at_tag, front_of, behind_front};
 ghost use Rattle.ofx_tape.specs.TagScan.{IsNameAt, IsTagBehind};
 
 use ofx_types::is_white_space;

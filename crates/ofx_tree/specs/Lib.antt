@@ -1,5 +1,5 @@
 pub mod ItemView
-pub mod Standing
+pub mod NamedChildren
 pub mod Marks
 pub mod PrintedForm
 pub mod Root

@@ -3,7 +3,7 @@
 ghost use Rattle.std.specs.Prelude.{◌≡◌, ◌+◌, ◌<◌, ◌≤◌, ◌^◌, ◌∷◌, [], length, IfNone, IfSome};
 ghost use Rattle.std.specs.Iterator.{YieldsFirst, item_count};
 ghost use Rattle.ofx_tree.specs.ItemView.{items_at, BeginsWithItem};
-ghost use Rattle.ofx_tree.specs.Standing.{standing, standing_as_one_of};
+ghost use Rattle.ofx_tree.specs.NamedChildren.{standing, standing_as_one_of};
 
 use crate::cursor::Cursor;
 use ofx_tape::Node;

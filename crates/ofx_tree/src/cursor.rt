@@ -5,11 +5,11 @@ ghost use Rattle.std.specs.List.{list_all};
 ghost use Rattle.ofx_types.specs.TextRules.{is_white};
 ghost use Rattle.ofx_types.specs.TagNames.{is_one_of};
 ghost use Rattle.ofx_types.specs.Nodes.{children};
-ghost use Rattle.ofx_types.specs.FormWords.{one, one_of, maybe, is_absent, text_in, text_at, flag_in, flag_at, maybe_flag_in, amount_in, amount_of, moment_in, moment_of, maybe_moment_in, number_in, number_of, id_in, maybe_id_in, Gives};
+ghost use Rattle.ofx_types.specs.FormWords.{one, one_of, maybe, is_absent, text_in, text_at, flag_in, flag_at, maybe_flag_in, amount_in, amount_of, moment_in, moment_of, maybe_moment_in, number_in, number_of, id_in, maybe_id_in, ReadsForm};
 ghost use Rattle.ofx_types.specs.ValueForm.{value_of};
 ghost use Rattle.ofx_types.specs.Nodes.{IsRoot};
 ghost use Rattle.ofx_tree.specs.ItemView.{item_view};
-ghost use Rattle.ofx_tree.specs.Standing.{stands, stands_as_one_of};
+ghost use Rattle.ofx_tree.specs.NamedChildren.{stands, stands_as_one_of};
 ghost use Rattle.ofx_tree.specs.Ids.{id_at};
 ghost use Rattle.ofx_tree.specs.Root.{AreRead};
 
@@ -141,7 +141,7 @@ impl<'t> Cursor<'t> {
     /// it is refused.
     #[tactic(auto, unfolding(ofx_types::specs::FormWords::text_in))]
     pub fn text(&self, alloc: Global, name: &[u8], most: u32) -> Result<Text, TreeFault>
-        ensures { Gives result (text_in name.now most self.now) }
+        ensures { ReadsForm result (text_in name.now most self.now) }
     {
         let child = self.one(name)?;
         child.own_text(alloc, most)
@@ -258,7 +258,7 @@ impl<'t> Cursor<'t> {
     ///
     /// `Value` at its place where the value is no such text; `OutOfMemory` where memory for it is refused.
     pub fn own_text(&self, alloc: Global, most: u32) -> Result<Text, TreeFault>
-        ensures { Gives result (text_at most self.now.node) }
+        ensures { ReadsForm result (text_at most self.now.node) }
     {
         match value_into(alloc, self.node.value, most) {
             Ok(text) if !text.as_bytes().is_empty() => Ok(text),

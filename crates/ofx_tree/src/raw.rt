@@ -7,7 +7,7 @@ ghost use Rattle.ofx_types.specs.DateReading.{moment_at};
 ghost use Rattle.ofx_types.specs.NumberReading.{number_at};
 ghost use Rattle.ofx_types.specs.FormWords.{id_of, is_text_within};
 ghost use Rattle.ofx_types.specs.ValueForm.{value_of};
-ghost use Rattle.ofx_types.specs.ValueReading.{Gives};
+ghost use Rattle.ofx_types.specs.ValueReading.{ReadsValue};
 
 use ofx_tape::{SHORT_VALUE, short_value};
 use ofx_types::{Cents, Moment, is_white_space};
@@ -19,7 +19,7 @@ const ID_DIGITS: usize = 10;
 /// The amount that the value spells.
 #[tactic(auto, using(crate::proofs::Short::amounts_are_short))]
 pub(crate) fn amount_of_raw(raw: &[u8]) -> Option<Cents>
-    ensures { Gives (λ c. c.0) result (amount_at (value_of raw.now)) }
+    ensures { ReadsValue (λ c. c.0) result (amount_at (value_of raw.now)) }
 {
     let mut room = [0; SHORT_VALUE];
     let Some(value) = short_value(raw, &mut room) else {
@@ -34,7 +34,7 @@ pub(crate) fn amount_of_raw(raw: &[u8]) -> Option<Cents>
 /// The moment that the value spells.
 #[tactic(auto, using(crate::proofs::Short::moments_are_short))]
 pub(crate) fn moment_of_raw(raw: &[u8]) -> Option<Moment>
-    ensures { Gives (λ m. m.0) result (moment_at (value_of raw.now)) }
+    ensures { ReadsValue (λ m. m.0) result (moment_at (value_of raw.now)) }
 {
     let mut room = [0; SHORT_VALUE];
     let Some(value) = short_value(raw, &mut room) else {

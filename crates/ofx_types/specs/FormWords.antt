@@ -110,9 +110,9 @@ FailsSo (Repeated at) read = read ≡ Err (Repeated at)
 FailsSo (Value at) read = read ≡ Err (Value at)
 FailsSo {A} OutOfMemory read = Unit {0}
 
-abbrev pub Gives : {A : Type 0} → Result A TreeFault → Result A TreeFault → Type 0
-Gives (Ok x) read = read ≡ Ok x
-Gives (Err fault) read = FailsSo fault read
+abbrev pub ReadsForm : {A : Type 0} → Result A TreeFault → Result A TreeFault → Type 0
+ReadsForm (Ok x) read = read ≡ Ok x
+ReadsForm (Err fault) read = FailsSo fault read
 
 -- Where a child that must stand once stands twice the second one is the fault, and where it doesn't stand the parent is.
 abbrev pub only_of : ℕ → List Item → Result Item TreeFault

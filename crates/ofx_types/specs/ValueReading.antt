@@ -8,9 +8,9 @@ abbrev pub ◌>>=◌ : {A B : Type 0} → Option A → (A → Option B) → Opti
 None >>= f = None
 
 -- what a function returned, seen by view, is what reading gives
-abbrev pub Gives : {X Y : Type 0} → (X → Y) → Option X → Option Y → Type 0
-Gives view (Some x) read = read ≡ Some (view x)
-Gives view None read = read ≡ None
+abbrev pub ReadsValue : {X Y : Type 0} → (X → Y) → Option X → Option Y → Type 0
+ReadsValue view (Some x) read = read ≡ Some (view x)
+ReadsValue view None read = read ≡ None
 
 -- the number that two digits stand for
 unfoldable pub pair_at : List ℕ → Option (ℕ × List ℕ)

@@ -2,7 +2,6 @@
 use Rattle.std.proofs.Common.{◌≡◌, ◌≢◌, ℕ, ◌+◌, ◌-◌, ◌*◌, ◌/◌, ◌%◌, ◌<◌, ◌≤◌, Bool, true, false, cond, eqb, List, [], ◌∷◌, ◌++◌, length, get_or, take, Some, None, refl, sym, ap, subst, ◌∙◌, inl, inr, arith, append_assoc, ℤ, pos}
 use Rattle.std.specs.Char.{is_ascii_digit}
 use Rattle.std.proofs.lemmas.Bool.{and_parts, and_from, cond-true, cond-false, cond_both, eqb-true, eq-eqb, ne_eqb, leb-true, le-leb}
-use Rattle.std.proofs.lemmas.Bool.Decides.{nat_tests}
 use Rattle.std.proofs.lemmas.List.{take_more, take_all, take_at, get_or_at, length-append}
 use Rattle.std.proofs.lemmas.Option.{cond_some}
 use Rattle.ofx_types.specs.Digits.{signed, two_digits}
@@ -14,9 +13,6 @@ use Rattle.ofx_values.proofs.PartLemmas.{behind_front, bind_some, some_is, digit
 -- no digit stands here
 abbrev IsDigitless : List ℕ → Type 0
 IsDigitless text = is_ascii_digit (get_or text 0 0) ≡ false
-
-no_digit : (b : ℕ) → 57 < b → is_ascii_digit b ≡ false
-no_digit b h = grind (arith, nat_tests)
 
 -- ---- whole hours
 

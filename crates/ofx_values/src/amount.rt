@@ -6,7 +6,7 @@ ghost use Rattle.std.specs.Char.{is_ascii_digit};
 ghost use Rattle.ofx_types.specs.AmountForm as form;
 ghost use Rattle.ofx_types.specs.AmountForm.{IsAmount};
 ghost use Rattle.ofx_types.specs.TextRules.{trimmed};
-ghost use Rattle.ofx_types.specs.ValueReading.{Gives};
+ghost use Rattle.ofx_types.specs.ValueReading.{ReadsValue};
 ghost use Rattle.ofx_types.specs.AmountReading as reading;
 
 use crate::digits::{are_digits, number, sign_at};
@@ -39,7 +39,7 @@ pub fn read_amount(raw: &[u8]) -> Result<Cents, ValueFault>
 /// The amount that trimmed bytes spell.
 #[tactic(auto, unfolding(ofx_types::specs::AmountReading::amount_at))]
 fn amount_at(text: &[u8]) -> Option<Cents>
-    ensures { Gives (λ c. c.0) result (reading.amount_at text.now) }
+    ensures { ReadsValue (λ c. c.0) result (reading.amount_at text.now) }
 {
     if text.len() > AMOUNT_BYTES {
         return None;
@@ -54,7 +54,7 @@ fn amount_at(text: &[u8]) -> Option<Cents>
 #[tactic(auto, unfolding(ofx_types::specs::AmountReading::magnitude_at))]
 fn magnitude_at(text: &[u8]) -> Option<u64>
     requires { length text.now ≤ AMOUNT_BYTES }
-    ensures gives { Gives (λ n. n) result (reading.magnitude_at text.now) }
+    ensures gives { ReadsValue (λ n. n) result (reading.magnitude_at text.now) }
     ensures range { IfSome result (λ n. n ≤ MOST_CENTS) }
 {
     let (dollars, rest) = split_digits(text);
@@ -85,7 +85,7 @@ fn digits_at(text: &[u8]) -> usize
 /// The digits after a mark, or none where there is no mark.
 #[tactic(auto, unfolding(ofx_types::specs::AmountReading::behind_mark))]
 fn behind_mark(text: &[u8]) -> Option<&[u8]>
-    ensures gives { Gives (λ x. x.now) result (reading.behind_mark text.now) }
+    ensures gives { ReadsValue (λ x. x.now) result (reading.behind_mark text.now) }
     ensures digits { IfSome result (λ x. IsTrue (list_all is_ascii_digit x.now)) }
     ensures within { IfSome result (λ x. length x.now ≤ length text.now) }
 {
@@ -103,7 +103,7 @@ fn magnitude_of(dollars: &[u8], behind: &[u8]) -> Option<u64>
     requires behind_short { length behind.now ≤ AMOUNT_BYTES }
     requires dollars_are { IsTrue (list_all is_ascii_digit dollars.now) }
     requires behind_are { IsTrue (list_all is_ascii_digit behind.now) }
-    ensures gives { Gives (λ n. n) result (reading.magnitude_of dollars.now behind.now) }
+    ensures gives { ReadsValue (λ n. n) result (reading.magnitude_of dollars.now behind.now) }
     ensures range { IfSome result (λ n. n ≤ MOST_CENTS) }
 {
     let total = 100 * number(dollars) + cents_behind(behind) as u128;

@@ -6,7 +6,7 @@ ghost use Rattle.ofx_types.specs.Calendar as calendar;
 ghost use Rattle.ofx_types.specs.Calendar.{IsDay, IsMoment};
 ghost use Rattle.ofx_types.specs.DateForm.{IsDate};
 ghost use Rattle.ofx_types.specs.TextRules.{trimmed};
-ghost use Rattle.ofx_types.specs.ValueReading.{Gives};
+ghost use Rattle.ofx_types.specs.ValueReading.{ReadsValue};
 ghost use Rattle.ofx_types.specs.DateReading as reading;
 
 use crate::day::midnight;
@@ -38,7 +38,7 @@ pub fn read_moment(raw: &[u8]) -> Result<Moment, ValueFault>
 /// The day that eight digits stand for, and the bytes after them.
 #[tactic(auto, unfolding(ofx_types::specs::DateReading::day_at))]
 fn day_at(text: &[u8]) -> Option<(Day, &[u8])>
-    ensures gives { Gives (λ x. (x.0.0, x.1.now)) result (reading.day_at text.now) }
+    ensures gives { ReadsValue (λ x. (x.0.0, x.1.now)) result (reading.day_at text.now) }
     ensures range { IfSome result (λ x. IsDay x.0.0) }
 {
     let (year, rest) = year_at(text)?;
@@ -51,7 +51,7 @@ fn day_at(text: &[u8]) -> Option<(Day, &[u8])>
 /// The year that four digits stand for, and the bytes after them.
 #[tactic(auto, unfolding(ofx_types::specs::DateReading::year_at))]
 fn year_at(text: &[u8]) -> Option<(u16, &[u8])>
-    ensures gives { Gives (λ x. (x.0, x.1.now)) result (reading.year_at text.now) }
+    ensures gives { ReadsValue (λ x. (x.0, x.1.now)) result (reading.year_at text.now) }
     ensures range { IfSome result (λ x. x.0 < 10000) }
 {
     let (century, rest) = pair_at(text)?;
@@ -64,7 +64,7 @@ fn day_number(year: u16, month: u8, day: u8) -> Option<Day>
     requires year_in { year < 10000 }
     requires month_in { month < 100 }
     requires day_in { day < 100 }
-    ensures gives { Gives (λ d. d.0) result (reading.day_number year month day) }
+    ensures gives { ReadsValue (λ d. d.0) result (reading.day_number year month day) }
     ensures range { IfSome result (λ d. IsDay d.0) }
 {
     if year < 1900 {
@@ -79,7 +79,7 @@ fn day_number(year: u16, month: u8, day: u8) -> Option<Day>
 /// The seconds since midnight that six digits stand for, and the bytes after them.
 #[tactic(auto, unfolding(ofx_types::specs::DateReading::clock_at))]
 fn clock_at(text: &[u8]) -> Option<(u32, &[u8])>
-    ensures gives { Gives (λ x. (x.0, x.1.now)) result (reading.clock_at text.now) }
+    ensures gives { ReadsValue (λ x. (x.0, x.1.now)) result (reading.clock_at text.now) }
     ensures range { IfSome result (λ x. x.0 < 86400) }
 {
     let (hour, rest) = pair_at(text)?;
@@ -92,7 +92,7 @@ fn clock_at(text: &[u8]) -> Option<(u32, &[u8])>
 /// The seconds since midnight at a time of day, where a clock shows it.
 #[tactic(auto, unfolding(ofx_types::specs::DateReading::clock_seconds))]
 fn clock_seconds(hour: u8, minute: u8, second: u8) -> Option<u32>
-    ensures gives { Gives (λ n. n) result (reading.clock_seconds hour minute second) }
+    ensures gives { ReadsValue (λ n. n) result (reading.clock_seconds hour minute second) }
     ensures range { IfSome result (λ n. n < 86400) }
 {
     if hour < 24 && minute < 60 && second < 60 {
@@ -105,7 +105,7 @@ fn clock_seconds(hour: u8, minute: u8, second: u8) -> Option<u32>
 /// The bytes after a point and three digits, or all of them where no point stands.
 #[tactic(auto, unfolding(ofx_types::specs::DateReading::behind_fraction))]
 fn behind_fraction(text: &[u8]) -> Option<&[u8]>
-    ensures { Gives (λ x. x.now) result (reading.behind_fraction text.now) }
+    ensures { ReadsValue (λ x. x.now) result (reading.behind_fraction text.now) }
 {
     match text {
         [b'.', rest @ ..] => behind_three(rest),
@@ -115,7 +115,7 @@ fn behind_fraction(text: &[u8]) -> Option<&[u8]>
 
 #[tactic(auto, unfolding(ofx_types::specs::DateReading::behind_three))]
 fn behind_three(text: &[u8]) -> Option<&[u8]>
-    ensures { Gives (λ x. x.now) result (reading.behind_three text.now) }
+    ensures { ReadsValue (λ x. x.now) result (reading.behind_three text.now) }
 {
     match text {
         [a, b, c, rest @ ..] if a.is_ascii_digit() && b.is_ascii_digit() && c.is_ascii_digit() => {
@@ -128,7 +128,7 @@ fn behind_three(text: &[u8]) -> Option<&[u8]>
 /// The seconds since midnight of the time of day that stands here, or of midnight, and the bytes after it.
 #[tactic(auto, unfolding(ofx_types::specs::DateReading::time_at))]
 fn time_at(text: &[u8]) -> Option<(u32, &[u8])>
-    ensures gives { Gives (λ x. (x.0, x.1.now)) result (reading.time_at text.now) }
+    ensures gives { ReadsValue (λ x. (x.0, x.1.now)) result (reading.time_at text.now) }
     ensures range { IfSome result (λ x. x.0 < 86400) }
 {
     match text {
@@ -139,7 +139,7 @@ fn time_at(text: &[u8]) -> Option<(u32, &[u8])>
 
 #[tactic(auto, unfolding(ofx_types::specs::DateReading::clock_and_fraction_at))]
 fn clock_and_fraction_at(text: &[u8]) -> Option<(u32, &[u8])>
-    ensures gives { Gives (λ x. (x.0, x.1.now)) result (reading.clock_and_fraction_at text.now) }
+    ensures gives { ReadsValue (λ x. (x.0, x.1.now)) result (reading.clock_and_fraction_at text.now) }
     ensures range { IfSome result (λ x. x.0 < 86400) }
 {
     let (seconds, rest) = clock_at(text)?;
@@ -150,7 +150,7 @@ fn clock_and_fraction_at(text: &[u8]) -> Option<(u32, &[u8])>
 /// The moment that trimmed bytes spell.
 #[tactic(auto, unfolding(ofx_types::specs::DateReading::moment_at))]
 fn moment_at(text: &[u8]) -> Option<Moment>
-    ensures { Gives (λ m. m.0) result (reading.moment_at text.now) }
+    ensures { ReadsValue (λ m. m.0) result (reading.moment_at text.now) }
 {
     let (day, rest) = day_at(text)?;
     let (seconds, rest) = time_at(rest)?;
@@ -164,7 +164,7 @@ fn moment_of(day: Day, seconds: u32, offset: i64) -> Option<Moment>
     requires day_in { IsDay day.0 }
     requires seconds_in { seconds < 86400 }
     requires offset_in { IsWithin 50400 offset }
-    ensures { Gives (λ m. m.0) result (reading.lawful (calendar.midnight day.0 +ℤ pos seconds -ℤ offset)) }
+    ensures { ReadsValue (λ m. m.0) result (reading.lawful (calendar.midnight day.0 +ℤ pos seconds -ℤ offset)) }
 {
     let moment = Moment(midnight(day).0 + seconds as i64 - offset);
     if moment.is_in_calendar() {

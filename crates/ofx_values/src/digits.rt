@@ -5,7 +5,7 @@ ghost use Rattle.std.specs.List.{list_all};
 ghost use Rattle.std.specs.Char.{is_ascii_digit};
 ghost use Rattle.std.specs.Str.Parse.{digits_value};
 ghost use Rattle.ofx_types.specs.ValueReading as reading;
-ghost use Rattle.ofx_types.specs.ValueReading.{Gives};
+ghost use Rattle.ofx_types.specs.ValueReading.{ReadsValue};
 
 /// Whether all of the bytes are digits.
 pub(crate) fn are_digits(text: &[u8]) -> bool
@@ -32,7 +32,7 @@ pub(crate) fn number(digits: &[u8]) -> u128
 /// The number that two digits stand for, and the bytes after them.
 #[tactic(auto, unfolding(ofx_types::specs::ValueReading::pair_at))]
 pub(crate) fn pair_at(text: &[u8]) -> Option<(u8, &[u8])>
-    ensures gives { Gives (λ x. (x.0, x.1.now)) result (reading.pair_at text.now) }
+    ensures gives { ReadsValue (λ x. (x.0, x.1.now)) result (reading.pair_at text.now) }
     ensures range { IfSome result (λ x. x.0 < 100) }
 {
     match text {

@@ -2,7 +2,7 @@
 
 ghost use Rattle.std.specs.Prelude.{◌≡◌, ◌<◌, pos, IfSome};
 ghost use Rattle.jiff_core.specs.Calendar.{IsWithin};
-ghost use Rattle.ofx_types.specs.ValueReading.{Gives};
+ghost use Rattle.ofx_types.specs.ValueReading.{ReadsValue};
 ghost use Rattle.std.specs.List.{list_all};
 ghost use Rattle.ofx_types.specs.DateForm.{is_name_byte};
 ghost use Rattle.ofx_types.specs.DateReading as reading;
@@ -15,7 +15,7 @@ const NAME_ROOM: usize = 32;
 /// The offset in seconds of the zone that the bytes spell, or of GMT where there are none.
 #[tactic(auto, unfolding(ofx_types::specs::DateReading::zone_at))]
 pub(crate) fn zone_at(text: &[u8]) -> Option<i64>
-    ensures gives { Gives (λ n. n) result (reading.zone_at text.now) }
+    ensures gives { ReadsValue (λ n. n) result (reading.zone_at text.now) }
     ensures range { IfSome result (λ n. IsWithin 50400 n) }
 {
     match text {
@@ -28,7 +28,7 @@ pub(crate) fn zone_at(text: &[u8]) -> Option<i64>
 /// The bytes before a last `]`.
 #[tactic(auto, unfolding(ofx_types::specs::DateReading::before_bracket))]
 fn before_bracket(text: &[u8]) -> Option<&[u8]>
-    ensures { Gives (λ x. x.now) result (reading.before_bracket text.now) }
+    ensures { ReadsValue (λ x. x.now) result (reading.before_bracket text.now) }
 {
     match text {
         [front @ .., b']'] => Some(front),
@@ -39,7 +39,7 @@ fn before_bracket(text: &[u8]) -> Option<&[u8]>
 /// The offset in seconds of what stands between a zone's brackets.
 #[tactic(auto, unfolding(ofx_types::specs::DateReading::offset_at))]
 fn offset_at(text: &[u8]) -> Option<i64>
-    ensures gives { Gives (λ n. n) result (reading.offset_at text.now) }
+    ensures gives { ReadsValue (λ n. n) result (reading.offset_at text.now) }
     ensures range { IfSome result (λ n. IsWithin 50400 n) }
 {
     let (negative, rest) = sign_at(text);
@@ -54,7 +54,7 @@ fn offset_at(text: &[u8]) -> Option<i64>
 /// Whole hours of one or two digits, and the bytes after them.
 #[tactic(auto, unfolding(ofx_types::specs::DateReading::hours_at))]
 fn hours_at(text: &[u8]) -> Option<(u8, &[u8])>
-    ensures gives { Gives (λ x. (x.0, x.1.now)) result (reading.hours_at text.now) }
+    ensures gives { ReadsValue (λ x. (x.0, x.1.now)) result (reading.hours_at text.now) }
     ensures range { IfSome result (λ x. x.0 < 100) }
 {
     match text {
@@ -69,7 +69,7 @@ fn hours_at(text: &[u8]) -> Option<(u8, &[u8])>
 /// Hundredths of an hour after a point, or none where no point stands, and the bytes after them.
 #[tactic(auto, unfolding(ofx_types::specs::DateReading::part_at))]
 fn part_at(text: &[u8]) -> Option<(u8, &[u8])>
-    ensures gives { Gives (λ x. (x.0, x.1.now)) result (reading.part_at text.now) }
+    ensures gives { ReadsValue (λ x. (x.0, x.1.now)) result (reading.part_at text.now) }
     ensures range { IfSome result (λ x. x.0 < 100) }
 {
     match text {
@@ -80,7 +80,7 @@ fn part_at(text: &[u8]) -> Option<(u8, &[u8])>
 
 #[tactic(auto, unfolding(ofx_types::specs::DateReading::tenths_at))]
 fn tenths_at(text: &[u8]) -> Option<(u8, &[u8])>
-    ensures gives { Gives (λ x. (x.0, x.1.now)) result (reading.tenths_at text.now) }
+    ensures gives { ReadsValue (λ x. (x.0, x.1.now)) result (reading.tenths_at text.now) }
     ensures range { IfSome result (λ x. x.0 < 100) }
 {
     match text {
@@ -112,7 +112,7 @@ fn are_name_bytes(name: &[u8]) -> bool
 /// The seconds of an offset from -12 to +14 hours, where its hundredths are a multiple of five.
 #[tactic(auto, unfolding(ofx_types::specs::DateReading::offset_seconds))]
 fn offset_seconds(negative: bool, hour: u8, hundredth: u8) -> Option<i64>
-    ensures gives { Gives (λ n. n) result (reading.offset_seconds negative hour hundredth) }
+    ensures gives { ReadsValue (λ n. n) result (reading.offset_seconds negative hour hundredth) }
     ensures range { IfSome result (λ n. IsWithin 50400 n) }
 {
     let most = if negative { 1200 } else { 1400 };

@@ -10,18 +10,18 @@ Fails (faults.Bad at) read = read ≡ Err at
 Fails faults.OutOfMemory read = Unit {0}
 
 -- A call answers what reading gives.
-abbrev pub Gives : {A : Type 0} → Result A RecordFault → Result A ℕ → Type 0
-Gives (Ok x) read = read ≡ Ok x
-Gives (Err fault) read = Fails fault read
+abbrev pub ReadsField : {A : Type 0} → Result A RecordFault → Result A ℕ → Type 0
+ReadsField (Ok x) read = read ≡ Ok x
+ReadsField (Err fault) read = Fails fault read
 
 -- The same of a call whose value is seen by a view.
-abbrev pub GivesBy : {A B : Type 0} → (A → B) → Result A RecordFault → Result B ℕ → Type 0
-GivesBy view (Ok x) read = read ≡ Ok (view x)
-GivesBy view (Err fault) read = Fails fault read
+abbrev pub ReadsFieldBy : {A B : Type 0} → (A → B) → Result A RecordFault → Result B ℕ → Type 0
+ReadsFieldBy view (Ok x) read = read ≡ Ok (view x)
+ReadsFieldBy view (Err fault) read = Fails fault read
 
 -- The same of a whole record.
-abbrev pub GivesWhole : {A : Type 0} → Result A RecordFault → Result A RecordFault → Type 0
-GivesWhole (Ok x) read = read ≡ Ok x
-GivesWhole (Err (faults.Version n)) read = read ≡ Err (faults.Version n)
-GivesWhole (Err (faults.Bad at)) read = read ≡ Err (faults.Bad at)
-GivesWhole (Err faults.OutOfMemory) read = Unit {0}
+abbrev pub ReadsRecord : {A : Type 0} → Result A RecordFault → Result A RecordFault → Type 0
+ReadsRecord (Ok x) read = read ≡ Ok x
+ReadsRecord (Err (faults.Version n)) read = read ≡ Err (faults.Version n)
+ReadsRecord (Err (faults.Bad at)) read = read ≡ Err (faults.Bad at)
+ReadsRecord (Err faults.OutOfMemory) read = Unit {0}

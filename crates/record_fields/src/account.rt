@@ -3,7 +3,7 @@
 ghost use Rattle.std.specs.Prelude.{◌≡◌, ◌≤◌, ◌++◌, length, slice_get, IfOk, OnOk};
 ghost use Rattle.std.specs.Io.{StartsWith};
 ghost use Rattle.bank_model.specs.Sound.{IsSoundAccount};
-ghost use Rattle.record_fields.specs.Answers.{Gives};
+ghost use Rattle.record_fields.specs.Answers.{ReadsField};
 ghost use Rattle.record_fields.specs.FieldCoding.{acct_bytes, kind_number};
 ghost use Rattle.record_fields.specs.FieldReading.{choice_at};
 ghost use Rattle.record_fields.specs.PartReading.{account_kinds, acct_at};
@@ -29,7 +29,7 @@ fn kind_of(number: u8) -> Option<AcctKind>
 #[tactic(auto, unfolding(crate::specs::FieldReading::choice_at))]
 fn get_kind(rec: &[u8], at: usize) -> Result<(AcctKind, usize), RecordFault>
     requires { at ≤ length rec.now }
-    ensures gives { Gives result (choice_at account_kinds rec.now at) }
+    ensures gives { ReadsField result (choice_at account_kinds rec.now at) }
     ensures within { IfOk result (λ found. found.1 ≤ length rec.now) }
 {
     let (number, next) = get_u8(rec, at)?;
@@ -45,7 +45,7 @@ fn get_kind(rec: &[u8], at: usize) -> Result<(AcctKind, usize), RecordFault>
 #[tactic(auto, unfolding(crate::specs::PartReading::acct_at))]
 pub fn get_acct(alloc: Global, rec: &[u8], at: usize) -> Result<(AcctName, usize), RecordFault>
     requires { at ≤ length rec.now }
-    ensures gives { Gives result (acct_at rec.now at) }
+    ensures gives { ReadsField result (acct_at rec.now at) }
     ensures within { IfOk result (λ found. found.1 ≤ length rec.now) }
 {
     let (bank, next) = get_filled_text(alloc, rec, at, 32)?;

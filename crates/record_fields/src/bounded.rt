@@ -2,7 +2,7 @@
 
 ghost use Rattle.std.specs.Prelude.{◌≡◌, ◌≢◌, ◌≤◌, length, IfOk};
 ghost use Rattle.record_fields.specs.declared.fault.RecordFault.{RecordFault};
-ghost use Rattle.record_fields.specs.Answers.{Gives};
+ghost use Rattle.record_fields.specs.Answers.{ReadsField};
 ghost use Rattle.record_fields.specs.FieldReading.{id_at, amount_at, moment_at, day_at, count_at};
 
 use crate::fault::RecordFault;
@@ -19,7 +19,7 @@ const MOST_CENTS: u64 = 9_999_999_999_999;
 #[tactic(auto, unfolding(crate::specs::FieldReading::id_at))]
 pub fn get_id(rec: &[u8], at: usize) -> Result<(u64, usize), RecordFault>
     requires { at ≤ length rec.now }
-    ensures gives { Gives result (id_at rec.now at) }
+    ensures gives { ReadsField result (id_at rec.now at) }
     ensures within { IfOk result (λ found. found.1 ≤ length rec.now) }
 {
     let (id, next) = get_u64(rec, at)?;
@@ -33,7 +33,7 @@ pub fn get_id(rec: &[u8], at: usize) -> Result<(u64, usize), RecordFault>
 #[tactic(auto, unfolding(crate::specs::FieldReading::amount_at))]
 pub fn get_amount(rec: &[u8], at: usize) -> Result<(Cents, usize), RecordFault>
     requires { at ≤ length rec.now }
-    ensures gives { Gives result (amount_at rec.now at) }
+    ensures gives { ReadsField result (amount_at rec.now at) }
     ensures within { IfOk result (λ found. found.1 ≤ length rec.now) }
 {
     let (cents, next) = get_i64(rec, at)?;
@@ -47,7 +47,7 @@ pub fn get_amount(rec: &[u8], at: usize) -> Result<(Cents, usize), RecordFault>
 #[tactic(auto, unfolding(crate::specs::FieldReading::moment_at))]
 pub fn get_moment(rec: &[u8], at: usize) -> Result<(Moment, usize), RecordFault>
     requires { at ≤ length rec.now }
-    ensures gives { Gives result (moment_at rec.now at) }
+    ensures gives { ReadsField result (moment_at rec.now at) }
     ensures within { IfOk result (λ found. found.1 ≤ length rec.now) }
 {
     let (seconds, next) = get_i64(rec, at)?;
@@ -62,7 +62,7 @@ pub fn get_moment(rec: &[u8], at: usize) -> Result<(Moment, usize), RecordFault>
 #[tactic(auto, unfolding(crate::specs::FieldReading::day_at))]
 pub fn get_day(rec: &[u8], at: usize) -> Result<(Day, usize), RecordFault>
     requires { at ≤ length rec.now }
-    ensures gives { Gives result (day_at rec.now at) }
+    ensures gives { ReadsField result (day_at rec.now at) }
     ensures within { IfOk result (λ found. found.1 ≤ length rec.now) }
 {
     let (days, next) = get_i32(rec, at)?;
@@ -77,7 +77,7 @@ pub fn get_day(rec: &[u8], at: usize) -> Result<(Day, usize), RecordFault>
 #[tactic(auto, unfolding(crate::specs::FieldReading::count_at))]
 pub fn get_count(rec: &[u8], at: usize) -> Result<(u32, usize), RecordFault>
     requires { at ≤ length rec.now }
-    ensures gives { Gives result (count_at rec.now at) }
+    ensures gives { ReadsField result (count_at rec.now at) }
     ensures within { IfOk result (λ found. found.1 ≤ length rec.now) }
     // It takes no memory.
     ensures sure { result ≢ Err RecordFault.OutOfMemory }

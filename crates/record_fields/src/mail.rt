@@ -3,7 +3,7 @@
 ghost use Rattle.std.specs.Prelude.{◌≡◌, ◌≤◌, ◌++◌, length, IfOk, OnOk};
 ghost use Rattle.std.specs.Io.{StartsWith};
 ghost use Rattle.bank_model.specs.Sound.{IsSoundMail};
-ghost use Rattle.record_fields.specs.Answers.{Gives};
+ghost use Rattle.record_fields.specs.Answers.{ReadsField};
 ghost use Rattle.record_fields.specs.FieldCoding.{mail_bytes};
 ghost use Rattle.record_fields.specs.PartReading.{mail_at};
 
@@ -21,7 +21,7 @@ use std::alloc::Global;
 #[tactic(auto, unfolding(crate::specs::PartReading::mail_at))]
 pub fn get_mail(alloc: Global, rec: &[u8], at: usize) -> Result<(MailText, usize), RecordFault>
     requires { at ≤ length rec.now }
-    ensures gives { Gives result (mail_at rec.now at) }
+    ensures gives { ReadsField result (mail_at rec.now at) }
     ensures within { IfOk result (λ found. found.1 ≤ length rec.now) }
 {
     let (created, next) = get_moment(rec, at)?;

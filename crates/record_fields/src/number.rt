@@ -3,7 +3,7 @@
 ghost use Rattle.std.specs.Prelude.{◌≡◌, ◌≢◌, ◌+◌, ◌<◌, ◌≤◌, ◌++◌, ◌∷◌, [], length, IfOk, OnOk};
 ghost use Rattle.std.specs.Io.{StartsWith};
 ghost use Rattle.record_fields.specs.declared.fault.RecordFault.{RecordFault};
-ghost use Rattle.record_fields.specs.Answers.{Gives, GivesBy};
+ghost use Rattle.record_fields.specs.Answers.{ReadsField, ReadsFieldBy};
 ghost use Rattle.record_fields.specs.FieldCoding.{u16_bytes, u32_bytes, u64_bytes, i32_bytes, i64_bytes, flag_bytes};
 ghost use Rattle.record_fields.specs.FieldReading.{bytes_at, u8_at, u16_at, u32_at, u64_at, i32_at, i64_at, flag_at};
 
@@ -19,7 +19,7 @@ pub fn get_bytes(
     size: usize,
 ) -> Result<(&[u8], usize), RecordFault>
     requires { start ≤ length rec.now }
-    ensures gives { GivesBy (λ found. (found.0.now, found.1)) result (bytes_at size rec.now at start) }
+    ensures gives { ReadsFieldBy (λ found. (found.0.now, found.1)) result (bytes_at size rec.now at start) }
     ensures within { IfOk result (λ found. found.1 ≤ length rec.now) }
     ensures sized { IfOk result (λ found. length found.0.now ≡ size) }
     // It takes no memory.
@@ -36,7 +36,7 @@ pub fn get_bytes(
 #[tactic(auto, unfolding(crate::specs::FieldReading::u8_at))]
 pub fn get_u8(rec: &[u8], at: usize) -> Result<(u8, usize), RecordFault>
     requires { at ≤ length rec.now }
-    ensures gives { Gives result (u8_at rec.now at) }
+    ensures gives { ReadsField result (u8_at rec.now at) }
     ensures within { IfOk result (λ found. found.1 ≤ length rec.now) }
     // It takes no memory.
     ensures sure { result ≢ Err RecordFault.OutOfMemory }
@@ -51,7 +51,7 @@ pub fn get_u8(rec: &[u8], at: usize) -> Result<(u8, usize), RecordFault>
 #[tactic(auto, unfolding(crate::specs::FieldReading::number_at))]
 pub fn get_u16(rec: &[u8], at: usize) -> Result<(u16, usize), RecordFault>
     requires { at ≤ length rec.now }
-    ensures gives { Gives result (u16_at rec.now at) }
+    ensures gives { ReadsField result (u16_at rec.now at) }
     ensures within { IfOk result (λ found. found.1 ≤ length rec.now) }
     // It takes no memory.
     ensures sure { result ≢ Err RecordFault.OutOfMemory }
@@ -64,7 +64,7 @@ pub fn get_u16(rec: &[u8], at: usize) -> Result<(u16, usize), RecordFault>
 #[tactic(auto, unfolding(crate::specs::FieldReading::number_at))]
 pub fn get_u32(rec: &[u8], at: usize) -> Result<(u32, usize), RecordFault>
     requires { at ≤ length rec.now }
-    ensures gives { Gives result (u32_at rec.now at) }
+    ensures gives { ReadsField result (u32_at rec.now at) }
     ensures within { IfOk result (λ found. found.1 ≤ length rec.now) }
     // It takes no memory.
     ensures sure { result ≢ Err RecordFault.OutOfMemory }
@@ -80,7 +80,7 @@ pub fn get_u32(rec: &[u8], at: usize) -> Result<(u32, usize), RecordFault>
 #[tactic(auto, unfolding(crate::specs::FieldReading::number_at))]
 pub fn get_u64(rec: &[u8], at: usize) -> Result<(u64, usize), RecordFault>
     requires { at ≤ length rec.now }
-    ensures gives { Gives result (u64_at rec.now at) }
+    ensures gives { ReadsField result (u64_at rec.now at) }
     ensures within { IfOk result (λ found. found.1 ≤ length rec.now) }
     // It takes no memory.
     ensures sure { result ≢ Err RecordFault.OutOfMemory }
@@ -96,7 +96,7 @@ pub fn get_u64(rec: &[u8], at: usize) -> Result<(u64, usize), RecordFault>
 #[tactic(auto, unfolding(crate::specs::FieldReading::signed_at))]
 pub fn get_i32(rec: &[u8], at: usize) -> Result<(i32, usize), RecordFault>
     requires { at ≤ length rec.now }
-    ensures gives { Gives result (i32_at rec.now at) }
+    ensures gives { ReadsField result (i32_at rec.now at) }
     ensures within { IfOk result (λ found. found.1 ≤ length rec.now) }
     // It takes no memory.
     ensures sure { result ≢ Err RecordFault.OutOfMemory }
@@ -109,7 +109,7 @@ pub fn get_i32(rec: &[u8], at: usize) -> Result<(i32, usize), RecordFault>
 #[tactic(auto, unfolding(crate::specs::FieldReading::signed_at))]
 pub fn get_i64(rec: &[u8], at: usize) -> Result<(i64, usize), RecordFault>
     requires { at ≤ length rec.now }
-    ensures gives { Gives result (i64_at rec.now at) }
+    ensures gives { ReadsField result (i64_at rec.now at) }
     ensures within { IfOk result (λ found. found.1 ≤ length rec.now) }
     // It takes no memory.
     ensures sure { result ≢ Err RecordFault.OutOfMemory }
@@ -122,7 +122,7 @@ pub fn get_i64(rec: &[u8], at: usize) -> Result<(i64, usize), RecordFault>
 #[tactic(auto, unfolding(crate::specs::FieldReading::flag_at))]
 pub fn get_flag(rec: &[u8], at: usize) -> Result<(bool, usize), RecordFault>
     requires { at ≤ length rec.now }
-    ensures gives { Gives result (flag_at rec.now at) }
+    ensures gives { ReadsField result (flag_at rec.now at) }
     ensures within { IfOk result (λ found. found.1 ≤ length rec.now) }
     // It takes no memory.
     ensures sure { result ≢ Err RecordFault.OutOfMemory }

@@ -5,7 +5,7 @@ ghost use Rattle.std.specs.Io.{StartsWith};
 ghost use Rattle.std.specs.Option.{ForSome};
 ghost use Rattle.bank_model.specs.Sound.{IsSoundRecur};
 ghost use Rattle.record_fields.specs.declared.fault.RecordFault.{RecordFault};
-ghost use Rattle.record_fields.specs.Answers.{Gives};
+ghost use Rattle.record_fields.specs.Answers.{ReadsField};
 ghost use Rattle.record_fields.specs.FieldCoding.{recur_bytes, freq_number, optional_bytes, u16_bytes};
 ghost use Rattle.record_fields.specs.FieldReading.{choice_at, optional_at, count_at};
 ghost use Rattle.record_fields.specs.PartReading.{freqs, recur_at};
@@ -51,7 +51,7 @@ fn number_of(freq: Freq) -> u8
 #[tactic(auto, unfolding(crate::specs::FieldReading::choice_at))]
 fn get_freq(rec: &[u8], at: usize) -> Result<(Freq, usize), RecordFault>
     requires { at ≤ length rec.now }
-    ensures gives { Gives result (choice_at freqs rec.now at) }
+    ensures gives { ReadsField result (choice_at freqs rec.now at) }
     ensures within { IfOk result (λ found. found.1 ≤ length rec.now) }
     // It takes no memory.
     ensures sure { result ≢ Err RecordFault.OutOfMemory }
@@ -66,7 +66,7 @@ fn get_freq(rec: &[u8], at: usize) -> Result<(Freq, usize), RecordFault>
 #[tactic(auto, unfolding(crate::specs::FieldReading::optional_at))]
 fn get_optional_count(rec: &[u8], at: usize) -> Result<(Option<u32>, usize), RecordFault>
     requires { at ≤ length rec.now }
-    ensures gives { Gives result (optional_at count_at rec.now at) }
+    ensures gives { ReadsField result (optional_at count_at rec.now at) }
     ensures within { IfOk result (λ found. found.1 ≤ length rec.now) }
     // It takes no memory.
     ensures sure { result ≢ Err RecordFault.OutOfMemory }
@@ -86,7 +86,7 @@ fn get_optional_count(rec: &[u8], at: usize) -> Result<(Option<u32>, usize), Rec
 #[tactic(auto, unfolding(crate::specs::PartReading::recur_at))]
 pub fn get_recur(rec: &[u8], at: usize) -> Result<(Recur, usize), RecordFault>
     requires { at ≤ length rec.now }
-    ensures gives { Gives result (recur_at rec.now at) }
+    ensures gives { ReadsField result (recur_at rec.now at) }
     ensures within { IfOk result (λ found. found.1 ≤ length rec.now) }
     // It takes no memory.
     ensures sure { result ≢ Err RecordFault.OutOfMemory }

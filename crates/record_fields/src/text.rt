@@ -2,7 +2,7 @@
 
 ghost use Rattle.std.specs.Prelude.{◌≡◌, ◌≤◌, ◌++◌, true, false, length, IfOk, OnOk, MatchOption};
 ghost use Rattle.std.specs.Io.{StartsWith};
-ghost use Rattle.record_fields.specs.Answers.{Gives};
+ghost use Rattle.record_fields.specs.Answers.{ReadsField};
 ghost use Rattle.record_fields.specs.FieldCoding.{text_bytes};
 ghost use Rattle.record_fields.specs.FieldReading.{is_text, text_at, filled_text_at};
 
@@ -38,7 +38,7 @@ pub fn get_text(
     most: u32,
 ) -> Result<(Text, usize), RecordFault>
     requires { at ≤ length rec.now }
-    ensures gives { Gives result (text_at most rec.now at) }
+    ensures gives { ReadsField result (text_at most rec.now at) }
     ensures within { IfOk result (λ found. found.1 ≤ length rec.now) }
 {
     let (size, start) = get_u16(rec, at)?;
@@ -58,7 +58,7 @@ pub fn get_filled_text(
     most: u32,
 ) -> Result<(Text, usize), RecordFault>
     requires { at ≤ length rec.now }
-    ensures gives { Gives result (filled_text_at most rec.now at) }
+    ensures gives { ReadsField result (filled_text_at most rec.now at) }
     ensures within { IfOk result (λ found. found.1 ≤ length rec.now) }
 {
     let (text, next) = get_text(alloc, rec, at, most)?;

@@ -3,7 +3,7 @@
 ghost use Rattle.std.specs.Prelude.{◌≡◌, ◌≤◌, ◌++◌, length, IfOk, OnOk};
 ghost use Rattle.std.specs.Io.{StartsWith};
 ghost use Rattle.bank_model.specs.Sound.{IsSoundInfo};
-ghost use Rattle.record_fields.specs.Answers.{Gives};
+ghost use Rattle.record_fields.specs.Answers.{ReadsField};
 ghost use Rattle.record_fields.specs.FieldCoding.{info_bytes, optional_bytes, day_bytes};
 ghost use Rattle.record_fields.specs.FieldReading.{optional_at, day_at};
 ghost use Rattle.record_fields.specs.PartReading.{info_at};
@@ -18,7 +18,7 @@ use std::alloc::Global;
 #[tactic(auto, unfolding(crate::specs::FieldReading::optional_at))]
 fn get_optional_day(rec: &[u8], at: usize) -> Result<(Option<Day>, usize), RecordFault>
     requires { at ≤ length rec.now }
-    ensures gives { Gives result (optional_at day_at rec.now at) }
+    ensures gives { ReadsField result (optional_at day_at rec.now at) }
     ensures within { IfOk result (λ found. found.1 ≤ length rec.now) }
 {
     let (is_there, next) = get_flag(rec, at)?;
@@ -33,7 +33,7 @@ fn get_optional_day(rec: &[u8], at: usize) -> Result<(Option<Day>, usize), Recor
 #[tactic(auto, unfolding(crate::specs::PartReading::info_at))]
 pub fn get_info(alloc: Global, rec: &[u8], at: usize) -> Result<(XferInfo, usize), RecordFault>
     requires { at ≤ length rec.now }
-    ensures gives { Gives result (info_at rec.now at) }
+    ensures gives { ReadsField result (info_at rec.now at) }
     ensures within { IfOk result (λ found. found.1 ≤ length rec.now) }
 {
     let (from, next) = get_acct(alloc, rec, at)?;

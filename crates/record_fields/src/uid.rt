@@ -3,7 +3,7 @@
 ghost use Rattle.std.specs.Prelude.{◌≡◌, ◌≢◌, ◌≤◌, ◌++◌, true, false, length, codes, IfOk, OnOk, MatchOption};
 ghost use Rattle.std.specs.Io.{StartsWith};
 ghost use Rattle.record_fields.specs.declared.fault.RecordFault.{RecordFault};
-ghost use Rattle.record_fields.specs.Answers.{Gives};
+ghost use Rattle.record_fields.specs.Answers.{ReadsField};
 ghost use Rattle.record_fields.specs.FieldCoding.{uid_bytes, file_uid_bytes};
 ghost use Rattle.record_fields.specs.FieldReading.{is_trnuid, is_file_uid, trnuid_at, given_uid_at, file_uid_at};
 
@@ -33,7 +33,7 @@ fn trnuid_of(bytes: &[u8]) -> Option<TrnUid>
 #[tactic(auto, unfolding(crate::specs::FieldReading::trnuid_at))]
 pub fn get_trnuid(rec: &[u8], at: usize) -> Result<(TrnUid, usize), RecordFault>
     requires { at ≤ length rec.now }
-    ensures gives { Gives result (trnuid_at rec.now at) }
+    ensures gives { ReadsField result (trnuid_at rec.now at) }
     ensures within { IfOk result (λ found. found.1 ≤ length rec.now) }
     // It takes no memory.
     ensures sure { result ≢ Err RecordFault.OutOfMemory }
@@ -50,7 +50,7 @@ pub fn get_trnuid(rec: &[u8], at: usize) -> Result<(TrnUid, usize), RecordFault>
 #[tactic(auto, unfolding(crate::specs::FieldReading::given_uid_at))]
 pub fn get_given_uid(rec: &[u8], at: usize) -> Result<(TrnUid, usize), RecordFault>
     requires { at ≤ length rec.now }
-    ensures gives { Gives result (given_uid_at rec.now at) }
+    ensures gives { ReadsField result (given_uid_at rec.now at) }
     ensures within { IfOk result (λ found. found.1 ≤ length rec.now) }
 {
     let (uid, next) = get_trnuid(rec, at)?;
@@ -79,7 +79,7 @@ fn file_uid_of(bytes: &[u8]) -> Option<FileUid>
 #[tactic(auto, unfolding(crate::specs::FieldReading::file_uid_at))]
 pub fn get_file_uid(rec: &[u8], at: usize) -> Result<(Option<FileUid>, usize), RecordFault>
     requires { at ≤ length rec.now }
-    ensures gives { Gives result (file_uid_at rec.now at) }
+    ensures gives { ReadsField result (file_uid_at rec.now at) }
     ensures within { IfOk result (λ found. found.1 ≤ length rec.now) }
     // It takes no memory.
     ensures sure { result ≢ Err RecordFault.OutOfMemory }

@@ -4,7 +4,7 @@ ghost use Rattle.std.specs.Prelude.{◌≡◌, ◌^◌, ◌<◌, ◌≤◌, fals
 ghost use Rattle.ofx_ports.specs.Calls.{one_more};
 ghost use Rattle.ofx_ports.specs.Faults.{CountsFaults, Rose};
 ghost use Rattle.ofx_ports.specs.Kept.{Appended, TellsLanding, counted, put_failed, fetch_failed};
-ghost use Rattle.sqlite_keeper.specs.Standing.{put_fault, fetch_fault};
+ghost use Rattle.sqlite_keeper.specs.SqliteKeeperView.{put_fault, fetch_fault};
 
 use crate::file::RecordFile;
 use crate::refusal::Refusal;
@@ -30,9 +30,9 @@ pub struct SqliteKeeper {
 
 impl Model for SqliteKeeper {
     ghost use Rattle.std.specs.Prelude.{◌≡◌, IsSome};
-    ghost use Rattle.sqlite_keeper.specs.Standing.{Standing};
+    ghost use Rattle.sqlite_keeper.specs.SqliteKeeperView.{SqliteKeeperView};
 
-    ghost Value = { Standing };
+    ghost Value = { SqliteKeeperView };
 
     ghost view = { λ k. record {
       size = k.count;

@@ -210,14 +210,6 @@ newest_stands history width window stands =
     ∙ sym (last_over 0 (take k history) (drop k history))
     ∙ ap (last_number_from 0) (take-append-drop k history)
 
-pub stands_alike : (history : List Entry) (width : ℕ) (old new : WindowView) → StandsFor history width old → new.width ≡ old.width → new.held ≡ old.held → new.floor ≡ old.floor → StandsFor history width new
-stands_alike history width old new stands wide held floor = record {
-  rising = stands.rising;
-  as_wide = wide ∙ stands.as_wide;
-  floor = floor ∙ stands.floor;
-  held = held ∙ stands.held ∙ ap (λ (n : ℕ). filter (is_above n) history) (sym floor);
-}
-
 pub above_stands : (history : List Entry) (width token : ℕ) (window : WindowView) → StandsFor history width window → window.floor ≤ token → filter (is_above token) window.held ≡ filter (is_above token) history
 above_stands history width token window stands less =
     ap (filter (is_above token)) stands.held ∙ above_both window.floor token history less

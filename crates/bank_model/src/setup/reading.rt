@@ -1,10 +1,10 @@
 //! A setup read from its bytes, line by line.
 
-ghost use Rattle.std.specs.Prelude.{◌≡◌, ◌≤◌, ◌<◌, ◌+◌, ◌⊎◌, List, ℕ, length, take, IfOk, IfErr};
+ghost use Rattle.std.specs.Prelude.{◌≡◌, ◌≤◌, ◌<◌, ◌+◌, ℕ, length, take, IfOk, IfErr};
 ghost use Rattle.bank_model.specs.SetupForm.{SpellsSetup};
 ghost use Rattle.bank_model.specs.SetupFault.{IsSetupFault, lines_in};
 ghost use Rattle.bank_model.specs.SetupOutcome.{IsRefusalOf, NamesFaultOf, Answers};
-ghost use Rattle.bank_model.specs.SetupReading.{Gives, unread, with_lines, left_in, IsBounded, objects_fit, setup_at};
+ghost use Rattle.bank_model.specs.SetupReading.{ReadsSetup, unread, with_lines, left_in, IsBounded, objects_fit, setup_at};
 ghost use Rattle.bank_model.specs.declared.setup.Setup.{Setup};
 
 use crate::setup::draft::Draft;
@@ -33,7 +33,7 @@ fn front(bytes: &[u8]) -> &[u8]
 /// The whole lines taken into a draft, the number of the line after them, and what stands of it.
 fn read_lines(alloc: Global, bytes: &[u8]) -> Result<(Draft, u64, &[u8]), SetupFault>
     requires { length bytes.now ≤ 262144 }
-    ensures read { Gives (λ x. x.0) result (with_lines 1 unread (lines_in bytes.now)) }
+    ensures read { ReadsSetup (λ x. x.0) result (with_lines 1 unread (lines_in bytes.now)) }
     ensures behind { IfOk result (λ x. x.1 ≡ length (lines_in bytes.now) + 1) }
     ensures left { IfOk result (λ x. x.2.now ≡ left_in bytes.now) }
     ensures bounded { IfOk result (λ x. IsBounded x.0.setup) }
@@ -65,7 +65,7 @@ fn keeps_few(setup: &Setup) -> bool
 /// The setup of all the bytes.
 #[tactic(auto, unfolding(crate::specs::SetupReading::setup_at))]
 fn whole(alloc: Global, bytes: &[u8]) -> Result<Setup, SetupFault>
-    ensures { Gives (λ x. x) result (setup_at bytes.now) }
+    ensures { ReadsSetup (λ x. x) result (setup_at bytes.now) }
 {
     let (draft, number, rest) = read_lines(alloc, front(bytes))?;
     if bytes.len() > MOST_BYTES || !rest.is_empty() || draft.setup.accounts.items().is_empty() {
@@ -93,15 +93,3 @@ impl Setup {
         whole(alloc, bytes)
     }
 }
-
-/// No bytes spell two setups.
-pub fn one_setup()
-    ensures { (bytes : List ℕ) (a b : Setup) → SpellsSetup bytes a → SpellsSetup bytes b → a ≡ b }
-{}
-
-/// Bytes have one fault, or none and spell a setup.
-pub fn one_fault()
-    ensures one { (bytes : List ℕ) (j k : ℕ) → IsSetupFault bytes j → IsSetupFault bytes k → j ≡ k }
-    ensures none { (bytes : List ℕ) (setup : Setup) (k : ℕ) → SpellsSetup bytes setup → IsSetupFault bytes k → ⊥ }
-    ensures some { (bytes : List ℕ) → ((setup : Setup) × SpellsSetup bytes setup) ⊎ ((k : ℕ) × IsSetupFault bytes k) }
-{}

@@ -3,7 +3,7 @@
 ghost use Rattle.std.specs.Prelude.{◌≡◌, ◌++◌, OnOk};
 ghost use Rattle.std.specs.Io.{StartsWith};
 ghost use Rattle.ofx_types.specs.Calendar.{IsDay};
-ghost use Rattle.ofx_types.specs.FormWords.{Gives};
+ghost use Rattle.ofx_types.specs.FormWords.{ReadsForm};
 ghost use Rattle.ofx_types.specs.RecurringReading as reading;
 ghost use Rattle.ofx_types.specs.DeedText as text;
 
@@ -17,7 +17,7 @@ use std::alloc::Global;
 /// A new recurring transfer.
 #[tactic(auto, unfolding(ofx_types::specs::RecurringReading::new_model_of))]
 pub(crate) fn read_new_model(alloc: Global, recintrars: &Cursor<'_>) -> Result<Change, TreeFault>
-    ensures { Gives result (reading.new_model_of recintrars.now) }
+    ensures { ReadsForm result (reading.new_model_of recintrars.now) }
 {
     let row = read_row(alloc, recintrars)?;
     Ok(Change::NewModel(row))
@@ -26,7 +26,7 @@ pub(crate) fn read_new_model(alloc: Global, recintrars: &Cursor<'_>) -> Result<C
 /// A changed recurring transfer.
 #[tactic(auto, unfolding(ofx_types::specs::RecurringReading::set_model_of))]
 pub(crate) fn read_set_model(alloc: Global, recintramodrs: &Cursor<'_>) -> Result<Change, TreeFault>
-    ensures { Gives result (reading.set_model_of recintramodrs.now) }
+    ensures { ReadsForm result (reading.set_model_of recintramodrs.now) }
 {
     let row = read_row(alloc, recintramodrs)?;
     let pending = recintramodrs.flag(b"MODPENDING")?;
@@ -36,7 +36,7 @@ pub(crate) fn read_set_model(alloc: Global, recintramodrs: &Cursor<'_>) -> Resul
 /// A cancelled recurring transfer.
 #[tactic(auto, unfolding(ofx_types::specs::RecurringReading::drop_model_of))]
 pub(crate) fn read_drop_model(recintracanrs: &Cursor<'_>) -> Result<Change, TreeFault>
-    ensures { Gives result (reading.drop_model_of recintracanrs.now) }
+    ensures { ReadsForm result (reading.drop_model_of recintracanrs.now) }
 {
     let id = recintracanrs.id(b"RECSRVRTID")?;
     let pending = recintracanrs.flag(b"CANPENDING")?;
@@ -45,7 +45,7 @@ pub(crate) fn read_drop_model(recintracanrs: &Cursor<'_>) -> Result<Change, Tree
 
 #[tactic(auto, unfolding(ofx_types::specs::RecurringReading::model_row_of))]
 fn read_row(alloc: Global, reply: &Cursor<'_>) -> Result<ModelRow, TreeFault>
-    ensures { Gives result (reading.model_row_of reply.now) }
+    ensures { ReadsForm result (reading.model_row_of reply.now) }
 {
     let id = reply.id(b"RECSRVRTID")?;
     let recur = read_recur_in(reply)?;
@@ -63,7 +63,7 @@ fn read_row(alloc: Global, reply: &Cursor<'_>) -> Result<ModelRow, TreeFault>
 /// What the inner INTRARS says of the first transfer.
 #[tactic(auto, unfolding(ofx_types::specs::RecurringReading::first_in))]
 fn read_first_in(alloc: Global, parent: &Cursor<'_>) -> Result<DueInfo, TreeFault>
-    ensures { Gives result (reading.first_in parent.now) }
+    ensures { ReadsForm result (reading.first_in parent.now) }
 {
     let intrars = parent.one(b"INTRARS")?;
     read_first(alloc, &intrars)
@@ -72,7 +72,7 @@ fn read_first_in(alloc: Global, parent: &Cursor<'_>) -> Result<DueInfo, TreeFaul
 /// The two ids have their form, and aren't looked at otherwise.
 #[tactic(auto, unfolding(ofx_types::specs::RecurringReading::first_of))]
 fn read_first(alloc: Global, intrars: &Cursor<'_>) -> Result<DueInfo, TreeFault>
-    ensures { Gives result (reading.first_of intrars.now) }
+    ensures { ReadsForm result (reading.first_of intrars.now) }
 {
     let _id = intrars.id(b"SRVRTID")?;
     let asked = read_due_info_in(alloc, intrars)?;

@@ -4,7 +4,7 @@ ghost use Rattle.std.specs.Prelude.{◌≡◌, ◌++◌, OnOk};
 ghost use Rattle.std.specs.Io.{StartsWith};
 ghost use Rattle.std.specs.Option.{IfSome};
 ghost use Rattle.ofx_types.specs.Calendar.{IsDay};
-ghost use Rattle.ofx_types.specs.FormWords.{Gives};
+ghost use Rattle.ofx_types.specs.FormWords.{ReadsForm};
 ghost use Rattle.ofx_types.specs.RecurringReading as reading;
 ghost use Rattle.ofx_types.specs.DeedText as text;
 
@@ -18,7 +18,7 @@ use std::alloc::Global;
 /// The recurring transfer that is asked for.
 #[tactic(auto, unfolding(ofx_types::specs::RecurringReading::model_of))]
 pub(crate) fn read_model(alloc: Global, recintrarq: &Cursor<'_>) -> Result<Deed, TreeFault>
-    ensures { Gives result (reading.model_of recintrarq.now) }
+    ensures { ReadsForm result (reading.model_of recintrarq.now) }
 {
     let recur = read_recur_in(recintrarq)?;
     let info = read_each_info_in(alloc, recintrarq)?;
@@ -31,7 +31,7 @@ pub(crate) fn read_modify_model(
     alloc: Global,
     recintramodrq: &Cursor<'_>,
 ) -> Result<Deed, TreeFault>
-    ensures { Gives result (reading.modify_model_of recintramodrq.now) }
+    ensures { ReadsForm result (reading.modify_model_of recintramodrq.now) }
 {
     let id = recintramodrq.id(b"RECSRVRTID")?;
     let recur = read_recur_in(recintramodrq)?;
@@ -43,7 +43,7 @@ pub(crate) fn read_modify_model(
 /// The cancellation of a recurring transfer that is asked for.
 #[tactic(auto, unfolding(ofx_types::specs::RecurringReading::cancel_model_of))]
 pub(crate) fn read_cancel_model(recintracanrq: &Cursor<'_>) -> Result<Deed, TreeFault>
-    ensures { Gives result (reading.cancel_model_of recintracanrq.now) }
+    ensures { ReadsForm result (reading.cancel_model_of recintracanrq.now) }
 {
     let id = recintracanrq.id(b"RECSRVRTID")?;
     let pending = recintracanrq.flag(b"CANPENDING")?;
@@ -53,7 +53,7 @@ pub(crate) fn read_cancel_model(recintracanrq: &Cursor<'_>) -> Result<Deed, Tree
 /// What the inner INTRARQ says of each transfer.
 #[tactic(auto, unfolding(ofx_types::specs::RecurringReading::each_info_in))]
 fn read_each_info_in(alloc: Global, parent: &Cursor<'_>) -> Result<XferInfo, TreeFault>
-    ensures { Gives result (reading.each_info_in parent.now) }
+    ensures { ReadsForm result (reading.each_info_in parent.now) }
 {
     let intrarq = parent.one(b"INTRARQ")?;
     read_info_in(alloc, &intrarq)

@@ -4,7 +4,7 @@ ghost use Rattle.std.specs.Prelude.{◌≡◌, ◌++◌, OnOk};
 ghost use Rattle.std.specs.Io.{StartsWith};
 ghost use Rattle.std.specs.Option.{IfSome};
 ghost use Rattle.ofx_types.specs.Calendar.{IsDay, IsMoment};
-ghost use Rattle.ofx_types.specs.FormWords.{Gives};
+ghost use Rattle.ofx_types.specs.FormWords.{ReadsForm};
 ghost use Rattle.ofx_types.specs.TransferReading as reading;
 ghost use Rattle.ofx_types.specs.TransferText as form;
 ghost use Rattle.msg_deed.specs.DeedSteps as steps;
@@ -34,7 +34,7 @@ impl Model for DueInfo {
 /// What the XFERINFO of a request or a reply says.
 #[tactic(auto, unfolding(ofx_types::specs::TransferReading::info_in))]
 pub(crate) fn read_info_in(alloc: Global, parent: &Cursor<'_>) -> Result<XferInfo, TreeFault>
-    ensures { Gives result (reading.info_in parent.now) }
+    ensures { ReadsForm result (reading.info_in parent.now) }
 {
     let xferinfo = parent.one(b"XFERINFO")?;
     read_info(alloc, &xferinfo)
@@ -43,7 +43,7 @@ pub(crate) fn read_info_in(alloc: Global, parent: &Cursor<'_>) -> Result<XferInf
 /// What an XFERINFO says.
 #[tactic(auto, unfolding(ofx_types::specs::TransferReading::info_of), using(crate::proofs::DueDays::due_moments))]
 fn read_info(alloc: Global, xferinfo: &Cursor<'_>) -> Result<XferInfo, TreeFault>
-    ensures { Gives result (reading.info_of xferinfo.now) }
+    ensures { ReadsForm result (reading.info_of xferinfo.now) }
 {
     let from = read_account(alloc, &xferinfo.one(b"BANKACCTFROM")?)?;
     let to = read_account(alloc, &xferinfo.one(b"BANKACCTTO")?)?;
@@ -71,7 +71,7 @@ fn due_of(moment: Option<Moment>) -> Option<Day>
 /// What the XFERINFO of a reply says, in which the due day stands.
 #[tactic(auto, unfolding(ofx_types::specs::TransferReading::due_info_in))]
 pub(crate) fn read_due_info_in(alloc: Global, parent: &Cursor<'_>) -> Result<DueInfo, TreeFault>
-    ensures { Gives result (reading.due_info_in parent.now) }
+    ensures { ReadsForm result (reading.due_info_in parent.now) }
 {
     let xferinfo = parent.one(b"XFERINFO")?;
     read_due_info(alloc, &xferinfo)
@@ -79,7 +79,7 @@ pub(crate) fn read_due_info_in(alloc: Global, parent: &Cursor<'_>) -> Result<Due
 
 #[tactic(auto, unfolding(ofx_types::specs::TransferReading::due_info_of))]
 fn read_due_info(alloc: Global, xferinfo: &Cursor<'_>) -> Result<DueInfo, TreeFault>
-    ensures { Gives result (reading.due_info_of xferinfo.now) }
+    ensures { ReadsForm result (reading.due_info_of xferinfo.now) }
 {
     let info = read_info(alloc, xferinfo)?;
     let due = day_or(info.due, xferinfo.place() as u64)?;

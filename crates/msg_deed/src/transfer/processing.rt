@@ -3,7 +3,7 @@
 ghost use Rattle.std.specs.Prelude.{◌≡◌, ◌++◌, OnOk};
 ghost use Rattle.std.specs.Io.{StartsWith};
 ghost use Rattle.ofx_types.specs.Calendar.{IsMoment};
-ghost use Rattle.ofx_types.specs.FormWords.{Gives};
+ghost use Rattle.ofx_types.specs.FormWords.{ReadsForm};
 ghost use Rattle.ofx_types.specs.TransferReading as reading;
 ghost use Rattle.ofx_types.specs.TransferText as form;
 
@@ -13,7 +13,7 @@ use ofx_types::{Moment, OutOfMemory, TreeFault, XferCode};
 /// How far the transfer of a reply is, and since when or until when.
 #[tactic(auto, unfolding(ofx_types::specs::TransferReading::processing_in))]
 pub(crate) fn read_processing_in(parent: &Cursor<'_>) -> Result<(XferCode, Moment), TreeFault>
-    ensures { Gives result (reading.processing_in parent.now) }
+    ensures { ReadsForm result (reading.processing_in parent.now) }
 {
     let xferprcsts = parent.one(b"XFERPRCSTS")?;
     read_processing(&xferprcsts)
@@ -21,7 +21,7 @@ pub(crate) fn read_processing_in(parent: &Cursor<'_>) -> Result<(XferCode, Momen
 
 #[tactic(auto, unfolding(ofx_types::specs::TransferReading::processing_of))]
 fn read_processing(xferprcsts: &Cursor<'_>) -> Result<(XferCode, Moment), TreeFault>
-    ensures { Gives result (reading.processing_of xferprcsts.now) }
+    ensures { ReadsForm result (reading.processing_of xferprcsts.now) }
 {
     let code = code_at(&xferprcsts.one(b"XFERPRCCODE")?)?;
     let stamp = xferprcsts.moment(b"DTXFERPRC")?;

@@ -2,7 +2,7 @@
 
 ghost use Rattle.std.specs.Prelude.{◌≡◌, ◌++◌, OnOk};
 ghost use Rattle.std.specs.Io.{StartsWith};
-ghost use Rattle.ofx_types.specs.FormWords.{Gives};
+ghost use Rattle.ofx_types.specs.FormWords.{ReadsForm};
 ghost use Rattle.ofx_types.specs.Printable.{IsPrintableRow};
 ghost use Rattle.ofx_types.specs.TransferReading as reading;
 ghost use Rattle.ofx_types.specs.TransferText as form;
@@ -18,7 +18,7 @@ use std::alloc::Global;
 /// A new transfer.
 #[tactic(auto, unfolding(ofx_types::specs::TransferReading::new_of))]
 pub(crate) fn read_new(alloc: Global, intrars: &Cursor<'_>) -> Result<Change, TreeFault>
-    ensures { Gives result (reading.new_of intrars.now) }
+    ensures { ReadsForm result (reading.new_of intrars.now) }
 {
     let id = intrars.id(b"SRVRTID")?;
     let asked = read_due_info_in(alloc, intrars)?;
@@ -39,7 +39,7 @@ pub(crate) fn read_new(alloc: Global, intrars: &Cursor<'_>) -> Result<Change, Tr
 /// A changed transfer, of which the reply says no recurring transfer.
 #[tactic(auto, unfolding(ofx_types::specs::TransferReading::set_of))]
 pub(crate) fn read_set(alloc: Global, intramodrs: &Cursor<'_>) -> Result<Change, TreeFault>
-    ensures { Gives result (reading.set_of intramodrs.now) }
+    ensures { ReadsForm result (reading.set_of intramodrs.now) }
 {
     let id = intramodrs.id(b"SRVRTID")?;
     let asked = read_due_info_in(alloc, intramodrs)?;
@@ -59,7 +59,7 @@ pub(crate) fn read_set(alloc: Global, intramodrs: &Cursor<'_>) -> Result<Change,
 /// A cancelled transfer.
 #[tactic(auto, unfolding(ofx_types::specs::TransferReading::drop_of))]
 pub(crate) fn read_drop(intracanrs: &Cursor<'_>) -> Result<Change, TreeFault>
-    ensures { Gives result (reading.drop_of intracanrs.now) }
+    ensures { ReadsForm result (reading.drop_of intracanrs.now) }
 {
     let id = intracanrs.id(b"SRVRTID")?;
     Ok(Change::DropTransfer(id))

@@ -4,7 +4,7 @@ ghost use Rattle.std.specs.Prelude.{◌≡◌, ◌++◌, OnOk};
 ghost use Rattle.std.specs.Io.{StartsWith};
 ghost use Rattle.std.specs.Option.{IfSome};
 ghost use Rattle.ofx_types.specs.Calendar.{IsDay};
-ghost use Rattle.ofx_types.specs.FormWords.{Gives};
+ghost use Rattle.ofx_types.specs.FormWords.{ReadsForm};
 ghost use Rattle.ofx_types.specs.TransferReading as reading;
 ghost use Rattle.ofx_types.specs.DeedText as text;
 
@@ -16,7 +16,7 @@ use std::alloc::Global;
 /// The transfer that is asked for.
 #[tactic(auto, unfolding(ofx_types::specs::TransferReading::transfer_of))]
 pub(crate) fn read_transfer(alloc: Global, intrarq: &Cursor<'_>) -> Result<Deed, TreeFault>
-    ensures { Gives result (reading.transfer_of intrarq.now) }
+    ensures { ReadsForm result (reading.transfer_of intrarq.now) }
 {
     let info = read_info_in(alloc, intrarq)?;
     Ok(Deed::Transfer(info))
@@ -25,7 +25,7 @@ pub(crate) fn read_transfer(alloc: Global, intrarq: &Cursor<'_>) -> Result<Deed,
 /// The change of a transfer that is asked for.
 #[tactic(auto, unfolding(ofx_types::specs::TransferReading::modify_of))]
 pub(crate) fn read_modify(alloc: Global, intramodrq: &Cursor<'_>) -> Result<Deed, TreeFault>
-    ensures { Gives result (reading.modify_of intramodrq.now) }
+    ensures { ReadsForm result (reading.modify_of intramodrq.now) }
 {
     let id = intramodrq.id(b"SRVRTID")?;
     let info = read_info_in(alloc, intramodrq)?;
@@ -35,7 +35,7 @@ pub(crate) fn read_modify(alloc: Global, intramodrq: &Cursor<'_>) -> Result<Deed
 /// The cancellation of a transfer that is asked for.
 #[tactic(auto, unfolding(ofx_types::specs::TransferReading::cancel_of))]
 pub(crate) fn read_cancel(intracanrq: &Cursor<'_>) -> Result<Deed, TreeFault>
-    ensures { Gives result (reading.cancel_of intracanrq.now) }
+    ensures { ReadsForm result (reading.cancel_of intracanrq.now) }
 {
     let id = intracanrq.id(b"SRVRTID")?;
     Ok(Deed::CancelTransfer(id))

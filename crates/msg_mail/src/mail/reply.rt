@@ -4,7 +4,7 @@ ghost use Rattle.std.specs.Prelude.{◌≡◌, ◌++◌, OnOk};
 ghost use Rattle.std.specs.Io.{StartsWith};
 ghost use Rattle.std.specs.Option.{ForSome, IfSome};
 ghost use Rattle.ofx_types.specs.Calendar.{IsMoment};
-ghost use Rattle.ofx_types.specs.FormWords.{Gives};
+ghost use Rattle.ofx_types.specs.FormWords.{ReadsForm};
 ghost use Rattle.ofx_types.specs.MailReading as reading;
 ghost use Rattle.ofx_types.specs.MailReading.{mail_reply_of};
 ghost use Rattle.ofx_types.specs.Printable.{HasChangeByCode, IsPrintableChange};
@@ -29,7 +29,7 @@ use std::alloc::Global;
 /// for its texts is refused.
 #[tactic(auto, unfolding(ofx_types::specs::MailReading::mail_reply_of))]
 pub fn mail_read_reply(alloc: Global, c: &Cursor<'_>) -> Result<DeedReply, TreeFault>
-    ensures { Gives result (mail_reply_of c.now) }
+    ensures { ReadsForm result (mail_reply_of c.now) }
 {
     let family = family_told(c)?;
     let trnuid = read_trnuid(alloc, c)?;
@@ -59,7 +59,7 @@ fn family_told(c: &Cursor<'_>) -> Result<Family, TreeFault>
 /// The mail that came in or went out, where the code is 0.
 #[tactic(auto, unfolding(ofx_types::specs::MailReading::mail_by_code))]
 fn read_mail_by_code(alloc: Global, code: u16, c: &Cursor<'_>) -> Result<Option<Change>, TreeFault>
-    ensures { Gives result (reading.mail_by_code code c.now) }
+    ensures { ReadsForm result (reading.mail_by_code code c.now) }
 {
     if code == 0 {
         return Ok(Some(read_row(alloc, c)?));
@@ -70,7 +70,7 @@ fn read_mail_by_code(alloc: Global, code: u16, c: &Cursor<'_>) -> Result<Option<
 /// The mail of a transaction, by its name.
 #[tactic(auto, unfolding(ofx_types::specs::MailReading::mail_row_of))]
 fn read_row(alloc: Global, transaction: &Cursor<'_>) -> Result<Change, TreeFault>
-    ensures { Gives result (reading.mail_row_of transaction.now) }
+    ensures { ReadsForm result (reading.mail_row_of transaction.now) }
 {
     if transaction.name() == b"BANKMAILTRNRS".as_slice() {
         return read_bank_row(alloc, transaction);
@@ -80,7 +80,7 @@ fn read_row(alloc: Global, transaction: &Cursor<'_>) -> Result<Change, TreeFault
 
 #[tactic(auto, unfolding(ofx_types::specs::MailReading::bank_mail_row_of))]
 fn read_bank_row(alloc: Global, transaction: &Cursor<'_>) -> Result<Change, TreeFault>
-    ensures { Gives result (reading.bank_mail_row_of transaction.now) }
+    ensures { ReadsForm result (reading.bank_mail_row_of transaction.now) }
 {
     let reply = transaction.one(b"BANKMAILRS")?;
     let account = read_account_in(alloc, &reply)?;
@@ -94,7 +94,7 @@ fn read_bank_row(alloc: Global, transaction: &Cursor<'_>) -> Result<Change, Tree
 
 #[tactic(auto, unfolding(ofx_types::specs::MailReading::plain_mail_row_of))]
 fn read_plain_row(alloc: Global, transaction: &Cursor<'_>) -> Result<Change, TreeFault>
-    ensures { Gives result (reading.plain_mail_row_of transaction.now) }
+    ensures { ReadsForm result (reading.plain_mail_row_of transaction.now) }
 {
     let reply = transaction.one(b"MAILRS")?;
     let (user, mail) = read_user_mail_in(alloc, &reply)?;

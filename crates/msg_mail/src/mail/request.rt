@@ -3,7 +3,7 @@
 ghost use Rattle.std.specs.Prelude.{◌≡◌, ◌++◌, OnOk};
 ghost use Rattle.std.specs.Io.{StartsWith};
 ghost use Rattle.ofx_types.specs.Calendar.{IsMoment};
-ghost use Rattle.ofx_types.specs.FormWords.{Gives};
+ghost use Rattle.ofx_types.specs.FormWords.{ReadsForm};
 ghost use Rattle.ofx_types.specs.MailReading as reading;
 ghost use Rattle.ofx_types.specs.MailReading.{mail_deed_of};
 ghost use Rattle.ofx_types.specs.DeedText as text;
@@ -22,7 +22,7 @@ use std::alloc::Global;
 /// for its texts is refused.
 #[tactic(auto, unfolding(ofx_types::specs::MailReading::mail_deed_of))]
 pub fn mail_read_deed(alloc: Global, c: &Cursor<'_>) -> Result<(TrnUid, Deed), TreeFault>
-    ensures { Gives result (mail_deed_of c.now) }
+    ensures { ReadsForm result (mail_deed_of c.now) }
 {
     let trnuid = read_own_trnuid(alloc, c)?;
     let deed = read_request(alloc, c)?;
@@ -32,7 +32,7 @@ pub fn mail_read_deed(alloc: Global, c: &Cursor<'_>) -> Result<(TrnUid, Deed), T
 /// The mail of a transaction, by its name.
 #[tactic(auto, unfolding(ofx_types::specs::MailReading::mail_request_of))]
 fn read_request(alloc: Global, transaction: &Cursor<'_>) -> Result<Deed, TreeFault>
-    ensures { Gives result (reading.mail_request_of transaction.now) }
+    ensures { ReadsForm result (reading.mail_request_of transaction.now) }
 {
     if transaction.name() == b"BANKMAILTRNRQ".as_slice() {
         return read_bank_mail(alloc, transaction);
@@ -45,7 +45,7 @@ fn read_request(alloc: Global, transaction: &Cursor<'_>) -> Result<Deed, TreeFau
 
 #[tactic(auto, unfolding(ofx_types::specs::MailReading::bank_mail_of))]
 fn read_bank_mail(alloc: Global, transaction: &Cursor<'_>) -> Result<Deed, TreeFault>
-    ensures { Gives result (reading.bank_mail_of transaction.now) }
+    ensures { ReadsForm result (reading.bank_mail_of transaction.now) }
 {
     let request = transaction.one(b"BANKMAILRQ")?;
     let account = read_account_in(alloc, &request)?;
@@ -55,7 +55,7 @@ fn read_bank_mail(alloc: Global, transaction: &Cursor<'_>) -> Result<Deed, TreeF
 
 #[tactic(auto, unfolding(ofx_types::specs::MailReading::plain_mail_of))]
 fn read_plain_mail(alloc: Global, transaction: &Cursor<'_>) -> Result<Deed, TreeFault>
-    ensures { Gives result (reading.plain_mail_of transaction.now) }
+    ensures { ReadsForm result (reading.plain_mail_of transaction.now) }
 {
     let request = transaction.one(b"MAILRQ")?;
     let mail = read_mail_in(alloc, &request)?;

@@ -3,7 +3,7 @@
 ghost use Rattle.std.specs.Prelude.{◌≡◌, ◌++◌, OnOk};
 ghost use Rattle.std.specs.Io.{StartsWith};
 ghost use Rattle.ofx_types.specs.Calendar.{IsMoment};
-ghost use Rattle.ofx_types.specs.FormWords.{Gives};
+ghost use Rattle.ofx_types.specs.FormWords.{ReadsForm};
 ghost use Rattle.ofx_types.specs.MailReading as reading;
 ghost use Rattle.ofx_types.specs.PrintedMail.{mail_text};
 ghost use Rattle.msg_mail.specs.MailParts as parts;
@@ -24,7 +24,7 @@ const MOST_OF_BODY: u32 = 10_000;
 /// What the mail of a request says. Its USERID isn't looked at.
 #[tactic(auto, unfolding(ofx_types::specs::MailReading::mail_in))]
 pub(crate) fn read_mail_in(alloc: Global, request: &Cursor<'_>) -> Result<MailText, TreeFault>
-    ensures { Gives result (reading.mail_in request.now) }
+    ensures { ReadsForm result (reading.mail_in request.now) }
 {
     let mail = request.one(b"MAIL")?;
     read_mail(alloc, &mail)
@@ -36,7 +36,7 @@ pub(crate) fn read_user_mail_in(
     alloc: Global,
     reply: &Cursor<'_>,
 ) -> Result<(Text, MailText), TreeFault>
-    ensures { Gives result (reading.mail_of_user_in reply.now) }
+    ensures { ReadsForm result (reading.mail_of_user_in reply.now) }
 {
     let mail = reply.one(b"MAIL")?;
     read_user_mail(alloc, &mail)
@@ -44,7 +44,7 @@ pub(crate) fn read_user_mail_in(
 
 #[tactic(auto, unfolding(ofx_types::specs::MailReading::mail_of_user))]
 fn read_user_mail(alloc: Global, mail: &Cursor<'_>) -> Result<(Text, MailText), TreeFault>
-    ensures { Gives result (reading.mail_of_user mail.now) }
+    ensures { ReadsForm result (reading.mail_of_user mail.now) }
 {
     let user = mail.text(alloc, b"USERID", MOST_OF_NAME)?;
     let text = read_mail(alloc, mail)?;
@@ -53,7 +53,7 @@ fn read_user_mail(alloc: Global, mail: &Cursor<'_>) -> Result<(Text, MailText), 
 
 #[tactic(auto, unfolding(ofx_types::specs::MailReading::mail_text_of))]
 fn read_mail(alloc: Global, mail: &Cursor<'_>) -> Result<MailText, TreeFault>
-    ensures { Gives result (reading.mail_text_of mail.now) }
+    ensures { ReadsForm result (reading.mail_text_of mail.now) }
 {
     let created = mail.moment(b"DTCREATED")?;
     let sender = mail.text(alloc, b"FROM", MOST_OF_NAME)?;

@@ -1,7 +1,7 @@
 //! What a message set answers: its replies in the order of the file.
 
 ghost use Rattle.ofx_types.specs.Nodes.{children};
-ghost use Rattle.ofx_types.specs.FormWords.{Gives};
+ghost use Rattle.ofx_types.specs.FormWords.{ReadsForm};
 ghost use Rattle.ofx_types.specs.MessageReading as reading;
 ghost use Rattle.ofx_types.specs.MessageReading.{ask_reply_of};
 ghost use Rattle.ofx_file.specs.MessageSets as sets;
@@ -19,7 +19,7 @@ pub(crate) fn answers_in(
     set: MessageSet,
     found: Option<Cursor<'_>>,
 ) -> Result<AskReplies, TreeFault>
-    ensures { Gives result (reading.messages_in ask_reply_of (sets.reply_names set) found.entry) }
+    ensures { ReadsForm result (reading.messages_in ask_reply_of (sets.reply_names set) found.entry) }
 {
     match found {
         None => Ok(AskReplies::new(alloc)),
@@ -30,7 +30,7 @@ pub(crate) fn answers_in(
 /// The answers of a message set.
 #[tactic(auto, using(msg_sync::proofs::Behind::behind, crate::proofs::InSets::all_answers))]
 fn answers_of(alloc: Global, set: MessageSet, found: &Cursor<'_>) -> Result<AskReplies, TreeFault>
-    ensures { Gives result (reading.messages_of ask_reply_of (sets.reply_names set) (children found.now)) }
+    ensures { ReadsForm result (reading.messages_of ask_reply_of (sets.reply_names set) (children found.now)) }
 {
     let mut answers = AskReplies::new(alloc);
     for child in found.children() {
@@ -46,7 +46,7 @@ fn answer_at(
     set: MessageSet,
     child: &Cursor<'_>,
 ) -> Result<Option<AskReply>, TreeFault>
-    ensures { Gives result (sets.answer_at set child.now) }
+    ensures { ReadsForm result (sets.answer_at set child.now) }
 {
     if is_reply_name(set, child.name()) {
         return Ok(Some(read_answer(alloc, child)?));
@@ -57,7 +57,7 @@ fn answer_at(
 /// The answer that a reply is, by its name: to a statement request (STMTTRNRS), to a deed, or to a synchronisation.
 #[tactic(auto, unfolding(ofx_types::specs::MessageReading::ask_reply_of))]
 fn read_answer(alloc: Global, reply: &Cursor<'_>) -> Result<AskReply, TreeFault>
-    ensures { Gives result (ask_reply_of reply.now) }
+    ensures { ReadsForm result (ask_reply_of reply.now) }
 {
     if reply.name() == b"STMTTRNRS".as_slice() {
         return read_statement_reply(alloc, reply);

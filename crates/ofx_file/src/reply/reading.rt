@@ -1,7 +1,7 @@
 //! Reply files, read.
 
 ghost use Rattle.std.specs.Prelude.{◌≡◌};
-ghost use Rattle.ofx_types.specs.FormWords.{Gives};
+ghost use Rattle.ofx_types.specs.FormWords.{ReadsForm};
 ghost use Rattle.ofx_file.specs.ReplyOutcome.{ReadsReply, ReadsAll, RefusesAll};
 ghost use Rattle.ofx_file.specs.ReplySteps as steps;
 
@@ -57,7 +57,7 @@ fn read_file(alloc: Global, bytes: &[u8]) -> Result<ReplyFile, FileFault>
 /// The reply of a header and of what OFX says.
 #[tactic(auto, unfolding(crate::specs::ReplySteps::reply_in))]
 fn reply_in(alloc: Global, header: Header, ofx: &Cursor<'_>) -> Result<ReplyFile, TreeFault>
-    ensures { Gives result (steps.reply_in header.version header.newer ofx.now) }
+    ensures { ReadsForm result (steps.reply_in header.version header.newer ofx.now) }
 {
     let (signon, moment) = signon_in(ofx)?;
     let bank = answers_in(alloc, MessageSet::Bank, ofx.maybe(b"BANKMSGSRSV1")?)?;

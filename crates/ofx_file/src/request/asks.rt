@@ -1,7 +1,7 @@
 //! What a message set asks: its requests in the order of the file.
 
 ghost use Rattle.ofx_types.specs.Nodes.{children};
-ghost use Rattle.ofx_types.specs.FormWords.{Gives};
+ghost use Rattle.ofx_types.specs.FormWords.{ReadsForm};
 ghost use Rattle.ofx_types.specs.MessageReading as reading;
 ghost use Rattle.ofx_types.specs.MessageReading.{ask_of};
 ghost use Rattle.ofx_file.specs.MessageSets as sets;
@@ -19,7 +19,7 @@ pub(crate) fn asks_in(
     set: MessageSet,
     found: Option<Cursor<'_>>,
 ) -> Result<Asks, TreeFault>
-    ensures { Gives result (reading.messages_in ask_of (sets.request_names set) found.entry) }
+    ensures { ReadsForm result (reading.messages_in ask_of (sets.request_names set) found.entry) }
 {
     match found {
         None => Ok(Asks::new(alloc)),
@@ -30,7 +30,7 @@ pub(crate) fn asks_in(
 /// The asks of a message set.
 #[tactic(auto, using(msg_sync::proofs::Behind::behind, crate::proofs::InSets::all_asks))]
 fn asks_of(alloc: Global, set: MessageSet, found: &Cursor<'_>) -> Result<Asks, TreeFault>
-    ensures { Gives result (reading.messages_of ask_of (sets.request_names set) (children found.now)) }
+    ensures { ReadsForm result (reading.messages_of ask_of (sets.request_names set) (children found.now)) }
 {
     let mut asks = Asks::new(alloc);
     for child in found.children() {
@@ -42,7 +42,7 @@ fn asks_of(alloc: Global, set: MessageSet, found: &Cursor<'_>) -> Result<Asks, T
 /// The ask that a child of a message set is. Any child that is no request of the set is skipped.
 #[tactic(auto, unfolding(msg_sync::specs::Listing::form_at))]
 fn ask_at(alloc: Global, set: MessageSet, child: &Cursor<'_>) -> Result<Option<Ask>, TreeFault>
-    ensures { Gives result (sets.ask_at set child.now) }
+    ensures { ReadsForm result (sets.ask_at set child.now) }
 {
     if is_request_name(set, child.name()) {
         return Ok(Some(read_ask(alloc, child)?));
@@ -53,7 +53,7 @@ fn ask_at(alloc: Global, set: MessageSet, child: &Cursor<'_>) -> Result<Option<A
 /// The ask that a request is, by its name: of a statement (STMTTRNRQ), of a deed, or a synchronisation.
 #[tactic(auto, unfolding(ofx_types::specs::MessageReading::ask_of))]
 fn read_ask(alloc: Global, request: &Cursor<'_>) -> Result<Ask, TreeFault>
-    ensures { Gives result (ask_of request.now) }
+    ensures { ReadsForm result (ask_of request.now) }
 {
     if request.name() == b"STMTTRNRQ".as_slice() {
         return read_statement(alloc, request);

@@ -1,6 +1,6 @@
 //! Request files, read.
 
-ghost use Rattle.ofx_types.specs.FormWords.{Gives};
+ghost use Rattle.ofx_types.specs.FormWords.{ReadsForm};
 ghost use Rattle.ofx_file.specs.RequestOutcome.{ReadsRequest, ReadsAll, RefusesAll};
 ghost use Rattle.ofx_file.specs.RequestSteps as steps;
 
@@ -56,7 +56,7 @@ fn read_file(alloc: Global, bytes: &[u8]) -> Result<RequestFile, FileFault>
 /// The file of a header and of what OFX says.
 #[tactic(auto, unfolding(crate::specs::RequestSteps::file_in))]
 fn file_in(alloc: Global, header: Header, ofx: &Cursor<'_>) -> Result<RequestFile, TreeFault>
-    ensures { Gives result (steps.file_in header.version header.older header.newer ofx.now) }
+    ensures { ReadsForm result (steps.file_in header.version header.older header.newer ofx.now) }
 {
     let (user, pass) = signon_in(alloc, ofx)?;
     let bank = asks_in(alloc, MessageSet::Bank, ofx.maybe(b"BANKMSGSRQV1")?)?;

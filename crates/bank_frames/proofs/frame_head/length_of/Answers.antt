@@ -1,7 +1,7 @@
 use Rattle.std.proofs.Common.{◌≤◌, arith, sym, ◌∙◌, ap, IsTrue}
 use Rattle.std.proofs.lemmas.Option.{cond_some}
 use Rattle.std.specs.Fmt.{decimal}
-use Rattle.bank_frames.specs.Heads.{number_from}
+use Rattle.bank_frames.specs.FirstLine.{number_from}
 use Rattle.bank_frames.proofs.Lengths.{is_text, length_of_text, no_digits}
 use Rattle.bank_frames.proofs.frame_head.length_of.Goals as goal
 

@@ -1,6 +1,6 @@
 use Rattle.std.proofs.Common.{◌≡◌, ◌<◌, ◌^◌, drop}
 use Rattle.std.specs.Str.{all_ascii_digits}
-use Rattle.bank_frames.specs.Heads.{number_from}
+use Rattle.bank_frames.specs.FirstLine.{number_from}
 use Rattle.bank_frames.proofs.frame_head.number.Given as goal
 
 abbrev pub invariant-loop-digit : goal.invariant-loop-digit

@@ -1,4 +1,4 @@
-use Rattle.bank_frames.proofs.Coming.{no_frame_ahead}
+use Rattle.bank_frames.proofs.NextFrame.{no_frame_ahead}
 use Rattle.bank_frames.proofs.frames.next_frame.Goals as goal
 
 pub returns-in-NoFrame-clause-next : goal.returns-in-NoFrame-clause-next

@@ -1,6 +1,6 @@
 use Rattle.std.proofs.Common.{refl}
 use Rattle.bank_session.proofs.CommandWords.{commands_apart, answer_or_mail, due_or_mail}
-use Rattle.bank_session.proofs.ExactLemmas.{is_run, never_usage}
+use Rattle.bank_session.proofs.StatusLemmas.{is_run, never_usage}
 use Rattle.bank_session.proofs.DueCommand.{is_due_command, due_never_usage}
 use Rattle.bank_session.proofs.MailLemmas.{is_mail_command, mail_never_usage}
 use Rattle.bank_session.proofs.Stopping.{settled_told}

@@ -2,7 +2,7 @@ use Rattle.std.proofs.Common.{List, ◌++◌, Err, ◌∙◌, ap, sym, refl}
 use Rattle.std.proofs.KnownBytes.{Keeps-refl}
 use Rattle.std.proofs.lemmas.Result.{err_from_is_err_and}
 use Rattle.bank_frames.specs.Frames.{frame_of}
-use Rattle.bank_frames.specs.Coming.{content_in}
+use Rattle.bank_frames.specs.NextFrame.{content_in}
 use Rattle.bank_session.proofs.TurnLemmas.{content_fits, content_ahead, content_size, size_within, whole_fits, frame_consumed, stays_there, frame_undone}
 use Rattle.bank_session.proofs.turn.answer_frame.Goals as goal
 

@@ -1,5 +1,5 @@
 use Rattle.std.proofs.Common.{sym, ap, ◌∙◌, not}
-use Rattle.ofx_tape.specs.Standing.{is_at_tag}
+use Rattle.ofx_tape.specs.OpenAggregates.{is_at_tag}
 use Rattle.ofx_tape.proofs.NameKinds.{kind_without_ink, kind_with_ink}
 use Rattle.ofx_tape.proofs.names.begins_element.Goals as goal
 

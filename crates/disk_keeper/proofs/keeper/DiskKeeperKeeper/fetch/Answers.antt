@@ -5,7 +5,7 @@ use Rattle.disk_keeper.specs.Disk.{History, shown}
 use Rattle.disk_keeper.specs.Keeping.{NextWithin}
 use Rattle.disk_keeper.specs.Passing.{Holds, Passed}
 use Rattle.disk_keeper.specs.Reading.{IsRecord}
-use Rattle.disk_keeper.specs.Standing.{records_on}
+use Rattle.disk_keeper.specs.DiskKeeperView.{records_on}
 use Rattle.disk_keeper.proofs.Keepings.{AllKept, settled_now, settled_moments, records_stay, nothing_begun, kept_nothing, found_behind_gate, kept_read, passed_from, place_from}
 use Rattle.disk_keeper.proofs.keeper.DiskKeeperKeeper.fetch.Goals as goal
 

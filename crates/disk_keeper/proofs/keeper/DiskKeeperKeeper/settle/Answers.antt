@@ -3,7 +3,7 @@ use Rattle.std.proofs.Common.{◌≡◌, None, Some, ◌+◌, [], ◌∷◌, ref
 use Rattle.std.specs.Prelude.{slice_index}
 use Rattle.disk_keeper.specs.Disk.{History, GoesOn, shown}
 use Rattle.disk_keeper.specs.Keeping.{NextWithin}
-use Rattle.disk_keeper.specs.Standing.{ListsWith, NowLeaves, settled_on, records_on, landed_on}
+use Rattle.disk_keeper.specs.DiskKeeperView.{ListsWith, NowLeaves, settled_on, records_on, landed_on}
 use Rattle.disk_keeper.specs.declared.change.Change.TheVariants.{Sync}
 use Rattle.disk_keeper.proofs.Keepings.{AllKept, settled_now, kept_synced, kept_open, kept_shut, synced_settled, synced_records, records_stay, same_moments, synced_moments, synced_now, answer_open, answer_shut, settles_open, settles_shut, next_within}
 use Rattle.disk_keeper.proofs.keeper.DiskKeeperKeeper.settle.Goals as goal

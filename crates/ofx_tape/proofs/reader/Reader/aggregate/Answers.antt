@@ -1,6 +1,6 @@
 use Rattle.std.proofs.Common.{refl, sym, ap, true, ◌∙◌, ◌+◌, ◌<◌, length, not, ◌≡◌, ◌∷◌, arith}
 use Rattle.std.proofs.lemmas.List.{length-map}
-use Rattle.ofx_tape.specs.Standing.{is_at_tag}
+use Rattle.ofx_tape.specs.OpenAggregates.{is_at_tag}
 use Rattle.ofx_tape.specs.NodeView.{node_view}
 use Rattle.ofx_tape.proofs.ReaderLaws.{fault_of_depth, fault_of_text, aggregate_goes_on, node_pushed, tag_shortens}
 use Rattle.ofx_tape.proofs.reader.Reader.aggregate.Goals as goal

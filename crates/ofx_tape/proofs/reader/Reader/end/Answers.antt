@@ -1,5 +1,5 @@
 use Rattle.std.proofs.Common.{refl, sym, ap, true, ◌∙◌, ◌+◌, length, ◌≡◌, arith}
-use Rattle.ofx_tape.specs.Standing.{is_at_tag}
+use Rattle.ofx_tape.specs.OpenAggregates.{is_at_tag}
 use Rattle.ofx_tape.proofs.ReaderLaws.{fault_behind_end, reads_end_on, end_tag_shortens}
 use Rattle.ofx_tape.proofs.reader.Reader.end.Goals as goal
 

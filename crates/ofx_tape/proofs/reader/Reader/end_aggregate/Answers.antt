@@ -2,7 +2,7 @@ use Rattle.std.proofs.Common.{refl, sym, ap, map, true, ◌∙◌, ◌+◌, leng
 use Rattle.std.proofs.lemmas.Bool.{not-false}
 use Rattle.std.proofs.lemmas.List.{length-map}
 use Rattle.std.specs.Str.{bytes_eq}
-use Rattle.ofx_tape.specs.Standing.{is_at_tag}
+use Rattle.ofx_tape.specs.OpenAggregates.{is_at_tag}
 use Rattle.ofx_tape.specs.NodeView.{node_view}
 use Rattle.ofx_tape.proofs.TextEnds.{not_true_is}
 use Rattle.ofx_tape.proofs.ReaderLaws.{innermost_inside, fault_of_other, fault_behind_close, close_goes_on, fault_of_no_open, same_read, end_tag_shortens, items_inside, innermost_index}

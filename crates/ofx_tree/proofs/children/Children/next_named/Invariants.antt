@@ -1,5 +1,5 @@
 use Rattle.std.proofs.Common.{◌≡◌}
-use Rattle.ofx_tree.specs.Standing.{standing}
+use Rattle.ofx_tree.specs.NamedChildren.{standing}
 use Rattle.ofx_tree.proofs.children.Children.next_named.Given as goal
 
 -- no child before those that are left stands under the name

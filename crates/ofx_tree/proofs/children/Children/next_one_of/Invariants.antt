@@ -1,5 +1,5 @@
 use Rattle.std.proofs.Common.{◌≡◌, ◌∷◌, []}
-use Rattle.ofx_tree.specs.Standing.{standing_as_one_of}
+use Rattle.ofx_tree.specs.NamedChildren.{standing_as_one_of}
 use Rattle.ofx_tree.proofs.children.Children.next_one_of.Given as goal
 
 -- no child before those that are left stands under one of the names

@@ -1,4 +1,4 @@
--- Numbers of digits, read from the left.
+-- The first line of a frame: the digits of its length, read from the left, and where it ends.
 use Rattle.std.specs.Prelude.{◌≡◌, ℕ, ◌<◌, ◌≤◌, ◌+◌, ◌-◌, ◌*◌, List, [], ◌∷◌, length, slice_index, ◌≢◌}
 
 -- the number that digits stand for after what was read so far

@@ -4,7 +4,7 @@ use Rattle.std.specs.Coded.{Coded, code_by, coded×, coded_ℕ, coded_bool}
 use Rattle.disk_keeper.specs.Disk.{History, Leaves, LeavesOnly, shown}
 use Rattle.disk_keeper.specs.File.{listed}
 
-pub record Standing (D : Type 0) : Type 0 where
+pub record DiskKeeperView (D : Type 0) : Type 0 where
   pub disk : D
   -- the number of records, without one that is to be settled
   pub size : ℕ
@@ -12,8 +12,8 @@ pub record Standing (D : Type 0) : Type 0 where
   pub unsettled : Bool
 
 -- it is stored as its fields
-abbrev pub standing_code : {D : Type 0} → Coded D → Coded (Standing D)
-standing_code {D = D} d =
+abbrev pub keeper_code : {D : Type 0} → Coded D → Coded (DiskKeeperView D)
+keeper_code {D = D} d =
     code_by (D × (ℕ × Bool)) (coded× d (coded× coded_ℕ coded_bool)) (λ s. (s.disk, (s.size, s.unsettled))) (λ p. record { disk = p.0; size = p.1.0; unsettled = p.1.1 })
     (λ _. refl)
 
@@ -33,7 +33,7 @@ settled_on size None = []
 settled_on size (Some records) = take size records
 
 -- the acknowledged records of a keeper: those that stand, without one that is to be settled
-abbrev pub acknowledged : {D : Type 0} → (D → Option History) → Standing D → List (List ℕ)
+abbrev pub acknowledged : {D : Type 0} → (D → Option History) → DiskKeeperView D → List (List ℕ)
 acknowledged history keeper = settled_on keeper.size (records_on (history keeper.disk))
 
 -- A crash has left these records.

@@ -14,7 +14,7 @@ use Rattle.bank_session.specs.PortsView.{PortsView}
 use Rattle.bank_session.specs.Run.{EndsWithBank, EndsSo, told_of, told}
 use Rattle.ofx_types.specs.declared.told.Told.{Told}
 use Rattle.ofx_types.specs.declared.told.Note.TheVariants.{Place}
-use Rattle.bank_session.specs.Exact.{IsInterrupted, RefusesSetup, RefusesRecord, RefusesIllegal, Gives, AnswersAll, RefusesFrame, IsRun}
+use Rattle.bank_session.specs.Statuses.{IsInterrupted, RefusesSetup, RefusesRecord, RefusesIllegal, BringsFrames, AnswersAll, RefusesFrame, IsRun}
 use Rattle.bank_session.specs.declared.stop.Stop.{Stop}
 use Rattle.bank_session.specs.declared.stop.Stop.TheVariants as stops
 use Rattle.bank_frames.proofs.Agreement.{heads_agree, kinds_apart}
@@ -76,7 +76,7 @@ begun : (bytes : List ℕ) (content : Content) (rest tail : List ℕ) → Begins
 begun bytes content rest tail none fits e = none content (rest ++ tail) fits (e ∙ append_assoc (frame_of content) rest tail)
 
 -- how the turns of a run split an input that is told
-split_taken : (setup : Setup) (start : State) (before after : PortsView) (ahead : List ℕ) (turns : List Turn) (state : State) (contents : List Content) (rest : List ℕ) → Gives before contents rest → Taken setup start before after turns state ahead →
+split_taken : (setup : Setup) (start : State) (before after : PortsView) (ahead : List ℕ) (turns : List Turn) (state : State) (contents : List Content) (rest : List ℕ) → BringsFrames before contents rest → Taken setup start before after turns state ahead →
     (tail : List ℕ) × (prepend_known ahead after.input_left ≡ Some tail) × OneSplit contents (contents_of turns) rest tail
 split_taken setup start before after ahead turns state contents rest gives taken =
     let P : Option (List ℕ) → Type 0 = λ left. Consumes left (prepend_known ahead after.input_left) (read_in turns) in
@@ -125,14 +125,14 @@ more_left setup start at before after place stopped tail e =
     let P : Option (List ℕ) → Type 0 = λ coming. IfSome coming (λ rest. (rest ≢ []) × (BeginsNoFrame rest ⊎ (length stopped.turns ≡ 1000000))) in
     subst P e stopped.more
 
-no_more : (setup : Setup) (start : State) (at : Option Moment) (before after : PortsView) (place : ℕ) (contents : List Content) → Gives before contents [] → StoppedAtFrame setup start at before after place → ⊥
+no_more : (setup : Setup) (start : State) (at : Option Moment) (before after : PortsView) (place : ℕ) (contents : List Content) → BringsFrames before contents [] → StoppedAtFrame setup start at before after place → ⊥
 no_more setup start at before after place contents gives stopped =
     let split = split_taken setup start before after stopped.ahead stopped.turns stopped.state contents [] gives stopped.taken in
     let more = more_left setup start at before after place stopped split.0 split.1 in
     no_more_split contents stopped.turns split.0 gives.fit gives.few split.2 more.0 more.1
 
 -- a run that stops at a frame does so after the contents of the input
-at_place : (setup : Setup) (start : State) (at : Option Moment) (before after : PortsView) (place : ℕ) (contents : List Content) (rest : List ℕ) → Gives before contents rest → (BeginsNoFrame rest ⊎ (length contents ≡ 1000000)) → StoppedAtFrame setup start at before after place → place ≡ length (flat_map frame_of contents)
+at_place : (setup : Setup) (start : State) (at : Option Moment) (before after : PortsView) (place : ℕ) (contents : List Content) (rest : List ℕ) → BringsFrames before contents rest → (BeginsNoFrame rest ⊎ (length contents ≡ 1000000)) → StoppedAtFrame setup start at before after place → place ≡ length (flat_map frame_of contents)
 at_place setup start at before after place contents rest gives stuck stopped =
     let split = split_taken setup start before after stopped.ahead stopped.turns stopped.state contents rest gives stopped.taken in
     let more = more_left setup start at before after place stopped split.0 split.1 in
@@ -140,7 +140,7 @@ at_place setup start at before after place contents rest gives stuck stopped =
     stuck_split contents stopped.turns rest split.0 gives.fit (turns_fit setup _ stopped.state stopped.turns stopped.taken.are_turns) gives.few stopped.taken.few split.2 stuck more.1 in
     stopped.place_is ∙ ap length (contents_read stopped.turns ∙ ap (λ (l : List Content). flat_map frame_of l) (sym same))
 
-no_end : (setup : Setup) (start : State) (at : Option Moment) (before after : PortsView) (contents : List Content) (rest : List ℕ) → Gives before contents rest → rest ≢ [] → (BeginsNoFrame rest ⊎ (length contents ≡ 1000000)) → Finished setup start at before after → ⊥
+no_end : (setup : Setup) (start : State) (at : Option Moment) (before after : PortsView) (contents : List Content) (rest : List ℕ) → BringsFrames before contents rest → rest ≢ [] → (BeginsNoFrame rest ⊎ (length contents ≡ 1000000)) → Finished setup start at before after → ⊥
 no_end setup start at before after contents rest gives some stuck finished =
     let split = split_taken setup start before after finished.ahead finished.turns finished.state contents rest gives finished.taken in
     no_end_split contents finished.turns rest split.0 (turns_fit setup _ finished.state finished.turns finished.taken.are_turns) finished.taken.few split.2 some stuck (subst IsAtEnd split.1 finished.at_end)

@@ -1,5 +1,5 @@
 use Rattle.bank_model.proofs.SetupLaws.{spelled_once}
-use Rattle.bank_model.proofs.setup.reading.one_setup.Goals as goal
+use Rattle.bank_model.proofs.laws.one_setup.Goals as goal
 
 pub returns : goal.returns
 returns c = spelled_once

@@ -11,7 +11,7 @@ use Rattle.bank_session.specs.Turns.{TurnView}
 
 -- A run that began in a bank of a setup in a state, and found this around it, has taken so many turns and read so many bytes in
 -- them. This is where its bank stands and what is around it now.
-pub record Standing (setup : Setup) (start : State) (at : Option Moment) (found : TurnView) (count place : ℕ) (book : BookView) (now : TurnView) : Type 0 where
+pub record BetweenTurns (setup : Setup) (start : State) (at : Option Moment) (found : TurnView) (count place : ℕ) (book : BookView) (now : TurnView) : Type 0 where
   pub turns : List Turn
   pub counted : length turns ≡ count
   pub place_is : place ≡ length (read_in turns)

@@ -1,6 +1,6 @@
 use Rattle.std.proofs.Common.{arith}
 use Rattle.ofx_ports.proofs.Writing.{written_more, rest_length}
-use Rattle.bank_frames.proofs.output.write_whole.Goals as goal
+use Rattle.ofx_ports.proofs.output.write_whole.Goals as goal
 
 pub loop-done-preserved : goal.loop-done-preserved
 loop-done-preserved g c = record {

@@ -1,5 +1,5 @@
 use Rattle.bank_model.proofs.SetupLaws.{fault_once, never_both, spelled_or_fault}
-use Rattle.bank_model.proofs.setup.reading.one_fault.Goals as goal
+use Rattle.bank_model.proofs.laws.one_fault.Goals as goal
 
 pub returns-clause-one : goal.returns-clause-one
 returns-clause-one c = fault_once

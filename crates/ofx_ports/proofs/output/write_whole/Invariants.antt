@@ -1,6 +1,6 @@
 use Rattle.std.proofs.Common.{◌-◌, ◌≤◌, length, take}
 use Rattle.std.specs.Io.KnownBytes.{Appends}
-use Rattle.bank_frames.proofs.output.write_whole.Given as goal
+use Rattle.ofx_ports.proofs.output.write_whole.Given as goal
 
 -- the bytes up to this place are written, and the count of faults hasn't fallen
 abbrev pub invariant-loop-done : goal.invariant-loop-done

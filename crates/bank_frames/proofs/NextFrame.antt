@@ -2,7 +2,7 @@
 use Rattle.std.proofs.Common.{◌≡◌, ◌≢◌, ℕ, List, [], ◌∷◌, ◌++◌, Option, None, Some, IfSome, refl}
 use Rattle.std.specs.Io.KnownBytes.{prepend_known}
 use Rattle.bank_frames.specs.Frames.{BeginsNoFrame}
-use Rattle.bank_frames.specs.Coming.{IsNoFrame}
+use Rattle.bank_frames.specs.NextFrame.{IsNoFrame}
 
 front_empty : (front rest : List ℕ) → front ++ rest ≡ [] → front ≡ []
 front_empty [] rest e = refl

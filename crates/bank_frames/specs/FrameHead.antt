@@ -1,4 +1,4 @@
--- What the front of the input may be.
+-- Which frame the front of an input begins.
 use Rattle.std.specs.Prelude.{◌≡◌, ◌≢◌, ℕ, ◌<◌, ◌≤◌, List, ◌++◌, length, take, codes}
 use Rattle.bank_frames.specs.Frames.{due_work, IsLength, length_line, frame_head, frame_of, BeginsNoFrame}
 use Rattle.bank_frames.specs.declared.frame_head.FrameSize.{FrameSize}

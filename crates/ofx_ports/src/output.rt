@@ -5,7 +5,8 @@ ghost use Rattle.std.specs.Io.KnownBytes.{Appends};
 ghost use Rattle.ofx_ports.specs.Faults.{CountsFaults};
 ghost use Rattle.ofx_ports.specs.Writes.{AppendsPart};
 
-use ofx_ports::{Failed, Sink};
+use crate::fault::Failed;
+use crate::sink::Sink;
 
 /// Writes all of the bytes, in as many calls as the sink takes. Where a write fails a front of them is written.
 pub fn write_whole<W: Sink>(out: &mut W, bytes: &[u8]) -> Result<(), Failed>

@@ -5,7 +5,7 @@ use Rattle.ofx_ports.specs.declared.fault.FetchFault.{FetchFault}
 use Rattle.sqlite_keeper.specs.declared.refusal.Refusal.{Refusal}
 use Rattle.sqlite_keeper.specs.declared.refusal.Refusal.TheVariants.{Failed, OutOfMemory}
 
-pub record Standing : Type 0 where
+pub record SqliteKeeperView : Type 0 where
   -- the number of records, without one that is to be settled
   pub size : ℕ
   -- whether an append failed and is not settled

@@ -80,7 +80,7 @@ pub record Opens (before : PortsView) (setup : Setup) (start : State) : Type 0 w
 -- ---- the command `answer`
 
 -- The bank opens, and the input begins with the frames of these contents, each within its limit.
-pub record Gives (before : PortsView) (contents : List Content) (rest : List ℕ) : Type 0 where
+pub record BringsFrames (before : PortsView) (contents : List Content) (rest : List ℕ) : Type 0 where
   pub setup : Setup
   pub start : State
   pub opens : Opens before setup start
@@ -90,13 +90,13 @@ pub record Gives (before : PortsView) (contents : List Content) (rest : List ℕ
 
 -- Frames and nothing after them end it with 0.
 abbrev pub AnswersAll : PortsView → PortsView → Told → Type 0
-AnswersAll before after what = (contents : List Content) → Gives before contents [] → (what ≡ told 0 Plain) ⊎ IsInterrupted before after what
+AnswersAll before after what = (contents : List Content) → BringsFrames before contents [] → (what ≡ told 0 Plain) ⊎ IsInterrupted before after what
 
 -- Bytes after the frames that begin no frame, or anything after the most frames, end it with 4, and their place in the
 -- input is told.
 abbrev pub RefusesFrame : PortsView → PortsView → Told → Type 0
 RefusesFrame before after what =
-    (contents : List Content) (rest : List ℕ) → Gives before contents rest → rest ≢ [] → (BeginsNoFrame rest ⊎ (length contents ≡ 1000000))
+    (contents : List Content) (rest : List ℕ) → BringsFrames before contents rest → rest ≢ [] → (BeginsNoFrame rest ⊎ (length contents ≡ 1000000))
     → (what ≡ told 4 (Place (length (flat_map frame_of contents)))) ⊎ IsInterrupted before after what
 
 -- The command `answer` over these words' moment ends so, and exactly where what is told.

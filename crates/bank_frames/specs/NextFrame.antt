@@ -1,9 +1,9 @@
--- What is still to come of an input: the bytes that are ahead, and then those that the source has left.
+-- What comes next of an input, whose bytes are those that are ahead, and then those that the source has left.
 use Rattle.std.specs.Prelude.{◌≡◌, ◌≢◌, ℕ, ◌+◌, ◌-◌, ◌<◌, ◌≤◌, List, [], ◌++◌, length, take, drop, Option}
 use Rattle.std.specs.Option.{IfSome}
 use Rattle.std.specs.Io.KnownBytes.{IsAtEnd, prepend_known}
 use Rattle.bank_frames.specs.Frames.{Content, request, due_work, BeginsNoFrame}
-use Rattle.bank_frames.specs.HeadOf.{BeginsFrame, BeginsDue}
+use Rattle.bank_frames.specs.FrameHead.{BeginsFrame, BeginsDue}
 use Rattle.bank_frames.specs.declared.frame_head.FrameSize.{FrameSize}
 use Rattle.bank_frames.specs.declared.frames.Frame.{Frame}
 use Rattle.bank_frames.specs.declared.frames.Frame.TheVariants.{File, Due}
