@@ -4,6 +4,7 @@
 ghost use Rattle.std.specs.Prelude.{◌≡◌, IfOk};
 ghost use Rattle.ofx_types.specs.Calendar.{IsDay};
 
+mod history;
 mod lists;
 mod rows;
 mod series;
@@ -128,20 +129,24 @@ fn put(
     dice: &mut Dice,
 ) -> Result<(), Fail> {
     let first = first_day(dice);
-    let count = u32::from(dice.roll(20));
+    let count = match dice.roll(20) {
+        19 => None,
+        count => Some(u32::from(count)),
+    };
     let (freq, step) = match dice.roll(3) {
         0 => (Freq::Weekly, 7),
         1 => (Freq::Biweekly, 14),
         _ => (Freq::FourWeeks, 28),
     };
     models.reserve(1)?;
-    models.put(row(alloc, id, freq, Some(count), first)?);
+    models.put(row(alloc, id, freq, count, first)?);
     let cancelled = match plain.find(id) {
         Some(one) => one.cancelled,
         None => false,
     };
     plain.keep(PlainSeries {
         id,
+        first: first.0,
         next: first.0,
         step,
         count,
@@ -153,51 +158,63 @@ fn put(
 
 /// A recurring transfer that is there makes its next transfer, or is cancelled, in both.
 fn change(models: &mut Models, plain: &mut PlainModels, id: u64, cancel: bool) -> Result<(), Fail> {
-    let one = match plain.find(id) {
-        Some(one) => one,
-        None => return Ok(()),
+    let Some(mut one) = plain.find(id) else {
+        return Ok(());
     };
     if cancel {
         models.cancel(id);
-        plain.keep(PlainSeries {
-            id,
-            next: one.next,
-            step: one.step,
-            count: one.count,
-            place: one.place,
-            cancelled: true,
-        })?;
-        return Ok(());
-    }
-    if models.get(id).is_some() && models.next_k(id) < 999 {
+        one.cancelled = true;
+    } else if models.get(id).is_some() && models.next_k(id) < 999 {
         models.spawned(id);
-        plain.keep(PlainSeries {
-            id,
-            next: one.next.wrapping_add(one.step),
-            step: one.step,
-            count: one.count,
-            place: one.place.wrapping_add(1),
-            cancelled: one.cancelled,
-        })?;
+        one.next = one.next.wrapping_add(one.step);
+        one.place = one.place.wrapping_add(1);
     }
+    plain.keep(one)?;
     Ok(())
 }
 
+/// Whether both have the same recurring transfer with this id, which makes its next transfer by a last day or doesn't, or none.
+fn has_same(models: &Models, plain: &PlainModels, id: u64, last: i32) -> bool {
+    let ahead = models.date_to_make(id, Day(last));
+    let Some(one) = plain.find(id) else {
+        return models.get(id).is_none() && !models.cancelled(id) && ahead.is_none();
+    };
+    let Some(row) = models.get(id) else {
+        return false;
+    };
+    row.id == id
+        && row.first.0 == one.first
+        && row.recur.count == one.count
+        && models.cancelled(id) == one.cancelled
+        && models.next_k(id) == one.place
+        && ahead.is_some() == one.makes_by(last)
+        && (ahead.is_none() || ahead == Some(Day(one.next)))
+}
+
 #[test]
-fn the_next_transfer_is_that_of_a_list(rt: HostRuntime) -> Result<(), Fail> {
+fn recurring_transfers_are_those_of_a_list(rt: HostRuntime) -> Result<(), Fail> {
     let alloc = rt.alloc();
     let mut models = Models::new(alloc);
     let mut plain = PlainModels::new(alloc);
     let mut dice = Dice::new();
+    let mut first = 0u64;
     for _ in 0..CALLS {
-        let id = u64::from(dice.roll(200));
-        match dice.roll(40) {
+        let rolled = u64::from(dice.roll(200));
+        // One in four is the one whose turn it is.
+        let id = if dice.roll(4) == 0 { first } else { rolled };
+        match dice.roll(100) {
             0 => change(&mut models, &mut plain, id, true)?,
-            1..=19 => put(alloc, &mut models, &mut plain, id, &mut dice)?,
+            1..=49 => put(alloc, &mut models, &mut plain, id, &mut dice)?,
             _ => change(&mut models, &mut plain, id, false)?,
         }
         let last = 19_750 + i32::from(dice.roll(255));
-        assert!(rt; models.next_spawn(Day(last)) == plain.first(last));
+        let next = models.next_spawn(Day(last));
+        assert!(rt; next == plain.first(last));
+        if let Some((id, _)) = next {
+            first = id;
+        }
+        assert!(rt; has_same(&models, &plain, id, last));
+        assert!(rt; has_same(&models, &plain, u64::from(dice.roll(250)), last));
     }
     Ok(())
 }

@@ -1,6 +1,6 @@
 //! Transfers as plain lists that are searched from the front.
 
-use ofx_types::XferCode;
+use ofx_types::{Moment, XferCode};
 use std::alloc::{AllocError, Global};
 
 /// The row of a transfer: its accounts by their places in the test's list, its amount in cents.
@@ -89,14 +89,13 @@ impl PlainTransfers {
         &self,
         alloc: Global,
         account: u8,
-        start: i64,
-        end: i64,
+        period: (Moment, Option<Moment>),
     ) -> Result<Vec<(u64, i64)>, AllocError> {
         let mut lines = Vec::new(alloc);
         for posting in &self.postings {
             let row = posting.1;
             let about = row.from == account || row.to == account;
-            if about && start <= row.stamp && row.stamp < end {
+            if about && is_within(row.stamp, period) {
                 let into = if row.to == account {
                     i64::from(row.cents)
                 } else {
@@ -111,5 +110,13 @@ impl PlainTransfers {
             }
         }
         Ok(lines)
+    }
+}
+
+/// Whether a moment is in a period, which has its first moment, and not its last where it ends.
+fn is_within(stamp: i64, period: (Moment, Option<Moment>)) -> bool {
+    match period.1 {
+        Some(end) => period.0.0 <= stamp && stamp < end.0,
+        None => period.0.0 <= stamp,
     }
 }

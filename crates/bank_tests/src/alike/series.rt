@@ -2,22 +2,27 @@
 
 use std::alloc::{AllocError, Global};
 
-/// A recurring transfer: its id, the day of its next transfer, how many days lie between two, how many it makes, how many
-/// it has made, and whether it is cancelled.
+/// A recurring transfer: its id, its first day, the day of its next transfer, how many days lie between two, how many it
+/// makes where it ends, how many it has made, and whether it is cancelled.
 #[derive(Clone, Copy)]
 pub struct PlainSeries {
     pub id: u64,
+    pub first: i32,
     pub next: i32,
     pub step: i32,
-    pub count: u32,
+    pub count: Option<u32>,
     pub place: u32,
     pub cancelled: bool,
 }
 
 impl PlainSeries {
     /// Whether it makes its next transfer by a last day.
-    fn makes_by(&self, last: i32) -> bool {
-        !self.cancelled && self.place < self.count && self.next <= last
+    pub fn makes_by(&self, last: i32) -> bool {
+        let goes_on = match self.count {
+            Some(count) => self.place < count,
+            None => true,
+        };
+        goes_on && !self.cancelled && self.next <= last
     }
 
     /// Whether it makes its next transfer before another does.

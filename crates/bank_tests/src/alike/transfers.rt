@@ -11,12 +11,16 @@ use ofx_types::{AcctKind, AcctName, Cents, Day, Moment, Text, TransferRow, XferC
 use std::alloc::Global;
 use std::test::Fail;
 
-/// The numbers and kinds of the accounts, of which two have one number.
-const ACCOUNTS: [(&str, AcctKind); 4] = [
-    ("1001", AcctKind::Checking),
-    ("1001", AcctKind::Savings),
-    ("1002", AcctKind::Checking),
-    ("1003", AcctKind::Savings),
+/// The banks, numbers and kinds of the accounts. The first four have transfers, two of them one number. The others have none:
+/// two that share a number with one of the four, and one with a number of its own.
+const ACCOUNTS: [(&str, &str, AcctKind); 7] = [
+    ("121099999", "1001", AcctKind::Checking),
+    ("121099999", "1001", AcctKind::Savings),
+    ("121099999", "1002", AcctKind::Checking),
+    ("121099999", "1003", AcctKind::Savings),
+    ("121099999", "1003", AcctKind::Checking),
+    ("121099998", "1002", AcctKind::Checking),
+    ("121099999", "1004", AcctKind::Checking),
 ];
 
 /// The codes of rows that are given to transfers.
@@ -28,10 +32,13 @@ const CODES: [XferCode; 5] = [
     XferCode::Cancelled,
 ];
 
+/// The call whose stamp is far behind all others.
+const FAR_CALL: u32 = 6_000;
+
 fn account(alloc: Global, place: u8) -> Result<AcctName, Fail> {
-    let (number, kind) = ACCOUNTS[place as usize % 4];
+    let (bank, number, kind) = ACCOUNTS[place as usize % 7];
     Ok(AcctName {
-        bank: Text::new(alloc, b"121099999", 32)?,
+        bank: Text::new(alloc, bank.as_bytes(), 32)?,
         number: Text::new(alloc, number.as_bytes(), 32)?,
         kind,
     })
@@ -54,21 +61,41 @@ fn row(alloc: Global, plain: PlainRow) -> Result<TransferRow, Fail>
     })
 }
 
-/// A row of a new transfer, or of one that waits.
-fn rolled(plain: &PlainTransfers, made: u64, stamp: i64, dice: &mut Dice) -> PlainRow {
-    let id = 1 + u64::from(dice.roll(100));
-    let from = dice.roll(4);
+/// A moment that rises with the calls, or goes back, or lies far ahead.
+fn stamp(call: u32, dice: &mut Dice) -> i64 {
+    if call == FAR_CALL {
+        return 4_000_000_000;
+    }
+    match dice.roll(30) {
+        0 => i64::from(dice.roll(200)),
+        _ => i64::from(call) + i64::from(dice.roll(20)),
+    }
+}
+
+/// The id of a transfer that may be changed: the one that is due first, or one of the last hundred.
+fn named(plain: &PlainTransfers, made: u64, dice: &mut Dice) -> u64 {
+    if dice.roll(4) == 0 {
+        if let Some(id) = plain.due_on(i32::MAX) {
+            return id;
+        }
+    }
+    made.saturating_sub(u64::from(dice.roll(100)))
+}
+
+/// A row of a new transfer, or of one that waits. Due days rise with the calls.
+fn rolled(plain: &PlainTransfers, made: u64, call: u32, dice: &mut Dice) -> PlainRow {
+    let id = named(plain, made, dice);
     let mut next = PlainRow {
         id: made.saturating_add(1),
         model: u64::from(dice.roll(5)),
-        from,
-        to: (from + 1 + dice.roll(3)) % 4,
+        from: dice.roll(4),
+        to: dice.roll(4),
         cents: dice.roll(200),
-        due: i32::from(dice.roll(50)),
+        due: i32::from(dice.roll(50)) + i32::from((call / 40 % 250) as u8),
         code: CODES[dice.roll(5) as usize],
-        stamp,
+        stamp: stamp(call, dice),
     };
-    match plain.get(made.saturating_sub(id)) {
+    match plain.get(id) {
         Some(before) if before.code == XferCode::Waiting => {
             next.id = before.id;
             next.model = before.model;
@@ -78,7 +105,33 @@ fn rolled(plain: &PlainTransfers, made: u64, stamp: i64, dice: &mut Dice) -> Pla
     }
 }
 
-/// Whether both answer the same of an id, a day, a recurring transfer, and an account's period.
+/// A period, also an empty one or one without an end.
+fn period(dice: &mut Dice) -> (Moment, Option<Moment>) {
+    let start = i64::from(dice.roll(200)) * 50;
+    let end = start + i64::from(dice.roll(220)) - 20;
+    match dice.roll(4) {
+        0 => (Moment(start), None),
+        _ => (Moment(start), Some(Moment(end))),
+    }
+}
+
+/// Whether both have the same row for an id, or none.
+fn has_same(transfers: &Transfers, plain: &PlainTransfers, id: u64) -> bool {
+    match (transfers.get(id), plain.get(id)) {
+        (Some(row), Some(known)) => {
+            row.id == id
+                && row.model == known.model
+                && row.amount.0 == i64::from(known.cents)
+                && row.due.0 == known.due
+                && row.code == known.code
+                && row.stamp.0 == known.stamp
+        }
+        (None, None) => true,
+        _ => false,
+    }
+}
+
+/// Whether both answer the same of an id and any other, a day, a recurring transfer, and an account's period.
 fn alike(
     alloc: Global,
     transfers: &Transfers,
@@ -86,30 +139,22 @@ fn alike(
     id: u64,
     dice: &mut Dice,
 ) -> Result<bool, Fail> {
-    let found = match transfers.get(id) {
-        Some(row) => Some((row.code, row.stamp.0)),
-        None => None,
-    };
-    let known = match plain.get(id) {
-        Some(row) => Some((row.code, row.stamp)),
-        None => None,
-    };
-    let day = i32::from(dice.roll(60));
-    let model = u64::from(dice.roll(5));
-    let place = dice.roll(4);
-    let start = i64::from(dice.roll(200)) * 50;
-    let end = start + i64::from(dice.roll(200));
-    let period = (Moment(start), Some(Moment(end)));
+    let other = u64::from(dice.roll(200)) * 50 + u64::from(dice.roll(50));
+    let day = i32::from(dice.roll(150)) * 2;
+    let model = u64::from(dice.roll(6));
+    let place = dice.roll(7);
+    let period = period(dice);
     let lines = transfers.posted(alloc, &account(alloc, place)?, period)?;
     let mut told = Vec::new(alloc);
     for line in lines.items() {
         told.push((line.number, line.amount.0))?;
     }
     Ok(
-        found == known
+        has_same(transfers, plain, id)
+            && has_same(transfers, plain, other)
             && transfers.due_on(Day(day)) == plain.due_on(day)
             && transfers.waiting(alloc, model)? == plain.waiting(alloc, model)?
-            && told == plain.posted(alloc, place, start, end)?,
+            && told == plain.posted(alloc, place, period)?,
     )
 }
 
@@ -121,9 +166,8 @@ fn transfers_are_those_of_lists(rt: HostRuntime) -> Result<(), Fail> {
     let mut dice = Dice::new();
     let mut made = 0u64;
     for call in 0..CALLS {
+        let next = rolled(&plain, made, call, &mut dice);
         let number = u64::from(call) + 1;
-        let stamp = i64::from(call) + i64::from(dice.roll(20));
-        let next = rolled(&plain, made, stamp, &mut dice);
         made = made.max(next.id);
         transfers.reserve(1)?;
         transfers.put(number, row(alloc, next)?);
