@@ -1,12 +1,13 @@
 """Help, the version, and words that have no form."""
 from operated.case import AT, case, wants
 
-COMMANDS = ("answer", "check", "due", "mail", "serve")
+COMMANDS = ("answer", "check", "due", "mail", "rehearse", "serve")
 
 
 def form_of(command):
     return {"answer": "answer SETUP RECORDS [--at DATE]", "check": "check SETUP [RECORDS]", "due": "due SETUP RECORDS",
-            "mail": "mail SETUP RECORDS USER SUBJECT", "serve": "serve SETUP RECORDS PORT WORKERS CONNECTIONS"}[command]
+            "mail": "mail SETUP RECORDS USER SUBJECT", "rehearse": "rehearse SEED",
+            "serve": "serve SETUP RECORDS PORT WORKERS CONNECTIONS"}[command]
 
 
 @case
@@ -79,6 +80,9 @@ def bad_words(place):
             (["mail", "setup", "-", "bob"], "SUBJECT is missing"),
             (["mail", "setup", "-", "bob", "s" * 65], "SUBJECT is '%s', which has not 1 to 64 bytes" % ("s" * 65)),
             (["mail", "setup", "-", "bob", "Hi", "x"], "'x' is one word too many"),
+            (["rehearse"], "SEED is missing"),
+            (["rehearse", "07"], "SEED is '07'; it is a number from 0 to 18446744073709551615"),
+            (["rehearse", "7", "8"], "'8' is one word too many"),
             (["serve", "setup", "-", "80", "1"], "CONNECTIONS is missing"),
             (["serve", "setup", "-", "x", "1", "0"], "PORT is 'x'; PORT is a number from 1 to 65535, WORKERS from 1 to 64, "
                                                      "CONNECTIONS from 0 to 4294967295"),

@@ -6,6 +6,7 @@ behind which nothing could make the record one of an event any more: which deed 
 stands before.
 """
 from datetime import date, timedelta
+from functools import lru_cache
 
 from .events import File, Letter, Post, Spawn
 from .header import Header, is_uid
@@ -119,6 +120,7 @@ def is_text(value):
     return trimmed(value) == value and not FORBIDDEN.search(value)
 
 
+@lru_cache(maxsize=4096)
 def read_record(record):
     """The event that a record codes, and its moment."""
     fields = Fields(record)

@@ -26,6 +26,8 @@ pub enum Mistake<'a> {
     NoSubject(&'a str),
     /// The word of the first name is no number in form.
     NoNumber(&'static str, &'a str),
+    /// This is no seed of a rehearsal.
+    NoSeed(&'a str),
     /// A word of this number, from 1, can't be taken.
     NoText(usize),
     /// A word isn't UTF-8.
@@ -56,6 +58,10 @@ impl fmt::Display for Mistake<'_> {
                 f,
                 "{name} is '{word}'; PORT is a number from 1 to 65535, WORKERS from 1 to 64, CONNECTIONS from 0 to 4294967295"
             ),
+            Mistake::NoSeed(word) => write!(
+                f,
+                "SEED is '{word}'; it is a number from 0 to 18446744073709551615"
+            ),
             Mistake::NoText(number) => write!(
                 f,
                 "word {number} has a byte that no word may have, or is empty, or has more than 10000 bytes"
@@ -82,6 +88,9 @@ pub fn mistake_in(words: &[Text]) -> (Topic, Mistake<'_>) {
 
 /// What is wrong with the words of a command.
 fn mistake_of(topic: Topic, words: &[Text]) -> Mistake<'_> {
+    if topic == Topic::Rehearse {
+        return seed_mistake(words);
+    }
     let setup = text_at(words, 1);
     if !is_path(setup) {
         return Mistake::NoPath("SETUP", setup);
@@ -105,7 +114,18 @@ fn mistake_behind(topic: Topic, words: &[Text]) -> Mistake<'_> {
         Topic::Mail => Mistake::TooMany(text_at(words, 5)),
         Topic::Serve if words.len() == 6 => number_mistake(words),
         Topic::Serve => Mistake::TooMany(text_at(words, 6)),
-        Topic::Program | Topic::Due | Topic::Check => Mistake::TooMany(text_at(words, 3)),
+        Topic::Program | Topic::Due | Topic::Check | Topic::Rehearse => {
+            Mistake::TooMany(text_at(words, 3))
+        }
+    }
+}
+
+/// What is wrong with the words of `rehearse`.
+fn seed_mistake(words: &[Text]) -> Mistake<'_> {
+    match words.len() {
+        0 | 1 => Mistake::Missing("SEED"),
+        2 => Mistake::NoSeed(text_at(words, 1)),
+        _ => Mistake::TooMany(text_at(words, 2)),
     }
 }
 

@@ -11,6 +11,8 @@ pub const DUE_FORM: &str = "ofxbank due SETUP RECORDS";
 
 pub const MAIL_FORM: &str = "ofxbank mail SETUP RECORDS USER SUBJECT";
 
+pub const REHEARSE_FORM: &str = "ofxbank rehearse SEED";
+
 pub const SERVE_FORM: &str = "ofxbank serve SETUP RECORDS PORT WORKERS CONNECTIONS";
 
 pub const PROGRAM_FORMS: &str = "\
@@ -18,6 +20,7 @@ ofxbank answer SETUP RECORDS [--at DATE]
        ofxbank check SETUP [RECORDS]
        ofxbank due SETUP RECORDS
        ofxbank mail SETUP RECORDS USER SUBJECT
+       ofxbank rehearse SEED
        ofxbank serve SETUP RECORDS PORT WORKERS CONNECTIONS
        ofxbank help [COMMAND]";
 
@@ -32,7 +35,9 @@ mail writes a letter of the bank to a user; its body is the standard input.
 serve answers request files over HTTP, POST /ofx at 127.0.0.1, from as many
 connections at once as it has workers. Before each connection a worker does
 what is due. check reads a setup and records, writes nothing, and tells what it
-found.
+found. rehearse opens no file: it lets a small bank and its clients live through
+lost, repeated and reordered files, failed appends and restarts, and prints
+what came of them.
 
   SETUP      the file with the bank, its users and its accounts
   RECORDS    the file in which the bank is kept, or - to keep it in memory, for
@@ -47,6 +52,7 @@ found.
   CONNECTIONS
              how many connections each worker serves before it ends, up to
              4294967295; 0 is that many
+  SEED       what a rehearsal is drawn from, 0 to 18446744073709551615
   --at DATE  the moment of every frame, as a date of a file: YYYYMMDD or
              YYYYMMDDHHMMSS, perhaps with a zone, as 20240131120000[-5:EST];
              without it each frame has the moment that the clock shows
@@ -120,6 +126,21 @@ letter's body is the standard input, of 1 to 10000 bytes.
 Status: 0 done, 2 usage, 3 setup, 4 the body, 5 read failed, 6 write failed,
 7 no memory, 8 records failed, 9 a record is none of this bank, 10 no user or
 no number left.
+";
+
+pub const REHEARSE: &str = "\
+
+Lets a bank of four accounts and three clients live through 2000 steps that are
+drawn from the seed, an hour between each and the next: files are made, lost,
+repeated and reordered, appends of records fail, with their record or without
+it, and the server and the clients start anew. It opens no file and reads no
+input. Six lines tell what came of it: the seed, files made, events, entries,
+the sum of all balances, which is always 4000.00, and stores marked lost.
+
+  SEED       0 to 18446744073709551615
+
+Status: 0 done, 2 usage, 5 the system has no random bytes, 6 write failed,
+7 no memory.
 ";
 
 pub const SERVE: &str = "\

@@ -16,6 +16,8 @@ pub enum Topic {
     Due,
     /// `mail`
     Mail,
+    /// `rehearse`
+    Rehearse,
     /// `serve`
     Serve,
 }
@@ -28,6 +30,7 @@ impl Topic {
             "check" => Some(Topic::Check),
             "due" => Some(Topic::Due),
             "mail" => Some(Topic::Mail),
+            "rehearse" => Some(Topic::Rehearse),
             "serve" => Some(Topic::Serve),
             _ => None,
         }
@@ -41,6 +44,7 @@ impl Topic {
             Topic::Check => texts::CHECK_FORM,
             Topic::Due => texts::DUE_FORM,
             Topic::Mail => texts::MAIL_FORM,
+            Topic::Rehearse => texts::REHEARSE_FORM,
             Topic::Serve => texts::SERVE_FORM,
         }
     }
@@ -53,6 +57,7 @@ impl Topic {
             Topic::Check => texts::CHECK,
             Topic::Due => texts::DUE,
             Topic::Mail => texts::MAIL,
+            Topic::Rehearse => texts::REHEARSE,
             Topic::Serve => texts::SERVE,
         }
     }
@@ -65,6 +70,7 @@ impl Topic {
             Topic::Check => "ofxbank check --help",
             Topic::Due => "ofxbank due --help",
             Topic::Mail => "ofxbank mail --help",
+            Topic::Rehearse => "ofxbank rehearse --help",
             Topic::Serve => "ofxbank serve --help",
         }
     }
@@ -76,6 +82,7 @@ impl Topic {
             Topic::Answer | Topic::Due => &["SETUP", "RECORDS"],
             Topic::Check => &["SETUP"],
             Topic::Mail => &["SETUP", "RECORDS", "USER", "SUBJECT"],
+            Topic::Rehearse => &["SEED"],
             Topic::Serve => &["SETUP", "RECORDS", "PORT", "WORKERS", "CONNECTIONS"],
         }
     }

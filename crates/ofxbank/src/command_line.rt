@@ -1,5 +1,6 @@
 //! The words of the command line.
 
+use bank_commands::seed_of;
 use bank_server::plan_of;
 use bank_session::command_of;
 use command_help::{
@@ -60,6 +61,9 @@ pub fn read_words<R: Env + AllocGlobal>(rt: &R) -> Request {
 fn asked(words: Vec<Text>) -> Request {
     if is_help(text_at(&words, 0)) {
         return help_of(words);
+    }
+    if seed_of(&words).is_some() {
+        return Request::Run(words);
     }
     if has_paths(&words) {
         if is_check(&words) {

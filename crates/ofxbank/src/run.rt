@@ -9,9 +9,10 @@ use crate::serve::served;
 use crate::setup_file::SetupFile;
 use crate::told::{plain, tell};
 use crate::why::{tell_open_files, tell_why};
+use bank_commands::{bank_told, seed_of};
 use bank_server::plan_of;
-use bank_session::{answer_told, end_told};
-use ofx_ports::{Keeper, MemKeeper, ReaderSource, SystemClock, WriterSink};
+use bank_session::end_told;
+use ofx_ports::{Keeper, MemKeeper, MemSource, ReaderSource, Source, SystemClock, WriterSink};
 use ofx_types::{Text, Told};
 use record_files::Cause;
 use sqlite_keeper::SqliteKeeper;
@@ -25,6 +26,9 @@ use std::thread::Threads;
 /// Files are opened only here, since opening may wait, and may make the file of the records. The threads of a server are those of
 /// `threads`.
 pub fn run<R: Threads + Wait + Sync>(threads: &R, rt: &HostRuntime, words: &[Text]) -> u8 {
+    if seed_of(words).is_some() {
+        return tell(rt, rehearsed(*rt, words));
+    }
     let Ok(setup) = SetupFile::read(rt, words) else {
         return tell(rt, plain(7));
     };
@@ -80,22 +84,42 @@ fn over_disk(rt: HostRuntime, words: &[Text], setup: &SetupFile, path: &str) -> 
     }
 }
 
-/// The end of a run over the setup that was read, the standard input and the standard output. The keys of hashes are the
-/// system's random bytes; where it has none to read, the run ends as where a read failed.
+/// The end of a rehearsal, which opens no file.
+fn rehearsed(rt: HostRuntime, words: &[Text]) -> Told {
+    match MemSource::new(rt.alloc(), b"") {
+        Ok(mut setup) => told_over(rt, words, &mut setup, &mut MemKeeper::new(rt.alloc())),
+        Err(_) => plain(7),
+    }
+}
+
+/// The end of a run over the setup that was read.
 fn run_over<K: Keeper>(rt: HostRuntime, words: &[Text], setup: &SetupFile, keeper: &mut K) -> Told
+    requires { K.unsettled keeper.old ≡ false }
+{
+    match setup.source(rt.alloc()) {
+        Ok(mut setup) => told_over(rt, words, &mut setup, keeper),
+        Err(_) => plain(7),
+    }
+}
+
+/// The end of a run over a setup, the standard input and the standard output. The keys of hashes are the system's random
+/// bytes; where it has none to read, the run ends as where a read failed.
+fn told_over<A: Source, K: Keeper>(
+    rt: HostRuntime,
+    words: &[Text],
+    setup: &mut A,
+    keeper: &mut K,
+) -> Told
     requires { K.unsettled keeper.old ≡ false }
 {
     let Ok(keys) = RandomState::new(&rt) else {
         return plain(5);
     };
     let alloc = rt.alloc();
-    let Ok(mut setup) = setup.source(alloc) else {
-        return plain(7);
-    };
     let mut input = ReaderSource::new(rt.stdin());
     let mut out = WriterSink::new(io::writer(&rt));
     let mut clock = SystemClock::new(rt);
-    answer_told(
-        alloc, keys, words, &mut setup, &mut input, &mut out, keeper, &mut clock,
+    bank_told(
+        alloc, keys, words, setup, &mut input, &mut out, keeper, &mut clock,
     )
 }

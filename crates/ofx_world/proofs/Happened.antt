@@ -1,0 +1,321 @@
+-- An event that happens leaves a world sound, and so does the reply that it gives.
+use Rattle.std.proofs.Common.{◌≡◌, not, ℕ, ◌+◌, ◌<◌, Bool, true, false, eqb, List, [], ◌∷◌, ◌++◌, slice_get, Option, None, Some, refl, sym, ap, subst, ◌∙◌, arith}
+use Rattle.std.specs.List.{All}
+use Rattle.std.specs.Option.{IfSome}
+use Rattle.std.specs.Str.{bytes_eq}
+use Rattle.std.proofs.lemmas.Bool.{and_parts}
+use Rattle.std.proofs.lemmas.List.{append-nil, append_assoc}
+use Rattle.std.proofs.lemmas.List.Elements.{All-push, All-weaker, All-filter, recursion_from_All}
+use Rattle.ofx_types.specs.FileForm.{SpellsReply}
+use Rattle.ofx_types.specs.declared.number.Moment.{Moment}
+use Rattle.ofx_types.specs.declared.number.UserId.{UserId}
+use Rattle.ofx_types.specs.declared.reply.ReplyFile.{ReplyFile}
+use Rattle.ofx_types.specs.declared.request.RequestFile.{RequestFile}
+use Rattle.bank_laws.specs.Histories.{IsLater}
+use Rattle.bank_model.specs.Once.{is_named, reply_kept}
+use Rattle.bank_model.specs.Rules.{opening_state, raised, ask_answers, release, keep, kept_for, state_after, answer_to, reply_file}
+use Rattle.bank_model.specs.SetupLookups.{user_of}
+use Rattle.bank_model.specs.declared.event.Event.{Event}
+use Rattle.bank_model.specs.declared.event.Event.TheVariants.{File, Post, Spawn, Letter}
+use Rattle.bank_model.specs.declared.event.State.{State}
+use Rattle.bank_model.specs.declared.once.KeptReply.{KeptReply}
+use Rattle.bank_model.specs.declared.setup.Setup.{Setup}
+use Rattle.bank_rules.specs.Standing.{IsSoundState}
+use Rattle.client_core.specs.Making.{file_name}
+use Rattle.client_laws.specs.Answers.{bank_reply}
+use Rattle.client_saved.specs.declared.state.Outstanding.{Outstanding}
+use Rattle.event_codec.specs.Coding.{coded}
+use Rattle.ofx_world.specs.Customer.{CustomerView, with_pass}
+use Rattle.ofx_world.specs.Laws.{Laws}
+use Rattle.ofx_world.specs.Server.{happened}
+use Rattle.ofx_world.specs.Sound.{IsGiven, IsNumbered, IsEarlier, MayHappen, IsLast, IsSoundCustomer, IsSoundKept, IsKnownReply, IsTheKeptOne, HasKeptReply, IsAnswered, HasAnswer, IsSoundWorld}
+use Rattle.ofx_world.specs.Truths.{IsAtItsPlace, Bears, HasRightStores}
+use Rattle.ofx_world.specs.World.{WorldView, with_server, with_reply}
+use Rattle.ofx_world.proofs.Keeping.{place_stays}
+use Rattle.ofx_world.proofs.KeptReplies.{kept_for-raised, kept_anew, entries_anew, release_other, keep_other, keep_behind, found_kept}
+use Rattle.ofx_world.proofs.Lists.{at_all, all_on, same_some}
+use Rattle.ofx_world.proofs.Names.{one_client}
+use Rattle.ofx_world.proofs.Objects.{bytes_are}
+
+-- an option that is there or isn't
+either_way : {X P : Type 0} (found : Option X) → ((x : X) → found ≡ Some x → P) → (found ≡ None → P) → P
+either_way None there none = none refl
+either_way (Some x) there none = there x refl
+
+later_on : (S T U : State) → IsLater S T → IsLater T U → IsLater S U
+later_on S T U first second = (first.0 ++ second.0, second.1 ∙ ap (λ entries. entries ++ second.0) first.1 ∙ append_assoc S.entries first.0 second.0)
+
+-- What a file of a client brings about, in a sound world.
+module _ (laws : Laws) (world : WorldView) (sound : IsSoundWorld world) (at : Moment) (user : UserId) (file : RequestFile) (may : MayHappen world.server.setup world.server.state world.customers at (File user file)) where
+  abbrev setup : Setup
+  setup = world.server.setup
+
+  abbrev S : State
+  S = world.server.state
+
+  abbrev after : State
+  after = state_after setup S at (File user file)
+
+  abbrev answer : List ℕ
+  answer = answer_to setup S at (File user file)
+
+  abbrev name : List ℕ
+  name = may.sent.is_of.name
+
+  standing : IsSoundState setup S
+  standing =
+      let run = laws.records.runs setup world.server.records S sound.reopened in
+      subst (IsSoundState setup) (sym run.leaves) (laws.records.sound setup run.run sound.within run.legal).sound
+
+  given : IsGiven world.customers name
+  given = record {
+    place = may.sent.place;
+    customer = may.sent.customer;
+    there = may.sent.there;
+    number = may.sent.is_of.number;
+    numbered = may.sent.is_of.numbered;
+  }
+
+  -- ---- the answer
+
+  answered_anew : kept_for S user file.newer ≡ None → SpellsReply answer (bank_reply setup S user at file)
+  answered_anew none =
+      subst (λ (bytes : List ℕ). SpellsReply bytes (bank_reply setup S user at file))
+      (sym (laws.replies.new setup S user at file (kept_for-raised S user at file.newer ∙ none)))
+      (laws.replies.reads_back setup S user at file sound.within standing sound.tellable may.codes.moment may.legal.0 may.legal.1)
+
+  bears_anew : kept_for S user file.newer ≡ None → Bears name answer
+  unfolding reply_file
+  bears_anew none = (bank_reply setup S user at file, answered_anew none, may.sent.is_of.newer)
+
+  kept_by_name : (bytes : List ℕ) → kept_for S user file.newer ≡ Some bytes → reply_kept user name S.kept ≡ Some bytes
+  kept_by_name bytes kept = sym (ap (kept_for S user) may.sent.is_of.newer) ∙ kept
+
+  pub answer_bears : Bears name answer
+  answer_bears = either_way (kept_for S user file.newer)
+      (λ bytes kept.
+      let found = found_kept (IsSoundKept world.customers) user name bytes S.kept (recursion_from_All (IsSoundKept world.customers) S.kept sound.recorded) (kept_by_name bytes kept) in
+      subst (λ (b : List ℕ). Bears name b) (found.bytes_are ∙ sym (laws.replies.again setup S user at file bytes kept))
+      (subst (λ (n : List ℕ). Bears n found.reply.reply) found.file found.holds.bears))
+      bears_anew
+
+  -- ---- what is kept
+
+  pub recorded_after : All (IsSoundKept world.customers) after.kept
+  recorded_after = either_way (kept_for S user file.newer)
+      (λ bytes kept. subst (λ (T : State). All (IsSoundKept world.customers) T.kept) (sym (laws.replies.again_leaves setup S user at file bytes kept)) sound.recorded)
+      (λ none. subst (All (IsSoundKept world.customers)) (sym (kept_anew setup S user at file none)) (recorded_anew none file.older file.newer may.sent.is_of.newer))
+    where
+      rest_of : (older : Option (List ℕ)) → All (IsSoundKept world.customers) (release user older S.kept)
+      rest_of None = sound.recorded
+      rest_of (Some older) = All-filter (λ (reply : KeptReply). not (is_named user older reply)) (IsSoundKept world.customers) S.kept sound.recorded
+
+      recorded_anew : kept_for S user file.newer ≡ None → (older newer : Option (List ℕ)) → newer ≡ Some name → All (IsSoundKept world.customers) (keep user newer answer (release user older S.kept))
+      recorded_anew none older newer is =
+          subst (λ (n : Option (List ℕ)). All (IsSoundKept world.customers) (keep user n answer (release user older S.kept))) (sym is)
+          (All-push (IsSoundKept world.customers) (release user older S.kept) (record { user = user; file = name; reply = answer }) (rest_of older) (record { bears = bears_anew none; given = given }))
+
+  -- ---- what is kept for a client's outstanding file
+
+  module _ (place : ℕ) (customer : CustomerView) (there : slice_get world.customers place ≡ Some customer) (kept : Outstanding) (own : List ℕ) (owner : UserId) (outstanding : customer.client.outstanding ≡ Some kept) (is_own : kept.file.newer ≡ Some own) (is_owner : user_of setup customer.client.user ≡ Some owner) where
+    last : IsLast customer.client kept
+    last = subst (λ (o : Option Outstanding). IfSome o (IsLast customer.client)) outstanding (at_all (IsSoundCustomer setup) world.customers place customer sound.customers there).outstanding
+
+    own_is : own ≡ file_name customer.client.name last.number
+    own_is = same_some own _ (sym is_own ∙ last.name)
+
+    own_number : IsNumbered customer.client last.number own
+    own_number = let next = last.last in (omega (arith, next), own_is)
+
+    -- No file releases it: whatever a file names as answered is earlier.
+    unreleased : (older : Option (List ℕ)) → IfSome older (IsEarlier may.sent.customer.client may.sent.is_of.number) → IfSome older (λ (o : List ℕ). o ≡ own → ⊥)
+    unreleased None earlier = tt
+    unreleased (Some older) earlier = λ same.
+        let below = may.sent.is_of.numbered.0 in
+        let number : IsNumbered may.sent.customer.client earlier.0 own = (omega (arith, below, earlier.1), sym same ∙ earlier.2) in
+        let one = one_client setup world.customers place may.sent.place customer may.sent.customer last.number earlier.0 own sound.customers sound.names there may.sent.there own_number number in
+        let most : may.sent.is_of.number < customer.client.next = subst (λ (c : CustomerView). may.sent.is_of.number < c.client.next) (sym one.1) below in
+        let next = last.last in
+        let same_number = one.2 in
+        let before = earlier.1 in
+        absurd (omega (arith, most, next, same_number, before))
+
+    apart : IfSome file.older (λ (o : List ℕ). o ≡ own → ⊥)
+    apart = unreleased file.older may.sent.is_of.older
+
+    pub stays_kept : (reply : List ℕ) → reply_kept owner own S.kept ≡ Some reply → reply_kept owner own after.kept ≡ Some reply
+    stays_kept reply found = either_way (kept_for S user file.newer)
+        (λ bytes again. ap (λ (T : State). reply_kept owner own T.kept) (laws.replies.again_leaves setup S user at file bytes again) ∙ found)
+        (λ none. ap (reply_kept owner own) (kept_anew setup S user at file none)
+        ∙ keep_behind owner user own file.newer answer reply (release user file.older S.kept) (release_other owner user own file.older S.kept apart ∙ found))
+
+    -- The file is this one, where it has its name.
+    same_file : name ≡ own → (file ≡ with_pass setup kept.file) × (user ≡ owner)
+    same_file same =
+        let number : IsNumbered may.sent.customer.client may.sent.is_of.number own = (may.sent.is_of.numbered.0, sym same ∙ may.sent.is_of.numbered.1) in
+        let one = one_client setup world.customers place may.sent.place customer may.sent.customer last.number may.sent.is_of.number own sound.customers sound.names there may.sent.there own_number number in (
+          may.sent.is_of.same kept (ap (λ (c : CustomerView). c.client.outstanding) (sym one.1) ∙ outstanding) (is_own ∙ ap (λ (n : List ℕ). Some n) (sym same)),
+          same_some user owner (sym may.sent.acts ∙ ap (λ (c : CustomerView). user_of setup c.client.user) (sym one.1) ∙ is_owner),
+        )
+
+    -- It is answered in this state.
+    answered_now : kept_for S user file.newer ≡ None → name ≡ own → (reply : List ℕ) → reply_kept owner own after.kept ≡ Some reply → IsAnswered setup after customer kept owner reply
+    unfolding reply_file
+    answered_now none same reply found =
+        let is = same_file same in
+        let bytes : reply ≡ answer = same_some reply answer (sym found ∙ sym (ap (λ (u : UserId). reply_kept u own after.kept) is.1) ∙ sym (ap (λ (n : List ℕ). reply_kept user n after.kept) same) ∙ laws.replies.kept setup S user at file name may.sent.is_of.newer) in
+        record {
+          before = S;
+          at = at;
+          order = sound.tellable.order;
+          stores = at_all (HasRightStores setup S.entries) world.customers place customer sound.stores there;
+          spells = subst (λ (b : List ℕ). SpellsReply b (bank_reply setup S owner at kept.file)) (sym bytes)
+              (subst (λ (f : RequestFile). SpellsReply answer (bank_reply setup S owner at f)) is.0
+              (subst (λ (u : UserId). SpellsReply answer (bank_reply setup S u at file)) is.1 (answered_anew none)));
+          later = (
+            [],
+            entries_anew setup S user at file none
+                ∙ ap (λ (u : UserId). (ask_answers setup (raised S at) u at file.asks).after.entries) is.1
+                ∙ ap (λ (f : RequestFile). (ask_answers setup (raised S at) owner at f.asks).after.entries) is.0
+                ∙ sym (append-nil _),
+          );
+        }
+
+    answered_on : (T : State) → IsLater S T → (reply : List ℕ) → reply_kept owner own S.kept ≡ Some reply → IsAnswered setup T customer kept owner reply
+    answered_on T later reply found =
+        let answered = at_all (HasAnswer setup S) world.customers place customer sound.answered there kept own owner outstanding is_own is_owner reply found in
+        record {
+          before = answered.before;
+          at = answered.at;
+          order = answered.order;
+          stores = answered.stores;
+          spells = answered.spells;
+          later = later_on (ask_answers setup (raised answered.before answered.at) owner answered.at kept.file.asks).after S T answered.later later;
+        }
+
+    pub answered_after : (reply : List ℕ) → reply_kept owner own after.kept ≡ Some reply → IsAnswered setup after customer kept owner reply
+    answered_after reply found = either_way (kept_for S user file.newer)
+        (λ bytes again. answered_on after (laws.histories.event_grows setup S at (File user file)) reply
+        (sym (ap (λ (T : State). reply_kept owner own T.kept) (laws.replies.again_leaves setup S user at file bytes again)) ∙ found))
+        (λ none. by_name none (is_named owner own (record { user = user; file = name; reply = answer })) refl)
+      where
+        by_name : kept_for S user file.newer ≡ None → (b : Bool) → is_named owner own (record { user = user; file = name; reply = answer }) ≡ b → IsAnswered setup after customer kept owner reply
+        by_name none true here = answered_now none (bytes_are name own (and_parts (eqb user.0 owner.0) (bytes_eq name own) here).1) reply found
+        by_name none false other = answered_on after (laws.histories.event_grows setup S at (File user file)) reply
+            (sym (release_other owner user own file.older S.kept apart) ∙ sym (keep_other owner user own name answer (release user file.older S.kept) other)
+            ∙ sym (ap (λ (n : Option (List ℕ)). reply_kept owner own (keep user n answer (release user file.older S.kept))) may.sent.is_of.newer)
+            ∙ sym (ap (reply_kept owner own) (kept_anew setup S user at file none)) ∙ found)
+
+    -- The reply that is given to it is the kept one.
+    pub given_is_kept : Bears own answer → reply_kept owner own after.kept ≡ Some answer
+    given_is_kept bears =
+        let same : name ≡ own = same_some name own (sym answer_bears.2 ∙ ap (λ (r : ReplyFile). r.newer) (laws.replies.one_reply answer answer_bears.0 bears.0 answer_bears.1 bears.1) ∙ bears.2) in
+        ap (λ (u : UserId). reply_kept u own after.kept) (sym (same_file same).1) ∙ ap (λ (n : List ℕ). reply_kept user n after.kept) (sym same)
+        ∙ laws.replies.kept setup S user at file name may.sent.is_of.newer
+
+-- ---- any event
+
+module _ (laws : Laws) (world : WorldView) (sound : IsSoundWorld world) (at : Moment) where
+  abbrev then_state : Event → State
+  then_state event = state_after world.server.setup world.server.state at event
+
+  recorded_then : (event : Event) → MayHappen world.server.setup world.server.state world.customers at event → All (IsSoundKept world.customers) (then_state event).kept
+  recorded_then (File user file) may = recorded_after laws world sound at user file may
+  recorded_then (Post id) may = sound.recorded
+  recorded_then (Spawn model place) may = sound.recorded
+  recorded_then (Letter user subject body) may = sound.recorded
+
+  kept_then : (event : Event) → MayHappen world.server.setup world.server.state world.customers at event → All (HasKeptReply world.server.setup (then_state event) world.replies) world.customers
+  kept_then (File user file) may = all_on (HasKeptReply world.server.setup world.server.state world.replies) (HasKeptReply world.server.setup (then_state (File user file)) world.replies) world.customers
+      (λ k customer there has kept own owner outstanding is_own is_owner i d below bears.
+      stays_kept laws world sound at user file may k customer there kept own owner outstanding is_own is_owner _ (has kept own owner outstanding is_own is_owner i d below bears)) sound.kept
+  kept_then (Post id) may = sound.kept
+  kept_then (Spawn model place) may = sound.kept
+  kept_then (Letter user subject body) may = sound.kept
+
+  -- What the bank does by itself changes nothing of what is kept.
+  answered_alone : (T : State) → IsLater world.server.state T → T.kept ≡ world.server.state.kept → All (HasAnswer world.server.setup T) world.customers
+  answered_alone T later same = all_on (HasAnswer world.server.setup world.server.state) (HasAnswer world.server.setup T) world.customers
+      (λ k customer there has kept own owner outstanding is_own is_owner reply found.
+      let answered = has kept own owner outstanding is_own is_owner reply (sym (ap (reply_kept owner own) same) ∙ found) in
+      record {
+        before = answered.before;
+        at = answered.at;
+        order = answered.order;
+        stores = answered.stores;
+        spells = answered.spells;
+        later = later_on (ask_answers world.server.setup (raised answered.before answered.at) owner answered.at kept.file.asks).after world.server.state T answered.later later;
+      }) sound.answered
+
+  answered_then : (event : Event) → MayHappen world.server.setup world.server.state world.customers at event → All (HasAnswer world.server.setup (then_state event)) world.customers
+  answered_then (File user file) may = all_on (HasAnswer world.server.setup world.server.state) (HasAnswer world.server.setup (then_state (File user file))) world.customers
+      (λ k customer there has kept own owner outstanding is_own is_owner reply found.
+      answered_after laws world sound at user file may k customer there kept own owner outstanding is_own is_owner reply found) sound.answered
+  answered_then (Post id) may = answered_alone (then_state (Post id)) (laws.histories.event_grows world.server.setup world.server.state at (Post id)) refl
+  answered_then (Spawn model place) may = answered_alone (then_state (Spawn model place)) (laws.histories.event_grows world.server.setup world.server.state at (Spawn model place)) refl
+  answered_then (Letter user subject body) may = answered_alone (then_state (Letter user subject body)) (laws.histories.event_grows world.server.setup world.server.state at (Letter user subject body)) refl
+
+  -- An event that may happen leaves the world sound.
+  pub happened_keeps : (event : Event) → MayHappen world.server.setup world.server.state world.customers at event → IsSoundWorld (with_server world (happened world.server at event))
+  happened_keeps event may = record {
+    within = sound.within;
+    clock = sound.clock;
+    reopened = (laws.records.goes_on world.server.setup opening_state world.server.records (coded at event ∷ []) (then_state event)).1 (world.server.state, sound.reopened, (at, event, may.codes, may.legal, refl));
+    tellable = laws.records.told world.server.setup world.server.state at event sound.within sound.tellable may.codes.moment may.legal;
+    customers = sound.customers;
+    names = sound.names;
+    requests = sound.requests;
+    pending = tt;
+    told = All-weaker (IsAtItsPlace world.server.setup world.server.records) (IsAtItsPlace world.server.setup (world.server.records ++ coded at event ∷ [])) (λ reply place. place_stays world.server.setup world.server.records (coded at event ∷ []) reply place) world.replies sound.told;
+    named = sound.named;
+    recorded = recorded_then event may;
+    kept = kept_then event may;
+    answered = answered_then event may;
+    stores = All-weaker (HasRightStores world.server.setup world.server.state.entries) (HasRightStores world.server.setup (then_state event).entries)
+        (λ customer right user is_user k d below. laws.stores.later world.server.setup world.server.state (then_state event) user _ sound.tellable.order
+        (laws.histories.event world.server.setup world.server.state at event sound.tellable.order may.legal) (laws.histories.event_grows world.server.setup world.server.state at event) (right user is_user k d below)) world.customers sound.stores;
+  }
+
+  -- So does a file, together with the reply that it gets.
+  pub answered_keeps : (user : UserId) (file : RequestFile) → MayHappen world.server.setup world.server.state world.customers at (File user file)
+      → IsSoundWorld (with_reply (with_server world (happened world.server at (File user file))) (Some (answer_to world.server.setup world.server.state at (File user file))))
+  answered_keeps user file may =
+      let then_sound = happened_keeps (File user file) may in
+      let reply : List ℕ = answer_to world.server.setup world.server.state at (File user file) in
+      let bears = answer_bears laws world sound at user file may in
+      record {
+        within = then_sound.within;
+        clock = then_sound.clock;
+        reopened = then_sound.reopened;
+        tellable = then_sound.tellable;
+        customers = then_sound.customers;
+        names = then_sound.names;
+        requests = then_sound.requests;
+        pending = tt;
+        told = All-push (IsAtItsPlace world.server.setup (world.server.records ++ coded at (File user file) ∷ [])) world.replies reply then_sound.told (record {
+          earlier = world.server.records;
+          rec = coded at (File user file);
+          later = [];
+          parts = refl;
+          state = world.server.state;
+          stands = sound.reopened;
+          at = at;
+          user = user;
+          file = file;
+          codes = may.codes;
+          is_answer = refl;
+        });
+        named = All-push (IsKnownReply world.customers) world.replies reply sound.named (record {
+          is_reply = (bears.0, bears.1);
+          given = λ name has.
+              subst (IsGiven world.customers) (same_some _ name (sym bears.2 ∙ ap (λ (r : ReplyFile). r.newer) (laws.replies.one_reply reply bears.0 has.0 bears.1 has.1) ∙ has.2))
+              (given laws world sound at user file may);
+        });
+        recorded = then_sound.recorded;
+        kept = all_on (HasKeptReply world.server.setup (then_state (File user file)) world.replies) (HasKeptReply world.server.setup (then_state (File user file)) (world.replies ++ reply ∷ [])) world.customers
+            (λ k customer there has kept own owner outstanding is_own is_owner.
+            All-push (IsTheKeptOne (then_state (File user file)) owner own) world.replies reply (has kept own owner outstanding is_own is_owner)
+            (given_is_kept laws world sound at user file may k customer there kept own owner outstanding is_own is_owner)) then_sound.kept;
+        answered = then_sound.answered;
+        stores = then_sound.stores;
+      }

@@ -1,0 +1,156 @@
+-- What an event leaves of the replies that a bank keeps.
+use Rattle.std.proofs.Common.{◌≡◌, ℕ, Bool, true, false, cond, not, eqb, List, [], ◌∷◌, Option, None, Some, refl, sym, ap, subst, ◌∙◌}
+use Rattle.std.specs.List.{AllByRecursion, find}
+use Rattle.std.specs.Option.{IfSome, option_map, option_or}
+use Rattle.std.specs.Str.{bytes_eq}
+use Rattle.std.proofs.lemmas.Bool.{and_parts}
+use Rattle.std.proofs.lemmas.List.Folds.{find-append}
+use Rattle.ofx_types.specs.ReplyForm.{reply_text}
+use Rattle.ofx_types.specs.declared.number.AcctId.{AcctId}
+use Rattle.ofx_types.specs.declared.number.Moment.{Moment}
+use Rattle.ofx_types.specs.declared.number.ObjectId.{ObjectId}
+use Rattle.ofx_types.specs.declared.number.UserId.{UserId}
+use Rattle.ofx_types.specs.declared.request.Ask.{Ask}
+use Rattle.ofx_types.specs.declared.request.Ask.TheVariants as asks
+use Rattle.ofx_types.specs.declared.request.RequestFile.{RequestFile}
+use Rattle.ofx_types.specs.declared.sync.SyncAsk.{SyncAsk}
+use Rattle.ofx_types.specs.declared.transfer.Deed.{Deed}
+use Rattle.bank_model.specs.Deeds.{deed_answer}
+use Rattle.bank_model.specs.Objects.{account_about, object_named, newest}
+use Rattle.bank_model.specs.Once.{is_named, reply_kept}
+use Rattle.bank_model.specs.Sync.{rejection, deed_answers, deeds_or_rejection, sync_on, sync_answer}
+use Rattle.bank_model.specs.Rules.{Outcome, raised, ask_answer, ask_answers, release, keep, kept_for, new_outcome, outcome_or_kept, file_outcome, state_after, answer_to, reply_file}
+use Rattle.bank_model.specs.declared.event.Event.TheVariants.{File}
+use Rattle.bank_model.specs.declared.event.State.{State}
+use Rattle.bank_model.specs.declared.once.KeptReply.{KeptReply}
+use Rattle.bank_model.specs.declared.setup.Setup.{Setup}
+use Rattle.ofx_world.proofs.Lists.{same_some, none_some, find_filtered}
+use Rattle.ofx_world.proofs.Objects.{bytes_are}
+
+-- ---- asks keep no reply
+
+kept-deed : (setup : Setup) (S : State) (user : UserId) (only : Option AcctId) (at : Moment) (trnuid : List ℕ) (deed : Deed)
+    → (deed_answer setup S user only at trnuid deed).after.kept ≡ S.kept
+unfolding deed_answer
+kept-deed setup S user only at trnuid deed = refl
+
+kept-deeds : (setup : Setup) (S : State) (user : UserId) (only : Option AcctId) (at : Moment) (deeds : List (List ℕ × Deed))
+    → (deed_answers setup S user only at deeds).after.kept ≡ S.kept
+unfolding deed_answers
+kept-deeds setup S user only at [] = refl
+kept-deeds setup S user only at (deed ∷ more) =
+    kept-deeds setup (deed_answer setup S user only at deed.0 deed.1).after user only at more ∙ kept-deed setup S user only at deed.0 deed.1
+
+kept-unless : (setup : Setup) (S : State) (user : UserId) (at : Moment) (ask : SyncAsk) (code : Option ℕ)
+    → (deeds_or_rejection setup S user at ask code).after.kept ≡ S.kept
+unfolding deeds_or_rejection
+kept-unless setup S user at ask None = kept-deeds setup S user (account_about setup user ask.object) at ask.deeds
+kept-unless setup S user at ask (Some code) = refl
+
+kept-on : (setup : Setup) (S : State) (user : UserId) (at : Moment) (ask : SyncAsk) (found : Option ObjectId)
+    → (sync_on setup S user at ask found).after.kept ≡ S.kept
+unfolding sync_on
+kept-on setup S user at ask None = refl
+kept-on setup S user at ask (Some object) = kept-unless setup S user at ask (rejection ask.reject (newest object S.entries) ask.kind)
+
+kept-ask : (setup : Setup) (S : State) (user : UserId) (at : Moment) (ask : Ask) → (ask_answer setup S user at ask).after.kept ≡ S.kept
+unfolding ask_answer sync_answer
+kept-ask setup S user at (asks.Statement trnuid account period) = refl
+kept-ask setup S user at (asks.One trnuid deed) = kept-deed setup S user None at trnuid deed
+kept-ask setup S user at (asks.Sync ask) = kept-on setup S user at ask (object_named setup user ask.object)
+
+kept-asks : (setup : Setup) (S : State) (user : UserId) (at : Moment) (asks : List Ask) → (ask_answers setup S user at asks).after.kept ≡ S.kept
+unfolding ask_answers
+kept-asks setup S user at [] = refl
+kept-asks setup S user at (ask ∷ more) = kept-asks setup (ask_answer setup S user at ask).after user at more ∙ kept-ask setup S user at ask
+
+-- ---- a file that is answered anew
+
+pub kept_for-raised : (S : State) (user : UserId) (at : Moment) (newer : Option (List ℕ)) → kept_for (raised S at) user newer ≡ kept_for S user newer
+kept_for-raised S user at None = refl
+kept_for-raised S user at (Some newer) = refl
+
+module _ (setup : Setup) (S : State) (user : UserId) (at : Moment) (file : RequestFile) (none : kept_for S user file.newer ≡ None) where
+  anew : file_outcome setup (raised S at) user at file ≡ new_outcome setup (raised S at) user at file
+  unfolding file_outcome
+  anew = ap (outcome_or_kept setup (raised S at) user at file) (kept_for-raised S user at file.newer ∙ none)
+
+  -- The file that it names is released, and then it is kept itself.
+  pub kept_anew : (state_after setup S at (File user file)).kept
+      ≡ keep user file.newer (answer_to setup S at (File user file)) (release user file.older S.kept)
+  unfolding new_outcome
+  kept_anew = subst (λ (o : Outcome). o.after.kept ≡ keep user file.newer o.reply (release user file.older S.kept)) (sym anew)
+      (ap (λ (kept : List KeptReply). keep user file.newer (reply_text (reply_file at file (ask_answers setup (raised S at) user at file.asks).replies)) (release user file.older kept))
+      (kept-asks setup (raised S at) user at file.asks))
+
+  pub entries_anew : (state_after setup S at (File user file)).entries ≡ (ask_answers setup (raised S at) user at file.asks).after.entries
+  unfolding new_outcome
+  entries_anew = ap (λ (o : Outcome). o.after.entries) anew
+
+-- ---- what is kept for another file
+
+abbrev bytes_of : KeptReply → List ℕ
+bytes_of reply = reply.reply
+
+module _ (user other : UserId) (name : List ℕ) where
+  not_released : (older : List ℕ) → (older ≡ name → ⊥) → (reply : KeptReply) → is_named user name reply ≡ true → not (is_named other older reply) ≡ true
+  not_released older apart reply here = by_test (is_named other older reply) refl
+    where
+      by_test : (b : Bool) → is_named other older reply ≡ b → not b ≡ true
+      by_test false there = refl
+      by_test true there = absurd (apart (sym (bytes_are reply.file older (and_parts (eqb reply.user.0 other.0) (bytes_eq reply.file older) there).1)
+          ∙ bytes_are reply.file name (and_parts (eqb reply.user.0 user.0) (bytes_eq reply.file name) here).1))
+
+  -- Whoever releases another name leaves what is kept for this one.
+  pub release_other : (older : Option (List ℕ)) (kept : List KeptReply) → IfSome older (λ (o : List ℕ). o ≡ name → ⊥)
+      → reply_kept user name (release other older kept) ≡ reply_kept user name kept
+  release_other None kept apart = refl
+  release_other (Some older) kept apart =
+      ap (option_map bytes_of) (find_filtered (is_named user name) (λ (reply : KeptReply). not (is_named other older reply)) kept (not_released older apart))
+
+  or_none : (found : Option KeptReply) → option_or found None ≡ found
+  or_none None = refl
+  or_none (Some reply) = refl
+
+  -- So does whoever keeps another one.
+  pub keep_other : (newer reply : List ℕ) (kept : List KeptReply) → is_named user name (record { user = other; file = newer; reply = reply }) ≡ false
+      → reply_kept user name (keep other (Some newer) reply kept) ≡ reply_kept user name kept
+  keep_other newer reply kept apart =
+      let last : KeptReply = record { user = other; file = newer; reply = reply } in
+      ap (option_map bytes_of) (find-append (is_named user name) kept (last ∷ [])
+      ∙ ap (λ (b : Bool). option_or (find (is_named user name) kept) (cond b (Some last) None)) apart ∙ or_none (find (is_named user name) kept))
+
+  found_first : (found rest : Option KeptReply) (bytes : List ℕ) → option_map bytes_of found ≡ Some bytes → option_map bytes_of (option_or found rest) ≡ Some bytes
+  found_first None rest bytes found = cc
+  found_first (Some reply) rest bytes found = found
+
+  -- What is kept already is found first.
+  pub keep_behind : (newer : Option (List ℕ)) (reply bytes : List ℕ) (kept : List KeptReply) → reply_kept user name kept ≡ Some bytes
+      → reply_kept user name (keep other newer reply kept) ≡ Some bytes
+  keep_behind None reply bytes kept found = found
+  keep_behind (Some newer) reply bytes kept found =
+      ap (option_map bytes_of) (find-append (is_named user name) kept (record { user = other; file = newer; reply = reply } ∷ []))
+      ∙ found_first (find (is_named user name) kept) _ bytes found
+
+-- ---- which reply is found
+
+-- the kept reply that is found, with what holds of all
+pub record IsFound (P : KeptReply → Type 0) (name bytes : List ℕ) : Type 0 where
+  pub reply : KeptReply
+  pub holds : P reply
+  pub file : reply.file ≡ name
+  pub bytes_are : reply.reply ≡ bytes
+
+pub found_kept : (P : KeptReply → Type 0) (user : UserId) (name bytes : List ℕ) (kept : List KeptReply) → AllByRecursion P kept
+    → reply_kept user name kept ≡ Some bytes → IsFound P name bytes
+found_kept P user name bytes [] all found = absurd (none_some bytes found)
+found_kept P user name bytes (reply ∷ more) all found =
+    (elim (is_named user name reply) as (λ b. is_named user name reply ≡ b → option_map bytes_of (cond b (Some reply) (find (is_named user name) more)) ≡ Some bytes → IsFound P name bytes) [
+      | true ↦ (λ here is. record {
+        reply = reply;
+        holds = all.0;
+        file = bytes_are reply.file name (and_parts (eqb reply.user.0 user.0) (bytes_eq reply.file name) here).1;
+        bytes_are = same_some reply.reply bytes is;
+      })
+      | false ↦ (λ here is. found_kept P user name bytes more all.1 is)
+    ]) refl found

@@ -1,0 +1,136 @@
+-- A client that makes a file and sends it leaves a world sound.
+use Rattle.std.proofs.Common.{◌≡◌, ℕ, ◌+◌, List, slice_get, Option, None, Some, Result, Ok, Err, refl, sym, ap, subst, ◌∙◌, arith}
+use Rattle.std.specs.Option.{IfSome}
+use Rattle.std.proofs.lemmas.List.Elements.{All-from_recursion, recursion_from_All}
+use Rattle.ofx_types.specs.declared.number.Moment.{Moment}
+use Rattle.ofx_types.specs.declared.request.RequestFile.{RequestFile}
+use Rattle.bank_model.specs.Stores.{Store, IsRight}
+use Rattle.bank_model.specs.declared.setup.Setup.{Setup}
+use Rattle.client_core.specs.Making.{file_name, file_of, objects_of, with_file, made_for, made}
+use Rattle.client_core.specs.Objects.{with_stores}
+use Rattle.client_core.specs.Wishes.{errand_of}
+use Rattle.client_core.specs.declared.errand.Errand.{Errand}
+use Rattle.client_core.specs.declared.fault.ClientFault.{ClientFault}
+use Rattle.client_core.specs.declared.wish.Wish.{Wish}
+use Rattle.client_saved.specs.SavedText.{IsSavedText}
+use Rattle.client_saved.specs.declared.state.ClientState.{ClientState}
+use Rattle.client_saved.specs.declared.state.Outstanding.{Outstanding}
+use Rattle.ofx_world.specs.Customer.{CustomerView, Makes, sent}
+use Rattle.ofx_world.specs.Laws.{Laws}
+use Rattle.ofx_world.specs.Sound.{IsGiven, IsEarlier, IsOf, IsLast, IsSoundCustomer, IsSoundKept, IsSoundWorld}
+use Rattle.ofx_world.specs.Truths.{HasRightStores}
+use Rattle.ofx_world.specs.World.{WorldView, with_customer, with_request}
+use Rattle.ofx_world.proofs.AsksMade.{asks_known, asks_apart, right_with}
+use Rattle.ofx_world.proofs.Changed.{seen, Becomes, changed_keeps}
+use Rattle.ofx_world.proofs.KeptReplies.{found_kept}
+use Rattle.ofx_world.proofs.Lists.{same_some, at_all, got_new}
+use Rattle.ofx_world.proofs.Names.{new_name, new_number}
+use Rattle.ofx_world.proofs.Sent.{sent_again_keeps}
+
+earlier_on : (client : ClientState) (older : Option (List ℕ)) → IfSome older (IsEarlier client client.next) → IfSome older (IsEarlier client (client.next + 1))
+earlier_on client None is = tt
+earlier_on client (Some older) is = let below = is.1 in (is.0, omega (arith, below), is.2)
+
+abbrev pub made_at : Moment → RequestFile → Outstanding
+made_at at file = record { at = at; file = file }
+
+module _ (laws : Laws) (world : WorldView) (sound : IsSoundWorld world) (place : ℕ) (old : CustomerView) (was : slice_get world.customers place ≡ Some old) (at : Moment) (errand : Errand) (saved : List ℕ) (is_saved : IsSavedText saved (with_file old.client at errand)) where
+  abbrev setup : Setup
+  setup = world.server.setup
+
+  abbrev client : ClientState
+  client = with_file old.client at errand
+
+  abbrev outstanding : Outstanding
+  outstanding = made_at at (file_of old.client errand)
+
+  abbrev own : List ℕ
+  own = file_name old.client.name old.client.next
+
+  customer : IsSoundCustomer setup old
+  customer = at_all (IsSoundCustomer setup) world.customers place old sound.customers was
+
+  -- No client has given the name of the file.
+  new_to_all : IsGiven world.customers own → ⊥
+  new_to_all given = new_name setup world.customers place given.place old given.customer given.number sound.customers sound.names was given.there given.numbered
+
+  last : IsLast client outstanding
+  last = record {
+    number = old.client.next;
+    last = refl;
+    name = refl;
+    asks = asks_known laws old.client errand is_saved.sound.distinct;
+    apart = asks_apart old.client errand;
+    older = customer.done;
+  }
+
+  -- Whatever was its file has another name.
+  file_stays : (file : RequestFile) → IsOf setup old.client file → IsOf setup client file
+  file_stays file is =
+      let below = is.numbered.0 in
+      record {
+        number = is.number;
+        name = is.name;
+        newer = is.newer;
+        numbered = (omega (arith, below), is.numbered.1);
+        older = is.older;
+        user = is.user;
+        same = λ kept holds named.
+            let one : outstanding ≡ kept = same_some outstanding kept holds in
+            let name : own ≡ is.name = same_some own is.name (ap (λ (o : Outstanding). o.file.newer) one ∙ named) in
+            absurd (new_number setup old is.number customer below (name ∙ is.numbered.1));
+      }
+
+  named_so : (kept : Outstanding) (name : List ℕ) → Some outstanding ≡ Some kept → kept.file.newer ≡ Some name → name ≡ own
+  named_so kept name holds named = same_some name own (sym named ∙ sym (ap (λ (o : Outstanding). o.file.newer) (same_some outstanding kept holds)))
+
+  made_becomes : Becomes world old (seen client saved)
+  made_becomes = record {
+    name = refl;
+    user = refl;
+    next = omega arith;
+    is_sound = record { saved = is_saved; user = customer.user; done = earlier_on old.client old.client.done customer.done; outstanding = last };
+    files = file_stays;
+    kept = λ kept name owner holds named is_owner k d below bears.
+        absurd (new_to_all (subst (IsGiven world.customers) (named_so kept name holds named) ((sound.named k d below).given name bears)));
+    answered = λ kept name owner holds named is_owner reply found.
+        let there = found_kept (IsSoundKept world.customers) owner name reply world.server.state.kept
+        (recursion_from_All (IsSoundKept world.customers) world.server.state.kept sound.recorded) found in
+        absurd (new_to_all (subst (IsGiven world.customers) (there.file ∙ named_so kept name holds named) there.holds.given));
+    stores = λ owner is_owner.
+        let right = at_all (HasRightStores setup world.server.state.entries) world.customers place old sound.stores was owner is_owner in
+        All-from_recursion (λ (store : Store). IsRight setup owner store world.server.state.entries) (with_stores (objects_of errand) old.client.stores)
+        (right_with laws setup world.server.state owner sound.tellable.order (objects_of errand) old.client.stores
+        (recursion_from_All (λ (store : Store). IsRight setup owner store world.server.state.entries) old.client.stores right));
+  }
+
+  -- The world is sound with the client that has made the file, and with the file on its way.
+  pub file_made : IsSoundWorld (with_request (with_customer world place (seen client saved)) (sent setup outstanding))
+  file_made =
+      sent_again_keeps laws (with_customer world place (seen client saved)) place (seen client saved) outstanding
+      (got_new world.customers place old (seen client saved) was) refl (changed_keeps world place old (seen client saved) was made_becomes sound)
+
+pub same_made : (a b : ClientState) → ◌≡◌ {A = Result ClientState ClientFault} (Ok a) (Ok b) → a ≡ b
+same_made a b same = cc
+
+pub none_made : (fault : ClientFault) (a : ClientState) → ◌≡◌ {A = Result ClientState ClientFault} (Err fault) (Ok a) → ⊥
+none_made fault a same = cc
+
+-- A client that makes the file of a wish, saves that and sends the file, leaves the world sound.
+pub made_keeps : Laws → (world : WorldView) (place : ℕ) (old new : CustomerView) (wish : Wish) (at : Moment) (file : List ℕ)
+    → slice_get world.customers place ≡ Some old → Makes world.server.setup old wish at new file
+    → IsSoundWorld world → IsSoundWorld (with_request (with_customer world place new) file)
+unfolding made
+made_keeps laws world place old new wish at file was makes sound = go (errand_of old.client wish at) makes.makes
+  where
+    go : (found : Result Errand ClientFault) → made_for old.client at found ≡ Ok makes.client → IsSoundWorld (with_request (with_customer world place new) file)
+    go (Err fault) is = absurd (none_made fault makes.client is)
+    go (Ok errand) is =
+        let same : with_file old.client at errand ≡ makes.client = same_made (with_file old.client at errand) makes.client is in
+        let new_is : seen (with_file old.client at errand) new.saved ≡ new = ap (λ (c : ClientState). seen c new.saved) (same ∙ sym makes.saves.0) in
+        let kept : made_at at (file_of old.client errand) ≡ makes.kept =
+        same_some _ makes.kept (ap (λ (c : ClientState). c.outstanding) same ∙ makes.outstanding) in
+        let file_is : sent world.server.setup (made_at at (file_of old.client errand)) ≡ file = ap (sent world.server.setup) kept ∙ sym makes.is_sent in
+        subst (λ (c : CustomerView). IsSoundWorld (with_request (with_customer world place c) file)) new_is
+        (subst (λ (bytes : List ℕ). IsSoundWorld (with_request (with_customer world place (seen (with_file old.client at errand) new.saved)) bytes)) file_is
+        (file_made laws world sound place old was at errand new.saved (subst (IsSavedText new.saved) (sym same) makes.saves.1)))

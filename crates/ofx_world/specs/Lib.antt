@@ -1,0 +1,10 @@
+pub mod Chance
+pub mod Customer
+pub mod Kept
+pub mod Laws
+pub mod Rehearsal
+pub mod Server
+pub mod Sound
+pub mod Truths
+pub mod Views
+pub mod World

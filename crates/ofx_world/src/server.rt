@@ -1,0 +1,267 @@
+//! The bank's half of the world: its book and accounts, its records, and what a failed append has left unsettled.
+
+ghost use Rattle.std.specs.Prelude.{◌≡◌, ◌⊎◌, [], false, None, Some, length, OnOk, OnErr, IfOk};
+ghost use Rattle.std.specs.Option.{option_map};
+ghost use Rattle.ofx_types.specs.Calendar.{IsMoment};
+ghost use Rattle.ofx_types.specs.declared.number.UserId.{UserId};
+ghost use Rattle.ofx_types.specs.declared.request.RequestFile.{RequestFile};
+ghost use Rattle.bank_model.specs.Polls.{is_poll};
+ghost use Rattle.bank_model.specs.Rules.{IsLegal, due};
+ghost use Rattle.bank_model.specs.SetupForm.{IsWithinLimits};
+ghost use Rattle.bank_model.specs.declared.event.Event.{Event};
+ghost use Rattle.bank_model.specs.declared.event.Event.TheVariants.{File};
+ghost use Rattle.bank_signon.specs.Signon.{IsOfUser, IsSignedOn};
+ghost use Rattle.event_codec.specs.Coding.{coded};
+ghost use Rattle.event_codec.specs.Records.{Codes};
+ghost use Rattle.ofx_world.specs.Kept.{IsRequest};
+ghost use Rattle.ofx_world.specs.Server.{fresh, settled, committed, reply_to, due_done, with_fault, WritesLetter, Restarts};
+
+use crate::fault::want_of_memory;
+use crate::keeper::FaultyKeeper;
+use bank_model::{Event, Setup};
+use bank_replay::{record_of, reopen};
+use bank_solo::SoloBank;
+use ofx_file::{OfxPrinter, read_request};
+use ofx_ports::{Keeper, PutFault};
+use ofx_types::{Duplicate, Moment, OutOfMemory, RequestFile, Text, UserId};
+use std::alloc::Global;
+use std::hash::RandomState;
+use std::marker::Model;
+
+/// An event whose append failed, until it is settled whether its record stands.
+#[derive(Drop)]
+struct Pending {
+    event: Event,
+    at: Moment,
+}
+
+/// A bank on one thread, with its keeper.
+#[derive(Drop)]
+pub(crate) struct Server {
+    bank: SoloBank<OfxPrinter>,
+    keeper: FaultyKeeper,
+    pending: Option<Pending>,
+    keys: RandomState,
+    alloc: Global,
+}
+
+impl Model for Server {
+    ghost use Rattle.std.specs.Prelude.{◌≡◌, []};
+    ghost use Rattle.ofx_world.specs.Server.{ServerView};
+    ghost use Rattle.ofx_world.specs.Kept.{Awaits, pending_seen};
+
+    ghost Value = { ServerView };
+
+    ghost view = { λ s. record {
+      setup = s.bank.setup;
+      state = s.bank.state;
+      records = s.keeper.records;
+      pending = pending_seen s.pending s.keeper.unsettled;
+      fault = s.keeper.fault;
+    } };
+
+    ghost invariant = { λ s. (s.bank.held ≡ []) × Awaits s.bank.setup s.bank.state s.pending s.keeper.unsettled };
+}
+
+impl Server {
+    /// A fresh bank of that setup: it has no records, and nothing is pending. Clients' names are found by hashes with these keys.
+    pub(crate) fn begin(
+        alloc: Global,
+        keys: RandomState,
+        setup: Setup,
+    ) -> Result<Server, OutOfMemory>
+        requires { IsWithinLimits setup }
+        ensures { IfOk result (λ server. server ≡ fresh setup) }
+    {
+        Ok(Server {
+            bank: SoloBank::begin(alloc, keys, setup, OfxPrinter)?,
+            keeper: FaultyKeeper::new(alloc),
+            pending: None,
+            keys,
+            alloc,
+        })
+    }
+
+    /// The setup, lent.
+    pub(crate) fn setup(&self) -> &Setup
+        ensures setup { result.now ≡ self.now.setup }
+        ensures within { IsWithinLimits self.now.setup }
+    {
+        self.bank.book().setup()
+    }
+
+    /// The bank, without its keeper.
+    pub(crate) fn into_bank(self) -> SoloBank<OfxPrinter>
+        ensures setup { result.setup ≡ self.setup }
+        ensures state { result.state ≡ self.state }
+        ensures home { result.held ≡ [] }
+    {
+        self.bank
+    }
+
+    /// The number of records that aren't pending. Takes no memory.
+    pub(crate) fn record_count(&self) -> u64
+        ensures { result ≡ length self.now.records }
+    {
+        self.keeper.record_count()
+    }
+
+    /// Lets the next append fail, with its record or without it. Takes no memory.
+    pub(crate) fn fail_next(&mut self, landed: bool)
+        ensures { self.new ≡ with_fault self.old landed }
+    {
+        self.keeper.set_fault(Some(landed));
+    }
+
+    /// Settles what is pending: an event whose record stands has happened at its moment. Where memory is refused nothing is
+    /// settled.
+    #[tactic(auto, using(crate::proofs::Serving::landed_as_coded, crate::proofs::Serving::none_landed), unfolding(crate::specs::Server::settled))]
+    pub(crate) fn settle(&mut self) -> Result<(), OutOfMemory>
+        ensures settled { OnOk result (self.new ≡ settled self.old) }
+        ensures pending { OnOk result (self.new.pending ≡ None) }
+        ensures refused { OnErr result (self.new ≡ self.old) }
+    {
+        let Some(pending) = &self.pending else {
+            return Ok(());
+        };
+        let at = pending.at;
+        let prepared = self.bank.prepare(self.alloc, &pending.event, at)?;
+        match self.keeper.settle() {
+            Ok(true) => {
+                let _reply = self.bank.adopt(at, prepared);
+                self.pending = None;
+                Ok(())
+            }
+            Ok(false) => {
+                self.bank.give_up();
+                self.pending = None;
+                Ok(())
+            }
+            Err(_) => unreachable!(),
+        }
+    }
+
+    /// Makes an event happen at that moment, once its record is kept, and gives its reply. Nothing is pending before. Where the
+    /// append fails there is no reply, and the event is pending. Where memory is refused nothing has happened.
+    #[tactic(auto, using(crate::proofs::Serving::codes_itself), unfolding(crate::specs::Server::committed, crate::specs::Server::reply_to))]
+    fn commit(&mut self, event: Event, at: Moment) -> Result<Option<Vec<u8>>, OutOfMemory>
+        requires moment { IsMoment at.0 }
+        requires legal { IsLegal self.old.setup self.old.state at event }
+        requires settled { self.old.pending ≡ None }
+        ensures committed { OnOk result (self.new ≡ committed self.old at event) }
+        ensures reply { IfOk result (λ reply. option_map (λ bytes. bytes.items) reply ≡ reply_to self.old at event) }
+        ensures codes { OnOk result (Codes (coded at event) at event) }
+        ensures refused { OnErr result (self.new ≡ self.old) }
+    {
+        let rec = record_of(self.alloc, self.bank.book(), &event, at)?;
+        let prepared = self.bank.prepare(self.alloc, &event, at)?;
+        match self.keeper.append(&rec) {
+            Ok(()) => Ok(Some(self.bank.adopt(at, prepared))),
+            Err(PutFault::Failed) => {
+                self.bank.give_up();
+                self.pending = Some(Pending { event, at });
+                Ok(None)
+            }
+            Err(PutFault::OutOfMemory) => {
+                self.bank.give_up();
+                Err(OutOfMemory)
+            }
+        }
+    }
+
+    /// The request file in these bytes, with the user who signs on.
+    fn read(&self, bytes: &[u8]) -> Result<(UserId, RequestFile), OutOfMemory>
+        requires { IsRequest self.now.setup bytes.now }
+        ensures of_user { IfOk result (λ found. IsOfUser self.now.setup bytes.now found.0 found.1) }
+        ensures no_poll { IfOk result (λ found. is_poll found.1 ≡ false) }
+    {
+        match read_request(self.alloc, bytes) {
+            Ok(file) => match self.setup().signon(&file.user, &file.pass) {
+                Some(user) => Ok((user, file)),
+                None => unreachable!(),
+            },
+            Err(fault) => Err(want_of_memory(fault)),
+        }
+    }
+
+    /// Answers a request that arrives at that moment. What is pending is settled first. None where the append fails.
+    #[tactic(auto, using(crate::proofs::Serving::settled_setup))]
+    pub(crate) fn deliver(
+        &mut self,
+        bytes: &[u8],
+        at: Moment,
+    ) -> Result<Option<Vec<u8>>, OutOfMemory>
+        requires moment { IsMoment at.0 }
+        requires request { IsRequest self.old.setup bytes.now }
+        ensures answered { IfOk result (λ reply. (user : UserId) × (file : RequestFile) × IsSignedOn self.old.setup bytes.now file user
+            × (self.new ≡ committed (settled self.old) at (File user file))
+            × (option_map (λ bytes. bytes.items) reply ≡ reply_to (settled self.old) at (File user file))) }
+        ensures refused { OnErr result ((self.new ≡ self.old) ⊎ (self.new ≡ settled self.old)) }
+    {
+        let (user, file) = self.read(bytes)?;
+        self.settle()?;
+        self.commit(Event::File(user, file), at)
+    }
+
+    /// Settles what is pending, and does the next of the due work, where there is any.
+    #[tactic(auto, using(crate::proofs::Serving::settled_setup, crate::proofs::Serving::due_settled), unfolding(crate::specs::Server::due_done))]
+    pub(crate) fn do_due(&mut self, at: Moment) -> Result<(), OutOfMemory>
+        requires { IsMoment at.0 }
+        ensures done { OnOk result (self.new ≡ due_done self.old at) }
+        ensures codes { OnOk result ((event : Event) → due self.old.setup (settled self.old).state at ≡ Some event
+            → Codes (coded at event) at event) }
+        ensures refused { OnErr result ((self.new ≡ self.old) ⊎ (self.new ≡ settled self.old)) }
+    {
+        self.settle()?;
+        match self.bank.book().due(at) {
+            Some(event) => {
+                let _reply = self.commit(event, at)?;
+                Ok(())
+            }
+            None => Ok(()),
+        }
+    }
+
+    /// Settles what is pending, and writes a letter, where it is legal.
+    #[tactic(auto, using(crate::proofs::Serving::settled_setup))]
+    pub(crate) fn write_letter(
+        &mut self,
+        user: UserId,
+        subject: &Text,
+        body: &Text,
+        at: Moment,
+    ) -> Result<(), OutOfMemory>
+        requires { IsMoment at.0 }
+        ensures written { OnOk result (WritesLetter self.old at user subject.now body.now self.new) }
+        ensures refused { OnErr result ((self.new ≡ self.old) ⊎ (self.new ≡ settled self.old)) }
+    {
+        self.settle()?;
+        let event = Event::Letter(user, subject.copy()?, body.copy()?);
+        if !self.bank.book().legal(&event, at) {
+            return Ok(());
+        }
+        let _reply = self.commit(event, at)?;
+        Ok(())
+    }
+
+    /// Settles what is pending, and starts the bank anew from its records. A fault that is set stays set.
+    #[tactic(auto, using(crate::proofs::Serving::settled_setup))]
+    pub(crate) fn restart(&mut self) -> Result<(), OutOfMemory>
+        ensures restarted { OnOk result (Restarts self.old self.new) }
+        ensures refused { OnErr result ((self.new ≡ self.old) ⊎ (self.new ≡ settled self.old)) }
+    {
+        self.settle()?;
+        let setup = self.setup().copy()?;
+        let fault = self.keeper.fault();
+        let opened = reopen(self.alloc, self.keys, &mut self.keeper, setup, OfxPrinter);
+        self.keeper.set_fault(fault);
+        match opened {
+            Ok((book, accounts)) => {
+                self.bank = SoloBank::new(self.alloc, book, accounts)?;
+                Ok(())
+            }
+            // By the world's invariant the records are the bank's own, and reading them never fails: it is memory that was refused.
+            Err(_) => Err(OutOfMemory),
+        }
+    }
+}
