@@ -62,7 +62,7 @@ grows_same setup S T is = record {
   };
 }
 
-later_both : (S T U : State) → IsLater S T → IsLater T U → IsLater S U
+pub later_both : (S T U : State) → IsLater S T → IsLater T U → IsLater S U
 later_both S T U first second =
     (first.0 ++ second.0, second.1 ∙ ap (λ l. l ++ second.0) first.1 ∙ append_assoc S.entries first.0 second.0)
 

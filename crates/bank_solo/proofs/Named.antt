@@ -30,7 +30,8 @@ found_within test xs place e =
     let parts = cond_some (nat_lt (prefix_len (λ x. not (test x)) xs) (length xs)) (prefix_len (λ x. not (test x)) xs) place e in
     omega (arith, parts.1, ltb-true _ _ parts.0)
 
-abbrev numbered : ℕ → AcctId
+-- the account of a place
+abbrev pub numbered : ℕ → AcctId
 numbered place = record { 0 = place }
 
 -- an account of the setup, where there is one

@@ -54,7 +54,8 @@ pub fn is_sound_letter(subject: &Text, body: &Text) -> bool
     is_text(subject, MOST_SUBJECT) && is_text(body, MOST_BODY)
 }
 
-fn is_sound_info(info: &XferInfo) -> bool
+/// Whether the values of a transfer are within their bounds: both accounts, the amount, and the due day where it has one.
+pub fn is_sound_info(info: &XferInfo) -> bool
     ensures { IsTrue result ↔ bounds.IsSoundInfo info.now }
 {
     is_sound_account(&info.from)
@@ -63,21 +64,22 @@ fn is_sound_info(info: &XferInfo) -> bool
         && is_day_option(info.due)
 }
 
-fn is_sound_amount(amount: Cents) -> bool
+/// Whether an amount is at most 99,999,999,999.99 either way.
+pub fn is_sound_amount(amount: Cents) -> bool
     ensures { IsTrue result ↔ (unsigned_abs amount.0 ≤ 9999999999999) }
 {
     amount.0.unsigned_abs() <= MOST_CENTS
 }
 
 /// Whether an id has at most ten digits.
-fn is_id(id: u64) -> bool
+pub fn is_id(id: u64) -> bool
     ensures { IsTrue result ↔ bounds.IsId id }
 {
     id <= MOST_ID
 }
 
 /// Whether a series has 1 to 999 transfers, or no end.
-fn is_sound_recur(recur: Recur) -> bool
+pub fn is_sound_recur(recur: Recur) -> bool
     ensures { IsTrue result ↔ bounds.IsSoundRecur recur }
 {
     match recur.count {

@@ -10,7 +10,8 @@ use ofx_types::{AcctName, Day, Moment, Text};
 /// The most bytes of a bank's id and of an account's number.
 const MOST_BYTES: usize = 32;
 
-pub(crate) fn is_sound_account(account: &AcctName) -> bool
+/// Whether the name of an account has a bank's id and a number of 1 to 32 bytes each.
+pub fn is_sound_account(account: &AcctName) -> bool
     ensures { IsTrue result ↔ bounds.IsSoundAccount account.now }
 {
     is_name(&account.bank) && is_name(&account.number)

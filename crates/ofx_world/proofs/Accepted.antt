@@ -25,6 +25,7 @@ use Rattle.bank_model.specs.Stores.{Store, IsRight, marked_lost, taken}
 use Rattle.bank_model.specs.Sync.{sync_answer}
 use Rattle.bank_model.specs.declared.event.State.{State}
 use Rattle.bank_model.specs.declared.setup.Setup.{Setup}
+use Rattle.bank_model.proofs.Lists.{all_map}
 use Rattle.client_core.specs.Accepting.{taken_by, stores_after}
 use Rattle.client_core.specs.Making.{kind_asked}
 use Rattle.client_core.specs.Objects.{with_store}
@@ -32,7 +33,6 @@ use Rattle.client_laws.specs.Answers.{bank_reply}
 use Rattle.client_saved.specs.Bounds.{same_object, has_store}
 use Rattle.ofx_world.specs.Laws.{Laws}
 use Rattle.ofx_world.specs.Sound.{is_about, AreApart, AsksAsKnown}
-use Rattle.ofx_world.proofs.Lists.{recursion_each}
 use Rattle.ofx_world.proofs.Objects.{object_is}
 
 -- ---- one store
@@ -126,7 +126,7 @@ known_on laws ask reply stores (asks.Statement trnuid account period) apart know
 known_on laws ask reply stores (asks.One trnuid deed) apart known = known
 known_on laws ask reply stores (asks.Sync later) apart known = (
   has_still laws ask reply later.object stores ∙ known.0,
-  recursion_each (λ (store : Store). same_object store.name later.object ≡ true → later.kind ≡ kind_asked store)
+  all_map (λ (store : Store). same_object store.name later.object ≡ true → later.kind ≡ kind_asked store)
       (λ (store : Store). same_object store.name later.object ≡ true → later.kind ≡ kind_asked store) (taken_by ask reply) stores
       (λ store kind is.
       let here : same_object store.name later.object ≡ true = sym (ap (λ (name : ObjectName). same_object name later.object) (by_name laws ask reply store)) ∙ is in

@@ -11,6 +11,7 @@ use Rattle.bank_model.specs.Stores.{Store, IsRight, empty_store}
 use Rattle.bank_model.specs.declared.event.State.{State}
 use Rattle.bank_model.specs.declared.setup.Setup.{Setup}
 use Rattle.ofx_types.specs.declared.number.UserId.{UserId}
+use Rattle.bank_model.proofs.Lists.{all_append, all_map, all_step, all_both}
 use Rattle.client_core.specs.Making.{deed_name, kind_asked, sync_of, looked_at, objects_of, asks_of}
 use Rattle.client_core.specs.Objects.{is_of_object, store_under, with_store, with_stores}
 use Rattle.client_core.specs.declared.errand.Errand.{Errand}
@@ -19,14 +20,9 @@ use Rattle.client_saved.specs.Bounds.{same_object, same_store, has_store, AreDis
 use Rattle.client_saved.specs.declared.state.ClientState.{ClientState}
 use Rattle.ofx_world.specs.Laws.{Laws}
 use Rattle.ofx_world.specs.Sound.{AreApart, AsksAsKnown}
-use Rattle.ofx_world.proofs.Lists.{recursion_on, recursion_then, recursion_each}
 use Rattle.ofx_world.proofs.Objects.{object_is, object_itself}
 
 -- ---- the one store of an object
-
-both : {X : Type 0} (P Q R : X → Type 0) (xs : List X) → ((x : X) → P x → Q x → R x) → AllByRecursion P xs → AllByRecursion Q xs → AllByRecursion R xs
-both P Q R [] step p q = tt
-both P Q R (x ∷ xs) step p q = (step x p.0 q.0, both P Q R xs step p.1 q.1)
 
 under_first : (object : ObjectName) (store : Store) (more : List Store) → same_object store.name object ≡ true → store_under object (store ∷ more) ≡ store
 under_first object store more is = rw is refl
@@ -50,7 +46,7 @@ unfolding IsDistinct
 only_store laws object [] apart = tt
 only_store laws object (first ∷ more) apart = (
   under_first object first more,
-  both (λ (store : Store). same_store first store ≡ false) (λ (store : Store). same_object store.name object ≡ true → store_under object more ≡ store)
+  all_both (λ (store : Store). same_store first store ≡ false) (λ (store : Store). same_object store.name object ≡ true → store_under object more ≡ store)
       (λ (store : Store). same_object store.name object ≡ true → store_under object (first ∷ more) ≡ store) more
       (λ store other found is. under_rest object first more (not_first laws object first store other is) ∙ found is)
       apart.0 (only_store laws object more apart.1),
@@ -127,7 +123,7 @@ module _ (laws : Laws) (client : ClientState) (objects : List ObjectName) (apart
       → AsksAsKnown (with_stores objects client.stores) (sync_of client object deeds)
   sync_known deeds object has = (
     has,
-    recursion_on (λ (store : Store). same_object store.name object ≡ true → store_under object (with_stores objects client.stores) ≡ store)
+    all_step (λ (store : Store). same_object store.name object ≡ true → store_under object (with_stores objects client.stores) ≡ store)
         (λ (store : Store). same_object store.name object ≡ true → kind_asked (store_under object client.stores) ≡ kind_asked store)
         (with_stores objects client.stores)
         (λ store found is. ap kind_asked (sym (under_all laws object objects client.stores) ∙ found is))
@@ -136,7 +132,7 @@ module _ (laws : Laws) (client : ClientState) (objects : List ObjectName) (apart
 
   syncs_known : (names : List ObjectName) → AllByRecursion (λ (object : ObjectName). has_store object (with_stores objects client.stores) ≡ true) names
       → AllByRecursion (AsksAsKnown (with_stores objects client.stores)) (map (λ (object : ObjectName). sync_of client object []) names)
-  syncs_known names has = recursion_each (λ (object : ObjectName). has_store object (with_stores objects client.stores) ≡ true)
+  syncs_known names has = all_map (λ (object : ObjectName). has_store object (with_stores objects client.stores) ≡ true)
       (AsksAsKnown (with_stores objects client.stores)) (λ (object : ObjectName). sync_of client object []) names (sync_known []) has
 
 pub asks_known : Laws → (client : ClientState) (errand : Errand) → AreDistinct (with_stores (objects_of errand) client.stores)
@@ -159,7 +155,7 @@ module _ (laws : Laws) (setup : Setup) (S : State) (user : UserId) (order : IsIn
   right_made object stores right =
       elim (has_store object stores) as (λ b. AllByRecursion (λ (store : Store). IsRight setup user store S.entries) (cond b stores (stores ++ empty_store object ∷ []))) [
         | true ↦ right
-        | false ↦ recursion_then (λ (store : Store). IsRight setup user store S.entries) stores (empty_store object) right (laws.stores.empty setup S user object order)
+        | false ↦ all_append (λ (store : Store). IsRight setup user store S.entries) stores (empty_store object ∷ []) right (laws.stores.empty setup S user object order, tt)
       ]
 
   pub right_with : (objects : List ObjectName) (stores : List Store) → AllByRecursion (λ (store : Store). IsRight setup user store S.entries) stores

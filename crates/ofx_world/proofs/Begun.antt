@@ -8,6 +8,7 @@ use Rattle.std.proofs.lemmas.Bool.{true≢false}
 use Rattle.std.proofs.lemmas.List.Elements.{All-nil, All-from_recursion, All-weaker}
 use Rattle.ofx_types.specs.Calendar.{IsMoment}
 use Rattle.ofx_types.specs.declared.number.Moment.{Moment}
+use Rattle.ofx_types.proofs.Bytes.{bytes_eq_self}
 use Rattle.bank_model.specs.Rules.{opening_state}
 use Rattle.bank_model.specs.SetupForm.{IsWithinLimits}
 use Rattle.bank_model.specs.Stores.{Store, IsRight}
@@ -23,7 +24,6 @@ use Rattle.ofx_world.specs.Sound.{HaveOwnNames, IsEarlier, IsLast, IsSoundCustom
 use Rattle.ofx_world.specs.Truths.{IsAtItsPlace, HasRightStores}
 use Rattle.ofx_world.specs.World.{WorldView, HaveSaved, Begins, beginning}
 use Rattle.ofx_world.proofs.Lists.{same_some, none_some}
-use Rattle.ofx_world.proofs.Objects.{bytes_itself}
 
 -- ---- clients that know nothing yet
 
@@ -63,7 +63,7 @@ apart_at client (other ∷ clients) [] k b saved apart there same = saved
 apart_at client (other ∷ clients) (customer ∷ customers) zero b saved apart there same =
     let one : customer ≡ b = same_some customer b there in
     let name : client.name ≡ other.name = same ∙ ap (λ (c : CustomerView). c.client.name) (sym one) ∙ ap (λ (c : ClientState). c.name) saved.0.0 in
-    true≢false (sym (bytes_itself client.name) ∙ ap (bytes_eq client.name) name ∙ apart.0)
+    true≢false (sym (bytes_eq_self client.name) ∙ ap (bytes_eq client.name) name ∙ apart.0)
 apart_at client (other ∷ clients) (customer ∷ customers) (suc k) b saved apart there same = apart_at client clients customers k b saved.1 apart.1 there same
 
 own_names : (clients : List ClientState) (customers : List CustomerView) → HaveSaved clients customers → IsDistinct same_name clients → HaveOwnNames customers

@@ -4,13 +4,14 @@ use Rattle.std.specs.List.{All}
 use Rattle.std.specs.Option.{IfSome}
 use Rattle.std.specs.Str.{bytes_eq}
 use Rattle.std.proofs.lemmas.Bool.{and_parts}
-use Rattle.std.proofs.lemmas.List.{append-nil, append_assoc}
+use Rattle.std.proofs.lemmas.List.{append-nil}
 use Rattle.std.proofs.lemmas.List.Elements.{All-push, All-weaker, All-filter, recursion_from_All}
 use Rattle.ofx_types.specs.FileForm.{SpellsReply}
 use Rattle.ofx_types.specs.declared.number.Moment.{Moment}
 use Rattle.ofx_types.specs.declared.number.UserId.{UserId}
 use Rattle.ofx_types.specs.declared.reply.ReplyFile.{ReplyFile}
 use Rattle.ofx_types.specs.declared.request.RequestFile.{RequestFile}
+use Rattle.ofx_types.proofs.Bytes.{bytes_eq_is}
 use Rattle.bank_laws.specs.Histories.{IsLater}
 use Rattle.bank_model.specs.Once.{is_named, reply_kept}
 use Rattle.bank_model.specs.Rules.{opening_state, raised, ask_answers, release, keep, kept_for, state_after, answer_to, reply_file}
@@ -21,6 +22,8 @@ use Rattle.bank_model.specs.declared.event.State.{State}
 use Rattle.bank_model.specs.declared.once.KeptReply.{KeptReply}
 use Rattle.bank_model.specs.declared.setup.Setup.{Setup}
 use Rattle.bank_rules.specs.Standing.{IsSoundState}
+use Rattle.bank_rules.proofs.RunLaws.{kept_for-raised}
+use Rattle.bank_laws.proofs.Events.{later_both}
 use Rattle.client_core.specs.Making.{file_name}
 use Rattle.client_laws.specs.Answers.{bank_reply}
 use Rattle.client_saved.specs.declared.state.Outstanding.{Outstanding}
@@ -32,18 +35,14 @@ use Rattle.ofx_world.specs.Sound.{IsGiven, IsNumbered, IsEarlier, MayHappen, IsL
 use Rattle.ofx_world.specs.Truths.{IsAtItsPlace, Bears, HasRightStores}
 use Rattle.ofx_world.specs.World.{WorldView, with_server, with_reply}
 use Rattle.ofx_world.proofs.Keeping.{place_stays}
-use Rattle.ofx_world.proofs.KeptReplies.{kept_for-raised, kept_anew, entries_anew, release_other, keep_other, keep_behind, found_kept}
+use Rattle.ofx_world.proofs.KeptReplies.{kept_anew, entries_anew, release_other, keep_other, keep_behind, found_kept}
 use Rattle.ofx_world.proofs.Lists.{at_all, all_on, same_some}
 use Rattle.ofx_world.proofs.Names.{one_client}
-use Rattle.ofx_world.proofs.Objects.{bytes_are}
 
 -- an option that is there or isn't
 either_way : {X P : Type 0} (found : Option X) → ((x : X) → found ≡ Some x → P) → (found ≡ None → P) → P
 either_way None there none = none refl
 either_way (Some x) there none = there x refl
-
-later_on : (S T U : State) → IsLater S T → IsLater T U → IsLater S U
-later_on S T U first second = (first.0 ++ second.0, second.1 ∙ ap (λ entries. entries ++ second.0) first.1 ∙ append_assoc S.entries first.0 second.0)
 
 -- What a file of a client brings about, in a sound world.
 module _ (laws : Laws) (world : WorldView) (sound : IsSoundWorld world) (at : Moment) (user : UserId) (file : RequestFile) (may : MayHappen world.server.setup world.server.state world.customers at (File user file)) where
@@ -190,7 +189,7 @@ module _ (laws : Laws) (world : WorldView) (sound : IsSoundWorld world) (at : Mo
           order = answered.order;
           stores = answered.stores;
           spells = answered.spells;
-          later = later_on (ask_answers setup (raised answered.before answered.at) owner answered.at kept.file.asks).after S T answered.later later;
+          later = later_both (ask_answers setup (raised answered.before answered.at) owner answered.at kept.file.asks).after S T answered.later later;
         }
 
     pub answered_after : (reply : List ℕ) → reply_kept owner own after.kept ≡ Some reply → IsAnswered setup after customer kept owner reply
@@ -200,7 +199,7 @@ module _ (laws : Laws) (world : WorldView) (sound : IsSoundWorld world) (at : Mo
         (λ none. by_name none (is_named owner own (record { user = user; file = name; reply = answer })) refl)
       where
         by_name : kept_for S user file.newer ≡ None → (b : Bool) → is_named owner own (record { user = user; file = name; reply = answer }) ≡ b → IsAnswered setup after customer kept owner reply
-        by_name none true here = answered_now none (bytes_are name own (and_parts (eqb user.0 owner.0) (bytes_eq name own) here).1) reply found
+        by_name none true here = answered_now none (bytes_eq_is name own (and_parts (eqb user.0 owner.0) (bytes_eq name own) here).1) reply found
         by_name none false other = answered_on after (laws.histories.event_grows setup S at (File user file)) reply
             (sym (release_other owner user own file.older S.kept apart) ∙ sym (keep_other owner user own name answer (release user file.older S.kept) other)
             ∙ sym (ap (λ (n : Option (List ℕ)). reply_kept owner own (keep user n answer (release user file.older S.kept))) may.sent.is_of.newer)
@@ -244,7 +243,7 @@ module _ (laws : Laws) (world : WorldView) (sound : IsSoundWorld world) (at : Mo
         order = answered.order;
         stores = answered.stores;
         spells = answered.spells;
-        later = later_on (ask_answers world.server.setup (raised answered.before answered.at) owner answered.at kept.file.asks).after world.server.state T answered.later later;
+        later = later_both (ask_answers world.server.setup (raised answered.before answered.at) owner answered.at kept.file.asks).after world.server.state T answered.later later;
       }) sound.answered
 
   answered_then : (event : Event) → MayHappen world.server.setup world.server.state world.customers at event → All (HasAnswer world.server.setup (then_state event)) world.customers

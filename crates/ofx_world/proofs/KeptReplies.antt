@@ -6,69 +6,21 @@ use Rattle.std.specs.Str.{bytes_eq}
 use Rattle.std.proofs.lemmas.Bool.{and_parts}
 use Rattle.std.proofs.lemmas.List.Folds.{find-append}
 use Rattle.ofx_types.specs.ReplyForm.{reply_text}
-use Rattle.ofx_types.specs.declared.number.AcctId.{AcctId}
 use Rattle.ofx_types.specs.declared.number.Moment.{Moment}
-use Rattle.ofx_types.specs.declared.number.ObjectId.{ObjectId}
 use Rattle.ofx_types.specs.declared.number.UserId.{UserId}
-use Rattle.ofx_types.specs.declared.request.Ask.{Ask}
-use Rattle.ofx_types.specs.declared.request.Ask.TheVariants as asks
 use Rattle.ofx_types.specs.declared.request.RequestFile.{RequestFile}
-use Rattle.ofx_types.specs.declared.sync.SyncAsk.{SyncAsk}
-use Rattle.ofx_types.specs.declared.transfer.Deed.{Deed}
-use Rattle.bank_model.specs.Deeds.{deed_answer}
-use Rattle.bank_model.specs.Objects.{account_about, object_named, newest}
+use Rattle.ofx_types.proofs.Bytes.{bytes_eq_is}
 use Rattle.bank_model.specs.Once.{is_named, reply_kept}
-use Rattle.bank_model.specs.Sync.{rejection, deed_answers, deeds_or_rejection, sync_on, sync_answer}
-use Rattle.bank_model.specs.Rules.{Outcome, raised, ask_answer, ask_answers, release, keep, kept_for, new_outcome, outcome_or_kept, file_outcome, state_after, answer_to, reply_file}
+use Rattle.bank_model.specs.Rules.{Outcome, raised, ask_answers, release, keep, kept_for, new_outcome, outcome_or_kept, file_outcome, state_after, answer_to, reply_file}
 use Rattle.bank_model.specs.declared.event.Event.TheVariants.{File}
 use Rattle.bank_model.specs.declared.event.State.{State}
 use Rattle.bank_model.specs.declared.once.KeptReply.{KeptReply}
 use Rattle.bank_model.specs.declared.setup.Setup.{Setup}
+use Rattle.bank_rules.proofs.StageLemmas.{kept-asks}
+use Rattle.bank_rules.proofs.RunLaws.{kept_for-raised}
 use Rattle.ofx_world.proofs.Lists.{same_some, none_some, find_filtered}
-use Rattle.ofx_world.proofs.Objects.{bytes_are}
-
--- ---- asks keep no reply
-
-kept-deed : (setup : Setup) (S : State) (user : UserId) (only : Option AcctId) (at : Moment) (trnuid : List ℕ) (deed : Deed)
-    → (deed_answer setup S user only at trnuid deed).after.kept ≡ S.kept
-unfolding deed_answer
-kept-deed setup S user only at trnuid deed = refl
-
-kept-deeds : (setup : Setup) (S : State) (user : UserId) (only : Option AcctId) (at : Moment) (deeds : List (List ℕ × Deed))
-    → (deed_answers setup S user only at deeds).after.kept ≡ S.kept
-unfolding deed_answers
-kept-deeds setup S user only at [] = refl
-kept-deeds setup S user only at (deed ∷ more) =
-    kept-deeds setup (deed_answer setup S user only at deed.0 deed.1).after user only at more ∙ kept-deed setup S user only at deed.0 deed.1
-
-kept-unless : (setup : Setup) (S : State) (user : UserId) (at : Moment) (ask : SyncAsk) (code : Option ℕ)
-    → (deeds_or_rejection setup S user at ask code).after.kept ≡ S.kept
-unfolding deeds_or_rejection
-kept-unless setup S user at ask None = kept-deeds setup S user (account_about setup user ask.object) at ask.deeds
-kept-unless setup S user at ask (Some code) = refl
-
-kept-on : (setup : Setup) (S : State) (user : UserId) (at : Moment) (ask : SyncAsk) (found : Option ObjectId)
-    → (sync_on setup S user at ask found).after.kept ≡ S.kept
-unfolding sync_on
-kept-on setup S user at ask None = refl
-kept-on setup S user at ask (Some object) = kept-unless setup S user at ask (rejection ask.reject (newest object S.entries) ask.kind)
-
-kept-ask : (setup : Setup) (S : State) (user : UserId) (at : Moment) (ask : Ask) → (ask_answer setup S user at ask).after.kept ≡ S.kept
-unfolding ask_answer sync_answer
-kept-ask setup S user at (asks.Statement trnuid account period) = refl
-kept-ask setup S user at (asks.One trnuid deed) = kept-deed setup S user None at trnuid deed
-kept-ask setup S user at (asks.Sync ask) = kept-on setup S user at ask (object_named setup user ask.object)
-
-kept-asks : (setup : Setup) (S : State) (user : UserId) (at : Moment) (asks : List Ask) → (ask_answers setup S user at asks).after.kept ≡ S.kept
-unfolding ask_answers
-kept-asks setup S user at [] = refl
-kept-asks setup S user at (ask ∷ more) = kept-asks setup (ask_answer setup S user at ask).after user at more ∙ kept-ask setup S user at ask
 
 -- ---- a file that is answered anew
-
-pub kept_for-raised : (S : State) (user : UserId) (at : Moment) (newer : Option (List ℕ)) → kept_for (raised S at) user newer ≡ kept_for S user newer
-kept_for-raised S user at None = refl
-kept_for-raised S user at (Some newer) = refl
 
 module _ (setup : Setup) (S : State) (user : UserId) (at : Moment) (file : RequestFile) (none : kept_for S user file.newer ≡ None) where
   anew : file_outcome setup (raised S at) user at file ≡ new_outcome setup (raised S at) user at file
@@ -98,8 +50,8 @@ module _ (user other : UserId) (name : List ℕ) where
     where
       by_test : (b : Bool) → is_named other older reply ≡ b → not b ≡ true
       by_test false there = refl
-      by_test true there = absurd (apart (sym (bytes_are reply.file older (and_parts (eqb reply.user.0 other.0) (bytes_eq reply.file older) there).1)
-          ∙ bytes_are reply.file name (and_parts (eqb reply.user.0 user.0) (bytes_eq reply.file name) here).1))
+      by_test true there = absurd (apart (sym (bytes_eq_is reply.file older (and_parts (eqb reply.user.0 other.0) (bytes_eq reply.file older) there).1)
+          ∙ bytes_eq_is reply.file name (and_parts (eqb reply.user.0 user.0) (bytes_eq reply.file name) here).1))
 
   -- Whoever releases another name leaves what is kept for this one.
   pub release_other : (older : Option (List ℕ)) (kept : List KeptReply) → IfSome older (λ (o : List ℕ). o ≡ name → ⊥)
@@ -149,7 +101,7 @@ found_kept P user name bytes (reply ∷ more) all found =
       | true ↦ (λ here is. record {
         reply = reply;
         holds = all.0;
-        file = bytes_are reply.file name (and_parts (eqb reply.user.0 user.0) (bytes_eq reply.file name) here).1;
+        file = bytes_eq_is reply.file name (and_parts (eqb reply.user.0 user.0) (bytes_eq reply.file name) here).1;
         bytes_are = same_some reply.reply bytes is;
       })
       | false ↦ (λ here is. found_kept P user name bytes more all.1 is)

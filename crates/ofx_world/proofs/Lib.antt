@@ -24,5 +24,4 @@ mod Steps
 mod Sums
 mod Truth
 mod Turns
-mod Words
 mod Wrapping

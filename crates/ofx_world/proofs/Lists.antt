@@ -1,6 +1,6 @@
 -- Lists of which something holds of each element, and of which one element changes.
-use Rattle.std.proofs.Common.{◌≡◌, ℕ, zero, suc, ◌⊎◌, inl, inr, Bool, true, false, cond, List, [], ◌∷◌, ◌++◌, map, set, get_or, slice_get, None, Some, refl, sym, ap, subst, ◌∙◌}
-use Rattle.std.specs.List.{All, AllByRecursion, find, filter}
+use Rattle.std.proofs.Common.{◌≡◌, ℕ, zero, suc, ◌⊎◌, inl, inr, Bool, true, false, cond, List, [], ◌∷◌, set, get_or, slice_get, None, Some, refl, sym, ap, subst, ◌∙◌}
+use Rattle.std.specs.List.{All, find, filter}
 use Rattle.std.proofs.lemmas.Bool.{true≢false}
 use Rattle.std.proofs.lemmas.Option.{slice_get_within, get_or_from_slice_get, slice_get-get_or}
 
@@ -17,18 +17,6 @@ at_all P xs k x all there = subst P (get_or_from_slice_get xs k x x there) (all 
 
 pub all_on : {X : Type 0} (P Q : X → Type 0) (xs : List X) → ((k : ℕ) (x : X) → slice_get xs k ≡ Some x → P x → Q x) → All P xs → All Q xs
 all_on P Q xs step all = λ k d below. step k (get_or xs k d) (slice_get-get_or xs k d below) (all k d below)
-
-pub recursion_on : {X : Type 0} (P Q : X → Type 0) (xs : List X) → ((x : X) → P x → Q x) → AllByRecursion P xs → AllByRecursion Q xs
-recursion_on P Q [] step all = tt
-recursion_on P Q (x ∷ xs) step all = (step x all.0, recursion_on P Q xs step all.1)
-
-pub recursion_then : {X : Type 0} (P : X → Type 0) (xs : List X) (x : X) → AllByRecursion P xs → P x → AllByRecursion P (xs ++ x ∷ [])
-recursion_then P [] x all last = (last, tt)
-recursion_then P (y ∷ ys) x all last = (all.0, recursion_then P ys x all.1 last)
-
-pub recursion_each : {X Y : Type 0} (P : X → Type 0) (Q : Y → Type 0) (f : X → Y) (xs : List X) → ((x : X) → P x → Q (f x)) → AllByRecursion P xs → AllByRecursion Q (map f xs)
-recursion_each P Q f [] step all = tt
-recursion_each P Q f (x ∷ xs) step all = (step x all.0, recursion_each P Q f xs step all.1)
 
 -- ---- one element changes
 

@@ -6,6 +6,7 @@ use Rattle.ofx_types.specs.FileForm.{SpellsReply}
 use Rattle.ofx_types.specs.declared.number.UserId.{UserId}
 use Rattle.ofx_types.specs.declared.reply.ReplyFile.{ReplyFile}
 use Rattle.ofx_types.specs.declared.request.RequestFile.{RequestFile}
+use Rattle.ofx_types.proofs.Bytes.{bytes_eq_is}
 use Rattle.bank_model.specs.Stores.{Store, IsRight}
 use Rattle.bank_model.specs.declared.setup.Setup.{Setup}
 use Rattle.client_core.specs.Accepting.{Accepted, same_name, accepted_for, accepted_to, accepted, with_reply, with_replies, stores_after}
@@ -24,7 +25,6 @@ use Rattle.ofx_world.specs.World.{WorldView, with_customer}
 use Rattle.ofx_world.proofs.Accepted.{replies_right}
 use Rattle.ofx_world.proofs.Changed.{seen, Becomes, changed_keeps}
 use Rattle.ofx_world.proofs.Lists.{same_some, none_some, at_all}
-use Rattle.ofx_world.proofs.Objects.{bytes_are}
 
 same_ok : (a b : Accepted) → ◌≡◌ {A = Result Accepted ClientFault} (Ok a) (Ok b) → a ≡ b
 same_ok a b same = cc
@@ -45,7 +45,7 @@ bears_name client file reply taken is = by_test (same_name file.newer reply.newe
 
 same_names : (name : List ℕ) (found : Option (List ℕ)) → same_name (Some name) found ≡ true → found ≡ Some name
 same_names name None same = cc
-same_names name (Some other) same = ap (λ (n : List ℕ). Some n) (sym (bytes_are name other same))
+same_names name (Some other) same = ap (λ (n : List ℕ). Some n) (sym (bytes_eq_is name other same))
 
 -- ---- what the client becomes
 

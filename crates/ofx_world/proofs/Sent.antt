@@ -10,13 +10,15 @@ use Rattle.ofx_types.specs.Calendar.{IsMoment}
 use Rattle.ofx_types.specs.declared.number.Moment.{Moment}
 use Rattle.ofx_types.specs.declared.number.UserId.{UserId}
 use Rattle.ofx_types.specs.declared.request.RequestFile.{RequestFile}
+use Rattle.ofx_types.proofs.Bytes.{bytes_eq_self}
 use Rattle.bank_model.specs.Polls.{is_poll, are_polls}
-use Rattle.bank_model.specs.SetupForm.{IsWithinLimits, IsUser as IsWordUser}
+use Rattle.bank_model.specs.SetupForm.{IsWithinLimits, IsWord, IsUser as IsWordUser}
 use Rattle.bank_model.specs.SetupLookups.{user_of, signed_on}
 use Rattle.bank_model.specs.Sound.{IsSound}
 use Rattle.bank_model.specs.declared.setup.Setup.{Setup}
 use Rattle.bank_model.specs.declared.setup.User.{User}
 use Rattle.bank_model.proofs.SetupSignon.{one_signs, none_signs}
+use Rattle.bank_replies.proofs.Words.{ink_text, word_ink}
 use Rattle.client_core.specs.Making.{file_name}
 use Rattle.client_saved.specs.Bounds.{IsSoundOutstanding}
 use Rattle.client_saved.specs.declared.state.Outstanding.{Outstanding}
@@ -27,8 +29,6 @@ use Rattle.ofx_world.specs.Sound.{IsOf, IsSentBy, IsLast, IsSoundCustomer, IsSou
 use Rattle.ofx_world.specs.World.{WorldView, with_request}
 use Rattle.ofx_world.proofs.Changed.{request_keeps}
 use Rattle.ofx_world.proofs.Lists.{same_some, none_some, at_all}
-use Rattle.ofx_world.proofs.Objects.{bytes_itself}
-use Rattle.ofx_world.proofs.Words.{word_within}
 
 -- ---- the user who signs on
 
@@ -39,6 +39,12 @@ user_at place = record { 0 = place }
 place_of : (user : UserId) (found : Option ℕ) → option_map user_at found ≡ Some user → found ≡ Some user.0
 place_of user None is = cc
 place_of user (Some place) is = ap (λ (u : UserId). Some u.0) (same_some (user_at place) user is)
+
+-- The words of a setup are texts.
+word_within : (word : List ℕ) → IsWord word → IsTextWithin 64 word
+word_within word is =
+    let few = is.is_within in
+    ink_text 64 word (word_ink word is.is_plain) is.is_there (omega arith) (omega arith)
 
 module _ (setup : Setup) (within : IsWithinLimits setup) (name : List ℕ) (user : UserId) (is : user_of setup name ≡ Some user) where
   found : position (λ (u : User). bytes_eq u.name name) setup.users ≡ Some user.0
@@ -60,7 +66,7 @@ module _ (setup : Setup) (within : IsWithinLimits setup) (name : List ℕ) (user
   pub signs : signed_on setup name (pass_at setup (user_of setup name)) ≡ Some user
   signs = ap (option_map user_at)
       (one_signs name (pass_at setup (user_of setup name)) setup.users within.lines.names user.0 found nobody
-      (ap (λ (pass : List ℕ). bytes_eq pass (pass_at setup (user_of setup name))) (sym pass_is) ∙ bytes_itself (pass_at setup (user_of setup name))))
+      (ap (λ (pass : List ℕ). bytes_eq pass (pass_at setup (user_of setup name))) (sym pass_is) ∙ bytes_eq_self (pass_at setup (user_of setup name))))
 
   words : (users : List User) (place : ℕ) (d : User) → place < length users → AllByRecursion IsWordUser users → IsWordUser (get_or users place d)
   words [] place d below all = absurd (omega (arith, below))

@@ -19,7 +19,7 @@ use Rattle.ofx_world.specs.Kept.{Awaits, IsOpen, IsRequest, pending_seen}
 use Rattle.ofx_world.specs.Server.{PendingView, ServerView, happened, given_up, happened_unless, committed, reply_unless, reply_to, settled, settled_as, with_state, Restarts}
 use Rattle.ofx_world.specs.Views.{KeeperView, Unsettled, Succeeds, FailsAs, is_landed, landed_record}
 use Rattle.ofx_world.specs.declared.server.Pending.{Pending}
-use Rattle.ofx_world.proofs.Lists.{none_some}
+use Rattle.ofx_world.proofs.Lists.{same_some, none_some}
 
 -- ---- records
 
@@ -241,14 +241,11 @@ on_refusal (Err fault) P so = so
 
 -- ---- files
 
-some_inside : {X : Type 0} (x y : X) → Some x ≡ Some y → x ≡ y
-some_inside x y e = cc
-
 -- The file of a request is its user's, whoever finds both again.
 pub found_again : (setup : Setup) (bytes : List ℕ) (user : UserId) (file : RequestFile) → (request : IsRequest setup bytes) → file ≡ request.file → signed_on setup file.user file.pass ≡ Some user → IsOfUser setup bytes user file
 found_again setup bytes user file request same signed =
     let own : signed_on setup file.user file.pass ≡ Some request.user = ap (λ (f : RequestFile). signed_on setup f.user f.pass) same ∙ request.of_user.signed_on.signed in
-    let users : request.user ≡ user = some_inside request.user user (sym own ∙ signed) in
+    let users : request.user ≡ user = same_some request.user user (sym own ∙ signed) in
     subst (λ (u : UserId). IsOfUser setup bytes u file) users
     (subst (λ (f : RequestFile). IsOfUser setup bytes request.user f) (sym same) request.of_user)
 

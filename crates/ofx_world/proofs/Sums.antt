@@ -13,6 +13,7 @@ use Rattle.bank_model.specs.Stores.{Store}
 use Rattle.bank_model.specs.declared.event.State.{State}
 use Rattle.bank_model.specs.declared.setup.Setup.{Setup}
 use Rattle.bank_solo.specs.Solo.{AreAccountsIn}
+use Rattle.bank_solo.proofs.Named.{numbered}
 use Rattle.bank_transfers.specs.Together.{balances}
 use Rattle.ofx_world.specs.Customer.{CustomerView}
 use Rattle.ofx_world.specs.Rehearsal.{files_made, is_lost, lost_among, stores_lost, sum_among}
@@ -57,9 +58,6 @@ pub lost_none : (stores : List Store) (i : ℕ) (store : Store) → i < length s
 lost_none stores i store below here is = lost_more stores i store false below here is ∙ omega arith
 
 -- ---- all balances
-
-abbrev numbered : ℕ → AcctId
-numbered place = record { 0 = place }
 
 abbrev with_balance : Setup → State → ℤ → AcctId → ℤ
 with_balance setup state sum account = sum +ℤ balance setup state.entries account
