@@ -36,6 +36,7 @@ pub struct Book<P: Printer> {
 }
 
 impl<P: Printer> Model for Book<P> {
+    ghost use Rattle.std.specs.Prelude.{◌≡◌};
     ghost use Rattle.bank_model.specs.SetupForm.{IsWithinLimits};
     ghost use Rattle.bank_core.specs.BookView.{ReservedBook};
     ghost use Rattle.bank_rules.specs.Standing.{IsSoundState};
@@ -44,7 +45,8 @@ impl<P: Printer> Model for Book<P> {
 
     ghost view = { λ b. record { setup = b.setup; state = b.ledger.state; room = b.ledger.room } };
 
-    ghost invariant = { λ b. IsWithinLimits b.setup × IsSoundState b.setup b.ledger.state };
+    ghost invariant = { λ b. IsWithinLimits b.setup × IsSoundState b.setup b.ledger.state
+        × (b.ledger.window ≡ b.setup.window) };
 }
 
 impl<P: Printer> Book<P> {
@@ -61,9 +63,10 @@ impl<P: Printer> Book<P> {
         ensures accounts { IfOk result (λ begun. AreOpened setup begun.1.items) }
     {
         let accounts = opened_accounts(alloc, &setup)?;
+        let ledger = Ledger::new(alloc, keys, setup.window);
         let book = Book {
             setup,
-            ledger: Ledger::new(alloc, keys),
+            ledger,
             printer,
         };
         Ok((book, accounts))

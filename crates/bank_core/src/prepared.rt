@@ -126,6 +126,7 @@ impl Prepared {
         requires made { self.before ≡ ledger.old.state }
         requires room { HasRoom ledger.old.room self.before self.after }
         requires balanced { AreBalanced self.setup self.before held.old }
+        ensures window { ledger.new.window ≡ ledger.old.window }
         ensures state { ledger.new.state ≡ self.after }
         ensures sound { IsSoundState self.setup self.after }
         ensures numbers { HaveSameNumbers held.new held.old }

@@ -96,7 +96,7 @@ impl<N: BankName, K: Keeper, P: Printer> SoloOffice<N, K, P> {
         books_are_right();
         let journal = self.teller.journal();
         let _setup = journal.book().setup();
-        let _log = journal.log();
+        journal.log_stands();
     }
 }
 

@@ -1,1 +1,5 @@
-mod ChainLemmas
+pub mod AmongLemmas
+pub mod MadeLemmas
+pub mod ObjectHistoryLemmas
+pub mod HistoryHeldLemmas
+pub mod LayingLemmas

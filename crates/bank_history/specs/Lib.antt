@@ -1,2 +1,5 @@
 pub mod HistoryView
-pub mod Chain
+pub mod Past
+pub mod Made
+pub mod ObjectHistory
+pub mod HistoryHeld

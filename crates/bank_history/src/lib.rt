@@ -1,10 +1,20 @@
-//! The history of a bank, with an index of each object's: the number of its last entry, and beside each entry the number
-//! of the one before it of the same object.
+//! The history of a bank: of each object the last entries, as many as clients may ask for, with the number of its last one,
+//! and what its whole history made.
 //!
-//! What is asked of an object is answered from its own last entry backwards, as far as the answer goes, so that it costs
-//! what it tells and not what the bank is.
+//! There is no list of all entries: contracts alone speak of it. What is asked of an object is answered from what is held of
+//! that object and from the entries that the last event added, so that it costs what it tells and not what the bank is.
 #![tactic(auto)]
 
+mod among;
 mod history;
+mod laid;
+mod laying;
+mod made;
+mod object_history;
+mod objects;
+mod origins;
+mod past;
 
+pub use among::{count_of, last_number, number_at};
 pub use history::History;
+pub use made::{Made, put_made};

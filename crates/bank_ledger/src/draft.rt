@@ -38,6 +38,7 @@ pub struct Draft<'b> {
 }
 
 impl<'b> Model for Draft<'b> {
+    ghost use Rattle.std.specs.Prelude.{◌≡◌};
     ghost use Rattle.bank_ledger.specs.DraftView.{DraftView, IsDraft};
 
     ghost Value = { DraftView };
@@ -53,7 +54,8 @@ impl<'b> Model for Draft<'b> {
       uids = d.added.uids;
     } };
 
-    ghost invariant = { λ d. IsDraft d.setup.now d.ledger.now.state d.held.now d.added };
+    ghost invariant = { λ d. IsDraft d.setup.now d.ledger.now.state d.held.now d.added
+        × (d.ledger.now.window ≡ d.setup.now.window) };
 }
 
 impl<'b> Draft<'b> {
@@ -70,6 +72,7 @@ impl<'b> Draft<'b> {
         requires within { IsWithinLimits setup.now }
         requires sound { IsSoundState setup.now ledger.now.state }
         requires balanced { AreBalanced setup.now ledger.now.state held.now }
+        requires window { ledger.now.window ≡ setup.now.window }
         requires moment { IsMoment at.0 }
         requires day { IsDay day.0 }
         ensures { result ≡ record {
@@ -105,16 +108,10 @@ impl<'b> Draft<'b> {
     /// What the bank had written down before the event, lent.
     pub fn ledger(&self) -> &'b Ledger
         ensures state { result.now.state ≡ self.now.before }
+        ensures window { result.now.window ≡ self.now.setup.window }
         ensures sound { IsSoundState self.now.setup (drafted self.now) }
     {
         self.ledger
-    }
-
-    /// The entries that stood before the event, lent.
-    pub fn entries_before(&self) -> &'b [Entry]
-        ensures { result.now ≡ self.now.before.entries }
-    {
-        self.ledger.entries()
     }
 
     /// The user whose event it is, who uses up the uids.

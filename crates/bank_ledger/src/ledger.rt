@@ -9,6 +9,7 @@ ghost use Rattle.bank_model.specs.declared.entry.Entry.{Entry};
 ghost use Rattle.bank_model.specs.Objects as objects;
 ghost use Rattle.bank_model.specs.Objects.{history_of, last_number};
 ghost use Rattle.bank_model.specs.Sync.{is_above};
+ghost use Rattle.bank_history.specs.Made.{made_of};
 ghost use Rattle.bank_model.specs.Rules as rules;
 ghost use Rattle.once_records.specs.RecordsView.{UsedOnce};
 ghost use Rattle.bank_ledger.specs.DraftView.{pair_of, with_added, IsAdded};
@@ -23,7 +24,7 @@ ghost use Rattle.bank_ledger.specs.Changes.{GivesRows, IsKnown};
 
 use crate::additions::Additions;
 use crate::row_change::RowChange;
-use bank_history::History;
+use bank_history::{History, Made};
 use bank_model::Entry;
 use bank_recur::Models;
 use bank_transfers::Transfers;
@@ -57,6 +58,7 @@ impl Model for Ledger {
     ghost Value = { LedgerView };
 
     ghost view = { λ l. record {
+      window = l.history.width;
       state = record {
         entries = l.history.entries;
         used = l.records.used;
@@ -76,12 +78,15 @@ impl Model for Ledger {
 }
 
 impl Ledger {
-    /// The state in which a bank opens. Takes no memory. Clients' names are found by hashes with these keys.
-    pub fn new(alloc: Global, keys: RandomState) -> Ledger
-        ensures { result.state ≡ opening_state }
+    /// The state in which a bank opens. Takes no memory. Clients' names are found by hashes with these keys, and the history of
+    /// each object is told so many entries back, from 1 to 10,000.
+    pub fn new(alloc: Global, keys: RandomState, window: u32) -> Ledger
+        requires window { (0 < window) × (window < 10001) }
+        ensures window { result.window ≡ window }
+        ensures state { result.state ≡ opening_state }
     {
         Ledger {
-            history: History::new(alloc),
+            history: History::new(alloc, window),
             transfers: Transfers::new(alloc),
             models: Models::new(alloc),
             records: Records::new(alloc, keys),
@@ -96,13 +101,6 @@ impl Ledger {
         self.history.count()
     }
 
-    /// The history, lent.
-    pub fn entries(&self) -> &[Entry]
-        ensures { result.now ≡ self.now.state.entries }
-    {
-        self.history.entries()
-    }
-
     /// The number of the last entry of an object, 0 where there is none.
     pub fn newest(&self, object: ObjectId) -> u64
         ensures { result ≡ objects.newest object self.now.state.entries }
@@ -111,32 +109,34 @@ impl Ledger {
     }
 
     /// Whether a token is below the number of the entry before the last so many of an object, which is 0 where there are
-    /// no more than these.
+    /// no more than these. They are no more than its history is told back.
     pub fn is_past(&self, object: ObjectId, token: u64, kept: usize) -> bool
+        requires kept { kept ≤ self.now.window }
         ensures { result ≡ nat_lt token (last_number (take (length (history_of object self.now.state.entries) - kept)
             (history_of object self.now.state.entries))) }
     {
         self.history.is_past(object, token, kept)
     }
 
-    /// The entries of an object with numbers above a token, lent.
+    /// The entries of an object with numbers above a token, lent. The token isn't below the floor of its history.
     pub fn since(
         &self,
         alloc: Global,
         object: ObjectId,
         token: u64,
     ) -> Result<Vec<&Entry>, OutOfMemory>
+        requires floor { objects.floor self.now.window object self.now.state.entries ≤ token }
         ensures { IfOk result (λ since. map (λ entry. entry.now) since.items
             ≡ filter (is_above token) (history_of object self.now.state.entries)) }
     {
         self.history.since(alloc, object, token)
     }
 
-    /// The entries of an object, lent.
-    pub fn history(&self, alloc: Global, object: ObjectId) -> Result<Vec<&Entry>, OutOfMemory>
-        ensures { IfOk result (λ all. map (λ entry. entry.now) all.items ≡ history_of object self.now.state.entries) }
+    /// What an object's history made, in order. Mails are copied.
+    pub fn made(&self, alloc: Global, object: ObjectId) -> Result<Vec<Made>, OutOfMemory>
+        ensures { IfOk result (λ made. made.items ≡ made_of object self.now.state.entries) }
     {
-        self.history.all(alloc, object)
+        self.history.made(alloc, object)
     }
 
     /// The business day.
@@ -218,6 +218,7 @@ impl Ledger {
 
     /// Makes room for so many entries and uids more, and for one more reply. No room that was made before is lost.
     pub fn reserve(&mut self, entries: u32, uids: u32) -> Result<(), OutOfMemory>
+        ensures window { self.new.window ≡ self.old.window }
         ensures state { self.new.state ≡ self.old.state }
         ensures entries { OnOk result (entries ≤ self.new.room.entries) }
         ensures transfers { OnOk result (entries ≤ self.new.room.transfers) }
@@ -244,6 +245,7 @@ impl Ledger {
         requires number { entry.number ≡ length self.old.state.entries + 1 }
         requires known { IsKnown row_change }
         requires gives { GivesRows self.old.state.entries entry.change row_change }
+        ensures window { self.new.window ≡ self.old.window }
         ensures state { self.new.state ≡ record {
           entries = self.old.state.entries ++ entry ∷ [];
           used = self.old.state.used;
@@ -283,6 +285,7 @@ impl Ledger {
     fn use_up(&mut self, user: UserId, trnuid: TrnUid)
         requires room { 0 < self.old.room.pairs }
         requires unused { is_used user trnuid self.old.state.used ≡ false }
+        ensures window { self.new.window ≡ self.old.window }
         ensures state { self.new.state ≡ record {
           entries = self.old.state.entries;
           used = self.old.state.used ++ record { user = user; trnuid = trnuid } ∷ [];
@@ -309,6 +312,7 @@ impl Ledger {
         requires given { (k : ℕ) (entry : Entry) (row_change : RowChange) → k < length entries.items
             → GivesRows (self.old.state.entries ++ take k entries.items) (slice_index_or entries.items k entry).change
             (slice_index_or row_changes.items k row_change) }
+        ensures window { self.new.window ≡ self.old.window }
         ensures state { self.new.state ≡ record {
           entries = self.old.state.entries ++ entries.items;
           used = self.old.state.used;
@@ -331,6 +335,7 @@ impl Ledger {
     fn use_up_all(&mut self, user: UserId, uids: Vec<TrnUid>)
         requires room { length uids.items ≤ self.old.room.pairs }
         requires unused { UsedOnce (self.old.state.used ++ map (pair_of user) uids.items) }
+        ensures window { self.new.window ≡ self.old.window }
         ensures state { self.new.state ≡ record {
           entries = self.old.state.entries;
           used = self.old.state.used ++ map (pair_of user) uids.items;
@@ -352,6 +357,7 @@ impl Ledger {
         requires pairs { length added.uids ≤ self.old.room.pairs }
         requires added { IsAdded self.old.state added }
         requires unused { UsedOnce (with_added self.old.state added).used }
+        ensures window { self.new.window ≡ self.old.window }
         ensures state { self.new.state ≡ with_added self.old.state added }
         ensures files { self.new.room.files ≡ self.old.room.files }
     {
@@ -365,6 +371,7 @@ impl Ledger {
 
     /// Lets go the reply to the user's file of that name, where there is one. Takes no memory.
     pub fn release(&mut self, user: UserId, older: &Option<FileUid>)
+        ensures window { self.new.window ≡ self.old.window }
         ensures state { self.new.state ≡ record {
           entries = self.old.state.entries;
           used = self.old.state.used;
@@ -385,6 +392,7 @@ impl Ledger {
     pub fn keep(&mut self, user: UserId, newer: Option<FileUid>, reply: Vec<u8>)
         requires room { 0 < self.old.room.files }
         requires absent { IfSome newer (λ file. reply_kept user file self.old.state.kept ≡ None) }
+        ensures window { self.new.window ≡ self.old.window }
         ensures state { self.new.state ≡ record {
           entries = self.old.state.entries;
           used = self.old.state.used;
@@ -400,6 +408,7 @@ impl Ledger {
 
     /// Sets the business day.
     fn set_day(&mut self, day: Day)
+        ensures window { self.new.window ≡ self.old.window }
         ensures state { self.new.state ≡ record {
           entries = self.old.state.entries;
           used = self.old.state.used;

@@ -3,4 +3,5 @@ mod Plans
 mod Opens
 mod Working
 mod Doors
+mod Books
 mod Sharing

@@ -4,33 +4,33 @@ use denote.Ref.{NamedLft, ShrRef}
 use denote.Struct.Field.{row_field, u32-field}
 use denote.Struct.Tuple.{type_at, TupleAt}
 use denote.Param.Send.{IsSend, IsSync, sendable, view_send, view_sync, shr_sync}
-use denote.Param.SendFields.{declared_send, declared_sync, as_row_send, as_row_sync}
+use denote.Param.SendFields.{declared_send, declared_sync, as_row_send, as_row_sync, variants_send}
 use Rattle.std.proofs.Common.{List, [], ◌∷◌}
 use Rattle.std.proofs.Crossing.{crosses}
 use Rattle.std.specs.contracts.alloc.Global as heap
 use Rattle.std.proofs.option.Option.TheSendSync as option
 use Rattle.std.proofs.alloc.Global.TheSendSync as handle
 use Rattle.ofx_types.proofs.number.Moment.TheSendSync as moment
-use Rattle.ofx_types.proofs.sequence.Sequence.TheSendSync as sequence
 use Rattle.ofx_types.proofs.uid.FileUid.TheSendSync as uid
-use Rattle.bank_model.proofs.entry.Entry.TheSendSync as entry
 use Rattle.bank_model.proofs.event.Event.TheSendSync as event
 use Rattle.bank_model.proofs.setup.Setup.TheSendSync as setup
 use Rattle.bank_shared.below.bank_accounts.proofs.home.Home.TheSendSync as home
 use Rattle.bank_shared.below.bank_ledger.proofs.additions.Additions.TheSendSync as additions
-use Rattle.bank_shared.below.bank_core.proofs.book.Book.TheSendSync as book
 use Rattle.bank_shared.below.bank_core.specs.contracts.prepared.Prepared as prepared
 use Rattle.bank_shared.below.bank_core.specs.contracts.prepared.Prepared.TheInside as prepared_inside
 use Rattle.ofx_ports.specs.declared.keeper.Keeper as kept
 use Rattle.bank_shared.specs.declared.name.BankName as named
 use Rattle.bank_shared.specs.contracts.step.Step as step
-use Rattle.bank_shared.proofs.log.Log.TheSendSync as log
+use Rattle.bank_shared.specs.contracts.past.Past as past
+use Rattle.bank_shared.specs.contracts.log.Log as log
+use Rattle.bank_shared.specs.contracts.log.Log.TheInside as log_inside
 use Rattle.bank_shared.specs.contracts.journal.Journal as journal
 use Rattle.bank_shared.specs.contracts.journal.Journal.TheInside as journal_inside
 use Rattle.bank_shared.specs.contracts.teller.Teller as teller
 use Rattle.bank_shared.specs.contracts.teller.Teller.TheInside as teller_inside
 use Rattle.bank_shared.specs.contracts.bank.Bank as bank
 use Rattle.bank_shared.specs.contracts.bank.Bank.TheInside as bank_inside
+use Rattle.bank_server.proofs.Books.{book_send}
 
 prepared_send : IsSend prepared.the_row
 prepared_send = view_send _ _ _ _ _ (
@@ -47,14 +47,36 @@ prepared_send = view_send _ _ _ _ _ (
     )
 
 step_send : IsSend step.the_row
-step_send = declared_send step.the_type (event.the_send, (moment.the_send, (search sendable, (prepared_send, (sequence.the_send _ entry.the_send, tt)))))
+step_send = declared_send step.the_type (event.the_send, (moment.the_send, (search sendable, (prepared_send, tt))))
+
+-- the log's items, of which it has no bytes
+past_send : IsSend past.the_row
+past_send = variants_send past.enum (
+  tt,
+  (
+    (search (sendable, crosses), (search (sendable, crosses), tt)),
+    (
+      (search (sendable, crosses), (search (sendable, crosses), (search (sendable, crosses), (search (sendable, crosses), tt)))),
+      (
+        (search (sendable, crosses), (search (sendable, crosses), (search (sendable, crosses), (search (sendable, crosses), tt)))),
+        (
+          (search (sendable, crosses), (search (sendable, crosses), (search (sendable, crosses), (search (sendable, crosses), tt)))),
+          ((search (sendable, crosses), (search (sendable, crosses), tt)), tt),
+        ),
+      ),
+    ),
+  ),
+)
+
+log_send : IsSend log.the_row
+log_send = view_send _ _ _ _ _ (declared_send log_inside.the_type (past_send, (search (sendable, crosses), tt)))
 
 module _ (N K P : RattleType) (n : named.Ghosts N.Denot) (k : kept.Ghosts K.Denot) where
   journal_send : IsSend K → IsSend P → IsSend (journal.the_row N K P n k)
   journal_send sk sp = view_send _ _ _ _ _ (
       declared_send (journal_inside.the_type N K P n k) (
         handle.the_send,
-        (search (sendable, crosses), (as_row_send (row_field K) sk, (book.the_send _ sp, (log.the_send, (option.the_send _ step_send, (search (sendable, crosses), tt)))))),
+        (search (sendable, crosses), (as_row_send (row_field K) sk, (book_send _ sp, (log_send, (option.the_send _ step_send, (search (sendable, crosses), tt)))))),
       )
       )
 

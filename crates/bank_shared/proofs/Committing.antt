@@ -65,19 +65,19 @@ codes_again rec rec' at at' event event' of when is codes =
 
 -- ---- an event that is answered
 
-pub answers_it : (book book' book'' : ReservedBook) (log log' log'' : List LogItem) (pending : Option Step) (step : Step) (opened : Option (List (List ℕ))) (keeper keeper' : KeeperView) (event : Event) (at : Moment) (told reply rec : List ℕ) →
-    book'.setup ≡ book.setup → book'.state ≡ book.state → log' ≡ log →
+pub answers_it : (book book' book'' : ReservedBook) (log log' : List LogItem) (pending : Option Step) (step : Step) (opened : Option (List (List ℕ))) (keeper keeper' : KeeperView) (event : Event) (at : Moment) (reply rec : List ℕ) →
+    book'.setup ≡ book.setup → book'.state ≡ book.state →
     book''.setup ≡ book'.setup → book''.state ≡ state_after book'.setup book'.state step.at step.event →
-    log'' ≡ log' ++ group book'.setup book'.state (Answer step.event step.at told) → step.event ≡ event → step.at ≡ at →
-    told ≡ answer_to book.setup book.state at event → reply ≡ told → pending ≡ None → Codes rec at event →
+    log' ≡ log ++ group book'.setup book'.state (Answer step.event step.at reply) → step.event ≡ event → step.at ≡ at →
+    reply ≡ answer_to book'.setup book'.state step.at step.event → pending ≡ None → Codes rec at event →
     Grows keeper.records keeper'.records (rec ∷ []) → keeper.faults ≤ keeper'.faults →
-    Answers (seen book log pending opened keeper) (seen book'' log'' pending opened keeper') event at reply
-answers_it book book' book'' log log' log'' pending step opened keeper keeper' event at told reply rec own same as_was taken state grown event_is at_is told_is reply_is none codes grows later = record {
+    Answers (seen book log pending opened keeper) (seen book'' log' pending opened keeper') event at reply
+answers_it book book' book'' log log' pending step opened keeper keeper' event at reply rec own same taken state grown event_is at_is reply_is none codes grows later = record {
   setup = taken ∙ own;
   opened = refl;
   state = cc (state, own, same, event_is, at_is);
-  reply_is = reply_is ∙ told_is;
-  log = cc (grown, as_was, own, same, event_is, at_is, reply_is);
+  reply_is = cc (reply_is, own, same, event_is, at_is);
+  log = cc (grown, own, same, event_is, at_is);
   pending = ap (option_map pending_of) none;
   records = (rec, codes, grows);
   later = later;
@@ -91,15 +91,15 @@ may_stand (Some rs) told' None rec may = absurd may
 may_stand (Some rs) told' (Some true) rec may = inr may
 may_stand (Some rs) told' (Some false) rec may = inl may
 
-pub keeps_not : (book book' : ReservedBook) (log log' log'' : List LogItem) (pending : Option Step) (step : Step) (opened : Option (List (List ℕ))) (keeper keeper' : KeeperView) (again event : Event) (at : Moment) (count : ℕ) (rec : List ℕ) → book'.setup ≡ book.setup → book'.state ≡ book.state → log' ≡ log → log'' ≡ log' ++ Fault count (Some (again, step.at)) ∷ [] → again ≡ event → step.event ≡ event → step.at ≡ at → count ≡ keeper'.faults → Rose keeper.faults keeper'.faults → Codes rec at event → MayGrow keeper.records keeper'.records keeper'.landed rec → FailsToKeep (seen book log pending opened keeper) (seen book' log'' (Some step) opened keeper') event at count
-keeps_not book book' log log' log'' pending step opened keeper keeper' again event at count rec own same as_was grown again_is event_is at_is count_is rose codes may = record {
+pub keeps_not : (book book' : ReservedBook) (log log' : List LogItem) (pending : Option Step) (step : Step) (opened : Option (List (List ℕ))) (keeper keeper' : KeeperView) (event : Event) (at : Moment) (count : ℕ) (rec : List ℕ) → book'.setup ≡ book.setup → book'.state ≡ book.state → log' ≡ log ++ Fault count (Some (step.event, step.at)) ∷ [] → step.event ≡ event → step.at ≡ at → count ≡ keeper'.faults → Rose keeper.faults keeper'.faults → Codes rec at event → MayGrow keeper.records keeper'.records keeper'.landed rec → FailsToKeep (seen book log pending opened keeper) (seen book' log' (Some step) opened keeper') event at count
+keeps_not book book' log log' pending step opened keeper keeper' event at count rec own same grown event_is at_is count_is rose codes may = record {
   fails = record {
     setup = own;
     opened = refl;
     state = same;
     log =
-        grown ∙ ap (λ (l : List LogItem). l ++ Fault count (Some (again, step.at)) ∷ []) as_was
-        ∙ ap (λ (e : Event). log ++ Fault count (Some (e, step.at)) ∷ []) again_is
+        grown
+        ∙ ap (λ (e : Event). log ++ Fault count (Some (e, step.at)) ∷ []) event_is
         ∙ ap (λ (m : Moment). log ++ Fault count (Some (event, m)) ∷ []) at_is;
     count_is = sym count_is;
     rose = subst (Rose keeper.faults) (sym count_is) rose;

@@ -85,6 +85,10 @@ pub effects_are : (setup : Setup) (S : State) (at : Moment) (event : Event) (ent
 effects_are setup S at event entries grows =
     ap (λ (l : List Entry). map Effect (drop (length S.entries) l)) grows ∙ ap (map Effect) (drop-append_seam S.entries entries)
 
+-- a log that has grown by the effects of these entries
+pub effects_added : (setup : Setup) (S : State) (at : Moment) (event : Event) (entries : List Entry) (log log' : List LogItem) → log' ≡ log ++ map Effect entries → (state_after setup S at event).entries ≡ S.entries ++ entries → log' ≡ log ++ effects_of setup S at event
+effects_added setup S at event entries log log' is grows = is ∙ ap (λ (l : List LogItem). log ++ l) (sym (effects_are setup S at event entries grows))
+
 pub entries_more : (setup : Setup) (opening S : State) (at : Moment) (event : Event) (entries : List Entry) (log : List LogItem) (item : LogItem) → entry_of item ≡ [] → S.entries ≡ entries_in opening log → (state_after setup S at event).entries ≡ S.entries ++ entries → (state_after setup S at event).entries ≡ entries_in opening (log ++ (effects_of setup S at event ++ item ∷ []))
 entries_more setup opening S at event entries log item none own grows =
     grows ∙ ap (λ (l : List Entry). l ++ entries) own ∙ append_assoc opening.entries (flat_map entry_of log) entries

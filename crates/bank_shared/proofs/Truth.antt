@@ -230,19 +230,17 @@ truth_new setup opening opened book log keeper own at stands stays settled none 
     kept (Some first) None are stays = absurd stays
     kept (Some first) (Some rs) are stays = subst (AreKept setup opening first [] keeper.landed None) (sym stays) (all first are)
 
--- the book and the log are as they were, but for the room in them
-pub truth_moved : (setup : Setup) (opening : State) (opened : Option (List (List ℕ))) (book book' : ReservedBook) (log log' : List LogItem) (keeper : KeeperView) → book'.setup ≡ book.setup → book'.state ≡ book.state → log' ≡ log → IsTrue setup opening opened book log None keeper → IsTrue setup opening opened book' log' None keeper
-truth_moved setup opening opened book book' log log' keeper own same log_is is =
-    subst (λ (l : List LogItem). IsTrue setup opening opened book' l None keeper) (sym log_is)
-    record {
-      own = own ∙ is.own;
-      legal = is.legal;
-      stands = same ∙ is.stands;
-      entries = ap (λ (S : State). S.entries) same ∙ is.entries;
-      kept = is.kept;
-      counts = is.counts;
-      awaits = is.awaits;
-    }
+-- the book is as it was, but for the room in it
+pub truth_moved : (setup : Setup) (opening : State) (opened : Option (List (List ℕ))) (book book' : ReservedBook) (log : List LogItem) (keeper : KeeperView) → book'.setup ≡ book.setup → book'.state ≡ book.state → IsTrue setup opening opened book log None keeper → IsTrue setup opening opened book' log None keeper
+truth_moved setup opening opened book book' log keeper own same is = record {
+  own = own ∙ is.own;
+  legal = is.legal;
+  stands = same ∙ is.stands;
+  entries = ap (λ (S : State). S.entries) same ∙ is.entries;
+  kept = is.kept;
+  counts = is.counts;
+  awaits = is.awaits;
+}
 
 -- nothing came of an append for want of memory
 pub truth_refused : (setup : Setup) (opening : State) (opened : Option (List (List ℕ))) (book : ReservedBook) (log : List LogItem) (keeper keeper' : KeeperView) → Stays keeper.records keeper'.records → keeper'.unsettled ≡ false → keeper.faults ≤ keeper'.faults → IsTrue setup opening opened book log None keeper → IsTrue setup opening opened book log None keeper'
@@ -279,20 +277,20 @@ truth_answered setup opening opened book book' log log' keeper keeper' step repl
     item : LogItem
     item = Answer step.event step.at reply
 
-    grown : IsGrown setup book.state book'.state log log' step.event step.at step.entries item
+    grown : IsGrown setup book.state book'.state log log' step.event step.at ready.adds.0 item
     grown =
-        subst (λ (s : Setup). IsGrown s book.state book'.state log log' step.event step.at step.entries item) is.own
-        record { may_happen = ready.may_happen; entries_are = ready.entries; after = after; log_is = log_is }
+        subst (λ (s : Setup). IsGrown s book.state book'.state log log' step.event step.at ready.adds.0 item) is.own
+        record { may_happen = ready.may_happen; entries_are = ready.adds.1; after = after; log_is = log_is }
 
     may_end : MayEnd setup book.state (endings log) item
     may_end = subst (λ (s : Setup). MayEnd s book.state (endings log) item) is.own (ready.may_happen, reply_is)
 
     both : IsLogTrue setup opening book'.state log' × (endings log' ≡ endings log ++ item ∷ [])
-    both = grown_log setup opening book.state book'.state log log' step.event step.at step.entries item refl refl refl refl may_end (log_true setup opening opened book log None keeper is) grown
+    both = grown_log setup opening book.state book'.state log log' step.event step.at ready.adds.0 item refl refl refl refl may_end (log_true setup opening opened book log None keeper is) grown
 
 -- an append failed, and its event is pending
-pub truth_failed : (setup : Setup) (opening : State) (opened : Option (List (List ℕ))) (book : ReservedBook) (log log' : List LogItem) (keeper keeper' : KeeperView) (step : Step) (event : Event) (count : ℕ) (rec : List ℕ) → IsReady book step → step.number ≡ (length (endings log) + 1) % 2 ^ 64 → Codes rec step.at step.event → event ≡ step.event → log' ≡ log ++ Fault count (Some (event, step.at)) ∷ [] → MayGrow keeper.records keeper'.records keeper'.landed rec → keeper'.unsettled ≡ true → count ≡ keeper'.faults → keeper.faults ≤ keeper'.faults → Rose keeper.faults keeper'.faults → IsTrue setup opening opened book log None keeper → IsTrue setup opening opened book log' (Some step) keeper'
-truth_failed setup opening opened book log log' keeper keeper' step event count rec ready number codes same log_is may unsettled count_is later rose is = record {
+pub truth_failed : (setup : Setup) (opening : State) (opened : Option (List (List ℕ))) (book : ReservedBook) (log log' : List LogItem) (keeper keeper' : KeeperView) (step : Step) (count : ℕ) (rec : List ℕ) → IsReady book step → step.number ≡ (length (endings log) + 1) % 2 ^ 64 → Codes rec step.at step.event → log' ≡ log ++ Fault count (Some (step.event, step.at)) ∷ [] → MayGrow keeper.records keeper'.records keeper'.landed rec → keeper'.unsettled ≡ true → count ≡ keeper'.faults → keeper.faults ≤ keeper'.faults → Rose keeper.faults keeper'.faults → IsTrue setup opening opened book log None keeper → IsTrue setup opening opened book log' (Some step) keeper'
+truth_failed setup opening opened book log log' keeper keeper' step count rec ready number codes log_is may unsettled count_is later rose is = record {
   own = is.own;
   legal = both.0.legal;
   stands = both.0.stands;
@@ -315,14 +313,11 @@ truth_failed setup opening opened book log log' keeper keeper' step event count 
     item : LogItem
     item = Fault count (Some (step.event, step.at))
 
-    there : log' ≡ log ++ item ∷ []
-    there = log_is ∙ ap (λ (e : Event). log ++ Fault count (Some (e, step.at)) ∷ []) same
-
     above : All (IsAbove count) (endings log)
     above = subst (λ (n : ℕ). All (IsAbove n) (endings log)) (sym count_is) (counts_rise keeper.faults keeper'.faults (endings log) later rose is.counts)
 
     both : IsLogTrue setup opening book.state log' × (endings log' ≡ endings log ++ item ∷ [])
-    both = faulty_log setup opening book.state book.state log log' count (Some (step.event, step.at)) above (log_true setup opening opened book log None keeper is) refl there
+    both = faulty_log setup opening book.state book.state log log' count (Some (step.event, step.at)) above (log_true setup opening opened book log None keeper is) refl log_is
 
 -- what was pending is adopted
 pub truth_adopted : (setup : Setup) (opening : State) (opened : Option (List (List ℕ))) (book book' : ReservedBook) (log log' : List LogItem) (keeper keeper' : KeeperView) (step : Step) → TakesLate book book' log log' step → Stays keeper.records keeper'.records → keeper'.unsettled ≡ false → TellsLanding keeper.unsettled keeper.landed true → keeper.faults ≤ keeper'.faults → IsTrue setup opening opened book log (Some step) keeper → IsTrue setup opening opened book' log' None keeper'
@@ -343,16 +338,16 @@ truth_adopted setup opening opened book book' log log' keeper keeper' step takes
     item : LogItem
     item = Adopted step.number step.event step.at
 
-    grown : IsGrown setup book.state book'.state log log' step.event step.at step.entries item
+    grown : IsGrown setup book.state book'.state log log' step.event step.at is.awaits.1.adds.0 item
     grown =
-        subst (λ (s : Setup). IsGrown s book.state book'.state log log' step.event step.at step.entries item) is.own
-        record { may_happen = is.awaits.1.may_happen; entries_are = is.awaits.1.entries; after = takes.state; log_is = takes.log_is }
+        subst (λ (s : Setup). IsGrown s book.state book'.state log log' step.event step.at is.awaits.1.adds.0 item) is.own
+        record { may_happen = is.awaits.1.may_happen; entries_are = is.awaits.1.adds.1; after = takes.state; log_is = takes.log_is }
 
     may_end : MayEnd setup book.state (endings log) item
     may_end = subst (λ (s : Setup). MayEnd s book.state (endings log) item) is.own (is.awaits.1.may_happen, is.awaits.2)
 
     both : IsLogTrue setup opening book'.state log' × (endings log' ≡ endings log ++ item ∷ [])
-    both = grown_log setup opening book.state book'.state log log' step.event step.at step.entries item refl refl refl refl may_end (log_true setup opening opened book log (Some step) keeper is) grown
+    both = grown_log setup opening book.state book'.state log log' step.event step.at is.awaits.1.adds.0 item refl refl refl refl may_end (log_true setup opening opened book log (Some step) keeper is) grown
 
 -- what was pending is given up
 pub truth_dropped : (setup : Setup) (opening : State) (opened : Option (List (List ℕ))) (book book' : ReservedBook) (log log' : List LogItem) (keeper keeper' : KeeperView) (step : Step) → GivesUp book book' log log' → Stays keeper.records keeper'.records → keeper'.unsettled ≡ false → TellsLanding keeper.unsettled keeper.landed false → keeper.faults ≤ keeper'.faults → IsTrue setup opening opened book log (Some step) keeper → IsTrue setup opening opened book' log' None keeper'

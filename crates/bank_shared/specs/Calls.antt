@@ -92,6 +92,11 @@ pub record StaysPending (old new : JournalView) (count : ℕ) : Type 0 where
   pub pending : new.pending ≡ old.pending
   pub records : Stays old.records new.records
 
+-- A fault of the keeper, and no want of memory.
+abbrev pub IsOfKeeper : SubmitFault → Type 0
+IsOfKeeper (Keeper count) = Unit {0}
+IsOfKeeper OutOfMemory = ⊥
+
 abbrev pub FailsToSettle : JournalView → JournalView → SubmitFault → Type 0
 FailsToSettle old new (Keeper count) = StaysPending old new count
 FailsToSettle old new OutOfMemory = IsAsBefore old new

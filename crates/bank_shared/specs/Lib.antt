@@ -1,3 +1,4 @@
+pub mod Past
 pub mod Views
 pub mod Kept
 pub mod Steps

@@ -1,4 +1,4 @@
--- What contracts see of a journal and of its log.
+-- What contracts see of a journal.
 use Rattle.std.specs.Prelude.{ℕ, Bool, List, Option}
 use Rattle.ofx_types.specs.declared.number.Moment.{Moment}
 use Rattle.bank_model.specs.declared.event.Event.{Event}
@@ -22,8 +22,3 @@ pub record JournalView : Type 0 where
   pub landed : Option Bool
   -- the keeper's count of faults
   pub faults : ℕ
-
--- A log, and for how many more items it has room.
-pub record LogView : Type 0 where
-  pub items : List LogItem
-  pub room : ℕ

@@ -12,16 +12,16 @@ ghost use Rattle.bank_accounts.specs.HeldAccounts.{AreHeld, HaveSameNumbers};
 ghost use Rattle.bank_ledger.specs.Balanced.{AreBalanced};
 ghost use Rattle.bank_replay.specs.Opening.{Stands};
 ghost use Rattle.bank_shared.specs.Kept.{AreKept, IsUpTo};
-ghost use Rattle.bank_shared.specs.Calls.{Answers, FailsToCommit, Settles, FailsToSettle};
+ghost use Rattle.bank_shared.specs.Calls.{Answers, FailsToCommit, IsOfKeeper, Settles, FailsToSettle};
 
 use crate::log::Log;
 use crate::name::BankName;
-use crate::ready::{make_ready, room_of};
+use crate::ready::make_ready;
 use crate::step::Step;
 use crate::taking::{answer, finish, put_off};
 use bank_accounts::Held;
 use bank_core::Book;
-use bank_model::{Event, LogItem, Printer, SubmitFault};
+use bank_model::{Event, Printer, SubmitFault};
 use ofx_ports::{Keeper, PutFault};
 use ofx_types::Moment;
 use std::alloc::Global;
@@ -55,7 +55,7 @@ impl<N: BankName, K: Keeper, P: Printer> Model for Journal<N, K, P> {
     ghost view = { λ j. record {
       setup = j.book.setup;
       state = j.book.state;
-      log = j.log.items;
+      log = j.log;
       pending = option_map pending_of j.pending;
       opened = K.records j.opened.value;
       records = K.records j.keeper;
@@ -63,7 +63,7 @@ impl<N: BankName, K: Keeper, P: Printer> Model for Journal<N, K, P> {
       faults = K.faults j.keeper;
     } };
 
-    ghost invariant = { λ j. IsTrue N.setup N.opening (K.records j.opened.value) j.book j.log.items j.pending (record {
+    ghost invariant = { λ j. IsTrue N.setup N.opening (K.records j.opened.value) j.book j.log j.pending (record {
       records = K.records j.keeper;
       landed = K.landed j.keeper;
       unsettled = K.unsettled j.keeper;
@@ -96,7 +96,7 @@ impl<N: BankName, K: Keeper, P: Printer> Journal<N, K, P> {
             opened,
             keeper,
             book,
-            log: Log::new(alloc),
+            log: Log::new(),
             pending: None,
             name: PhantomData,
         }
@@ -114,9 +114,8 @@ impl<N: BankName, K: Keeper, P: Printer> Journal<N, K, P> {
         &self.book
     }
 
-    /// The log, lent, with what is true of it whenever the lock is free. Takes no memory.
-    pub fn log(&self) -> &[LogItem]
-        ensures items { result.now ≡ self.now.log }
+    /// What is true of the log whenever the lock is free. It does nothing: proofs call it for what it says.
+    pub fn log_stands(&self)
         ensures legal { IsWholeLog N.setup N.opening self.now.log }
         ensures ends { self.now.state ≡ ends N.setup N.opening self.now.log }
         ensures entries { self.now.state.entries ≡ entries_in N.opening self.now.log }
@@ -124,7 +123,7 @@ impl<N: BankName, K: Keeper, P: Printer> Journal<N, K, P> {
             (AreKept N.setup N.opening first self.now.log self.now.landed self.now.pending)) }
         ensures counts { All (IsUpTo self.now.faults) (endings self.now.log) }
     {
-        self.log.items()
+        let _ = &self.log;
     }
 
     /// The event whose append failed, until it is settled whether its record stands. Takes no memory.
@@ -138,32 +137,30 @@ impl<N: BankName, K: Keeper, P: Printer> Journal<N, K, P> {
     }
 
     /// Settles whether the record of the pending event stands. Where it does, the event is adopted: it has happened at its moment.
-    /// Afterwards nothing is pending. The accounts that the event names are held.
+    /// Afterwards nothing is pending. The accounts that the event names are held. Takes no memory.
     ///
     /// - `Keeper(n)`: the keeper's count of faults rose to n in this call. The event is still pending.
-    /// - `OutOfMemory`: nothing has happened.
     pub fn settle(&mut self, held: &mut Held) -> Result<(), SubmitFault>
         requires named { IfSome self.old.pending (λ pending. AreHeld held.old (named self.old.setup self.old.state pending.0)) }
         requires balanced { AreBalanced self.old.setup self.old.state held.old }
         ensures settled { OnOk result (Settles self.old self.new) }
         ensures fails { IfErr result (FailsToSettle self.old self.new) }
+        ensures keeper { IfErr result IsOfKeeper }
         ensures numbers { HaveSameNumbers held.new held.old }
         ensures balanced { AreBalanced self.new.setup self.new.state held.new }
     {
-        let Some(step) = &self.pending else {
+        let Some(step) = self.pending.take() else {
             return Ok(());
         };
-        self.log.reserve(room_of(&step.entries)?)?;
         match self.keeper.settle() {
             Ok(stands) => {
-                if let Some(step) = self.pending.take() {
-                    finish(&mut self.book, &mut self.log, held, step, stands);
-                }
+                finish(&mut self.book, &mut self.log, held, step, stands);
                 Ok(())
             }
             Err(_) => {
                 let count = self.keeper.faults();
-                self.log.add_ending(LogItem::Fault(count, None));
+                self.log.add_unsettled(count);
+                self.pending = Some(step);
                 Err(SubmitFault::Keeper(count))
             }
         }
@@ -193,7 +190,8 @@ impl<N: BankName, K: Keeper, P: Printer> Journal<N, K, P> {
         ensures balanced { AreBalanced self.new.setup self.new.state held.new }
         ensures accounts { OnErr result (held.new ≡ held.old) }
     {
-        let ready = make_ready(self.alloc, &mut self.book, &mut self.log, held, event, at)?;
+        let number = self.log.next_number();
+        let ready = make_ready(self.alloc, &mut self.book, held, event, at, number)?;
         match self.keeper.append(ready.rec.items()) {
             Ok(()) => Ok(answer(&mut self.book, &mut self.log, held, ready)),
             Err(PutFault::Failed) => {

@@ -1,8 +1,8 @@
 //! A bank that many callers share: its journal, and all of its accounts behind one lock.
 //!
-//! The `Journal` has the book, the keeper of the records and the log of all that its callers were answered. It commits an event
-//! with its record, and settles an append that failed before the next event is looked at. The `Teller` lends it the accounts that
-//! an event names. `Bank` puts the teller behind a lock: each of its calls is one of the teller's.
+//! The `Journal` has the book and the keeper of the records, and its contracts the log of all that its callers were answered. It
+//! commits an event with its record, and settles an append that failed before the next event is looked at. The `Teller` lends it
+//! the accounts that an event names. `Bank` puts the teller behind a lock: each of its calls is one of the teller's.
 #![tactic(auto)]
 
 mod advance;
@@ -13,6 +13,7 @@ mod log;
 mod name;
 mod opened;
 mod pass;
+mod past;
 mod ready;
 mod step;
 mod taking;

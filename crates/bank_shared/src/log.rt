@@ -1,94 +1,115 @@
-//! The log of a bank as a stored list.
+//! The log of a bank.
 
-ghost use Rattle.std.specs.Prelude.{◌≡◌, ◌+◌, ◌%◌, ◌^◌, ◌<◌, ◌≤◌, [], ◌∷◌, ◌++◌, true, length, map, OnOk};
-ghost use Rattle.bank_model.specs.declared.log.LogItem.TheVariants.{Effect};
-ghost use Rattle.bank_model.specs.Log.{is_ending, endings};
+ghost use Rattle.std.specs.Prelude.{◌≡◌, ◌+◌, ◌%◌, ◌^◌, [], ◌∷◌, ◌++◌, None, Some, length, map};
+ghost use Rattle.bank_model.specs.declared.log.LogItem.TheVariants.{Effect, Answer, Adopted, Fault};
+ghost use Rattle.bank_model.specs.Log.{endings};
 
-use bank_model::{Entry, LogItem};
-use ofx_types::{OutOfMemory, Sequence};
-use std::alloc::Global;
+use crate::past::Past;
+use bank_model::{Entry, Event};
+use ofx_types::Moment;
 use std::marker::Model;
+use std::snapshot::Snapshot;
 
-/// The log of a bank, with its endings counted modulo 2^64. What is added to it has its room reserved before.
-#[derive(Debug, Drop)]
+/// The log of a bank, which contracts alone read, with its endings counted modulo 2^64. However long it grows, it takes no more
+/// memory.
+#[derive(Drop)]
 pub(crate) struct Log {
-    items: Vec<LogItem>,
+    // the items, for contracts alone
+    past: Past,
     ended: u64,
 }
 
 impl Model for Log {
-    ghost use Rattle.std.specs.Prelude.{◌≡◌, ◌-◌, ◌%◌, ◌^◌, length, vec_len, vec_capacity};
+    ghost use Rattle.std.specs.Prelude.{◌≡◌, ◌%◌, ◌^◌, List, length};
+    ghost use Rattle.bank_model.specs.declared.log.LogItem.{LogItem};
     ghost use Rattle.bank_model.specs.Log.{endings};
-    ghost use Rattle.bank_shared.specs.Views.{LogView};
+    ghost use Rattle.bank_shared.specs.Past.{items_of};
 
-    ghost Value = { LogView };
+    ghost Value = { List LogItem };
 
-    ghost view = { λ l. record { items = l.items.items; room = vec_capacity l.items - vec_len l.items } };
+    ghost view = { λ l. items_of l.past };
 
-    ghost invariant = { λ l. l.ended ≡ length (endings l.items.items) % 2 ^ 64 };
+    ghost invariant = { λ l. l.ended ≡ length (endings (items_of l.past)) % 2 ^ 64 };
 }
 
 impl Log {
-    /// A log without items. Takes no memory.
-    pub(crate) fn new(alloc: Global) -> Log
-        ensures { result.items ≡ [] }
+    /// A log without items.
+    pub(crate) fn new() -> Log
+        ensures { result ≡ [] }
     {
         Log {
-            items: Vec::new(alloc),
+            past: Past::Start,
             ended: 0,
         }
     }
 
-    /// The items, lent.
-    pub(crate) fn items(&self) -> &[LogItem]
-        ensures { result.now ≡ self.now.items }
-    {
-        self.items.as_slice()
-    }
-
     /// The number of the ending that comes next, modulo 2^64.
     pub(crate) fn next_number(&self) -> u64
-        ensures { result ≡ (length (endings self.now.items) + 1) % 2 ^ 64 }
+        ensures { result ≡ (length (endings self.now) + 1) % 2 ^ 64 }
     {
         self.ended.wrapping_add(1)
     }
 
-    /// Makes room for so many items more.
-    pub(crate) fn reserve(&mut self, count: usize) -> Result<(), OutOfMemory>
-        ensures items { self.new.items ≡ self.old.items }
-        ensures room { OnOk result (count ≤ self.new.room) }
+    /// Adds the effects of entries.
+    pub(crate) fn add_effects(&mut self, entries: &[Entry])
+        ensures { self.new ≡ self.old ++ map Effect entries.now }
     {
-        self.items.reserve(count)?;
-        Ok(())
-    }
-
-    /// Adds the effects of entries. Takes no memory.
-    pub(crate) fn add_effects(&mut self, entries: Sequence<Entry>)
-        requires { length entries ≤ self.old.room }
-        ensures items { self.new.items ≡ self.old.items ++ map Effect entries }
-        ensures room { self.old.room ≤ self.new.room + length entries }
-    {
-        for entry in entries.into_vec() {
+        for entry in entries {
             self.add_effect(entry);
         }
     }
 
-    /// Adds the effect of an entry. Takes no memory.
-    fn add_effect(&mut self, entry: Entry)
-        requires { 0 < self.old.room }
-        ensures items { self.new.items ≡ self.old.items ++ Effect entry ∷ [] }
-        ensures room { self.old.room ≡ self.new.room + 1 }
+    /// Adds the effect of an entry.
+    fn add_effect(&mut self, entry: &Entry)
+        ensures { self.new ≡ self.old ++ Effect entry.now ∷ [] }
     {
-        self.items.push_reserved(LogItem::Effect(entry));
+        self.past = Past::Effect(Snapshot::of(&self.past), Snapshot::of(entry));
     }
 
-    /// Adds an ending. Takes no memory.
-    pub(crate) fn add_ending(&mut self, ending: LogItem)
-        requires room { 0 < self.old.room }
-        requires ending { is_ending ending ≡ true }
-        ensures { self.new.items ≡ self.old.items ++ ending ∷ [] }
+    /// Adds the answer to an event at a moment.
+    pub(crate) fn add_answer(&mut self, event: &Event, at: Moment, reply: &Vec<u8>)
+        ensures { self.new ≡ self.old ++ Answer event.now at reply.now.items ∷ [] }
     {
-        self.items.push_reserved(ending);
+        self.past = Past::Answer(
+            Snapshot::of(&self.past),
+            Snapshot::of(event),
+            Snapshot::of(&at),
+            Snapshot::of(reply),
+        );
+        self.ended = self.ended.wrapping_add(1);
+    }
+
+    /// Adds an adopted event with its moment, and the number of the fault of its append.
+    pub(crate) fn add_adopted(&mut self, fault: u64, event: &Event, at: Moment)
+        ensures { self.new ≡ self.old ++ Adopted fault event.now at ∷ [] }
+    {
+        self.past = Past::Adopted(
+            Snapshot::of(&self.past),
+            Snapshot::of(&fault),
+            Snapshot::of(event),
+            Snapshot::of(&at),
+        );
+        self.ended = self.ended.wrapping_add(1);
+    }
+
+    /// Adds the fault of an append, which raised the keeper's count to this one, with its event and moment.
+    pub(crate) fn add_failed(&mut self, count: u64, event: &Event, at: Moment)
+        ensures { self.new ≡ self.old ++ Fault count (Some (event.now, at)) ∷ [] }
+    {
+        self.past = Past::Failed(
+            Snapshot::of(&self.past),
+            Snapshot::of(&count),
+            Snapshot::of(event),
+            Snapshot::of(&at),
+        );
+        self.ended = self.ended.wrapping_add(1);
+    }
+
+    /// Adds the fault of a settling, which raised the keeper's count to this one.
+    pub(crate) fn add_unsettled(&mut self, count: u64)
+        ensures { self.new ≡ self.old ++ Fault count None ∷ [] }
+    {
+        self.past = Past::Unsettled(Snapshot::of(&self.past), Snapshot::of(&count));
         self.ended = self.ended.wrapping_add(1);
     }
 }

@@ -1,8 +1,8 @@
 //! An event whose step is prepared, and not taken yet.
 
 use bank_core::Prepared;
-use bank_model::{Entry, Event};
-use ofx_types::{Moment, Sequence};
+use bank_model::Event;
+use ofx_types::Moment;
 
 /// An event with its prepared step, which outlives an append that failed.
 #[derive(Drop)]
@@ -15,6 +15,4 @@ pub(crate) struct Step {
     pub(crate) number: u64,
     /// What it makes of the book.
     pub(crate) prepared: Prepared,
-    /// The entries that it adds.
-    pub(crate) entries: Sequence<Entry>,
 }

@@ -3,16 +3,18 @@
 
 ghost use Rattle.std.specs.Prelude.{◌≡◌, ◌≤◌, ◌∷◌, ◌++◌, [], nat_lt, Some, codes, length, map, filter, take, IfOk, OnOk};
 ghost use Rattle.std.specs.List.{flat_map};
-ghost use Rattle.std.specs.Option.{option_copied};
+ghost use Rattle.std.specs.Option.{option_copied, IfSome};
+ghost use Rattle.bank_history.specs.Made.{standing_of};
 ghost use Rattle.ofx_types.specs.SyncForm.{object_family};
 ghost use Rattle.bank_model.specs.Objects as objects;
-ghost use Rattle.bank_model.specs.Objects.{history_of, last_number_from};
+ghost use Rattle.bank_model.specs.Objects.{history_of};
 ghost use Rattle.bank_model.specs.Judging as judging;
 ghost use Rattle.bank_model.specs.Sync as rules;
-ghost use Rattle.bank_model.specs.Sync.{told_as, told_entry, is_above, standing_transfer, standing_model, standing_in, history_told};
+ghost use Rattle.bank_model.specs.Sync.{told_as, told_entry, is_above, standing_transfer, standing_model, history_told};
 ghost use Rattle.bank_ledger.specs.DraftView.{drafted};
 
 use crate::tokens::token_of;
+use bank_history::{Made, count_of, last_number, number_at, put_made};
 use bank_ledger::{Draft, own_uid};
 use bank_model::Entry;
 use bank_model::codes::DONE;
@@ -58,12 +60,12 @@ fn is_past(draft: &Draft<'_>, object: ObjectId, token: u64) -> bool
 {
     let window = draft.setup().window as usize;
     let ledger = draft.ledger();
-    let behind = count_of(draft.entries(), object);
-    if behind <= window {
-        return ledger.is_past(object, token, window - behind);
+    let later = count_of(draft.entries(), object);
+    if later <= window {
+        return ledger.is_past(object, token, window - later);
     }
     let before = ledger.newest(object);
-    let number = number_at(draft.entries(), object, behind - window, before);
+    let number = number_at(draft.entries(), object, later - window, before);
     token < number
 }
 
@@ -91,7 +93,7 @@ pub fn told_history(
     }
 }
 
-/// The entries of an object above a token.
+/// The entries of an object above a token, which isn't below the floor.
 fn above(
     draft: &Draft<'_>,
     alloc: Global,
@@ -99,6 +101,8 @@ fn above(
     family: Family,
     token: Option<u64>,
 ) -> Result<Vec<DeedReply>, OutOfMemory>
+    requires floor { IfSome token (λ token.
+        objects.floor draft.now.setup.window object (drafted draft.now).entries ≤ token) }
     ensures { IfOk result (λ told. told.items ≡ map (told_entry family)
         (rules.entries_above token (history_of object (drafted draft.now).entries))) }
 {
@@ -125,92 +129,52 @@ fn standing(
         (rules.standing object (drafted draft.now).entries)) }
 {
     let mut told = Vec::new(alloc);
-    let before = draft.ledger().history(alloc, object)?;
-    tell_all_made(draft, &mut told, &before, family)?;
-    tell_standing(draft, &mut told, draft.entries(), object, family)?;
+    let mut made = draft.ledger().made(alloc, object)?;
+    put_made(&mut made, draft.entries(), object)?;
+    tell_all_made(draft, &mut told, &made, family)?;
     Ok(told)
 }
 
-/// Tells what stands now of what some entries made.
+/// Tells what stands now of what was made.
 fn tell_all_made(
     draft: &Draft<'_>,
     told: &mut Vec<DeedReply>,
-    entries: &[&Entry],
+    made: &[Made],
     family: Family,
 ) -> Result<(), OutOfMemory>
     ensures { OnOk result (told.new.items ≡ told.old.items ++ map (told_as family (codes "0"))
-        (flat_map (λ entry. standing_in (drafted draft.now).entries entry.change) (map (λ entry. entry.now) entries.now))) }
+        (flat_map (standing_of (drafted draft.now).entries) made.now)) }
 {
-    for entry in entries {
-        tell_change(draft, told, &entry.change, family)?;
+    for one in made {
+        tell_made(draft, told, one, family)?;
     }
     Ok(())
 }
 
-/// Tells what stands now of what some entries of an object made.
-fn tell_standing(
-    draft: &Draft<'_>,
-    told: &mut Vec<DeedReply>,
-    entries: &[Entry],
-    object: ObjectId,
-    family: Family,
-) -> Result<(), OutOfMemory>
-    ensures { OnOk result (told.new.items ≡ told.old.items ++ map (told_as family (codes "0"))
-        (flat_map (λ entry. standing_in (drafted draft.now).entries entry.change)
-        (history_of object entries.now))) }
-{
-    for entry in entries {
-        tell_made(draft, told, entry, object, family)?;
-    }
-    Ok(())
-}
-
-/// Tells what stands now of what an entry made, where it is one of the object.
-#[tactic(auto, unfolding(bank_model::specs::Objects::history_of))]
+/// Tells what stands now of a transfer, a recurring transfer or a mail.
 fn tell_made(
     draft: &Draft<'_>,
     told: &mut Vec<DeedReply>,
-    entry: &Entry,
-    object: ObjectId,
+    made: &Made,
     family: Family,
 ) -> Result<(), OutOfMemory>
     ensures { OnOk result (told.new.items ≡ told.old.items ++ map (told_as family (codes "0"))
-        (flat_map (λ entry. standing_in (drafted draft.now).entries entry.change)
-        (history_of object (entry.now ∷ [])))) }
+        (standing_of (drafted draft.now).entries made.now)) }
 {
-    if entry.object.0 == object.0 {
-        return tell_change(draft, told, &entry.change, family);
-    }
-    Ok(())
-}
-
-fn tell_change(
-    draft: &Draft<'_>,
-    told: &mut Vec<DeedReply>,
-    change: &Change,
-    family: Family,
-) -> Result<(), OutOfMemory>
-    ensures { OnOk result (told.new.items ≡ told.old.items ++ map (told_as family (codes "0"))
-        (standing_in (drafted draft.now).entries change.now)) }
-{
-    match change {
-        Change::NewTransfer(row) => {
-            let found = draft.row(row.id);
+    match made {
+        Made::Transfer(id) => {
+            let found = draft.row(*id);
             tell_transfer(told, found, family)
         }
-        Change::NewModel(row) => {
-            let cancelled = draft.is_cancelled(row.id);
-            let found = draft.model(row.id);
+        Made::Model(id) => {
+            let cancelled = draft.is_cancelled(*id);
+            let found = draft.model(*id);
             tell_model(told, cancelled, found, family)
         }
-        Change::NewMail(row) => {
+        Made::Mail(row) => {
             let copy = row.copy()?;
             tell_now(told, Change::NewMail(copy), family)
         }
-        Change::SetTransfer(_) => Ok(()),
-        Change::DropTransfer(_) => Ok(()),
-        Change::SetModel(_, _) => Ok(()),
-        Change::DropModel(_, _) => Ok(()),
     }
 }
 
@@ -367,63 +331,4 @@ fn tell(
         change: Some(change),
     })?;
     Ok(())
-}
-
-/// The number of the last entry of an object, and the number before where there is none.
-fn last_number(entries: &[Entry], object: ObjectId, before: u64) -> u64
-    ensures { result ≡ last_number_from before (history_of object entries.now) }
-{
-    let mut number = before;
-    for entry in entries {
-        number = number_behind(entry, object, number);
-    }
-    number
-}
-
-/// The number of an entry, where it is one of the object, and the number before otherwise.
-#[tactic(auto, unfolding(bank_model::specs::Objects::history_of))]
-fn number_behind(entry: &Entry, object: ObjectId, before: u64) -> u64
-    ensures { result ≡ last_number_from before (history_of object (entry.now ∷ [])) }
-{
-    if entry.object.0 == object.0 {
-        entry.number
-    } else {
-        before
-    }
-}
-
-/// How many entries an object has.
-fn count_of(entries: &[Entry], object: ObjectId) -> usize
-    ensures { result ≡ length (history_of object entries.now) }
-{
-    let mut count = 0;
-    for entry in entries {
-        count += one_if(entry, object);
-    }
-    count
-}
-
-/// 1 where an entry is one of the object, 0 otherwise.
-#[tactic(auto, unfolding(bank_model::specs::Objects::history_of))]
-fn one_if(entry: &Entry, object: ObjectId) -> usize
-    ensures count { result ≡ length (history_of object (entry.now ∷ [])) }
-    ensures most { result ≤ 1 }
-{
-    if entry.object.0 == object.0 { 1 } else { 0 }
-}
-
-/// The number of the last of so many entries of an object, and the number before where there is none.
-fn number_at(entries: &[Entry], object: ObjectId, most: usize, before: u64) -> u64
-    ensures { result ≡ last_number_from before (take most (history_of object entries.now)) }
-{
-    let mut left = most;
-    let mut number = before;
-    for entry in entries {
-        if left == 0 {
-            return number;
-        }
-        number = number_behind(entry, object, number);
-        left -= one_if(entry, object);
-    }
-    number
 }

@@ -4,7 +4,6 @@
 ghost use Rattle.std.specs.Prelude.{◌≡◌, IfOk};
 ghost use Rattle.ofx_types.specs.Calendar.{IsDay};
 
-mod history;
 mod lists;
 mod rows;
 mod series;

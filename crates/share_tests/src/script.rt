@@ -1,10 +1,10 @@
-//! Calls of a teller, one after another, in lines of text: what each is told, and the log that they leave.
+//! Calls of a teller, one after another, in lines of text: what each is told and leaves pending, and how many entries there are.
 
 ghost use Rattle.std.specs.Prelude.{◌≡◌, ◌<◌, false, is_some, length, All, IfOk};
 ghost use Rattle.ofx_types.specs.Calendar.{IsMoment};
 ghost use Rattle.bank_model.specs.SetupForm.{IsWithinLimits};
 
-use bank_model::{Event, LogItem, Setup, SubmitFault};
+use bank_model::{Event, Setup, SubmitFault};
 use bank_samples::keys::keys;
 use bank_samples::sample::SETUP;
 use bank_shared::{Advance, BankName, Opened, Teller};
@@ -32,8 +32,8 @@ pub fn setup(alloc: Global) -> Result<Setup, Fail>
     Ok(Setup::read(alloc, SETUP)?)
 }
 
-/// What the calls of a bank of the sample's setup tell at the moments of a clock, which then stands still, and the log that they
-/// leave.
+/// What the calls of a bank of the sample's setup tell and leave pending, at the moments of a clock, which then stands still, and
+/// the number of the entry that would come next.
 pub fn told_over(
     alloc: Global,
     keeper: MemKeeper,
@@ -65,7 +65,7 @@ fn told<N: BankName>(
     told_by(alloc, &mut teller, clock, calls)
 }
 
-/// What the calls of a teller tell, and the log.
+/// What the calls of a teller tell and leave pending, and the number of the next entry.
 fn told_by<N: BankName>(
     alloc: Global,
     teller: &mut Teller<N, MemKeeper, OfxPrinter>,
@@ -76,10 +76,9 @@ fn told_by<N: BankName>(
     for call in calls {
         let at = clock.now();
         told.push_str(&answer(alloc, teller, call, at)?)?;
+        told.push_str(&pending(alloc, teller)?)?;
     }
-    for item in teller.journal().log() {
-        told.push_str(&line(alloc, item)?)?;
-    }
+    told.push_str(&next_entry(alloc, teller)?)?;
     Ok(told)
 }
 
@@ -143,18 +142,25 @@ pub fn refusal(alloc: Global, fault: SubmitFault) -> Result<String, Fail> {
     }
 }
 
-/// The line of an item of a log.
-fn line(alloc: Global, item: &LogItem) -> Result<String, Fail> {
-    match item {
-        LogItem::Effect(entry) => Ok(format!(in alloc; "effect {}\n", entry.number)?),
-        LogItem::Answer(event, _, _) => Ok(format!(in alloc; "answer {}\n", kind(event))?),
-        LogItem::Adopted(number, event, _) => {
-            Ok(format!(in alloc; "adopted {number} {}\n", kind(event))?)
-        }
-        LogItem::Fault(count, Some((event, _))) => {
-            Ok(format!(in alloc; "fault {count} {}\n", kind(event))?)
-        }
-        LogItem::Fault(count, None) => Ok(format!(in alloc; "fault {count}\n")?),
+/// The line of the event that is pending, and none where nothing is.
+fn pending<N: BankName>(
+    alloc: Global,
+    teller: &Teller<N, MemKeeper, OfxPrinter>,
+) -> Result<String, Fail> {
+    match teller.journal().pending() {
+        Some(event) => Ok(format!(in alloc; "pending {}\n", kind(event))?),
+        None => Ok(String::new(alloc)),
+    }
+}
+
+/// The line of the number that the next entry has.
+fn next_entry<N: BankName>(
+    alloc: Global,
+    teller: &Teller<N, MemKeeper, OfxPrinter>,
+) -> Result<String, Fail> {
+    match teller.journal().book().next_number() {
+        Some(number) => Ok(format!(in alloc; "next entry {number}\n")?),
+        None => Ok(String::from_str(alloc, "no more entries\n")?),
     }
 }
 

@@ -1,4 +1,4 @@
-//! The calls of a bank over keepers whose calls fail: what is told of them, and the log of all that.
+//! The calls of a bank over keepers whose calls fail: what is told of them, what they leave pending, and how many entries there are.
 
 use crate::script::{Call, setup, told_over};
 use bank_replay::OpenFault;
@@ -9,6 +9,7 @@ use bank_samples::transfer::{PAID, POSTED, SOURCE_BALANCE, TRANSFER};
 use bank_shared::Opened;
 use ofx_file::OfxPrinter;
 use ofx_ports::{Keeper, MemKeeper};
+use ofx_types::Moment;
 use std::alloc::Global;
 use std::test::Fail;
 
@@ -23,8 +24,8 @@ const POST: &[u8] = b"\
     \x01\x02\x00\x00\x00\x00\x65\xba\x36\x40\
     \x00\x00\x00\x00\x00\x00\x00\x01";
 
-/// The append of a named file fails, and its record has landed. In the second call it can't be settled. The third one adopts it,
-/// and is answered by the reply that was kept then.
+/// The append of a named file fails, and its record has landed. In the second call, on the next day, it can't be settled. The
+/// third one adopts it, and is answered by the reply of the first moment, which was kept then.
 #[test]
 fn a_record_that_landed_is_adopted_before_the_next_file(rt: HostRuntime) -> Result<(), Fail> {
     let alloc = rt.alloc();
@@ -32,10 +33,10 @@ fn a_record_that_landed_is_adopted_before_the_next_file(rt: HostRuntime) -> Resu
     let keeper = MemKeeper::failing(alloc, &[1, 2], &[1])?;
     let calls = [Call::File(&file), Call::File(&file), Call::File(&file)];
     let reply = reply_with(alloc, &FIRST)?;
-    let log = "fault 1 file\nfault 2\neffect 1\nadopted 1 file\nanswer file\n";
+    let faults = "keeper 1\npending file\nkeeper 2\npending file\n";
     assert_eq!(rt;
-        told_over(alloc, keeper, &[NOON], &calls)?,
-        format!(in alloc; "keeper 1\nkeeper 2\n{reply}{log}")?
+        told_over(alloc, keeper, &[NOON, NEXT_DAY], &calls)?,
+        format!(in alloc; "{faults}{reply}next entry 2\n")?
     );
     Ok(())
 }
@@ -55,7 +56,7 @@ fn a_file_whose_record_is_lost_never_happened(rt: HostRuntime) -> Result<(), Fai
             &[NOON],
             &[Call::File(&file), Call::File(&plain)]
         )?,
-        format!(in alloc; "keeper 1\n{reply}fault 1 file\nanswer file\n")?
+        format!(in alloc; "keeper 1\npending file\n{reply}next entry 1\n")?
     );
     Ok(())
 }
@@ -77,70 +78,83 @@ fn what_is_pending_stays_so_until_it_is_settled(rt: HostRuntime) -> Result<(), F
         Call::File(&plain),
     ];
     let (before, behind) = (reply_with(alloc, &[])?, reply_with(alloc, &PAID_BEFORE)?);
-    let faults = "keeper 1\nkeeper 2\nkeeper 3\nkeeper 4\nnothing due\n";
-    let log =
-        "answer file\nfault 1 file\nfault 2\nfault 3\nfault 4\neffect 1\nadopted 2 file\nanswer file\n";
+    let faults = "\
+        keeper 1\npending file\n\
+        keeper 2\npending file\n\
+        keeper 3\npending file\n\
+        keeper 4\npending file\n\
+        nothing due\n";
     assert_eq!(rt;
         told_over(alloc, keeper, &[NOON], &calls)?,
-        format!(in alloc; "{before}{faults}{behind}{log}")?
+        format!(in alloc; "{before}{faults}{behind}next entry 2\n")?
     );
     Ok(())
 }
 
-/// Which calls of the keeper fail and which of these land, while a named file with a transfer is handed in four times and a file
-/// without a name once, and the log after that.
-const FAILING: &[(&[u64], &[u64], &str)] = &[
-    (
-        &[],
-        &[],
-        "effect 1\nanswer file\nanswer file\nanswer file\nanswer file\nanswer file\n",
-    ),
-    (
-        &[1],
-        &[],
-        "fault 1 file\neffect 1\nanswer file\nanswer file\nanswer file\nanswer file\n",
-    ),
-    (
-        &[1],
-        &[1],
-        "fault 1 file\neffect 1\nadopted 1 file\nanswer file\nanswer file\nanswer file\nanswer file\n",
-    ),
+/// What is told of the keeper's first fault.
+const FAULT: &str = "keeper 1\npending file\n";
+
+/// What is told of its second one.
+const SECOND_FAULT: &str = "keeper 2\npending file\n";
+
+/// Which calls of the keeper fail and which of these land, while a named file with a transfer is handed in once a minute four
+/// times and a file without a name after that; which of the four are told of a fault, and the moment at which the file happened.
+const FAILING: &[(&[u64], &[u64], [&str; 4], &str)] = &[
+    (&[], &[], ["", "", "", ""], "20240131120000"),
+    (&[1], &[], [FAULT, "", "", ""], "20240131120100"),
+    (&[1], &[1], [FAULT, "", "", ""], "20240131120000"),
     (
         &[1, 2],
         &[],
-        "fault 1 file\nfault 2\neffect 1\nanswer file\nanswer file\nanswer file\n",
+        [FAULT, SECOND_FAULT, "", ""],
+        "20240131120200",
     ),
     (
         &[1, 2],
         &[1],
-        "fault 1 file\nfault 2\neffect 1\nadopted 1 file\nanswer file\nanswer file\nanswer file\n",
+        [FAULT, SECOND_FAULT, "", ""],
+        "20240131120000",
     ),
     (
         &[1, 3],
         &[],
-        "fault 1 file\nfault 2 file\neffect 1\nanswer file\nanswer file\nanswer file\n",
+        [FAULT, SECOND_FAULT, "", ""],
+        "20240131120200",
     ),
     (
         &[1, 3],
         &[3],
-        "fault 1 file\nfault 2 file\neffect 1\nadopted 2 file\nanswer file\nanswer file\nanswer file\n",
+        [FAULT, SECOND_FAULT, "", ""],
+        "20240131120100",
     ),
     (
         &[1, 3],
         &[1, 3],
-        "fault 1 file\neffect 1\nadopted 1 file\nfault 2 file\nadopted 3 file\nanswer file\nanswer file\nanswer file\n",
+        [FAULT, SECOND_FAULT, "", ""],
+        "20240131120000",
     ),
-    (
-        &[2],
-        &[],
-        "effect 1\nanswer file\nfault 1 file\nanswer file\nanswer file\nanswer file\n",
-    ),
-    (
-        &[2],
-        &[2],
-        "effect 1\nanswer file\nfault 1 file\nadopted 2 file\nanswer file\nanswer file\nanswer file\n",
-    ),
+    (&[2], &[], ["", FAULT, "", ""], "20240131120000"),
+    (&[2], &[2], ["", FAULT, "", ""], "20240131120000"),
 ];
+
+/// What is told where these of the four calls are told of faults, and the named file happened at that moment: each other call is
+/// answered by its reply, and the transfer was posted once.
+fn told_of_once(alloc: Global, faults: &[&str; 4], moment: &str) -> Result<String, Fail> {
+    let reply = reply_with(alloc, &FIRST)?.replace(alloc, "20240131120000", moment)?;
+    let mut told = String::new(alloc);
+    for fault in faults.iter() {
+        told.push_str(if fault.is_empty() { &reply } else { fault })?;
+    }
+    let later = reply_with(alloc, &PAID_BEFORE)?.replace(
+        alloc,
+        "20240131120000",
+        "20240131120400",
+    )?;
+    let posted = format!(in alloc; "<DTPOSTED>{moment}")?;
+    told.push_str(&later.replace(alloc, "<DTPOSTED>20240131120400", &posted)?)?;
+    told.push_str("next entry 2\n")?;
+    Ok(told)
+}
 
 /// Its transfer is posted once, whichever append fails, landed or not, and whichever settle.
 #[test]
@@ -148,7 +162,6 @@ fn a_named_file_happens_once_however_the_keeper_fails(rt: HostRuntime) -> Result
     let alloc = rt.alloc();
     let file = request_with(alloc, &[NAMED, TRANSFER])?;
     let plain = request_with(alloc, &[])?;
-    let behind = reply_with(alloc, &PAID_BEFORE)?;
     let calls = [
         Call::File(&file),
         Call::File(&file),
@@ -157,11 +170,19 @@ fn a_named_file_happens_once_however_the_keeper_fails(rt: HostRuntime) -> Result
         Call::File(&plain),
     ];
     for case in FAILING.iter() {
-        let (failing, landing, log) = *case;
+        let (failing, landing, faults, moment) = *case;
         let keeper = MemKeeper::failing(alloc, failing, landing)?;
-        let told = told_over(alloc, keeper, &[NOON], &calls)?;
-        let before = told.strip_suffix(log).unwrap_or("");
-        assert!(rt; before.ends_with(behind.as_str()), "{told}");
+        let minutes = [
+            NOON,
+            Moment(1_706_702_460),
+            Moment(1_706_702_520),
+            Moment(1_706_702_580),
+            Moment(1_706_702_640),
+        ];
+        assert_eq!(rt;
+            told_over(alloc, keeper, &minutes, &calls)?,
+            told_of_once(alloc, &faults, moment)?
+        );
     }
     Ok(())
 }
@@ -172,17 +193,17 @@ const DUE: &[(&[u64], &[u64], &str)] = &[
     (
         &[],
         &[],
-        "posted 1\nnothing due\nnothing due\neffect 1\nanswer file\neffect 2\nanswer post\n",
+        "posted 1\nnothing due\nnothing due\nnext entry 3\n",
     ),
     (
         &[2],
         &[],
-        "keeper 1\nposted 1\nnothing due\neffect 1\nanswer file\nfault 1 post\neffect 2\nanswer post\n",
+        "keeper 1\npending post\nposted 1\nnothing due\nnext entry 3\n",
     ),
     (
         &[2, 3],
         &[2],
-        "keeper 1\nkeeper 2\nnothing due\neffect 1\nanswer file\nfault 1 post\nfault 2\neffect 2\nadopted 2 post\n",
+        "keeper 1\npending post\nkeeper 2\npending post\nnothing due\nnext entry 3\n",
     ),
 ];
 
@@ -215,15 +236,14 @@ fn a_poll_looks_at_what_was_answered(rt: HostRuntime) -> Result<(), Fail> {
     ];
     let told = told_over(alloc, keeper, &[NOON], &calls)?;
     let (pending, settled) = told.split_once("nothing due\n").unwrap_or(("", ""));
-    assert!(rt; pending.starts_with("keeper 1\nFILE "), "{told}");
-    assert!(rt; pending.contains("<TOKEN>0\r\n"), "{told}");
-    assert!(rt; settled.contains("<TOKEN>1\r\n"), "{told}");
     assert!(rt;
-        settled
-            .strip_suffix("fault 1 file\neffect 1\nadopted 1 file\n")
-            .is_some(),
+        pending.starts_with("keeper 1\npending file\nFILE "),
         "{told}"
     );
+    assert!(rt; pending.contains("<TOKEN>0\r\n"), "{told}");
+    assert!(rt; pending.ends_with("pending file\n"), "{told}");
+    assert!(rt; settled.contains("<TOKEN>1\r\n"), "{told}");
+    assert!(rt; settled.ends_with("next entry 2\n"), "{told}");
     Ok(())
 }
 

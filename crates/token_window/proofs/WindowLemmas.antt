@@ -1,7 +1,8 @@
 -- Entries whose numbers rise, cut at one of them, and a window with one entry more.
 use Rattle.std.proofs.Common.{◌≡◌, ℕ, ◌+◌, ◌-◌, ◌<◌, ◌≤◌, ◌⊎◌, inl, inr, Bool, cond, ltb, List, [], ◌∷◌, ◌++◌, length, get_or, take, drop, filter, Option, None, Some, zero, suc, refl, sym, ap, ◌∙◌, subst, arith}
 use Rattle.std.proofs.lemmas.Bool.{lt-ltb, le-ltb, cases_lt, cond-true, cond-false}
-use Rattle.std.proofs.lemmas.List.{take-append-drop, take_more, drop-append-le, drop-drop, length-drop, length-append, get_or-drop, get_or_append_left}
+use Rattle.std.proofs.lemmas.List.{take-append-drop, take_more, drop-append-le, drop-drop, length-drop, length-append, length-take-le, get_or-drop, get_or_append_left}
+use Rattle.std.proofs.Math.Seq.{take-append-add}
 use Rattle.std.proofs.lemmas.List.Sums.{fold-append}
 use Rattle.std.proofs.lemmas.List.Sorted.{IsNonDecreasingBy-from_all_adjacent}
 use Rattle.std.proofs.lemmas.Option.{slice_get-get_or, slice_get_within}
@@ -13,15 +14,15 @@ use Rattle.bank_model.specs.Objects.{last_number}
 use Rattle.bank_model.specs.Sync.{is_above}
 use Rattle.token_window.specs.WindowView.{WindowView, RiseFrom, last_number_from, newest_held, entry_before, number_of, StandsFor, IsWindow}
 
-abbrev behind : ℕ → Entry → ℕ
-behind number entry = entry.number
+abbrev number_after : ℕ → Entry → ℕ
+number_after number entry = entry.number
 
 -- ---- numbers that rise
 
 pub last_over : (before : ℕ) (xs ys : List Entry) → last_number_from before (xs ++ ys) ≡ last_number_from (last_number_from before xs) ys
-last_over before xs ys = fold-append behind before xs ys
+last_over before xs ys = fold-append number_after before xs ys
 
-at_least : (before : ℕ) (xs : List Entry) → RiseFrom before xs → before ≤ last_number_from before xs
+pub at_least : (before : ℕ) (xs : List Entry) → RiseFrom before xs → before ≤ last_number_from before xs
 at_least before [] rise = omega arith
 at_least before (x ∷ xs) rise = let rest = at_least x.number xs rise.1 in omega (arith, rise.0, rest)
 
@@ -213,6 +214,49 @@ newest_stands history width window stands =
 pub above_stands : (history : List Entry) (width token : ℕ) (window : WindowView) → StandsFor history width window → window.floor ≤ token → filter (is_above token) window.held ≡ filter (is_above token) history
 above_stands history width token window stands less =
     ap (filter (is_above token)) stands.held ∙ above_both window.floor token history less
+
+-- ---- the entry before the last ones
+
+last_up_to : (before : ℕ) (xs : List Entry) (n : ℕ) (entry : Entry) → n < length xs → slice_get xs n ≡ Some entry → last_number_from before (take (n + 1) xs) ≡ entry.number
+last_up_to before xs n entry within is =
+    ap (last_number_from before) (take_more xs n entry within)
+    ∙ last_over before (take n xs) (get_or xs n entry ∷ [])
+    ∙ ap (number_of 0) (sym (slice_get-get_or xs n entry within) ∙ is)
+
+pub number_at : (floor : ℕ) (held : List Entry) (count last : ℕ) (entry : Entry) → count ≡ length held → last < count → slice_get held (count - last - 1) ≡ Some entry → last_number_from floor (take (length held - last) held) ≡ entry.number
+number_at floor held count last entry size more is =
+    let next : length held - last ≡ count - last - 1 + 1 = omega (arith, size, more) in
+    ap (λ (n : ℕ). last_number_from floor (take n held)) next
+    ∙ last_up_to floor held (count - last - 1) entry (omega (arith, size, more)) is
+
+pub none_before : (floor : ℕ) (held : List Entry) (last : ℕ) → length held ≤ last → floor ≡ last_number_from floor (take (length held - last) held)
+none_before floor held last few =
+    let none : length held - last ≡ 0 = omega (arith, few) in
+    sym (ap (λ (n : ℕ). last_number_from floor (take n held)) none)
+
+pub some_there : (held : List Entry) (count last : ℕ) → count ≡ length held → last < count → slice_get held (count - last - 1) ≡ None → ⊥
+some_there [] count last size more is = omega (arith, size, more)
+some_there (x ∷ xs) count last size more is =
+    let some = slice_get-get_or (x ∷ xs) (count - last - 1) x (omega (arith, size, more)) in
+    let both : Some (get_or (x ∷ xs) (count - last - 1) x) ≡ None = sym some ∙ is in
+    cc
+
+-- A window that stands for a history tells of the entries before its last ones what the history does.
+pub before_stands : (history : List Entry) (width last : ℕ) (window : WindowView) → StandsFor history width window → last ≤ width → last_number_from window.floor (take (length window.held - last) window.held) ≡ last_number (take (length history - last) history)
+before_stands history width last window stands narrow =
+    let k : ℕ = length history - width in
+    let front : List Entry = take k history in
+    let back : List Entry = drop k history in
+    let cut : window.held ≡ back = held_cut history width window stands in
+    let size = length-drop k history in
+    let front_size : length front ≡ k = length-take-le k history (omega arith) in
+    let places : length history - last ≡ length front + (length back - last) = omega (arith, size, front_size, narrow) in
+    ap (λ (n : ℕ). last_number_from n (take (length window.held - last) window.held)) stands.floor
+    ∙ ap (λ (ys : List Entry). last_number_from (last_number front) (take (length ys - last) ys)) cut
+    ∙ sym (last_over 0 front (take (length back - last) back))
+    ∙ ap last_number (sym (take-append-add front back (length back - last)))
+    ∙ ap (λ (n : ℕ). last_number (take n (front ++ back))) (sym places)
+    ∙ ap (λ (xs : List Entry). last_number (take (length history - last) xs)) (take-append-drop k history)
 
 -- ---- one entry more
 

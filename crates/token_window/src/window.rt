@@ -1,11 +1,11 @@
 //! A ring of the last entries of an object, and the number of the last one that left.
 
-ghost use Rattle.std.specs.Prelude.{◌≡◌, ◌+◌, ◌-◌, ◌^◌, ◌<◌, ◌≤◌, nat_lt, if◌then◌else◌, ℕ, List, [], ◌∷◌, ◌++◌, None, length, drop, slice_get, filter, IfOk, OnOk, OnErr};
+ghost use Rattle.std.specs.Prelude.{◌≡◌, ◌+◌, ◌-◌, ◌^◌, ◌<◌, ◌≤◌, nat_lt, if◌then◌else◌, ℕ, List, [], ◌∷◌, ◌++◌, None, length, drop, take, slice_get, filter, IfOk, OnOk, OnErr};
 ghost use Rattle.std.specs.Map.Iter.{ShowsInOrder, deref};
 ghost use Rattle.ofx_types.specs.declared.number.ObjectId.{ObjectId};
 ghost use Rattle.bank_model.specs.declared.entry.Entry.{Entry};
 ghost use Rattle.bank_model.specs.Objects as objects;
-ghost use Rattle.bank_model.specs.Objects.{history_of};
+ghost use Rattle.bank_model.specs.Objects.{history_of, last_number, last_number_from};
 ghost use Rattle.bank_model.specs.Sync.{is_above};
 ghost use Rattle.circular_buffer.specs.Buffer.{keep_last};
 ghost use Rattle.token_window.specs.WindowView.{newest_held, entry_before, number_of, StandsFor};
@@ -91,6 +91,25 @@ impl Window {
         Since::new(older, newer, token)
     }
 
+    /// The number of the entry before the last so many, 0 where there are no more than these. These are no more than the
+    /// window is wide. Takes no memory.
+    pub fn number_before(&self, last: usize) -> u64
+        requires narrow { last ≤ self.now.width }
+        ensures held { result
+            ≡ last_number_from self.now.floor (take (length self.now.held - last) self.now.held) }
+        ensures stood_for { (history : List Entry) (width : ℕ)
+            → StandsFor history width self.now → result ≡ last_number (take (length history - last) history) }
+    {
+        let count = self.entries.len();
+        if count <= last {
+            return self.floor;
+        }
+        match self.entries.get(count - last - 1) {
+            Some(entry) => entry.number,
+            None => unreachable!(),
+        }
+    }
+
     /// Makes room for so many more entries. Where memory is refused, the window is as before.
     pub fn reserve(&mut self, entries: u32) -> Result<(), OutOfMemory>
         ensures width { self.new.width ≡ self.old.width }
@@ -127,14 +146,14 @@ impl Window {
             → StandsFor history width self.old → StandsFor (history ++ entry ∷ []) width self.new }
     {
         let left = self.entries.push_back(entry);
-        self.floor = floor_behind(self.floor, &left);
+        self.floor = floor_after(self.floor, &left);
         self.room -= 1;
         left
     }
 }
 
 /// The floor once an entry has left, or none.
-fn floor_behind(floor: u64, left: &Option<Entry>) -> u64
+fn floor_after(floor: u64, left: &Option<Entry>) -> u64
     ensures { result ≡ number_of floor left.now }
 {
     match left {

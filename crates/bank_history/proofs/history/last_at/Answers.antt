@@ -1,5 +1,5 @@
 use Rattle.std.proofs.Common.{ap}
-use Rattle.bank_history.specs.Chain.{number_or_none}
+use Rattle.bank_history.specs.HistoryHeld.{number_or_none}
 use Rattle.bank_history.proofs.history.last_at.Goals as goal
 
 pub returns-in-Some : goal.returns-in-Some

@@ -1,10 +1,21 @@
-use Rattle.std.proofs.Common.{ℕ, Option, ◌++◌, map, filter, sym, ap, ◌∙◌}
-use Rattle.bank_model.specs.Objects.{history_of}
+use Rattle.std.proofs.Common.{ℕ, ◌≤◌, Option, ◌++◌, map, filter, sym, ap, ◌∙◌, subst, arith}
+use Rattle.std.specs.Option.{IfSome}
+use Rattle.bank_history.proofs.HistoryHeldLemmas.{floor_grows}
+use Rattle.bank_model.specs.Objects.{history_of, floor}
 use Rattle.bank_model.specs.Sync.{told_entry, entries_above, is_above}
 use Rattle.bank_model.specs.declared.event.State.{State}
 use Rattle.bank_ledger.specs.DraftView.{drafted}
 use Rattle.bank_telling.proofs.HistoryLemmas.{lent, told_above, told_above-append, both_parts}
 use Rattle.bank_telling.proofs.history.above.Goals as goal
+
+pub since-requires : goal.since-requires
+since-requires c =
+    let window = c.args.draft.now.setup.window in
+    let before = c.args.draft.now.before.entries in
+    let least = subst (λ (t : Option ℕ). IfSome t (λ (token : ℕ). floor window c.args.object (drafted c.args.draft.now).entries ≤ token)) c.in-Some.is c.requires.floor in
+    let grows = floor_grows window c.args.object before c.args.draft.now.entries c.ledger.ensures.sound.numbered in
+    let same = ap (λ (n : ℕ). floor n c.args.object c.ledger.result.now.state.entries) c.ledger.ensures.window ∙ ap (λ (S : State). floor window c.args.object S.entries) c.ledger.ensures.state in
+    record { floor = omega (arith, least, grows, same) }
 
 pub returns-in_ok-tell_above-in-Some : goal.returns-in_ok-tell_above-in-Some
 returns-in_ok-tell_above-in-Some c =

@@ -10,10 +10,10 @@ pub returns-clause-right : goal.returns-clause-right
 returns-clause-right g c =
     rw (sym c.self.view_is) (known_right g.N.BankName.setup c.book.result.now.setup g.N.BankName.opening c.book.result.now.state (loads_told c.self.inside.polls) c.self.inside.teller
     c.journal-journal.result.now c.journal-journal.result.now c.books_are_right.ensures.state c.self.invariant.0 c.journal-journal.ensures c.journal-journal.ensures
-    c.book.ensures.setup c.book.ensures.state c.book.ensures.own c.setup-setup.ensures.within c.setup-setup.ensures.sound c.log-log.ensures.legal c.log-log.ensures.ends)
+    c.book.ensures.setup c.book.ensures.state c.book.ensures.own c.setup-setup.ensures.within c.setup-setup.ensures.sound c.log_stands.ensures.legal c.log_stands.ensures.ends)
 
 pub returns-clause-own : goal.returns-clause-own
 returns-clause-own g c = rw (sym c.self.view_is, sym c.journal-journal.ensures) c.book.ensures.own
 
 pub returns-clause-entries : goal.returns-clause-entries
-returns-clause-entries g c = rw (sym c.self.view_is, sym c.journal-journal.ensures) c.log-log.ensures.entries
+returns-clause-entries g c = rw (sym c.self.view_is, sym c.journal-journal.ensures) c.log_stands.ensures.entries

@@ -9,7 +9,7 @@ pub add-requires-clause-known : goal.add-requires-clause-known
 add-requires-clause-known c =
     let next = subst (λ (d : DraftView). IsNext d.setup (drafted d) c.args.entry) (sym c.self.view_is) c.requires.next in
     let gives = subst (λ (d : DraftView). GivesRows (drafted d).entries c.args.entry.change c.args.row_change) (sym c.self.view_is) c.requires.gives in
-    IsKnown-next c.self.inside.setup.now _ c.args.entry c.args.row_change c.self.invariant.sound next gives
+    IsKnown-next c.self.inside.setup.now _ c.args.entry c.args.row_change c.self.invariant.0.sound next gives
 
 pub add-requires-clause-posts : goal.add-requires-clause-posts
 add-requires-clause-posts c = change_posts _ c.args.entry c.args.row_change c.requires.gives
@@ -23,4 +23,4 @@ invariant_of-self-2 c =
     let gives = subst (λ (d : DraftView). GivesRows (drafted d).entries c.args.entry.change c.args.row_change) (sym c.self.view_is) c.requires.gives in
     let few = subst (λ (d : DraftView). length (drafted d).entries + 1 ≤ d.setup.entries) (sym c.self.view_is) c.requires.few in
     rw c.in_ok-add.ensures.ok
-    (IsDraft-nothing c.self.inside.setup.now c.self.inside.ledger.now.state c.self.inside.held.now c.self.inside.added c.args.entry c.args.row_change c.self.invariant few next gives c.requires.nothing)
+    (IsDraft-nothing c.self.inside.setup.now c.self.inside.ledger.now.state c.self.inside.held.now c.self.inside.added c.args.entry c.args.row_change c.self.invariant.0 few next gives c.requires.nothing, c.self.invariant.1)

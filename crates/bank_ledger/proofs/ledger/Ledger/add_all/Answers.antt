@@ -39,6 +39,7 @@ loop-row_change-preserved c =
       items = append_assoc at.yielded (c.in-Some.row_change ∷ []) _ ∙ ap (λ (l : List RowChange). at.yielded ++ l) (sym c.in-Some.ensures.steps.0) ∙ at.invariant.items;
       count = let was = at.invariant.count in let gone = c.in-Some.ensures.steps.1 in omega arith;
       rest = rest_more c.args.entries.items at.yielded c.in-Some-next.entry c.in-Some.row_change _ rest;
+      window = c.add.ensures.window ∙ at.invariant.window;
       state =
           c.add.ensures.state
           ∙ ap (λ (S : State). state_of (S.entries ++ c.in-Some-next.entry ∷ []) S.used S.kept S.day) at.invariant.state

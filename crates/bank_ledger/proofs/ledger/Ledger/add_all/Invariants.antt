@@ -7,6 +7,7 @@ invariant-loop-row_change l = record {
   items : l.yielded ++ into_iter_items l.row_change-iterator ≡ into_iter_items l.initial.row_change-iterator;
   count : into_iter_len l.row_change-iterator ≡ length (into_iter_items l.row_change-iterator);
   rest : into_iter_items l.rest ≡ drop (length l.yielded) l.fn.entries.items;
+  window : l.self.window ≡ l.fn.self.window;
   state : l.self.state ≡ record {
     entries = l.fn.self.state.entries ++ take (length l.yielded) l.fn.entries.items;
     used = l.fn.self.state.used;

@@ -7,6 +7,7 @@ abbrev pub invariant-loop-uid : goal.invariant-loop-uid
 invariant-loop-uid l = record {
   items : l.yielded ++ into_iter_items l.uid-iterator ≡ into_iter_items l.initial.uid-iterator;
   count : into_iter_len l.uid-iterator ≡ length (into_iter_items l.uid-iterator);
+  window : l.self.window ≡ l.fn.self.window;
   state : l.self.state ≡ record {
     entries = l.fn.self.state.entries;
     used = l.fn.self.state.used ++ map (pair_of l.fn.user) l.yielded;

@@ -2,7 +2,6 @@ use Rattle.std.proofs.Common.{◌≡◌, ℕ, ◌++◌, [], ◌∷◌, List, Opt
 use Rattle.std.specs.Option.{option_map}
 use Rattle.ofx_types.specs.declared.number.Moment.{Moment}
 use Rattle.bank_model.specs.declared.log.LogItem.{LogItem}
-use Rattle.bank_model.specs.Rules.{answer_to}
 use Rattle.bank_model.specs.declared.event.Event.{Event}
 use Rattle.event_codec.specs.Records.{Codes}
 use Rattle.bank_shared.specs.declared.step.Step.{Step}
@@ -26,14 +25,13 @@ invariant_of-self-in-Ok g c =
     let after : KeeperView = record { records = g.K.Keeper.records c.append.new.self; landed = g.K.Keeper.landed c.append.new.self; unsettled = g.K.Keeper.unsettled c.append.new.self; faults = g.K.Keeper.faults c.append.new.self } in
     let opened = g.K.Keeper.records c.self.inside.opened.value in
     let none : c.self.inside.pending ≡ None = none_pending c.self.inside.pending (ap (λ (v : JournalView). v.pending) c.self.view_is ∙ c.requires.settled) in
-    let is : IsTrue g.N.BankName.setup g.N.BankName.opening opened c.make_ready.new.book c.make_ready.new.log.items None before = truth_moved g.N.BankName.setup g.N.BankName.opening opened c.self.inside.book c.make_ready.new.book c.self.inside.log.items c.make_ready.new.log.items before c.make_ready.ensures.setup c.make_ready.ensures.state c.make_ready.ensures.log
-    (subst (λ (q : Option Step). IsTrue g.N.BankName.setup g.N.BankName.opening opened c.self.inside.book c.self.inside.log.items q before) none c.self.invariant) in
+    let is : IsTrue g.N.BankName.setup g.N.BankName.opening opened c.make_ready.new.book c.self.inside.log None before = truth_moved g.N.BankName.setup g.N.BankName.opening opened c.self.inside.book c.make_ready.new.book c.self.inside.log before c.make_ready.ensures.setup c.make_ready.ensures.state
+    (subst (λ (q : Option Step). IsTrue g.N.BankName.setup g.N.BankName.opening opened c.self.inside.book c.self.inside.log q before) none c.self.invariant) in
     let ready = c.in_ok-ready.ready in
     let known = c.in_ok-ready.ensures in
     let codes : Codes c.items.result.now ready.step.at ready.step.event = codes_again ready.rec c.items.result.now c.args.at ready.step.at c.args.event.now ready.step.event c.items.ensures known.at known.event known.rec in
-    let told : ready.reply ≡ answer_to c.make_ready.new.book.setup c.make_ready.new.book.state ready.step.at ready.step.event = cc (known.reply, known.at, known.event, c.make_ready.ensures.setup, c.make_ready.ensures.state) in
-    subst (λ (q : Option Step). IsTrue g.N.BankName.setup g.N.BankName.opening opened c.answer.new.book c.answer.new.log.items q after) (sym none)
-    (truth_answered g.N.BankName.setup g.N.BankName.opening opened c.make_ready.new.book c.answer.new.book c.make_ready.new.log.items c.answer.new.log.items before after ready.step ready.reply c.items.result.now known.ready told codes c.answer.ensures.setup c.answer.ensures.state c.answer.ensures.log c.in-Ok.ensures.list.0 c.in-Ok.ensures.list.1 c.in-Ok.ensures.faults.later is)
+    subst (λ (q : Option Step). IsTrue g.N.BankName.setup g.N.BankName.opening opened c.answer.new.book c.answer.new.log q after) (sym none)
+    (truth_answered g.N.BankName.setup g.N.BankName.opening opened c.make_ready.new.book c.answer.new.book c.self.inside.log c.answer.new.log before after ready.step c.answer.result.items c.items.result.now known.ready c.answer.ensures.reply codes c.answer.ensures.setup c.answer.ensures.state c.answer.ensures.log c.in-Ok.ensures.list.0 c.in-Ok.ensures.list.1 c.in-Ok.ensures.faults.later is)
 
 pub invariant_of-self-in-Err-Failed : goal.invariant_of-self-in-Err-Failed
 invariant_of-self-in-Err-Failed g c =
@@ -41,14 +39,14 @@ invariant_of-self-in-Err-Failed g c =
     let after : KeeperView = record { records = g.K.Keeper.records c.append.new.self; landed = g.K.Keeper.landed c.append.new.self; unsettled = g.K.Keeper.unsettled c.append.new.self; faults = g.K.Keeper.faults c.append.new.self } in
     let opened = g.K.Keeper.records c.self.inside.opened.value in
     let none : c.self.inside.pending ≡ None = none_pending c.self.inside.pending (ap (λ (v : JournalView). v.pending) c.self.view_is ∙ c.requires.settled) in
-    let is : IsTrue g.N.BankName.setup g.N.BankName.opening opened c.make_ready.new.book c.make_ready.new.log.items None before = truth_moved g.N.BankName.setup g.N.BankName.opening opened c.self.inside.book c.make_ready.new.book c.self.inside.log.items c.make_ready.new.log.items before c.make_ready.ensures.setup c.make_ready.ensures.state c.make_ready.ensures.log
-    (subst (λ (q : Option Step). IsTrue g.N.BankName.setup g.N.BankName.opening opened c.self.inside.book c.self.inside.log.items q before) none c.self.invariant) in
+    let is : IsTrue g.N.BankName.setup g.N.BankName.opening opened c.make_ready.new.book c.self.inside.log None before = truth_moved g.N.BankName.setup g.N.BankName.opening opened c.self.inside.book c.make_ready.new.book c.self.inside.log before c.make_ready.ensures.setup c.make_ready.ensures.state
+    (subst (λ (q : Option Step). IsTrue g.N.BankName.setup g.N.BankName.opening opened c.self.inside.book c.self.inside.log q before) none c.self.invariant) in
     let ready = c.in_ok-ready.ready in
     let known = c.in_ok-ready.ensures in
     let codes : Codes c.items.result.now ready.step.at ready.step.event = codes_again ready.rec c.items.result.now c.args.at ready.step.at c.args.event.now ready.step.event c.items.ensures known.at known.event known.rec in
     let put = rw c.in-Err-Failed.field-0-is at c.in-Err-Failed.ensures.list in
-    subst (λ (s : Step). IsTrue g.N.BankName.setup g.N.BankName.opening opened c.make_ready.new.book c.put_off.new.log.items (Some s) after) (sym c.put_off.ensures.step)
-    (truth_failed g.N.BankName.setup g.N.BankName.opening opened c.make_ready.new.book c.make_ready.new.log.items c.put_off.new.log.items before after ready.step ready.again c.faults-count.result c.items.result.now known.ready known.number codes (known.again ∙ sym known.event) c.put_off.ensures.log put.0 put.1 c.faults-count.ensures c.in-Err-Failed.ensures.faults.later (c.in-Err-Failed.ensures.faults.cause (ap Err c.in-Err-Failed.field-0-is)) is)
+    subst (λ (s : Step). IsTrue g.N.BankName.setup g.N.BankName.opening opened c.make_ready.new.book c.put_off.new.log (Some s) after) (sym c.put_off.ensures.step)
+    (truth_failed g.N.BankName.setup g.N.BankName.opening opened c.make_ready.new.book c.self.inside.log c.put_off.new.log before after ready.step c.faults-count.result c.items.result.now known.ready (known.number ∙ c.next_number-number.ensures) codes c.put_off.ensures.log put.0 put.1 c.faults-count.ensures c.in-Err-Failed.ensures.faults.later (c.in-Err-Failed.ensures.faults.cause (ap Err c.in-Err-Failed.field-0-is)) is)
 
 pub invariant_of-self-in-Err-OutOfMemory : goal.invariant_of-self-in-Err-OutOfMemory
 invariant_of-self-in-Err-OutOfMemory g c =
@@ -56,11 +54,11 @@ invariant_of-self-in-Err-OutOfMemory g c =
     let after : KeeperView = record { records = g.K.Keeper.records c.append.new.self; landed = g.K.Keeper.landed c.append.new.self; unsettled = g.K.Keeper.unsettled c.append.new.self; faults = g.K.Keeper.faults c.append.new.self } in
     let opened = g.K.Keeper.records c.self.inside.opened.value in
     let none : c.self.inside.pending ≡ None = none_pending c.self.inside.pending (ap (λ (v : JournalView). v.pending) c.self.view_is ∙ c.requires.settled) in
-    let is : IsTrue g.N.BankName.setup g.N.BankName.opening opened c.make_ready.new.book c.make_ready.new.log.items None before = truth_moved g.N.BankName.setup g.N.BankName.opening opened c.self.inside.book c.make_ready.new.book c.self.inside.log.items c.make_ready.new.log.items before c.make_ready.ensures.setup c.make_ready.ensures.state c.make_ready.ensures.log
-    (subst (λ (q : Option Step). IsTrue g.N.BankName.setup g.N.BankName.opening opened c.self.inside.book c.self.inside.log.items q before) none c.self.invariant) in
+    let is : IsTrue g.N.BankName.setup g.N.BankName.opening opened c.make_ready.new.book c.self.inside.log None before = truth_moved g.N.BankName.setup g.N.BankName.opening opened c.self.inside.book c.make_ready.new.book c.self.inside.log before c.make_ready.ensures.setup c.make_ready.ensures.state
+    (subst (λ (q : Option Step). IsTrue g.N.BankName.setup g.N.BankName.opening opened c.self.inside.book c.self.inside.log q before) none c.self.invariant) in
     let put = rw c.in-Err-OutOfMemory.field-0-is at c.in-Err-OutOfMemory.ensures.list in
-    subst (λ (q : Option Step). IsTrue g.N.BankName.setup g.N.BankName.opening opened c.make_ready.new.book c.make_ready.new.log.items q after) (sym none)
-    (truth_refused g.N.BankName.setup g.N.BankName.opening opened c.make_ready.new.book c.make_ready.new.log.items before after put.0 put.1 c.in-Err-OutOfMemory.ensures.faults.later is)
+    subst (λ (q : Option Step). IsTrue g.N.BankName.setup g.N.BankName.opening opened c.make_ready.new.book c.self.inside.log q after) (sym none)
+    (truth_refused g.N.BankName.setup g.N.BankName.opening opened c.make_ready.new.book c.self.inside.log before after put.0 put.1 c.in-Err-OutOfMemory.ensures.faults.later is)
 
 pub returns-in-Err-Failed-clause-fails : goal.returns-in-Err-Failed-clause-fails
 returns-in-Err-Failed-clause-fails g c =
@@ -71,9 +69,9 @@ returns-in-Err-Failed-clause-fails g c =
     let known = c.in_ok-ready.ensures in
     let put = rw c.in-Err-Failed.field-0-is at c.in-Err-Failed.ensures.list in
     let codes : Codes c.items.result.now c.args.at c.args.event.now = codes_again ready.rec c.items.result.now c.args.at c.args.at c.args.event.now c.args.event.now c.items.ensures refl refl known.rec in
-    subst (λ (v : JournalView). FailsToKeep v (seen c.make_ready.new.book c.put_off.new.log.items (Some c.put_off.result) opened after) c.args.event.now c.args.at c.faults-count.result) c.self.view_is
-    (subst (λ (s : Step). FailsToKeep (seen c.self.inside.book c.self.inside.log.items c.self.inside.pending opened before) (seen c.make_ready.new.book c.put_off.new.log.items (Some s) opened after) c.args.event.now c.args.at c.faults-count.result) (sym c.put_off.ensures.step)
-    (keeps_not c.self.inside.book c.make_ready.new.book c.self.inside.log.items c.make_ready.new.log.items c.put_off.new.log.items c.self.inside.pending ready.step opened before after ready.again c.args.event.now c.args.at c.faults-count.result c.items.result.now c.make_ready.ensures.setup c.make_ready.ensures.state c.make_ready.ensures.log c.put_off.ensures.log known.again known.event known.at c.faults-count.ensures (c.in-Err-Failed.ensures.faults.cause (ap Err c.in-Err-Failed.field-0-is)) codes put.0))
+    subst (λ (v : JournalView). FailsToKeep v (seen c.make_ready.new.book c.put_off.new.log (Some c.put_off.result) opened after) c.args.event.now c.args.at c.faults-count.result) c.self.view_is
+    (subst (λ (s : Step). FailsToKeep (seen c.self.inside.book c.self.inside.log c.self.inside.pending opened before) (seen c.make_ready.new.book c.put_off.new.log (Some s) opened after) c.args.event.now c.args.at c.faults-count.result) (sym c.put_off.ensures.step)
+    (keeps_not c.self.inside.book c.make_ready.new.book c.self.inside.log c.put_off.new.log c.self.inside.pending ready.step opened before after c.args.event.now c.args.at c.faults-count.result c.items.result.now c.make_ready.ensures.setup c.make_ready.ensures.state c.put_off.ensures.log known.event known.at c.faults-count.ensures (c.in-Err-Failed.ensures.faults.cause (ap Err c.in-Err-Failed.field-0-is)) codes put.0))
 
 pub returns-in-Err-OutOfMemory-clause-fails : goal.returns-in-Err-OutOfMemory-clause-fails
 returns-in-Err-OutOfMemory-clause-fails g c =
@@ -81,8 +79,8 @@ returns-in-Err-OutOfMemory-clause-fails g c =
     let after : KeeperView = record { records = g.K.Keeper.records c.append.new.self; landed = g.K.Keeper.landed c.append.new.self; unsettled = g.K.Keeper.unsettled c.append.new.self; faults = g.K.Keeper.faults c.append.new.self } in
     let opened = g.K.Keeper.records c.self.inside.opened.value in
     let put = rw c.in-Err-OutOfMemory.field-0-is at c.in-Err-OutOfMemory.ensures.list in
-    subst (λ (v : JournalView). IsAsBefore v (seen c.make_ready.new.book c.make_ready.new.log.items c.self.inside.pending opened after)) c.self.view_is
-    (record { setup = c.make_ready.ensures.setup; opened = refl; state = c.make_ready.ensures.state; log = c.make_ready.ensures.log; pending = refl; records = put.0; later = c.in-Err-OutOfMemory.ensures.faults.later })
+    subst (λ (v : JournalView). IsAsBefore v (seen c.make_ready.new.book c.self.inside.log c.self.inside.pending opened after)) c.self.view_is
+    (record { setup = c.make_ready.ensures.setup; opened = refl; state = c.make_ready.ensures.state; log = refl; pending = refl; records = put.0; later = c.in-Err-OutOfMemory.ensures.faults.later })
 
 pub returns-in-Err-Failed-clause-balanced : goal.returns-in-Err-Failed-clause-balanced
 returns-in-Err-Failed-clause-balanced g c =
@@ -114,6 +112,6 @@ returns-in-Ok-clause-answers g c =
     let ready = c.in_ok-ready.ready in
     let known = c.in_ok-ready.ensures in
     let codes : Codes c.items.result.now c.args.at c.args.event.now = codes_again ready.rec c.items.result.now c.args.at c.args.at c.args.event.now c.args.event.now c.items.ensures refl refl known.rec in
-    subst (λ (v : JournalView). Answers v (seen c.answer.new.book c.answer.new.log.items c.self.inside.pending opened after) c.args.event.now c.args.at c.answer.result.items) c.self.view_is
-    (answers_it c.self.inside.book c.make_ready.new.book c.answer.new.book c.self.inside.log.items c.make_ready.new.log.items c.answer.new.log.items c.self.inside.pending ready.step opened before after c.args.event.now c.args.at ready.reply c.answer.result.items c.items.result.now
-    c.make_ready.ensures.setup c.make_ready.ensures.state c.make_ready.ensures.log c.answer.ensures.setup c.answer.ensures.state c.answer.ensures.log known.event known.at known.reply c.answer.ensures.reply none codes c.in-Ok.ensures.list.0 c.in-Ok.ensures.faults.later)
+    subst (λ (v : JournalView). Answers v (seen c.answer.new.book c.answer.new.log c.self.inside.pending opened after) c.args.event.now c.args.at c.answer.result.items) c.self.view_is
+    (answers_it c.self.inside.book c.make_ready.new.book c.answer.new.book c.self.inside.log c.answer.new.log c.self.inside.pending ready.step opened before after c.args.event.now c.args.at c.answer.result.items c.items.result.now
+    c.make_ready.ensures.setup c.make_ready.ensures.state c.answer.ensures.setup c.answer.ensures.state c.answer.ensures.log known.event known.at c.answer.ensures.reply none codes c.in-Ok.ensures.list.0 c.in-Ok.ensures.faults.later)

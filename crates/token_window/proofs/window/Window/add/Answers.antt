@@ -12,7 +12,7 @@ invariant_of-self c =
     let above = subst (λ (v : WindowView). newest_held v < c.args.entry.number) (sym c.self.view_is) c.requires.rising in
     let less : old.room - 1 + 1 ≡ old.room = omega (arith, some) in
     let is = still_window old.width old.entries.capacity old.floor old.room (old.room - 1) old.entries.items c.args.entry c.self.invariant less above in
-    let floor = c.floor_behind-self-inside.ensures ∙ ap (number_of old.floor) c.push_back-left.ensures.value in
+    let floor = c.floor_after-self-inside.ensures ∙ ap (number_of old.floor) c.push_back-left.ensures.value in
     subst (λ (n : ℕ). IsWindow old.width c.push_back-left.new.self.capacity n (old.room - 1) c.push_back-left.new.self.items) (sym floor)
     (subst (λ (b : Buffer Entry). IsWindow old.width b.capacity (number_of old.floor (ring_left old.entries.capacity old.entries.items c.args.entry)) (old.room - 1) b.items) (sym c.push_back-left.ensures.items) is)
 
@@ -49,6 +49,6 @@ returns-clause-stands c history width stands =
     (ap (λ (b : Buffer Entry). b.items) c.push_back-left.ensures.items
     ∙ held_same old.width old.entries.capacity old.floor old.room old.entries.items c.args.entry c.self.invariant some
     ∙ ap (λ (v : WindowView). ring_with v.width v.held c.args.entry) c.self.view_is)
-    (c.floor_behind-self-inside.ensures
+    (c.floor_after-self-inside.ensures
     ∙ ap (number_of old.floor) left
     ∙ ap (λ (v : WindowView). number_of v.floor (window_left v.width v.held)) c.self.view_is)
