@@ -16,7 +16,12 @@ from written.record_file import INSERT
 
 # Users and accounts come in pairs: two accounts are of two users.
 TRANSFERS, STATEMENTS, REFRESHES, PASTS = 0, 1, 2, 3  # which pair is asked for what
+HISTORIES = (4, 5, 6, 7)  # pairs whose first accounts are asked for their histories
 LINES, ROWS = 10, 50  # of a statement and of a refresh
+WINDOW = 100  # how many entries of an account are told
+HISTORY = 150  # of an account that is asked for its history
+LEAST_PAIRS = max(HISTORIES) + 1
+LEAST_ENTRIES = LINES + ROWS + HISTORY * len(HISTORIES) + LINES
 # Of the first ten of the bank's entries, of all others, and of the last ten.
 PAST, DAY, LAST = datetime(2024, 1, 10, 12), datetime(2024, 1, 31, 12), datetime(2024, 2, 1, 12)
 AT = "20240202120000"  # of the run
@@ -38,7 +43,7 @@ def setup_text(pairs):
     accounts = [
         b"ACCT %s CHECKING 100000000 u%d u%d" % (number_of(place), place // 2 * 2, place // 2 * 2 + 1)
         for place in range(2 * pairs)]
-    head = [b"OFXBANK 1", b"BANK " + BANK, b"LEAD 30", b"WINDOW 3", b"ENTRIES 9999999999"]
+    head = [b"OFXBANK 1", b"BANK " + BANK, b"LEAD 30", b"WINDOW %d" % WINDOW, b"ENTRIES 9999999999"]
     return b"\n".join(head + users + accounts) + b"\n"
 
 
@@ -78,14 +83,17 @@ def numbered(record, number):
 
 def records(entries, pairs):
     """The records of so many transfers among so many pairs: those of the statement of a period long past, those of the refreshed
-    account, those of all others, and at last those of the other statement."""
-    others = [pair for pair in range(pairs) if pair != REFRESHES]
+    account, those of the histories, those of all others, and at last those of the other statement."""
+    others = [pair for pair in range(pairs) if pair != REFRESHES and pair not in HISTORIES]
     for number in range(1, entries + 1):
         if number <= LINES:
             made = record(PASTS, places(PASTS, number), PAST)
         elif number <= LINES + ROWS:
             # An account is told of those that went out of it.
             made = record(REFRESHES, places(REFRESHES, 1), DAY)
+        elif number <= LINES + ROWS + HISTORY * len(HISTORIES):
+            pair = HISTORIES[number % len(HISTORIES)]
+            made = record(pair, places(pair, 1), DAY)
         elif number <= entries - LINES:
             pair = others[number % len(others)]
             made = record(pair, places(pair, number), DAY)
@@ -181,6 +189,15 @@ def refresh():
     """All transfers of an account that has fifty."""
     return framed(REFRESHES, (
         b"<INTRASYNCRQ>\r\n<REFRESH>Y\r\n<REJECTIFMISSING>N\r\n%s</INTRASYNCRQ>\r\n") % account(2 * REFRESHES, b"FROM"))
+
+
+def history(pair):
+    """As many of an account's last entries as are told."""
+    first = LINES + ROWS + 1
+    first += (HISTORIES.index(pair) - first) % len(HISTORIES)
+    before = first + len(HISTORIES) * (HISTORY - WINDOW - 1)
+    return framed(pair, (
+        b"<INTRASYNCRQ>\r\n<TOKEN>%d\r\n<REJECTIFMISSING>N\r\n%s</INTRASYNCRQ>\r\n") % (before, account(2 * pair, b"FROM")))
 
 
 def kept_file():
