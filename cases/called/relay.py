@@ -19,8 +19,8 @@ PIECE = 65536
 class Exchange:
     """A request, and the bank's reply to it. An action changes what is handed on to the customer."""
 
-    def __init__(self, relay, request):
-        self.relay, self.request, self.reply = relay, request, b""
+    def __init__(self, relay, talk, request):
+        self.relay, self.talk, self.request, self.reply = relay, talk, request, b""
         self.given = None  # what the customer gets
         self.ends = False  # whether its connection ends behind that
         self.is_reset = False  # and how
@@ -33,7 +33,6 @@ class Talk:
         self.sent = self.given = b""  # by the customer, and to it
         self.asked = self.answered = b""  # of the bank
         self.is_reset = False  # whether the customer's connection was
-        self.over = threading.Event()
 
 
 def passes(exchange, number):
@@ -96,7 +95,7 @@ class Relay(threading.Thread):
                 talk.sent += request
                 if LENGTH.search(request) is None:
                     return
-                exchange = Exchange(self, request)
+                exchange = Exchange(self, talk, request)
                 self.act(exchange, self.count)
                 self.count += 1
                 exchange.given = exchange.reply if exchange.given is None else exchange.given
@@ -110,11 +109,10 @@ class Relay(threading.Thread):
         finally:
             if self.bank is not None:
                 self.bank.close()
-            talk.over.set()
 
     def ask(self, exchange):
         """Has the bank answer the request of an exchange."""
-        talk = self.talks[-1]
+        talk = exchange.talk
         if self.bank is None:
             self.bank = Link(self.bank_port)
         talk.asked += exchange.request
@@ -123,23 +121,25 @@ class Relay(threading.Thread):
         talk.answered += exchange.reply
 
     def last(self):
-        """What was said on the one connection since this was asked last; nothing where nothing was."""
-        talks, self.talks = self.talks, []
-        for talk in talks:
-            if not talk.over.wait(MOST_SECONDS):
-                raise Wrong("a connection stays open")
+        """What was said on the one connection since this was asked last; nothing where nothing was. The connection of
+        a customer that was killed may still wait to be taken in: all of them are over when this looks."""
+        self.calls()
+        talks, self.talks = [talk for talk in self.talks if talk.sent], []
         if self.wrong:
             raise self.wrong
-        talks = [talk for talk in talks if talk.sent]
         if len(talks) > 1:
             raise Wrong("%d connections were made by one run" % len(talks))
         return talks[0] if talks else Talk()
 
     def calls(self):
-        """How many connections were made to it so far. It makes one itself, which is taken in behind all others."""
+        """How many connections were made to it so far, all of which are over. It makes one itself, which is taken in
+        behind all others."""
         with socket.create_connection(("127.0.0.1", self.port), MOST_SECONDS) as own:
             own.shutdown(socket.SHUT_WR)
-            own.recv(1)
+            try:
+                own.recv(1)
+            except TimeoutError:
+                raise Wrong("a connection stays open") from None
         self.own += 1
         return self.links - self.own
 
