@@ -2,31 +2,37 @@
 
 use bank_accounts::{Account, Balance, Balances, Held};
 use ofx_types::{AcctId, Cents};
-use std::test::Fail;
+use std::alloc::Global;
+use std::process::Abort;
+
+/// Two accounts with their openings.
+fn two(rt: &impl Abort, alloc: Global) -> Held {
+    let mut held = Held::new(alloc);
+    held.add(Account::new(AcctId(0), Cents(10_000)))
+        .expect(rt, "room");
+    held.add(Account::new(AcctId(3), Cents(5)))
+        .expect(rt, "room");
+    held
+}
 
 #[test]
-fn holds_accounts(rt: HostRuntime) -> Result<(), Fail> {
-    let mut held = Held::new(rt.alloc());
-    held.add(Account::new(AcctId(0), Cents(10_000)))?;
-    held.add(Account::new(AcctId(3), Cents(5)))?;
+fn holds_accounts(rt: HostRuntime) {
+    let mut held = two(&rt, rt.alloc());
     assert_eq!(rt; held.accounts().len(), 2);
     assert_eq!(rt; held.balance(AcctId(3)), Some(Cents(5)));
     assert_eq!(rt; held.balance(AcctId(1)), None);
     assert_eq!(rt; held.pop().map(|account| account.number()), Some(AcctId(3)));
     assert_eq!(rt; held.pop().map(|account| account.number()), Some(AcctId(0)));
     assert!(rt; held.pop().is_none());
-    Ok(())
 }
 
 #[test]
-fn gives_balances(rt: HostRuntime) -> Result<(), Fail> {
-    let mut held = Held::new(rt.alloc());
-    held.add(Account::new(AcctId(0), Cents(10_000)))?;
-    held.add(Account::new(AcctId(3), Cents(5)))?;
+fn gives_balances(rt: HostRuntime) {
+    let mut held = two(&rt, rt.alloc());
     let mut balances = Balances::new(rt.alloc());
     held.settle(&balances);
     assert_eq!(rt; held.balance(AcctId(3)), Some(Cents(5)));
-    balances.reserve(2)?;
+    balances.reserve(2).expect(&rt, "room");
     balances.give(Balance {
         account: AcctId(3),
         amount: Cents(6),
@@ -40,5 +46,4 @@ fn gives_balances(rt: HostRuntime) -> Result<(), Fail> {
     held.settle(&balances);
     assert_eq!(rt; held.balance(AcctId(0)), Some(Cents(10_000)));
     assert_eq!(rt; held.balance(AcctId(3)), Some(Cents(7)));
-    Ok(())
 }

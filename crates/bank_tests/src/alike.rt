@@ -1,92 +1,98 @@
 //! What finds by hashes, or keeps an order, answers as plain lists do that are searched from the front, in 10,000 calls
 //! that dice choose.
 
-ghost use Rattle.std.specs.Prelude.{◌≡◌, IfOk};
 ghost use Rattle.ofx_types.specs.Calendar.{IsDay};
 
+mod entries;
+mod history;
 mod lists;
 mod rows;
 mod series;
 mod transfers;
 
-use crate::sample::account;
+use crate::sample::model_row;
 use bank_recur::Models;
 use lists::{Dice, PlainRecords};
-use ofx_types::{Cents, Day, FileUid, Freq, ModelRow, Recur, TrnUid, UserId};
+use ofx_types::{Day, FileUid, Freq, TrnUid, UserId};
 use once_records::Records;
 use series::{PlainModels, PlainSeries};
 use std::alloc::Global;
 use std::hash::RandomState;
-use std::test::Fail;
+use std::process::Abort;
 
 /// How many calls.
 const CALLS: u32 = 10_000;
 
 /// Uses up a uid that the user hasn't used, and answers whether it was used before.
-fn use_up(records: &mut Records, user: UserId, name: &[u8]) -> Result<bool, Fail> {
-    let uid = TrnUid::new(name).ok().ok_or("a uid")?;
+fn use_up(rt: &impl Abort, records: &mut Records, user: UserId, name: &[u8]) -> bool {
+    let uid = TrnUid::new(name).expect(rt, "a uid");
     let there = records.used(user, &uid);
     if !there {
-        records.reserve(1, 0)?;
+        records.reserve(1, 0).expect(rt, "room");
         records.use_up(user, uid);
     }
-    Ok(there)
+    there
 }
 
 /// Keeps a reply of this one byte for a file that has none, and answers the first byte of the one before.
 fn keep(
+    rt: &impl Abort,
     alloc: Global,
     records: &mut Records,
     user: UserId,
     name: &[u8],
     byte: u8,
-) -> Result<Option<u8>, Fail> {
-    let file = FileUid::new(name).ok().ok_or("a file's uid")?;
+) -> Option<u8> {
+    let file = FileUid::new(name).expect(rt, "a file's uid");
     if records.kept(user, &file).is_none() {
-        records.reserve(0, 1)?;
-        records.keep(user, file, Vec::from_slice(alloc, &[byte])?);
-        return Ok(None);
+        records.reserve(0, 1).expect(rt, "room");
+        records.keep(
+            user,
+            file,
+            Vec::from_slice(alloc, &[byte]).expect(rt, "a reply"),
+        );
+        return None;
     }
     match records.kept(user, &file) {
-        Some([first, ..]) => Ok(Some(*first)),
-        _ => Err("a kept reply".into()),
+        Some([first, ..]) => Some(*first),
+        _ => panic!(rt; "a kept reply"),
     }
 }
 
 /// Makes the same call of both, and answers whether they answer alike.
 fn alike(
+    rt: &impl Abort,
     alloc: Global,
     records: &mut Records,
     plain: &mut PlainRecords,
     dice: &mut Dice,
-) -> Result<bool, Fail> {
+) -> bool {
     let owner = dice.roll(3);
     let name = [97 + dice.roll(26), 97 + dice.roll(26)];
     let user = UserId(u32::from(owner));
     match dice.roll(3) {
-        0 => Ok(use_up(records, user, &name)? == plain.use_up(owner, name)?),
+        0 => use_up(rt, records, user, &name) == plain.use_up(owner, name).expect(rt, "room"),
         1 => {
             let byte = dice.roll(200);
-            let before = keep(alloc, records, user, &name, byte)?;
-            Ok(before == plain.keep(owner, name, byte)?)
+            let before = keep(rt, alloc, records, user, &name, byte);
+            before == plain.keep(owner, name, byte).expect(rt, "room")
         }
         _ => {
-            let file = FileUid::new(&name).ok().ok_or("a file's uid")?;
-            Ok(records.release(user, &file) == plain.release(owner, name))
+            let file = FileUid::new(&name).expect(rt, "a file's uid");
+            records.release(user, &file) == plain.release(owner, name)
         }
     }
 }
 
 #[test]
-fn used_uids_and_kept_replies_are_those_of_lists(rt: HostRuntime) -> Result<(), Fail> {
+fn used_uids_and_kept_replies_are_those_of_lists(rt: HostRuntime) {
     let alloc = rt.alloc();
-    let mut records = Records::new(alloc, RandomState::new(&rt)?);
+    let mut records = Records::new(alloc, RandomState::new(&rt).expect(&rt, "keys"));
     let mut plain = PlainRecords::new(alloc);
     let mut dice = Dice::new();
     for _ in 0..CALLS {
-        assert!(rt; alike(alloc, &mut records, &mut plain, &mut dice)?);
+        assert!(rt; alike(&rt, alloc, &mut records, &mut plain, &mut dice));
     }
-    Ok(())
 }
 
 /// One of six days, from 5 February 2024 on.
@@ -103,30 +109,15 @@ fn first_day(dice: &mut Dice) -> Day
     }
 }
 
-/// A row of this recurring transfer.
-fn row(alloc: Global, id: u64, freq: Freq, count: Option<u32>, first: Day) -> Result<ModelRow, Fail>
-    ensures { IfOk result (λ row. row.first ≡ first) }
-{
-    let from = account(alloc, "1001")?;
-    let to = account(alloc, "1002")?;
-    Ok(ModelRow {
-        id,
-        recur: Recur { count, freq },
-        from,
-        to,
-        amount: Cents(100),
-        first,
-    })
-}
-
 /// A recurring transfer is new, or begins anew, in both.
 fn put(
+    rt: &impl Abort,
     alloc: Global,
     models: &mut Models,
     plain: &mut PlainModels,
     id: u64,
     dice: &mut Dice,
-) -> Result<(), Fail> {
+) {
     let first = first_day(dice);
     let count = match dice.roll(20) {
         19 => None,
@@ -137,13 +128,13 @@ fn put(
         1 => (Freq::Biweekly, 14),
         _ => (Freq::FourWeeks, 28),
     };
-    models.reserve(1)?;
-    models.put(row(alloc, id, freq, count, first)?);
+    models.reserve(1).expect(rt, "room");
+    models.put(model_row(rt, alloc, id, freq, count, first));
     let cancelled = match plain.find(id) {
         Some(one) => one.cancelled,
         None => false,
     };
-    plain.keep(PlainSeries {
+    let made = PlainSeries {
         id,
         first: first.0,
         next: first.0,
@@ -151,14 +142,14 @@ fn put(
         count,
         place: 0,
         cancelled,
-    })?;
-    Ok(())
+    };
+    plain.keep(made).expect(rt, "room");
 }
 
 /// A recurring transfer that is there makes its next transfer, or is cancelled, in both.
-fn change(models: &mut Models, plain: &mut PlainModels, id: u64, cancel: bool) -> Result<(), Fail> {
+fn change(rt: &impl Abort, models: &mut Models, plain: &mut PlainModels, id: u64, cancel: bool) {
     let Some(mut one) = plain.find(id) else {
-        return Ok(());
+        return;
     };
     if cancel {
         models.cancel(id);
@@ -168,8 +159,7 @@ fn change(models: &mut Models, plain: &mut PlainModels, id: u64, cancel: bool) -
         one.next = one.next.wrapping_add(one.step);
         one.place = one.place.wrapping_add(1);
     }
-    plain.keep(one)?;
-    Ok(())
+    plain.keep(one).expect(rt, "room");
 }
 
 /// Whether both have the same recurring transfer with this id, which makes its next transfer by a last day or doesn't, or none.
@@ -191,7 +181,7 @@ fn has_same(models: &Models, plain: &PlainModels, id: u64, last: i32) -> bool {
 }
 
 #[test]
-fn recurring_transfers_are_those_of_a_list(rt: HostRuntime) -> Result<(), Fail> {
+fn recurring_transfers_are_those_of_a_list(rt: HostRuntime) {
     let alloc = rt.alloc();
     let mut models = Models::new(alloc);
     let mut plain = PlainModels::new(alloc);
@@ -202,9 +192,9 @@ fn recurring_transfers_are_those_of_a_list(rt: HostRuntime) -> Result<(), Fail> 
         // One in four is the one whose turn it is.
         let id = if dice.roll(4) == 0 { first } else { rolled };
         match dice.roll(100) {
-            0 => change(&mut models, &mut plain, id, true)?,
-            1..=49 => put(alloc, &mut models, &mut plain, id, &mut dice)?,
-            _ => change(&mut models, &mut plain, id, false)?,
+            0 => change(&rt, &mut models, &mut plain, id, true),
+            1..=49 => put(&rt, alloc, &mut models, &mut plain, id, &mut dice),
+            _ => change(&rt, &mut models, &mut plain, id, false),
         }
         let last = 19_750 + i32::from(dice.roll(255));
         let next = models.next_spawn(Day(last));
@@ -215,5 +205,4 @@ fn recurring_transfers_are_those_of_a_list(rt: HostRuntime) -> Result<(), Fail> 
         assert!(rt; has_same(&models, &plain, id, last));
         assert!(rt; has_same(&models, &plain, u64::from(dice.roll(250)), last));
     }
-    Ok(())
 }

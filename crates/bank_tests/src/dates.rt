@@ -1,13 +1,11 @@
 //! Series of known dates, their days counted by another program.
 
-ghost use Rattle.std.specs.Prelude.{IfOk};
 ghost use Rattle.ofx_types.specs.Calendar.{IsDay};
 
 use crate::sample::TODAY;
 use bank_recur::date_of;
 use ofx_types::{Day, Freq};
 use std::process::Abort;
-use std::test::Fail;
 
 /// The first 50 dates from 31 January 2024 on, for each frequency.
 const SERIES: &[(Freq, [i32; 50])] = &[
@@ -104,13 +102,13 @@ fn begins(rt: &impl Abort, first: Day, freq: Freq, days: &[i32])
 }
 
 /// The day of this number, where the calendar has it.
-fn day(number: i32) -> Result<Day, Fail>
-    ensures { IfOk result (λ day. IsDay day.0) }
+fn day(rt: &impl Abort, number: i32) -> Day
+    ensures { IsDay result.0 }
 {
     if number < -25_567 || number > 2_932_896 {
-        return Err("no day of the years 1900 to 9999".into());
+        panic!(rt; "no day of the years 1900 to 9999");
     }
-    Ok(Day(number))
+    Day(number)
 }
 
 /// First days, frequencies, and the first dates.
@@ -142,16 +140,15 @@ const FIRST_DATES: &[(i32, Freq, &[i32])] = &[
 ];
 
 #[test]
-fn a_series_begins_with_its_dates(rt: HostRuntime) -> Result<(), Fail> {
+fn a_series_begins_with_its_dates(rt: HostRuntime) {
     for case in SERIES.iter() {
         let (freq, days) = *case;
         begins(&rt, TODAY, freq, &days);
     }
     for case in FIRST_DATES.iter() {
         let (first, freq, days) = *case;
-        begins(&rt, day(first)?, freq, days);
+        begins(&rt, day(&rt, first), freq, days);
     }
-    Ok(())
 }
 
 /// First days, frequencies and places that lie after the year 9999.
@@ -167,10 +164,9 @@ const PAST_THE_END: &[(i32, Freq, u32)] = &[
 ];
 
 #[test]
-fn a_series_ends_with_the_year_9999(rt: HostRuntime) -> Result<(), Fail> {
+fn a_series_ends_with_the_year_9999(rt: HostRuntime) {
     for case in PAST_THE_END.iter() {
         let (first, freq, place) = *case;
-        assert_eq!(rt; date_of(day(first)?, freq, place), None);
+        assert_eq!(rt; date_of(day(&rt, first), freq, place), None);
     }
-    Ok(())
 }

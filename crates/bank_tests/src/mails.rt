@@ -1,28 +1,8 @@
 //! Mails: what is refused of one, and the mails of two objects.
 
-use crate::sample::{ALICE, BOB, account, bank};
+use crate::sample::{ALICE, BOB, account, bank, mail, mail_row};
 use bank_mail::{Mails, judge_bank_mail, judge_mail};
-use ofx_types::{AcctId, MailRow, MailText, Moment, ObjectId, Text, UserId};
-use std::alloc::Global;
-use std::test::Fail;
-
-fn mail(alloc: Global, target: &[u8], subject: &[u8]) -> Result<MailText, Fail> {
-    Ok(MailText {
-        created: Moment(0),
-        sender: Text::new(alloc, b"alice", 32)?,
-        target: Text::new(alloc, target, 32)?,
-        subject: Text::new(alloc, subject, 64)?,
-        body: Text::new(alloc, b"Hi", 10_000)?,
-    })
-}
-
-fn row(alloc: Global, subject: &[u8]) -> Result<MailRow, Fail> {
-    Ok(MailRow {
-        about: None,
-        user: Text::new(alloc, b"alice", 32)?,
-        mail: mail(alloc, b"BANK", subject)?,
-    })
-}
+use ofx_types::{AcctId, ObjectId, UserId};
 
 /// Who writes, about which account alone, about which account and to whom, and the code.
 const ASKED: &[(UserId, Option<AcctId>, &str, &str, u16)] = &[
@@ -35,41 +15,38 @@ const ASKED: &[(UserId, Option<AcctId>, &str, &str, u16)] = &[
 ];
 
 #[test]
-fn a_mail_about_an_account_has_the_first_refusal_that_holds(rt: HostRuntime) -> Result<(), Fail> {
+fn a_mail_about_an_account_has_the_first_refusal_that_holds(rt: HostRuntime) {
     let alloc = rt.alloc();
-    let setup = bank(alloc)?;
+    let setup = bank(&rt, alloc);
     for (user, only, number, target, code) in ASKED.iter() {
-        let about = account(alloc, number)?;
-        let asked = mail(alloc, target.as_bytes(), b"Hello")?;
+        let about = account(&rt, alloc, number);
+        let asked = mail(&rt, alloc, target.as_bytes(), b"Hello");
         assert_eq!(rt;
             judge_bank_mail(&setup, *user, *only, &about, &asked),
             *code
         );
     }
-    Ok(())
 }
 
 #[test]
-fn the_bank_takes_mail_to_itself_alone(rt: HostRuntime) -> Result<(), Fail> {
+fn the_bank_takes_mail_to_itself_alone(rt: HostRuntime) {
     let alloc = rt.alloc();
-    assert_eq!(rt; judge_mail(&mail(alloc, b"BANK", b"Hello")?), 0);
-    assert_eq!(rt; judge_mail(&mail(alloc, b"alice", b"Hello")?), 16501);
-    Ok(())
+    assert_eq!(rt; judge_mail(&mail(&rt, alloc, b"BANK", b"Hello")), 0);
+    assert_eq!(rt; judge_mail(&mail(&rt, alloc, b"alice", b"Hello")), 16501);
 }
 
 #[test]
-fn each_object_has_its_mails_in_order(rt: HostRuntime) -> Result<(), Fail> {
+fn each_object_has_its_mails_in_order(rt: HostRuntime) {
     let alloc = rt.alloc();
     let mut mails = Mails::new(alloc);
     assert!(rt; mails.rows(ObjectId(2)).is_empty());
-    mails.reserve(ObjectId(2), 2)?;
-    mails.put(ObjectId(2), row(alloc, b"first")?);
-    mails.put(ObjectId(2), row(alloc, b"second")?);
-    mails.reserve(ObjectId(6), 1)?;
-    mails.put(ObjectId(6), row(alloc, b"other")?);
+    mails.reserve(ObjectId(2), 2).expect(&rt, "room");
+    mails.put(ObjectId(2), mail_row(&rt, alloc, b"first"));
+    mails.put(ObjectId(2), mail_row(&rt, alloc, b"second"));
+    mails.reserve(ObjectId(6), 1).expect(&rt, "room");
+    mails.put(ObjectId(6), mail_row(&rt, alloc, b"other"));
     assert_eq!(rt; mails.rows(ObjectId(2)).len(), 2);
     assert!(rt; mails.rows(ObjectId(2))[1].mail.subject.as_bytes() == b"second".as_slice());
     assert_eq!(rt; mails.rows(ObjectId(6)).len(), 1);
     assert!(rt; mails.rows(ObjectId(5)).is_empty());
-    Ok(())
 }

@@ -1,33 +1,15 @@
 //! Recurring transfers: what is refused of a deed on them, and which makes its next transfer first.
 
-ghost use Rattle.std.specs.Prelude.{◌≡◌, IfOk};
+ghost use Rattle.std.specs.Prelude.{◌≡◌};
 
-use crate::sample::{ALICE, BOB, TODAY, TOMORROW, account, bank, info};
+use crate::sample::{ALICE, BOB, TODAY, TOMORROW, bank, info, model_row};
 use bank_recur::{Models, judge_model, judge_model_cancel, judge_model_modify};
-use ofx_types::{AcctId, Cents, Day, Freq, ModelRow, Recur, UserId};
-use std::alloc::Global;
-use std::test::Fail;
+use ofx_types::{AcctId, Day, Freq, UserId};
 
 /// 5 February 2024, and a month later.
 const FIFTH: Day = Day(19_758);
 
 const MARCH_FIFTH: Day = Day(19_787);
-
-/// A recurring transfer of 1.00 from 1001 to 1002.
-fn row(alloc: Global, id: u64, freq: Freq, count: Option<u32>, first: Day) -> Result<ModelRow, Fail>
-    ensures { IfOk result (λ row. row.first ≡ first) }
-{
-    let from = account(alloc, "1001")?;
-    let to = account(alloc, "1002")?;
-    Ok(ModelRow {
-        id,
-        recur: Recur { count, freq },
-        from,
-        to,
-        amount: Cents(100),
-        first,
-    })
-}
 
 /// Who asks, about which account alone, from where, to where, how much and from which day on, and the code.
 const ASKED: &[(UserId, Option<AcctId>, &str, &str, i64, Option<Day>, u16)] = &[
@@ -51,14 +33,13 @@ const ASKED: &[(UserId, Option<AcctId>, &str, &str, i64, Option<Day>, u16)] = &[
 ];
 
 #[test]
-fn a_recurring_transfer_has_the_first_refusal_that_holds(rt: HostRuntime) -> Result<(), Fail> {
+fn a_recurring_transfer_has_the_first_refusal_that_holds(rt: HostRuntime) {
     let alloc = rt.alloc();
-    let setup = bank(alloc)?;
+    let setup = bank(&rt, alloc);
     for (user, only, from, to, cents, first, code) in ASKED.iter() {
-        let asked = info(alloc, from, to, *cents, *first)?;
+        let asked = info(&rt, alloc, from, to, *cents, *first);
         assert_eq!(rt; judge_model(&setup, *user, *only, &asked, TODAY), *code);
     }
-    Ok(())
 }
 
 /// Who asks for a change, whether it is cancelled, from where, to where, how much and from which day on, and the code.
@@ -73,25 +54,24 @@ const CHANGES: &[(UserId, bool, &str, &str, i64, Option<Day>, u16)] = &[
 ];
 
 #[test]
-fn a_change_has_the_first_refusal_that_holds(rt: HostRuntime) -> Result<(), Fail> {
+fn a_change_has_the_first_refusal_that_holds(rt: HostRuntime) {
     let alloc = rt.alloc();
-    let setup = bank(alloc)?;
-    let found = row(alloc, 1, Freq::Monthly, None, FIFTH)?;
+    let setup = bank(&rt, alloc);
+    let found = model_row(&rt, alloc, 1, Freq::Monthly, None, FIFTH);
     for (user, cancelled, from, to, cents, first, code) in CHANGES.iter() {
-        let asked = info(alloc, from, to, *cents, *first)?;
+        let asked = info(&rt, alloc, from, to, *cents, *first);
         assert_eq!(rt;
             judge_model_modify(&setup, *user, None, Some(&found), *cancelled, &asked, TODAY),
             *code
         );
     }
-    Ok(())
 }
 
 #[test]
-fn a_recurring_transfer_is_cancelled_once_and_by_an_owner(rt: HostRuntime) -> Result<(), Fail> {
+fn a_recurring_transfer_is_cancelled_once_and_by_an_owner(rt: HostRuntime) {
     let alloc = rt.alloc();
-    let setup = bank(alloc)?;
-    let found = row(alloc, 1, Freq::Monthly, None, FIFTH)?;
+    let setup = bank(&rt, alloc);
+    let found = model_row(&rt, alloc, 1, Freq::Monthly, None, FIFTH);
     for (user, cancelled, code) in [(ALICE, false, 0), (ALICE, true, 10509), (BOB, true, 10518)] {
         assert_eq!(rt;
             judge_model_cancel(&setup, user, None, Some(&found), cancelled),
@@ -99,7 +79,6 @@ fn a_recurring_transfer_is_cancelled_once_and_by_an_owner(rt: HostRuntime) -> Re
         );
     }
     assert_eq!(rt; judge_model_cancel(&setup, ALICE, None, None, false), 10518);
-    Ok(())
 }
 
 /// The recurring transfer with this id makes its next transfer.
@@ -112,13 +91,13 @@ fn make_next(models: &mut Models, id: u64)
 }
 
 #[test]
-fn the_earliest_date_comes_first(rt: HostRuntime) -> Result<(), Fail> {
+fn the_earliest_date_comes_first(rt: HostRuntime) {
     let alloc = rt.alloc();
     let mut models = Models::new(alloc);
-    models.reserve(4)?;
+    models.reserve(4).expect(&rt, "room");
     assert!(rt; models.next_spawn(MARCH_FIFTH).is_none());
-    models.put(row(alloc, 3, Freq::Monthly, None, FIFTH)?);
-    models.put(row(alloc, 2, Freq::Weekly, Some(2), TOMORROW)?);
+    models.put(model_row(&rt, alloc, 3, Freq::Monthly, None, FIFTH));
+    models.put(model_row(&rt, alloc, 2, Freq::Weekly, Some(2), TOMORROW));
     assert!(rt; models.next_spawn(TODAY).is_none());
     assert!(rt; models.next_spawn(FIFTH) == Some((2, 0)));
     make_next(&mut models, 2);
@@ -127,10 +106,9 @@ fn the_earliest_date_comes_first(rt: HostRuntime) -> Result<(), Fail> {
     assert!(rt; models.next_spawn(MARCH_FIFTH) == Some((2, 1)));
     make_next(&mut models, 2);
     assert!(rt; models.next_spawn(MARCH_FIFTH) == Some((3, 1)));
-    models.put(row(alloc, 2, Freq::Annually, None, MARCH_FIFTH)?);
+    models.put(model_row(&rt, alloc, 2, Freq::Annually, None, MARCH_FIFTH));
     assert!(rt; models.next_spawn(MARCH_FIFTH) == Some((2, 0)));
     models.cancel(2);
     assert!(rt; models.cancelled(2) && models.get(2).is_some());
     assert!(rt; models.next_spawn(MARCH_FIFTH) == Some((3, 1)));
-    Ok(())
 }

@@ -1,10 +1,10 @@
 //! Setups that are read, and the lines at which others are refused.
 
-use crate::sample::{ALICE, BOB, account, bank};
+use crate::sample::{ALICE, BOB, account, bank, text};
 use bank_model::{Setup, SetupFault};
-use ofx_types::{AcctId, AcctKind, Cents, Duplicate, Text};
-use std::alloc::{AllocError, Global};
-use std::test::Fail;
+use ofx_types::{AcctId, AcctKind, Cents, Duplicate};
+use std::alloc::Global;
+use std::process::Abort;
 
 /// A setup in form, line by line.
 const LINES: [&str; 9] = [
@@ -20,16 +20,16 @@ const LINES: [&str; 9] = [
 ];
 
 /// That setup with other text in place of one line.
-fn with_line(alloc: Global, number: usize, text: &str) -> Result<String, AllocError> {
+fn with_line(rt: &impl Abort, alloc: Global, number: usize, text: &str) -> String {
     let mut setup = String::new(alloc);
     for (at, line) in LINES.iter().enumerate() {
         if at.wrapping_add(1) == number {
-            setup.push_str(text)?;
+            setup.push_str(text).expect(rt, "room");
         } else {
-            setup.push_str(line)?;
+            setup.push_str(line).expect(rt, "room");
         }
     }
-    Ok(setup)
+    setup
 }
 
 fn fault_of(alloc: Global, bytes: &[u8]) -> Option<SetupFault> {
@@ -39,14 +39,10 @@ fn fault_of(alloc: Global, bytes: &[u8]) -> Option<SetupFault> {
     }
 }
 
-fn text(alloc: Global, bytes: &[u8]) -> Result<Text, Fail> {
-    Ok(Text::new(alloc, bytes, 32)?)
-}
-
 #[test]
-fn reads_a_setup(rt: HostRuntime) -> Result<(), Fail> {
+fn reads_a_setup(rt: HostRuntime) {
     let alloc = rt.alloc();
-    let setup = bank(alloc)?;
+    let setup = bank(&rt, alloc);
     assert!(rt; setup.bank.as_bytes() == b"121099999".as_slice());
     assert_eq!(rt; setup.lead, 5);
     assert_eq!(rt; setup.window, 3);
@@ -61,7 +57,6 @@ fn reads_a_setup(rt: HostRuntime) -> Result<(), Fail> {
     assert!(rt; account.name.kind == AcctKind::Savings);
     assert_eq!(rt; account.opening, Cents(5000));
     assert!(rt; account.owners.items() == [ALICE, BOB].as_slice());
-    Ok(())
 }
 
 /// Other texts in place of a line of the setup, and the line of the fault.
@@ -113,10 +108,10 @@ const FAULTS: [(usize, &str, u64); 44] = [
 ];
 
 #[test]
-fn tells_the_line_of_a_fault(rt: HostRuntime) -> Result<(), Fail> {
+fn tells_the_line_of_a_fault(rt: HostRuntime) {
     let alloc = rt.alloc();
     for (number, text, line) in FAULTS.iter() {
-        let setup = with_line(alloc, *number, text)?;
+        let setup = with_line(&rt, alloc, *number, text);
         assert_eq!(rt;
             fault_of(alloc, setup.as_bytes()),
             Some(SetupFault::SetupLine(*line)),
@@ -132,12 +127,11 @@ fn tells_the_line_of_a_fault(rt: HostRuntime) -> Result<(), Fail> {
         fault_of(alloc, b"OFXBANK 1"),
         Some(SetupFault::SetupLine(1))
     );
-    Ok(())
 }
 
 /// Lines that end in CRLF or LF, an opening of nothing, and openings that just reach their limit.
 #[test]
-fn reads_other_setups(rt: HostRuntime) -> Result<(), Fail> {
+fn reads_other_setups(rt: HostRuntime) {
     let alloc = rt.alloc();
     for (number, text) in [
         (2, "BANK 1\r\n"),
@@ -147,26 +141,27 @@ fn reads_other_setups(rt: HostRuntime) -> Result<(), Fail> {
     ]
     .iter()
     {
-        let setup = with_line(alloc, *number, text)?;
+        let setup = with_line(&rt, alloc, *number, text);
         assert_eq!(rt; fault_of(alloc, setup.as_bytes()), None, "{text}");
     }
-    Ok(())
 }
 
 /// A setup with that window, so many users and so many accounts.
-fn large(alloc: Global, window: u32, users: u32, accounts: u32) -> Result<String, AllocError> {
-    let mut setup = format!(in alloc; "OFXBANK 1\nBANK 1\nLEAD 0\nWINDOW {window}\nENTRIES 1\n")?;
+fn large(rt: &impl Abort, alloc: Global, window: u32, users: u32, accounts: u32) -> String {
+    let mut setup = format!(in alloc;
+        "OFXBANK 1\nBANK 1\nLEAD 0\nWINDOW {window}\nENTRIES 1\n"
+    ).expect(rt, "room");
     for user in 0..users {
-        write!(setup, "USER u{user} p\n")?;
+        write!(setup, "USER u{user} p\n").expect(rt, "room");
     }
     for account in 0..accounts {
-        write!(setup, "ACCT {account} SAVINGS 0 u0\n")?;
+        write!(setup, "ACCT {account} SAVINGS 0 u0\n").expect(rt, "room");
     }
-    Ok(setup)
+    setup
 }
 
 #[test]
-fn keeps_the_limits(rt: HostRuntime) -> Result<(), Fail> {
+fn keeps_the_limits(rt: HostRuntime) {
     let alloc = rt.alloc();
     for (window, users, accounts, line) in [
         (250, 1000, 1000, None),
@@ -180,62 +175,59 @@ fn keeps_the_limits(rt: HostRuntime) -> Result<(), Fail> {
     ]
     .iter()
     {
-        let setup = large(alloc, *window, *users, *accounts)?;
+        let setup = large(&rt, alloc, *window, *users, *accounts);
         assert_eq!(rt;
             fault_of(alloc, setup.as_bytes()),
             line.map(SetupFault::SetupLine),
             "{window} {users} {accounts}"
         );
     }
-    Ok(())
 }
 
 /// A setup of 1,000 users, and so many accounts that belong to the first five. Its words have 32 bytes, so a
 /// user takes 71 bytes and an account 213.
-fn crowded(alloc: Global, accounts: u32) -> Result<String, AllocError> {
-    let mut setup = large(alloc, 1, 0, 0)?;
+fn crowded(rt: &impl Abort, alloc: Global, accounts: u32) -> String {
+    let mut setup = large(rt, alloc, 1, 0, 0);
     for user in 0..1000u32 {
-        write!(setup, "USER u{user:031} p{user:031}\n")?;
+        write!(setup, "USER u{user:031} p{user:031}\n").expect(rt, "room");
     }
     for account in 0..accounts {
-        write!(setup, "ACCT {account:032} SAVINGS 0")?;
+        write!(setup, "ACCT {account:032} SAVINGS 0").expect(rt, "room");
         for owner in 0..5u32 {
-            write!(setup, " u{owner:031}")?;
+            write!(setup, " u{owner:031}").expect(rt, "room");
         }
-        setup.push_str("\n")?;
+        setup.push_str("\n").expect(rt, "room");
     }
-    Ok(setup)
+    setup
 }
 
 /// 897 accounts take 262,104 bytes, and the line of the 898th holds byte 262,145.
 #[test]
-fn ends_at_the_greatest_size(rt: HostRuntime) -> Result<(), Fail> {
+fn ends_at_the_greatest_size(rt: HostRuntime) {
     let alloc = rt.alloc();
-    let setup = crowded(alloc, 897)?;
+    let setup = crowded(&rt, alloc, 897);
     assert_eq!(rt; setup.len(), 262_104);
     assert_eq!(rt; fault_of(alloc, setup.as_bytes()), None);
-    let setup = crowded(alloc, 1000)?;
+    let setup = crowded(&rt, alloc, 1000);
     assert_eq!(rt;
         fault_of(alloc, setup.as_bytes()),
         Some(SetupFault::SetupLine(1903))
     );
-    Ok(())
 }
 
 #[test]
-fn looks_up_users_and_accounts(rt: HostRuntime) -> Result<(), Fail> {
+fn looks_up_users_and_accounts(rt: HostRuntime) {
     let alloc = rt.alloc();
-    let setup = bank(alloc)?.copy()?;
-    let bob = text(alloc, b"bob")?;
-    let hunter = text(alloc, b"hunter")?;
+    let setup = bank(&rt, alloc).copy().expect(&rt, "a copy");
+    let bob = text(&rt, alloc, b"bob", 32);
+    let hunter = text(&rt, alloc, b"hunter", 32);
     assert_eq!(rt; setup.signon(&bob, &hunter), Some(BOB));
     assert_eq!(rt; setup.signon(&hunter, &bob), None);
-    let mut name = account(alloc, "1002")?;
+    let mut name = account(&rt, alloc, "1002");
     assert_eq!(rt; setup.account(&name), Some(AcctId(1)));
     name.kind = AcctKind::Checking;
     assert_eq!(rt; setup.account(&name), None);
     for (user, number, owned) in [(BOB, 1, true), (BOB, 0, false), (ALICE, 2, false)] {
         assert_eq!(rt; setup.owns(user, AcctId(number)), owned);
     }
-    Ok(())
 }

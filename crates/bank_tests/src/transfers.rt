@@ -1,36 +1,35 @@
 //! Transfers: what is refused of a deed on them, and what a few entries come to.
 
-ghost use Rattle.std.specs.Prelude.{IfOk};
+ghost use Rattle.std.specs.Prelude.{◌≡◌};
 ghost use Rattle.bank_transfers.specs.TransfersView.{IsWithinAmounts};
 
 use crate::sample::{ALICE, BOB, TODAY, TOMORROW, YESTERDAY, account, bank, info};
 use bank_transfers::{Transfers, judge_cancel, judge_modify, judge_transfer};
 use ofx_types::{AcctId, Cents, Day, Moment, TransferRow, UserId, XferCode};
 use std::alloc::Global;
-use std::test::Fail;
+use std::process::Abort;
 
 /// A row of a transfer from 1001 to 1002.
 fn row(
+    rt: &impl Abort,
     alloc: Global,
     id: u64,
     cents: u32,
     code: XferCode,
     stamp: Moment,
-) -> Result<TransferRow, Fail>
-    ensures { IfOk result IsWithinAmounts }
+) -> TransferRow
+    ensures { IsWithinAmounts result }
 {
-    let from = account(alloc, "1001")?;
-    let to = account(alloc, "1002")?;
-    Ok(TransferRow {
+    TransferRow {
         id,
         model: 0,
-        from,
-        to,
+        from: account(rt, alloc, "1001"),
+        to: account(rt, alloc, "1002"),
         amount: Cents(i64::from(cents)),
         due: TODAY,
         code,
         stamp,
-    })
+    }
 }
 
 /// Who asks, about which account alone, from where, to where, how much, for which day and over which balance, and the code.
@@ -57,17 +56,16 @@ const ASKED: &[(
 ];
 
 #[test]
-fn a_transfer_has_the_first_refusal_that_holds(rt: HostRuntime) -> Result<(), Fail> {
+fn a_transfer_has_the_first_refusal_that_holds(rt: HostRuntime) {
     let alloc = rt.alloc();
-    let setup = bank(alloc)?;
+    let setup = bank(&rt, alloc);
     for (user, only, from, to, cents, due, balance, code) in ASKED.iter() {
-        let asked = info(alloc, from, to, *cents, *due)?;
+        let asked = info(&rt, alloc, from, to, *cents, *due);
         assert_eq!(rt;
             judge_transfer(&setup, *user, *only, &asked, TODAY, Cents(*balance)),
             *code
         );
     }
-    Ok(())
 }
 
 /// Who asks, how the transfer out of 1001 stands, and the code of a change and of a cancellation.
@@ -80,19 +78,18 @@ const STANDING: &[(UserId, XferCode, u16)] = &[
 ];
 
 #[test]
-fn only_a_waiting_transfer_is_changed_or_cancelled(rt: HostRuntime) -> Result<(), Fail> {
+fn only_a_waiting_transfer_is_changed_or_cancelled(rt: HostRuntime) {
     let alloc = rt.alloc();
-    let setup = bank(alloc)?;
-    let asked = info(alloc, "1001", "1002", 7, Some(TOMORROW))?;
+    let setup = bank(&rt, alloc);
+    let asked = info(&rt, alloc, "1001", "1002", 7, Some(TOMORROW));
     for (user, standing, code) in STANDING.iter() {
-        let found = row(alloc, 1, 5, *standing, Moment(0))?;
+        let found = row(&rt, alloc, 1, 5, *standing, Moment(0));
         assert_eq!(rt;
             judge_modify(&setup, *user, None, Some(&found), &asked, TODAY),
             *code
         );
         assert_eq!(rt; judge_cancel(&setup, *user, None, Some(&found)), *code);
     }
-    Ok(())
 }
 
 /// From where, to where, how much and for which day a change asks, and the code.
@@ -105,74 +102,83 @@ const CHANGES: &[(&str, &str, i64, Option<Day>, u16)] = &[
 ];
 
 #[test]
-fn a_change_has_the_first_refusal_that_holds(rt: HostRuntime) -> Result<(), Fail> {
+fn a_change_has_the_first_refusal_that_holds(rt: HostRuntime) {
     let alloc = rt.alloc();
-    let setup = bank(alloc)?;
-    let found = row(alloc, 1, 5, XferCode::Waiting, Moment(0))?;
+    let setup = bank(&rt, alloc);
+    let found = row(&rt, alloc, 1, 5, XferCode::Waiting, Moment(0));
     for (from, to, cents, due, code) in CHANGES.iter() {
-        let asked = info(alloc, from, to, *cents, *due)?;
+        let asked = info(&rt, alloc, from, to, *cents, *due);
         assert_eq!(rt;
             judge_modify(&setup, ALICE, None, Some(&found), &asked, TODAY),
             *code
         );
     }
-    Ok(())
 }
 
 #[test]
-fn posted_transfers_are_listed(rt: HostRuntime) -> Result<(), Fail> {
+fn posted_transfers_are_listed(rt: HostRuntime) {
     let alloc = rt.alloc();
     let mut transfers = Transfers::new(alloc);
     assert!(rt; transfers.get(1).is_none());
-    transfers.reserve(4)?;
-    transfers.put(1, row(alloc, 1, 5, XferCode::Waiting, Moment(100))?);
-    transfers.put(2, row(alloc, 2, 7, XferCode::Posted, Moment(10))?);
-    transfers.put(3, row(alloc, 1, 5, XferCode::Posted, Moment(20))?);
-    transfers.put(4, row(alloc, 4, 9, XferCode::NoFunds, Moment(15))?);
-    let first = transfers.get(1).ok_or("the first transfer")?;
+    transfers.reserve(4).expect(&rt, "room");
+    transfers.put(1, row(&rt, alloc, 1, 5, XferCode::Waiting, Moment(100)));
+    transfers.put(2, row(&rt, alloc, 2, 7, XferCode::Posted, Moment(10)));
+    transfers.put(3, row(&rt, alloc, 1, 5, XferCode::Posted, Moment(20)));
+    transfers.put(4, row(&rt, alloc, 4, 9, XferCode::NoFunds, Moment(15)));
+    let first = transfers.get(1).expect(&rt, "the first transfer");
     assert!(rt; first.code == XferCode::Posted);
-    let from = account(alloc, "1001")?;
-    let all = transfers.posted(alloc, &from, (Moment(0), None))?;
+    let from = account(&rt, alloc, "1001");
+    let all = transfers
+        .posted(alloc, &from, (Moment(0), None))
+        .expect(&rt, "lines");
     let [_, last] = all.items() else {
-        return Err("two lines".into());
+        panic!(rt; "two lines");
     };
     assert_eq!(rt; (last.number, last.amount.0), (3, -5));
-    let to = account(alloc, "1002")?;
-    let some = transfers.posted(alloc, &to, (Moment(10), Some(Moment(20))))?;
+    let to = account(&rt, alloc, "1002");
+    let some = transfers
+        .posted(alloc, &to, (Moment(10), Some(Moment(20))))
+        .expect(&rt, "lines");
     let [only] = some.items() else {
-        return Err("one line".into());
+        panic!(rt; "one line");
     };
     assert_eq!(rt; (only.number, only.amount.0), (2, 7));
-    let none = transfers.posted(alloc, &account(alloc, "1003")?, (Moment(0), None))?;
+    let none = transfers
+        .posted(alloc, &account(&rt, alloc, "1003"), (Moment(0), None))
+        .expect(&rt, "lines");
     assert!(rt; none.items().is_empty());
-    Ok(())
 }
 
 /// A row of a transfer that waits, which the recurring transfer with that id made.
-fn waiting_row(alloc: Global, id: u64, model: u64, due: Day) -> Result<TransferRow, Fail>
-    ensures { IfOk result IsWithinAmounts }
+fn waiting_row(rt: &impl Abort, alloc: Global, id: u64, model: u64, due: Day) -> TransferRow
+    ensures { IsWithinAmounts result }
 {
-    let mut waiting = row(alloc, id, 5, XferCode::Waiting, Moment(0))?;
+    let mut waiting = row(rt, alloc, id, 5, XferCode::Waiting, Moment(0));
     waiting.model = model;
     waiting.due = due;
-    Ok(waiting)
+    waiting
 }
 
 #[test]
-fn the_earliest_of_the_waiting_is_posted_next(rt: HostRuntime) -> Result<(), Fail> {
+fn the_earliest_of_the_waiting_is_posted_next(rt: HostRuntime) {
     let alloc = rt.alloc();
     let mut transfers = Transfers::new(alloc);
-    transfers.reserve(5)?;
-    transfers.put(1, waiting_row(alloc, 1, 9, TOMORROW)?);
-    transfers.put(2, waiting_row(alloc, 2, 9, TODAY)?);
-    transfers.put(3, waiting_row(alloc, 3, 0, TODAY)?);
+    transfers.reserve(5).expect(&rt, "room");
+    transfers.put(1, waiting_row(&rt, alloc, 1, 9, TOMORROW));
+    transfers.put(2, waiting_row(&rt, alloc, 2, 9, TODAY));
+    transfers.put(3, waiting_row(&rt, alloc, 3, 0, TODAY));
     assert!(rt; transfers.due_on(YESTERDAY) == None);
     assert!(rt; transfers.due_on(TOMORROW) == Some(2));
-    assert_eq!(rt; transfers.waiting(alloc, 9)?.as_slice(), [1, 2].as_slice());
-    transfers.put(4, row(alloc, 2, 5, XferCode::Posted, Moment(20))?);
+    assert_eq!(rt;
+        transfers.waiting(alloc, 9).expect(&rt, "ids").as_slice(),
+        [1, 2].as_slice()
+    );
+    transfers.put(4, row(&rt, alloc, 2, 5, XferCode::Posted, Moment(20)));
     assert!(rt; transfers.due_on(TODAY) == Some(3));
-    transfers.put(5, waiting_row(alloc, 1, 9, TODAY)?);
+    transfers.put(5, waiting_row(&rt, alloc, 1, 9, TODAY));
     assert!(rt; transfers.due_on(TODAY) == Some(1));
-    assert_eq!(rt; transfers.waiting(alloc, 9)?.as_slice(), [1].as_slice());
-    Ok(())
+    assert_eq!(rt;
+        transfers.waiting(alloc, 9).expect(&rt, "ids").as_slice(),
+        [1].as_slice()
+    );
 }

@@ -1,11 +1,11 @@
 //! The window of an object's last entries: what is lent above a token, how far back it goes, and what leaves.
 
-ghost use Rattle.std.specs.Prelude.{◌<◌};
+ghost use Rattle.std.specs.Prelude.{◌≡◌, ◌<◌};
 
 use bank_model::Entry;
 use ofx_types::{Change, ObjectId, TrnUid};
 use std::alloc::Global;
-use std::test::Fail;
+use std::process::Abort;
 use token_window::Window;
 
 /// The numbers of the entries that came, the token, how far back the window goes then, the newest number, and the numbers of
@@ -32,11 +32,13 @@ const OF_ONE: &[Case] = &[
 ];
 
 /// Gives a window an entry of a number above its newest, and answers the number of the entry that left, 0 where none did.
-fn take_in(window: &mut Window, number: u64) -> Result<u64, Fail> {
-    window.reserve(1)?;
-    let trnuid = TrnUid::new(b"0").ok().ok_or("a uid")?;
+fn take_in(rt: &impl Abort, window: &mut Window, number: u64) -> u64
+    ensures width { window.new.width ≡ window.old.width }
+{
+    window.reserve(1).expect(rt, "room");
+    let trnuid = TrnUid::new(b"0").expect(rt, "a uid");
     if number <= window.newest() {
-        return Ok(number);
+        return number;
     }
     let left = window.add(Entry {
         number,
@@ -44,21 +46,21 @@ fn take_in(window: &mut Window, number: u64) -> Result<u64, Fail> {
         trnuid,
         change: Change::DropTransfer(number),
     });
-    Ok(match left {
+    match left {
         Some(entry) => entry.number,
         None => 0,
-    })
+    }
 }
 
 /// The numbers of the entries above a token that isn't below the floor.
-fn told(alloc: Global, window: &Window, token: u64) -> Result<Vec<u64>, Fail> {
+fn told(rt: &impl Abort, alloc: Global, window: &Window, token: u64) -> Vec<u64> {
     let mut numbers = Vec::new(alloc);
     if window.floor() <= token {
         for entry in window.since(token) {
-            numbers.push(entry.number)?;
+            numbers.push(entry.number).expect(rt, "room");
         }
     }
-    Ok(numbers)
+    numbers
 }
 
 /// How many entries are above a token that isn't below the floor.
@@ -71,36 +73,87 @@ fn count(window: &Window, token: u64) -> usize {
 }
 
 /// Whether a window is as a case says.
-fn is_so(alloc: Global, width: u32, case: &Case) -> Result<bool, Fail>
+fn is_so(rt: &impl Abort, alloc: Global, width: u32, case: &Case) -> bool
     requires { (0 < width) × (width < 10001) }
 {
     let (numbers, token, floor, newest, above) = *case;
-    let mut window = Window::new(alloc, width)?;
+    let mut window = Window::new(alloc, width).expect(rt, "a window");
     for number in numbers {
-        take_in(&mut window, *number)?;
+        take_in(rt, &mut window, *number);
     }
-    let lent = told(alloc, &window, token)?;
-    Ok(window.floor() == floor && window.newest() == newest && lent.as_slice() == above)
+    let lent = told(rt, alloc, &window, token);
+    window.floor() == floor && window.newest() == newest && lent.as_slice() == above
 }
 
 #[test]
-fn what_is_above_a_token_is_lent(rt: HostRuntime) -> Result<(), Fail> {
+fn what_is_above_a_token_is_lent(rt: HostRuntime) {
     let alloc = rt.alloc();
     for case in OF_THREE {
-        assert!(rt; is_so(alloc, 3, case)?);
+        assert!(rt; is_so(&rt, alloc, 3, case));
     }
     for case in OF_ONE {
-        assert!(rt; is_so(alloc, 1, case)?);
+        assert!(rt; is_so(&rt, alloc, 1, case));
     }
-    Ok(())
 }
 
 #[test]
-fn the_oldest_entry_leaves_a_full_window(rt: HostRuntime) -> Result<(), Fail> {
-    let mut window = Window::new(rt.alloc(), 2)?;
+fn the_oldest_entry_leaves_a_full_window(rt: HostRuntime) {
+    let mut window = Window::new(rt.alloc(), 2).expect(&rt, "a window");
     for (number, left) in [(3, 0), (4, 0), (6, 3), (9, 4), (10, 6)] {
-        assert_eq!(rt; take_in(&mut window, number)?, left);
+        assert_eq!(rt; take_in(&rt, &mut window, number), left);
     }
     assert_eq!(rt; count(&window, 6), 2);
-    Ok(())
+}
+
+/// A window of three entries that has let go of two.
+fn full(rt: &impl Abort, alloc: Global) -> Window
+    ensures width { result.width ≡ 3 }
+{
+    let mut window = Window::new(alloc, 3).expect(rt, "a window");
+    take_in(rt, &mut window, 2);
+    take_in(rt, &mut window, 5);
+    take_in(rt, &mut window, 9);
+    take_in(rt, &mut window, 11);
+    take_in(rt, &mut window, 30);
+    window
+}
+
+#[test]
+fn the_number_before_the_last_entries_is_known(rt: HostRuntime) {
+    let window = full(&rt, rt.alloc());
+    assert_eq!(rt; window.number_before(0), 30);
+    assert_eq!(rt; window.number_before(1), 11);
+    assert_eq!(rt; window.number_before(2), 9);
+    assert_eq!(rt; window.number_before(3), 5);
+}
+
+/// Whether numbers are those that come after a token, one after another, as far as the newest.
+fn is_run(numbers: &[u64], token: u64, newest: u64) -> bool {
+    let mut last = token;
+    for number in numbers {
+        last = last.wrapping_add(1);
+        if *number != last {
+            return false;
+        }
+    }
+    last == newest
+}
+
+/// Tokens of a window whose ring has its first entries at its end, up to the one with the number 10,000, and those after it at
+/// its front: its floor, around that end, and its newest.
+const AROUND_THE_END: [u64; 6] = [2_500, 9_999, 10_000, 10_001, 12_499, 12_500];
+
+#[test]
+fn a_wide_window_lends_around_the_end_of_its_ring(rt: HostRuntime) {
+    let alloc = rt.alloc();
+    let mut window = Window::new(alloc, 10_000).expect(&rt, "a window");
+    window.reserve(10_000).expect(&rt, "room");
+    for number in 1..=12_500 {
+        take_in(&rt, &mut window, number);
+    }
+    assert_eq!(rt; window.floor(), 2_500);
+    for token in AROUND_THE_END {
+        let lent = told(&rt, alloc, &window, token);
+        assert!(rt; is_run(lent.as_slice(), token, 12_500));
+    }
 }

@@ -1,15 +1,15 @@
 //! The transfers of a bank beside the plain lists of them.
 
-ghost use Rattle.std.specs.Prelude.{IfOk};
 ghost use Rattle.bank_transfers.specs.TransfersView.{IsWithinAmounts};
 
 use super::CALLS;
 use super::lists::Dice;
 use super::rows::{PlainRow, PlainTransfers};
+use crate::sample::text;
 use bank_transfers::Transfers;
-use ofx_types::{AcctKind, AcctName, Cents, Day, Moment, Text, TransferRow, XferCode};
+use ofx_types::{AcctKind, AcctName, Cents, Day, Moment, TransferRow, XferCode};
 use std::alloc::Global;
-use std::test::Fail;
+use std::process::Abort;
 
 /// The banks, numbers and kinds of the accounts. The first four have transfers, two of them one number. The others have none:
 /// two that share a number with one of the four, and one with a number of its own.
@@ -35,30 +35,28 @@ const CODES: [XferCode; 5] = [
 /// The call whose stamp is far behind all others.
 const FAR_CALL: u32 = 6_000;
 
-fn account(alloc: Global, place: u8) -> Result<AcctName, Fail> {
+fn account(rt: &impl Abort, alloc: Global, place: u8) -> AcctName {
     let (bank, number, kind) = ACCOUNTS[place as usize % 7];
-    Ok(AcctName {
-        bank: Text::new(alloc, bank.as_bytes(), 32)?,
-        number: Text::new(alloc, number.as_bytes(), 32)?,
+    AcctName {
+        bank: text(rt, alloc, bank.as_bytes(), 32),
+        number: text(rt, alloc, number.as_bytes(), 32),
         kind,
-    })
+    }
 }
 
-fn row(alloc: Global, plain: PlainRow) -> Result<TransferRow, Fail>
-    ensures { IfOk result IsWithinAmounts }
+fn row(rt: &impl Abort, alloc: Global, plain: PlainRow) -> TransferRow
+    ensures { IsWithinAmounts result }
 {
-    let from = account(alloc, plain.from)?;
-    let to = account(alloc, plain.to)?;
-    Ok(TransferRow {
+    TransferRow {
         id: plain.id,
         model: plain.model,
-        from,
-        to,
+        from: account(rt, alloc, plain.from),
+        to: account(rt, alloc, plain.to),
         amount: Cents(i64::from(plain.cents)),
         due: Day(plain.due),
         code: plain.code,
         stamp: Moment(plain.stamp),
-    })
+    }
 }
 
 /// A moment that rises with the calls, or goes back, or lies far ahead.
@@ -133,33 +131,59 @@ fn has_same(transfers: &Transfers, plain: &PlainTransfers, id: u64) -> bool {
 
 /// Whether both answer the same of an id and any other, a day, a recurring transfer, and an account's period.
 fn alike(
+    rt: &impl Abort,
     alloc: Global,
     transfers: &Transfers,
     plain: &PlainTransfers,
     id: u64,
     dice: &mut Dice,
-) -> Result<bool, Fail> {
+) -> bool {
     let other = u64::from(dice.roll(200)) * 50 + u64::from(dice.roll(50));
     let day = i32::from(dice.roll(150)) * 2;
     let model = u64::from(dice.roll(6));
     let place = dice.roll(7);
     let period = period(dice);
-    let lines = transfers.posted(alloc, &account(alloc, place)?, period)?;
+    has_same(transfers, plain, id)
+        && has_same(transfers, plain, other)
+        && transfers.due_on(Day(day)) == plain.due_on(day)
+        && has_same_waiting(rt, alloc, transfers, plain, model)
+        && has_same_lines(rt, alloc, transfers, plain, place, period)
+}
+
+/// Whether both have the same transfers of a recurring one that wait.
+fn has_same_waiting(
+    rt: &impl Abort,
+    alloc: Global,
+    transfers: &Transfers,
+    plain: &PlainTransfers,
+    model: u64,
+) -> bool {
+    let ids = transfers.waiting(alloc, model).expect(rt, "ids");
+    ids == plain.waiting(alloc, model).expect(rt, "ids")
+}
+
+/// Whether both have the same lines of an account in a period.
+fn has_same_lines(
+    rt: &impl Abort,
+    alloc: Global,
+    transfers: &Transfers,
+    plain: &PlainTransfers,
+    place: u8,
+    period: (Moment, Option<Moment>),
+) -> bool {
+    let account = account(rt, alloc, place);
+    let lines = transfers
+        .posted(alloc, &account, period)
+        .expect(rt, "lines");
     let mut told = Vec::new(alloc);
     for line in lines.items() {
-        told.push((line.number, line.amount.0))?;
+        told.push((line.number, line.amount.0)).expect(rt, "room");
     }
-    Ok(
-        has_same(transfers, plain, id)
-            && has_same(transfers, plain, other)
-            && transfers.due_on(Day(day)) == plain.due_on(day)
-            && transfers.waiting(alloc, model)? == plain.waiting(alloc, model)?
-            && told == plain.posted(alloc, place, period)?,
-    )
+    told == plain.posted(alloc, place, period).expect(rt, "lines")
 }
 
 #[test]
-fn transfers_are_those_of_lists(rt: HostRuntime) -> Result<(), Fail> {
+fn transfers_are_those_of_lists(rt: HostRuntime) {
     let alloc = rt.alloc();
     let mut transfers = Transfers::new(alloc);
     let mut plain = PlainTransfers::new(alloc);
@@ -169,10 +193,9 @@ fn transfers_are_those_of_lists(rt: HostRuntime) -> Result<(), Fail> {
         let next = rolled(&plain, made, call, &mut dice);
         let number = u64::from(call) + 1;
         made = made.max(next.id);
-        transfers.reserve(1)?;
-        transfers.put(number, row(alloc, next)?);
-        plain.put(number, next)?;
-        assert!(rt; alike(alloc, &transfers, &plain, next.id, &mut dice)?);
+        transfers.reserve(1).expect(&rt, "room");
+        transfers.put(number, row(&rt, alloc, next));
+        plain.put(number, next).expect(&rt, "room");
+        assert!(rt; alike(&rt, alloc, &transfers, &plain, next.id, &mut dice));
     }
-    Ok(())
 }
