@@ -2,7 +2,7 @@
 //! and what its whole history made.
 //!
 //! There is no list of all entries: contracts alone speak of it. What is asked of an object is answered from what is held of
-//! that object and from the entries that the last event added, so that it costs what it tells and not what the bank is.
+//! that object and from the entries that came since they last went to their objects, all of which are gone through.
 #![tactic(auto)]
 
 mod among;
