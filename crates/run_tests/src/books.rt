@@ -1,19 +1,17 @@
 //! Books: banks that open over records in memory, and the accounts that events name.
 
-ghost use Rattle.std.specs.Prelude.{IfOk};
-ghost use Rattle.bank_model.specs.SetupForm.{IsWithinLimits};
+ghost use Rattle.std.specs.Prelude.{◌≡◌, false, is_some};
 
+use crate::sample::{keys, request_with, setup};
 use bank_core::Book;
-use bank_model::{Event, Printer, Setup};
+use bank_model::{Event, Printer};
 use bank_replay::{OpenFault, reopen};
-use bank_samples::keys::keys;
-use bank_samples::sample::{SETUP, request_with};
 use bank_samples::transfer::TRANSFER;
 use ofx_file::read_request;
 use ofx_ports::{Keeper, MemKeeper};
 use ofx_types::{AcctId, OutOfMemory, ReplyFile, UserId};
 use std::alloc::Global;
-use std::test::Fail;
+use std::process::Abort;
 
 /// A letter from the bank to its first user on 31 January 2024 at 12:00:00: subject `A`, body `B`.
 const LETTER: &[u8] = b"\
@@ -35,42 +33,42 @@ impl Printer for NoPrinter {
     }
 }
 
-fn setup(alloc: Global) -> Result<Setup, Fail>
-    ensures { IfOk result IsWithinLimits }
+/// A keeper of two records, of which the first is a letter.
+fn behind_a_letter(rt: &impl Abort, alloc: Global, rec: &[u8]) -> MemKeeper
+    ensures { is_some result.landed ≡ false }
 {
-    Ok(Setup::read(alloc, SETUP)?)
+    let mut keeper = MemKeeper::new(alloc);
+    keeper.append(LETTER).expect(rt, "room");
+    keeper.append(rec).expect(rt, "room");
+    keeper
 }
 
 #[test]
-fn an_empty_keeper_opens_the_bank(rt: HostRuntime) -> Result<(), Fail> {
+fn an_empty_keeper_opens_the_bank(rt: HostRuntime) {
     let alloc = rt.alloc();
     let mut keeper = MemKeeper::new(alloc);
-    let (book, accounts) = reopen(alloc, keys()?, &mut keeper, setup(alloc)?, NoPrinter)?;
+    let opened = reopen(alloc, keys(&rt), &mut keeper, setup(&rt, alloc), NoPrinter);
+    let (book, accounts) = opened.expect(&rt, "a bank");
     assert_eq!(rt; book.next_number(), Some(1));
     assert_eq!(rt; accounts.len(), 2);
     assert_eq!(rt; accounts[1].number().0, 1);
     assert_eq!(rt; accounts[1].balance().0, 5_000);
-    Ok(())
 }
 
 #[test]
-fn what_was_kept_has_happened(rt: HostRuntime) -> Result<(), Fail> {
+fn what_was_kept_has_happened(rt: HostRuntime) {
     let alloc = rt.alloc();
-    let mut keeper = MemKeeper::new(alloc);
-    keeper.append(LETTER)?;
-    keeper.append(LETTER)?;
-    let (book, accounts) = reopen(alloc, keys()?, &mut keeper, setup(alloc)?, NoPrinter)?;
+    let mut keeper = behind_a_letter(&rt, alloc, LETTER);
+    let opened = reopen(alloc, keys(&rt), &mut keeper, setup(&rt, alloc), NoPrinter);
+    let (book, accounts) = opened.expect(&rt, "a bank");
     assert_eq!(rt; book.next_number(), Some(3));
     assert_eq!(rt; accounts.len(), 2);
-    Ok(())
 }
 
 /// Why no bank opens from records of which the first is a letter.
-fn fault_behind_a_letter(alloc: Global, rec: &[u8]) -> Result<Option<OpenFault>, Fail> {
-    let mut keeper = MemKeeper::new(alloc);
-    keeper.append(LETTER)?;
-    keeper.append(rec)?;
-    Ok(reopen(alloc, keys()?, &mut keeper, setup(alloc)?, NoPrinter).err())
+fn fault_behind_a_letter(rt: &impl Abort, alloc: Global, rec: &[u8]) -> Option<OpenFault> {
+    let mut keeper = behind_a_letter(rt, alloc, rec);
+    reopen(alloc, keys(rt), &mut keeper, setup(rt, alloc), NoPrinter).err()
 }
 
 /// Second records: of an unknown version, of an unknown kind, cut in a number, and of a transfer that doesn't wait.
@@ -85,24 +83,22 @@ const STRANGE: &[(&[u8], OpenFault)] = &[
 ];
 
 #[test]
-fn the_record_that_stops_a_bank_is_told(rt: HostRuntime) -> Result<(), Fail> {
+fn the_record_that_stops_a_bank_is_told(rt: HostRuntime) {
     for case in STRANGE.iter() {
         let (rec, fault) = *case;
-        assert_eq!(rt; fault_behind_a_letter(rt.alloc(), rec)?, Some(fault));
+        assert_eq!(rt; fault_behind_a_letter(&rt, rt.alloc(), rec), Some(fault));
     }
-    Ok(())
 }
 
 #[test]
-fn a_second_record_that_cannot_be_fetched_is_read(rt: HostRuntime) -> Result<(), Fail> {
+fn a_second_record_that_cannot_be_fetched_is_read(rt: HostRuntime) {
     let alloc = rt.alloc();
-    let mut keeper = MemKeeper::failing(alloc, &[4], &[])?;
-    keeper.append(LETTER)?;
-    keeper.append(LETTER)?;
-    let fault = reopen(alloc, keys()?, &mut keeper, setup(alloc)?, NoPrinter).err();
+    let mut keeper = MemKeeper::failing(alloc, &[4], &[]).expect(&rt, "a keeper");
+    keeper.append(LETTER).expect(&rt, "room");
+    keeper.append(LETTER).expect(&rt, "room");
+    let fault = reopen(alloc, keys(&rt), &mut keeper, setup(&rt, alloc), NoPrinter).err();
     assert_eq!(rt; fault, Some(OpenFault::Read));
     assert_eq!(rt; keeper.faults(), 1);
-    Ok(())
 }
 
 /// Changes of the sample's request, which asks for a statement of 1001, and the accounts that it names then: with a transfer
@@ -122,22 +118,25 @@ const NAMED: &[(&[(&str, &str)], &[AcctId])] = &[
 ];
 
 /// Alice's file with these changes of the sample's request.
-fn file_with(alloc: Global, changes: &[(&str, &str)]) -> Result<Event, Fail> {
-    let framed = request_with(alloc, changes)?;
+fn file_with(rt: &impl Abort, alloc: Global, changes: &[(&str, &str)]) -> Event {
+    let framed = request_with(rt, alloc, changes);
     let (_, file) = framed.split_once("\n").unwrap_or(("", ""));
-    Ok(Event::File(UserId(0), read_request(alloc, file.as_bytes())?))
+    let request = read_request(alloc, file.as_bytes()).expect(rt, "a request");
+    Event::File(UserId(0), request)
 }
 
 /// A posting of a transfer that there isn't names no account.
 #[test]
-fn an_event_names_its_accounts_in_order(rt: HostRuntime) -> Result<(), Fail> {
+fn an_event_names_its_accounts_in_order(rt: HostRuntime) {
     let alloc = rt.alloc();
-    let (book, _) = Book::begin(alloc, keys()?, setup(alloc)?, NoPrinter)?;
+    let begun = Book::begin(alloc, keys(&rt), setup(&rt, alloc), NoPrinter);
+    let (book, _) = begun.expect(&rt, "a bank");
     for case in NAMED.iter() {
         let (changes, accounts) = *case;
-        let event = file_with(alloc, changes)?;
-        assert!(rt; book.named(alloc, &event)?.as_slice() == accounts);
+        let event = file_with(&rt, alloc, changes);
+        let named = book.named(alloc, &event).expect(&rt, "accounts");
+        assert!(rt; named.as_slice() == accounts);
     }
-    assert!(rt; book.named(alloc, &Event::Post(1))?.is_empty());
-    Ok(())
+    let named = book.named(alloc, &Event::Post(1)).expect(&rt, "accounts");
+    assert!(rt; named.is_empty());
 }

@@ -6,3 +6,5 @@
 mod books;
 #[cfg(test)]
 mod runs;
+#[cfg(test)]
+mod sample;

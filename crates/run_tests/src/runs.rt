@@ -1,5 +1,7 @@
 //! Whole runs over the memory forms: calls that fail one at a time, calls of one byte, and words of no command.
 
+ghost use Rattle.std.specs.Prelude.{◌<◌};
+
 mod again;
 mod due;
 mod letters;
@@ -7,14 +9,13 @@ mod moments;
 mod polls;
 mod records;
 
-use bank_samples::keys::keys;
-use bank_samples::sample::{SETUP, replies, requests};
-use bank_samples::words::texts;
+use crate::sample::{ROOM, joined, keys, replies, requests, sink, source, spelled, texts};
+use bank_samples::sample::SETUP;
 use bank_session::{answer_files, answer_told};
 use ofx_ports::{Clock, Keeper, MemClock, MemKeeper, MemSink, MemSource};
 use ofx_types::{Moment, Note, Status, Told};
 use std::alloc::Global;
-use std::test::Fail;
+use std::process::Abort;
 
 /// The words of a run at the sample's moment.
 const AT_NOON: [&str; 5] = ["answer", "setup", "-", "--at", "20240131120000"];
@@ -25,25 +26,23 @@ const BY_CLOCK: [&str; 3] = ["answer", "setup", "-"];
 /// The names of the transactions of three requests.
 const NAMES: [&[u8; 2]; 3] = [b"s1", b"s2", b"s3"];
 
-/// More room than any run of these tests needs.
-const ROOM: usize = 8_192;
-
-/// What a run with these words, this keeper and this clock told, and what it wrote. First it is settled which records
-/// stand.
+/// What a run with these words, this keeper and this clock told, and what it wrote, by the sample's setup. First it is settled
+/// which records stand.
 fn told_over(
+    rt: &impl Abort,
     alloc: Global,
     words: &[&str],
-    mut setup: MemSource,
     mut input: MemSource,
     mut out: MemSink,
     keeper: &mut MemKeeper,
     clock: &mut MemClock,
-) -> Result<(Told, Vec<u8>), Fail> {
-    let texts = texts(alloc, words)?;
-    let _ = keeper.settle()?;
+) -> (Told, Vec<u8>) {
+    let texts = texts(rt, alloc, words);
+    let mut setup = source(rt, alloc, SETUP);
+    let _ = keeper.settle().expect(rt, "the records that stand");
     let told = answer_told(
         alloc,
-        keys()?,
+        keys(rt),
         &texts,
         &mut setup,
         &mut input,
@@ -51,68 +50,57 @@ fn told_over(
         keeper,
         clock,
     );
-    Ok((told, out.held().to_vec(alloc)?))
+    (told, written_to(rt, alloc, &out))
 }
 
-/// What a run with these words and this clock told, and what it wrote, in a bank without records.
-fn told_with(
-    alloc: Global,
-    words: &[&str],
-    setup: MemSource,
-    input: MemSource,
-    out: MemSink,
-    clock: &mut MemClock,
-) -> Result<(Told, Vec<u8>), Fail> {
-    let mut keeper = MemKeeper::new(alloc);
-    told_over(alloc, words, setup, input, out, &mut keeper, clock)
+/// What was written to a sink.
+fn written_to(rt: &impl Abort, alloc: Global, out: &MemSink) -> Vec<u8> {
+    out.held().to_vec(alloc).expect(rt, "room")
 }
 
 /// What is written for these frames at the moments of the clock, in a bank without records. Nothing where they aren't all
 /// answered.
-fn written_by_clock(alloc: Global, frames: &[&str], clock: &mut MemClock) -> Result<String, Fail> {
+fn written_by_clock(
+    rt: &impl Abort,
+    alloc: Global,
+    frames: &[&str],
+    clock: &mut MemClock,
+) -> String {
     let mut keeper = MemKeeper::new(alloc);
-    written_over(alloc, frames, &mut keeper, clock)
+    written_over(rt, alloc, frames, &mut keeper, clock)
 }
 
 /// The same over the records of a keeper.
 fn written_over(
+    rt: &impl Abort,
     alloc: Global,
     frames: &[&str],
     keeper: &mut MemKeeper,
     clock: &mut MemClock,
-) -> Result<String, Fail> {
-    let setup = MemSource::new(alloc, SETUP)?;
-    let input = MemSource::new(alloc, joined(alloc, frames)?.as_bytes())?;
-    let out = MemSink::new(alloc, ROOM)?;
-    let (told, written) = told_over(alloc, &BY_CLOCK, setup, input, out, keeper, clock)?;
+) -> String {
+    let input = source(rt, alloc, joined(rt, alloc, frames).as_bytes());
+    let out = sink(rt, alloc);
+    let (told, written) = told_over(rt, alloc, &BY_CLOCK, input, out, keeper, clock);
     if told.status != Status(0) {
-        return Ok(String::new(alloc));
+        return String::new(alloc);
     }
-    Ok(String::from_str(alloc, str::from_utf8(&written)?)?)
-}
-
-/// Texts, one after the other.
-fn joined(alloc: Global, texts: &[&str]) -> Result<String, Fail> {
-    let mut all = String::new(alloc);
-    for text in texts {
-        all.push_str(text)?;
-    }
-    Ok(all)
+    spelled(rt, alloc, &written)
 }
 
 /// The status of a run at the sample's moment, and what it wrote.
 fn run(
+    rt: &impl Abort,
     alloc: Global,
     mut setup: MemSource,
     mut input: MemSource,
     mut out: MemSink,
-) -> Result<(Status, Vec<u8>), Fail> {
-    let texts = texts(alloc, &AT_NOON)?;
+) -> (Status, Vec<u8>) {
+    let texts = texts(rt, alloc, &AT_NOON);
     let mut keeper = MemKeeper::new(alloc);
-    let mut clock = MemClock::new(alloc, &[Moment(0)])?;
+    let mut clock = MemClock::new(alloc, &[Moment(0)]).expect(rt, "a clock");
     let status = answer_files(
         alloc,
-        keys()?,
+        keys(rt),
         &texts,
         &mut setup,
         &mut input,
@@ -120,7 +108,27 @@ fn run(
         &mut keeper,
         &mut clock,
     );
-    Ok((status, out.held().to_vec(alloc)?))
+    (status, written_to(rt, alloc, &out))
+}
+
+/// A source of these bytes, which gives at most so many at once, and of which these reads fail.
+fn failing_source(
+    rt: &impl Abort,
+    alloc: Global,
+    bytes: &[u8],
+    most: usize,
+    failing: &[u64],
+) -> MemSource
+    requires { 0 < most }
+{
+    MemSource::failing(alloc, bytes, most, failing).expect(rt, "a source")
+}
+
+/// A sink that takes at most so many bytes at once, and of which these writes fail.
+fn failing_sink(rt: &impl Abort, alloc: Global, most: usize, failing: &[u64]) -> MemSink
+    requires { 0 < most }
+{
+    MemSink::failing(alloc, ROOM, most, failing).expect(rt, "a sink")
 }
 
 /// What is told of an end.
@@ -147,21 +155,19 @@ const READS: &[(u64, u64, usize, u8)] = &[
 ];
 
 #[test]
-fn a_read_that_fails_stops_the_run(rt: HostRuntime) -> Result<(), Fail> {
+fn a_read_that_fails_stops_the_run(rt: HostRuntime) {
     let alloc = rt.alloc();
-    let bytes = requests(alloc, &NAMES)?;
-    let whole = replies(alloc, &NAMES)?;
+    let bytes = requests(&rt, alloc, &NAMES);
+    let whole = replies(&rt, alloc, &NAMES);
     for case in READS.iter() {
         let (of_setup, of_input, length, expected) = *case;
-        let setup = MemSource::failing(alloc, SETUP, 100, &[of_setup])?;
-        let input = MemSource::failing(alloc, &bytes, 200, &[of_input])?;
-        let out = MemSink::new(alloc, ROOM)?;
-        let (status, written) = run(alloc, setup, input, out)?;
+        let setup = failing_source(&rt, alloc, SETUP, 100, &[of_setup]);
+        let input = failing_source(&rt, alloc, &bytes, 200, &[of_input]);
+        let (status, written) = run(&rt, alloc, setup, input, sink(&rt, alloc));
         assert_eq!(rt; status, Status(expected), "at read {of_input}");
         assert_eq!(rt; written.len(), length, "at read {of_input}");
         assert!(rt; whole.starts_with(&written), "at read {of_input}");
     }
-    Ok(())
 }
 
 /// The writes, the bytes that stand before each, and the status where it fails. The three replies have 761 bytes, and
@@ -176,33 +182,32 @@ const WRITES: &[(u64, usize, u8)] = &[
 ];
 
 #[test]
-fn a_write_that_fails_stops_the_run(rt: HostRuntime) -> Result<(), Fail> {
+fn a_write_that_fails_stops_the_run(rt: HostRuntime) {
     let alloc = rt.alloc();
-    let bytes = requests(alloc, &NAMES)?;
-    let whole = replies(alloc, &NAMES)?;
+    let bytes = requests(&rt, alloc, &NAMES);
+    let whole = replies(&rt, alloc, &NAMES);
     for case in WRITES.iter() {
         let (call, length, expected) = *case;
-        let setup = MemSource::new(alloc, SETUP)?;
-        let input = MemSource::new(alloc, &bytes)?;
-        let out = MemSink::failing(alloc, ROOM, 300, &[call])?;
-        let (status, written) = run(alloc, setup, input, out)?;
+        let setup = source(&rt, alloc, SETUP);
+        let input = source(&rt, alloc, &bytes);
+        let out = failing_sink(&rt, alloc, 300, &[call]);
+        let (status, written) = run(&rt, alloc, setup, input, out);
         assert_eq!(rt; status, Status(expected), "at write {call}");
         assert_eq!(rt; written.len(), length, "at write {call}");
         assert!(rt; whole.starts_with(&written), "at write {call}");
     }
-    Ok(())
 }
 
 #[test]
-fn single_bytes_are_answered_the_same(rt: HostRuntime) -> Result<(), Fail> {
+fn single_bytes_are_answered_the_same(rt: HostRuntime) {
     let alloc = rt.alloc();
-    let setup = MemSource::failing(alloc, SETUP, 1, &[])?;
-    let input = MemSource::failing(alloc, &requests(alloc, &NAMES)?, 1, &[])?;
-    let out = MemSink::failing(alloc, ROOM, 1, &[])?;
-    let (status, written) = run(alloc, setup, input, out)?;
+    let bytes = requests(&rt, alloc, &NAMES);
+    let setup = failing_source(&rt, alloc, SETUP, 1, &[]);
+    let input = failing_source(&rt, alloc, &bytes, 1, &[]);
+    let out = failing_sink(&rt, alloc, 1, &[]);
+    let (status, written) = run(&rt, alloc, setup, input, out);
     assert_eq!(rt; status, Status(0));
-    assert_eq!(rt; written, replies(alloc, &NAMES)?);
-    Ok(())
+    assert_eq!(rt; written, replies(&rt, alloc, &NAMES));
 }
 
 /// Words of no command: one is missing, is too many, or is no subject.
@@ -213,18 +218,18 @@ const NO_COMMANDS: &[&[&str]] = &[
 ];
 
 #[test]
-fn words_of_no_command_touch_nothing(rt: HostRuntime) -> Result<(), Fail> {
+fn words_of_no_command_touch_nothing(rt: HostRuntime) {
     let alloc = rt.alloc();
-    let mut setup = MemSource::new(alloc, SETUP)?;
-    let mut input = MemSource::new(alloc, b"DUE\n")?;
-    let mut out = MemSink::new(alloc, ROOM)?;
-    let mut clock = MemClock::new(alloc, &[Moment(0), Moment(1)])?;
+    let mut setup = source(&rt, alloc, SETUP);
+    let mut input = source(&rt, alloc, b"DUE\n");
+    let mut out = sink(&rt, alloc);
+    let mut clock = MemClock::new(alloc, &[Moment(0), Moment(1)]).expect(&rt, "a clock");
     for words in NO_COMMANDS.iter() {
-        let texts = texts(alloc, *words)?;
+        let texts = texts(&rt, alloc, *words);
         let mut keeper = MemKeeper::new(alloc);
         let told = answer_told(
             alloc,
-            keys()?,
+            keys(&rt),
             &texts,
             &mut setup,
             &mut input,
@@ -239,5 +244,4 @@ fn words_of_no_command_touch_nothing(rt: HostRuntime) -> Result<(), Fail> {
     assert_eq!(rt; input.calls(), 0);
     assert_eq!(rt; out.calls(), 0);
     assert_eq!(rt; clock.now(), Moment(0));
-    Ok(())
 }

@@ -1,12 +1,11 @@
 //! A file with a name that comes again in a later run.
 
 use super::written_over;
+use crate::sample::{reply_with, request_with};
 use bank_samples::changes::NAMED;
-use bank_samples::sample::{reply_with, request_with};
 use bank_samples::transfer::{PAID, POSTED, SOURCE_BALANCE, TRANSFER};
 use ofx_ports::{MemClock, MemKeeper};
 use ofx_types::Moment;
-use std::test::Fail;
 
 /// What the first reply to the named file with the transfer tells.
 const FIRST: [(&str, &str); 5] = [NAMED, POSTED, PAID, SOURCE_BALANCE, SOURCE_BALANCE];
@@ -35,20 +34,17 @@ const LATER: [(&str, &str); 7] = [
 /// An hour later, in another run over the same records, its reply still has the first moment. The transfer is posted once,
 /// which the statement of a third run shows.
 #[test]
-fn a_named_file_that_comes_again_is_answered_by_the_same_bytes(
-    rt: HostRuntime,
-) -> Result<(), Fail> {
+fn a_named_file_that_comes_again_is_answered_by_the_same_bytes(rt: HostRuntime) {
     let alloc = rt.alloc();
-    let named = request_with(alloc, &[NAMED, TRANSFER])?;
-    let plain = request_with(alloc, &[])?;
-    let mut clock = MemClock::new(alloc, &AN_HOUR_APART)?;
+    let named = request_with(&rt, alloc, &[NAMED, TRANSFER]);
+    let plain = request_with(&rt, alloc, &[]);
+    let mut clock = MemClock::new(alloc, &AN_HOUR_APART).expect(&rt, "a clock");
     let mut keeper = MemKeeper::new(alloc);
-    let first = written_over(alloc, &[&named], &mut keeper, &mut clock)?;
-    let again = written_over(alloc, &[&named], &mut keeper, &mut clock)?;
-    assert_eq!(rt; first, reply_with(alloc, &FIRST)?);
+    let first = written_over(&rt, alloc, &[&named], &mut keeper, &mut clock);
+    let again = written_over(&rt, alloc, &[&named], &mut keeper, &mut clock);
+    assert_eq!(rt; first, reply_with(&rt, alloc, &FIRST));
     assert_eq!(rt; again, first);
     assert_eq!(rt; keeper.record_count(), 2);
-    let last = written_over(alloc, &[&plain], &mut keeper, &mut clock)?;
-    assert_eq!(rt; last, reply_with(alloc, &LATER)?);
-    Ok(())
+    let last = written_over(&rt, alloc, &[&plain], &mut keeper, &mut clock);
+    assert_eq!(rt; last, reply_with(&rt, alloc, &LATER));
 }

@@ -1,10 +1,11 @@
 //! Letters: the command `mail`.
 
-use super::{ROOM, end, told_with};
-use bank_samples::sample::SETUP;
-use ofx_ports::{Clock, MemClock, MemSink, MemSource};
-use ofx_types::{Moment, Note};
-use std::test::Fail;
+use super::{end, failing_sink, failing_source, told_over};
+use crate::sample::{sink, source};
+use ofx_ports::{Clock, MemClock, MemKeeper, MemSink, MemSource};
+use ofx_types::{Moment, Note, Told};
+use std::alloc::Global;
+use std::process::Abort;
 
 /// The words of a letter to bob.
 const TO_BOB: [&str; 5] = ["mail", "setup", "-", "bob", "Hello"];
@@ -12,19 +13,28 @@ const TO_BOB: [&str; 5] = ["mail", "setup", "-", "bob", "Hello"];
 /// What the clock shows, one after another.
 const SHOWN: [Moment; 3] = [Moment(1_706_702_400), Moment(1), Moment(0)];
 
+/// What the letter's run told, and what it wrote, in a bank without records.
+fn told_of(
+    rt: &impl Abort,
+    alloc: Global,
+    input: MemSource,
+    out: MemSink,
+    clock: &mut MemClock,
+) -> (Told, Vec<u8>) {
+    let mut keeper = MemKeeper::new(alloc);
+    told_over(rt, alloc, &TO_BOB, input, out, &mut keeper, clock)
+}
+
 /// The clock is read once.
 #[test]
-fn the_number_of_a_letters_entry_is_told(rt: HostRuntime) -> Result<(), Fail> {
+fn the_number_of_a_letters_entry_is_told(rt: HostRuntime) {
     let alloc = rt.alloc();
-    let setup = MemSource::new(alloc, SETUP)?;
-    let input = MemSource::new(alloc, b"\r\nHi, bob.\n")?;
-    let out = MemSink::new(alloc, ROOM)?;
-    let mut clock = MemClock::new(alloc, &SHOWN)?;
-    let (told, written) = told_with(alloc, &TO_BOB, setup, input, out, &mut clock)?;
+    let input = source(&rt, alloc, b"\r\nHi, bob.\n");
+    let mut clock = MemClock::new(alloc, &SHOWN).expect(&rt, "a clock");
+    let (told, written) = told_of(&rt, alloc, input, sink(&rt, alloc), &mut clock);
     assert_eq!(rt; told, end(0, Note::Plain));
     assert_eq!(rt; written.as_slice(), b"MAIL 1\n".as_slice());
     assert_eq!(rt; clock.now(), SHOWN[1]);
-    Ok(())
 }
 
 /// A read of the input and a write of the line that fail, what is told, what is written, and which answer of the clock is
@@ -36,18 +46,16 @@ const FAILING: &[(u64, u64, u8, &str, usize)] = &[
 ];
 
 #[test]
-fn a_call_that_fails_stops_a_letter(rt: HostRuntime) -> Result<(), Fail> {
+fn a_call_that_fails_stops_a_letter(rt: HostRuntime) {
     let alloc = rt.alloc();
     for case in FAILING.iter() {
         let (read, write, status, line, next) = *case;
-        let setup = MemSource::new(alloc, SETUP)?;
-        let input = MemSource::failing(alloc, b"Hi", 1, &[read])?;
-        let out = MemSink::failing(alloc, ROOM, 5, &[write])?;
-        let mut clock = MemClock::new(alloc, &SHOWN)?;
-        let (told, written) = told_with(alloc, &TO_BOB, setup, input, out, &mut clock)?;
+        let input = failing_source(&rt, alloc, b"Hi", 1, &[read]);
+        let out = failing_sink(&rt, alloc, 5, &[write]);
+        let mut clock = MemClock::new(alloc, &SHOWN).expect(&rt, "a clock");
+        let (told, written) = told_of(&rt, alloc, input, out, &mut clock);
         assert_eq!(rt; told, end(status, Note::Plain));
         assert_eq!(rt; written.as_slice(), line.as_bytes());
         assert_eq!(rt; SHOWN.get(next), Some(&clock.now()));
     }
-    Ok(())
 }

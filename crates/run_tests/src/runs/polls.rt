@@ -1,12 +1,11 @@
 //! Synchronisations of an account's transfers: polls, and the history at two moments.
 
-use super::{joined, written_by_clock};
+use super::written_by_clock;
+use crate::sample::{joined, reply_with, request_with};
 use bank_samples::changes::{NOON, POLL, STATEMENT, STATEMENT_END};
-use bank_samples::sample::{reply_with, request_with};
 use bank_samples::transfer::{PAID, POSTED, SOURCE_BALANCE, TRANSFER};
 use ofx_ports::MemClock;
 use ofx_types::Moment;
-use std::test::Fail;
 
 /// 1 February 2024 at 12:00:00.
 const NEXT_NOON: Moment = Moment(1_706_788_800);
@@ -70,17 +69,16 @@ const DONE: [(&str, &str); 4] = [POSTED, PAID, SOURCE_BALANCE, SOURCE_BALANCE];
 
 /// The poll comes a day later than the transfer after it, which names no day: it is due on its own one.
 #[test]
-fn a_poll_raises_no_business_day(rt: HostRuntime) -> Result<(), Fail> {
+fn a_poll_raises_no_business_day(rt: HostRuntime) {
     let alloc = rt.alloc();
-    let poll = request_with(alloc, &POLL)?;
-    let transfer = request_with(alloc, &[TRANSFER])?;
-    let mut clock = MemClock::new(alloc, &[NEXT_NOON, NOON])?;
-    let written = written_by_clock(alloc, &[&poll, &transfer], &mut clock)?;
+    let poll = request_with(&rt, alloc, &POLL);
+    let transfer = request_with(&rt, alloc, &[TRANSFER]);
+    let mut clock = MemClock::new(alloc, &[NEXT_NOON, NOON]).expect(&rt, "a clock");
+    let written = written_by_clock(&rt, alloc, &[&poll, &transfer], &mut clock);
     let later = ("<DTSERVER>20240131120000", "<DTSERVER>20240201120000");
-    let token = reply_with(alloc, &[TOKEN_0[0], TOKEN_0[1], later])?;
-    let done = reply_with(alloc, &DONE)?;
-    assert_eq!(rt; written, joined(alloc, &[&token, &done])?);
-    Ok(())
+    let token = reply_with(&rt, alloc, &[TOKEN_0[0], TOKEN_0[1], later]);
+    let done = reply_with(&rt, alloc, &DONE);
+    assert_eq!(rt; written, joined(&rt, alloc, &[&token, &done]));
 }
 
 /// A transfer of 20.00 out of 1001, due on 1 February, and one of 10.00 that is posted at once.
@@ -96,15 +94,15 @@ const AT_ONCE: [(&str, &str); 2] = [TRANSFER, ("<TRNUID>t1", "<TRNUID>t2")];
 
 /// The first synchronisation comes on the day before the due day, the second after the due work of that day.
 #[test]
-fn a_posting_is_told_by_the_next_synchronisation(rt: HostRuntime) -> Result<(), Fail> {
+fn a_posting_is_told_by_the_next_synchronisation(rt: HostRuntime) {
     let alloc = rt.alloc();
-    let waiting = request_with(alloc, &WAITING)?;
-    let first = request_with(alloc, &FROM_0)?;
-    let more = request_with(alloc, &AT_ONCE)?;
-    let second = request_with(alloc, &FROM_1)?;
-    let mut clock = MemClock::new(alloc, &[NOON, NOON, NOON, NEXT_NOON])?;
+    let waiting = request_with(&rt, alloc, &WAITING);
+    let first = request_with(&rt, alloc, &FROM_0);
+    let more = request_with(&rt, alloc, &AT_ONCE);
+    let second = request_with(&rt, alloc, &FROM_1);
+    let mut clock = MemClock::new(alloc, &[NOON, NOON, NOON, NEXT_NOON]).expect(&rt, "a clock");
     let frames = [&waiting, &first, &more, "DUE\n", &second];
-    let written = written_by_clock(alloc, &frames, &mut clock)?;
+    let written = written_by_clock(&rt, alloc, &frames, &mut clock);
     let (before, behind) = written.split_once("DUE 1\n").unwrap_or(("", ""));
     assert!(rt; before.contains("<TOKEN>1\r\n<LOSTSYNC>N\r\n"));
     assert!(rt; before.contains("<XFERPRCCODE>WILLPROCESSON\r\n"));
@@ -113,5 +111,4 @@ fn a_posting_is_told_by_the_next_synchronisation(rt: HostRuntime) -> Result<(), 
     assert!(rt; behind.contains("<TRNUID>0\r\n"));
     assert!(rt; behind.contains("<XFERPRCCODE>POSTEDON\r\n<DTXFERPRC>20240201120000\r\n"));
     assert!(rt; !behind.contains("<XFERPRCCODE>WILLPROCESSON\r\n"));
-    Ok(())
 }

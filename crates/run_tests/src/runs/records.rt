@@ -1,25 +1,37 @@
 //! Records: appends and fetches that fail, and records that are none of this bank.
 
-use super::{AT_NOON, BY_CLOCK, NAMES, ROOM, end, joined, told_over};
+use super::{AT_NOON, BY_CLOCK, NAMES, end, told_over};
+use crate::sample::{joined, replies, request_with, requests, sink, source, spelled};
 use bank_samples::changes::{DUE_LATER, NAMED, NEXT_DAY, NOON};
-use bank_samples::sample::{SETUP, replies, request_with, requests};
 use bank_samples::transfer::TRANSFER;
-use ofx_ports::{Keeper, MemClock, MemKeeper, MemSink, MemSource};
+use ofx_ports::{Keeper, MemClock, MemKeeper};
 use ofx_types::{Moment, Note, Told};
 use std::alloc::Global;
-use std::test::Fail;
+use std::process::Abort;
 
 /// What a run over the sample's frames of these names told at the sample's moment, and what it wrote.
 fn run_over(
+    rt: &impl Abort,
     alloc: Global,
     names: &[&[u8; 2]],
     keeper: &mut MemKeeper,
-) -> Result<(Told, Vec<u8>), Fail> {
-    let setup = MemSource::new(alloc, SETUP)?;
-    let input = MemSource::new(alloc, &requests(alloc, names)?)?;
-    let out = MemSink::new(alloc, ROOM)?;
-    let mut clock = MemClock::new(alloc, &[Moment(0)])?;
-    told_over(alloc, &AT_NOON, setup, input, out, keeper, &mut clock)
+) -> (Told, Vec<u8>) {
+    let input = source(rt, alloc, &requests(rt, alloc, names));
+    let mut clock = MemClock::new(alloc, &[Moment(0)]).expect(rt, "a clock");
+    told_over(
+        rt,
+        alloc,
+        &AT_NOON,
+        input,
+        sink(rt, alloc),
+        keeper,
+        &mut clock,
+    )
+}
+
+/// A keeper of which these calls fail, and these of them land.
+fn failing(rt: &impl Abort, alloc: Global, failing: &[u64], landing: &[u64]) -> MemKeeper {
+    MemKeeper::failing(alloc, failing, landing).expect(rt, "a keeper")
 }
 
 /// The second append of a run, which is the third call of its keeper.
@@ -30,34 +42,32 @@ const LANDINGS: &[(&[u64], u64)] = &[(&[], 1), (&SECOND, 2)];
 
 /// Nothing is written for the second file. The records that stand open the next run.
 #[test]
-fn an_append_that_fails_stops_the_run(rt: HostRuntime) -> Result<(), Fail> {
+fn an_append_that_fails_stops_the_run(rt: HostRuntime) {
     let alloc = rt.alloc();
     for case in LANDINGS.iter() {
         let (landing, count) = *case;
-        let mut keeper = MemKeeper::failing(alloc, &SECOND, landing)?;
-        let (told, written) = run_over(alloc, &NAMES, &mut keeper)?;
+        let mut keeper = failing(&rt, alloc, &SECOND, landing);
+        let (told, written) = run_over(&rt, alloc, &NAMES, &mut keeper);
         assert_eq!(rt; told, end(8, Note::Plain));
-        assert_eq!(rt; written, replies(alloc, &[b"s1"])?);
+        assert_eq!(rt; written, replies(&rt, alloc, &[b"s1"]));
         assert_eq!(rt; keeper.record_count(), count);
-        let (again, _) = run_over(alloc, &[], &mut keeper)?;
+        let (again, _) = run_over(&rt, alloc, &[], &mut keeper);
         assert_eq!(rt; again, end(0, Note::Plain));
         assert_eq!(rt; keeper.record_count(), count);
     }
-    Ok(())
 }
 
 /// A first run settles and appends twice, so a second run, which settles too, fetches by its second and third call.
 #[test]
-fn a_fetch_that_fails_stops_the_run(rt: HostRuntime) -> Result<(), Fail> {
+fn a_fetch_that_fails_stops_the_run(rt: HostRuntime) {
     let alloc = rt.alloc();
-    let mut keeper = MemKeeper::failing(alloc, &[6], &[])?;
-    let (first, _) = run_over(alloc, &[b"s1", b"s2"], &mut keeper)?;
+    let mut keeper = failing(&rt, alloc, &[6], &[]);
+    let (first, _) = run_over(&rt, alloc, &[b"s1", b"s2"], &mut keeper);
     assert_eq!(rt; first, end(0, Note::Plain));
-    let (told, written) = run_over(alloc, &NAMES, &mut keeper)?;
+    let (told, written) = run_over(&rt, alloc, &NAMES, &mut keeper);
     assert_eq!(rt; told, end(8, Note::Plain));
     assert!(rt; written.is_empty());
     assert_eq!(rt; keeper.record_count(), 2);
-    Ok(())
 }
 
 /// A record of an unknown version, and the record of a posting of transfer 1 at the sample's moment, of which a bank that
@@ -73,18 +83,17 @@ const STRANGE: &[(&[u8], Note)] = &[
 ];
 
 #[test]
-fn records_of_another_bank_stop_the_run(rt: HostRuntime) -> Result<(), Fail> {
+fn records_of_another_bank_stop_the_run(rt: HostRuntime) {
     let alloc = rt.alloc();
     for case in STRANGE.iter() {
         let (record, note) = *case;
         let mut keeper = MemKeeper::new(alloc);
-        keeper.append(record)?;
-        let (told, written) = run_over(alloc, &NAMES, &mut keeper)?;
+        keeper.append(record).expect(&rt, "room");
+        let (told, written) = run_over(&rt, alloc, &NAMES, &mut keeper);
         assert_eq!(rt; told, end(9, note));
         assert!(rt; written.is_empty());
         assert_eq!(rt; keeper.record_count(), 1);
     }
-    Ok(())
 }
 
 /// A file with a name, and in it transfers of 20.00 and of 10.00 that are due on 1 February.
@@ -102,39 +111,40 @@ const TWO_WAITING: [(&str, &str); 7] = [
 ];
 
 /// A named file with the transfers, a call for due work, and a plain file with a transfer of its own.
-fn week(alloc: Global) -> Result<String, Fail> {
-    let named = request_with(alloc, &TWO_WAITING)?;
-    let plain = request_with(alloc, &[TRANSFER])?;
-    joined(alloc, &[&named, "DUE\n", &plain])
+fn week(rt: &impl Abort, alloc: Global) -> String {
+    let named = request_with(rt, alloc, &TWO_WAITING);
+    let plain = request_with(rt, alloc, &[TRANSFER]);
+    joined(rt, alloc, &[&named, "DUE\n", &plain])
 }
 
 /// The status of a run over these frames, the first on 31 January and the others a day later, and what it wrote.
-fn run_by_days(alloc: Global, frames: &str, keeper: &mut MemKeeper) -> Result<(u8, String), Fail> {
-    let setup = MemSource::new(alloc, SETUP)?;
-    let input = MemSource::new(alloc, frames.as_bytes())?;
-    let out = MemSink::new(alloc, ROOM)?;
-    let mut clock = MemClock::new(alloc, &[NOON, NEXT_DAY])?;
-    let (told, written) = told_over(alloc, &BY_CLOCK, setup, input, out, keeper, &mut clock)?;
-    Ok((
-        told.status.0,
-        String::from_str(alloc, str::from_utf8(&written)?)?,
-    ))
+fn run_by_days(
+    rt: &impl Abort,
+    alloc: Global,
+    frames: &str,
+    keeper: &mut MemKeeper,
+) -> (u8, String) {
+    let input = source(rt, alloc, frames.as_bytes());
+    let mut clock = MemClock::new(alloc, &[NOON, NEXT_DAY]).expect(rt, "a clock");
+    let out = sink(rt, alloc);
+    let (told, written) = told_over(rt, alloc, &BY_CLOCK, input, out, keeper, &mut clock);
+    (told.status.0, spelled(rt, alloc, &written))
 }
 
 /// The statuses of two runs over the same frames, and what the second wrote.
-fn run_twice(alloc: Global, keeper: &mut MemKeeper) -> Result<(u8, u8, String), Fail> {
-    let frames = week(alloc)?;
-    let (stopped, _) = run_by_days(alloc, &frames, keeper)?;
-    let (status, written) = run_by_days(alloc, &frames, keeper)?;
-    Ok((stopped, status, written))
+fn run_twice(rt: &impl Abort, alloc: Global, keeper: &mut MemKeeper) -> (u8, u8, String) {
+    let frames = week(rt, alloc);
+    let (stopped, _) = run_by_days(rt, alloc, &frames, keeper);
+    let (status, written) = run_by_days(rt, alloc, &frames, keeper);
+    (stopped, status, written)
 }
 
 /// What a run without failures wrote, with this line for what is due.
-fn unfailing(alloc: Global, due: &str) -> Result<String, Fail> {
-    let frames = week(alloc)?;
+fn unfailing(rt: &impl Abort, alloc: Global, due: &str) -> String {
+    let frames = week(rt, alloc);
     let mut keeper = MemKeeper::new(alloc);
-    let (_, written) = run_by_days(alloc, &frames, &mut keeper)?;
-    Ok(written.replace(alloc, "DUE 2\n", due)?)
+    let (_, written) = run_by_days(rt, alloc, &frames, &mut keeper);
+    written.replace(alloc, "DUE 2\n", due).expect(rt, "room")
 }
 
 /// An append of a first run that fails, which calls land then, and what is still due to the second run. The run settles by
@@ -151,17 +161,16 @@ const APPENDS: &[(u64, &[u64], &str)] = &[
 
 /// The same frames again get the bytes of a run without failures, but for the number of what is still due.
 #[test]
-fn a_run_behind_a_failed_append_goes_on(rt: HostRuntime) -> Result<(), Fail> {
+fn a_run_behind_a_failed_append_goes_on(rt: HostRuntime) {
     let alloc = rt.alloc();
     for case in APPENDS.iter() {
         let (call, landing, due) = *case;
-        let mut keeper = MemKeeper::failing(alloc, &[call], landing)?;
-        let (stopped, status, written) = run_twice(alloc, &mut keeper)?;
+        let mut keeper = failing(&rt, alloc, &[call], landing);
+        let (stopped, status, written) = run_twice(&rt, alloc, &mut keeper);
         assert_eq!(rt; stopped, 8);
         assert_eq!(rt; status, 0);
-        assert_eq!(rt; written, unfailing(alloc, due)?);
+        assert_eq!(rt; written, unfailing(&rt, alloc, due));
     }
-    Ok(())
 }
 
 /// A call of a second run over the same frames that fails, and which calls land then. That run settles, fetches four times,
@@ -179,18 +188,17 @@ const REPEATED: &[(u64, &[u64])] = &[
 
 /// A third run gets the bytes of a second one without failures: the named file's again, and 2019 for the plain file.
 #[test]
-fn a_run_behind_a_failed_call_repeats(rt: HostRuntime) -> Result<(), Fail> {
+fn a_run_behind_a_failed_call_repeats(rt: HostRuntime) {
     let alloc = rt.alloc();
     for case in REPEATED.iter() {
         let (call, landing) = *case;
-        let mut keeper = MemKeeper::failing(alloc, &[call], landing)?;
-        let _ = run_by_days(alloc, &week(alloc)?, &mut keeper)?;
-        let (stopped, status, written) = run_twice(alloc, &mut keeper)?;
+        let mut keeper = failing(&rt, alloc, &[call], landing);
+        let _ = run_by_days(&rt, alloc, &week(&rt, alloc), &mut keeper);
+        let (stopped, status, written) = run_twice(&rt, alloc, &mut keeper);
         assert_eq!(rt; stopped, 8);
         assert_eq!(rt; status, 0);
-        let (_, _, repeated) = run_twice(alloc, &mut MemKeeper::new(alloc))?;
+        let (_, _, repeated) = run_twice(&rt, alloc, &mut MemKeeper::new(alloc));
         assert_eq!(rt; written, repeated);
         assert!(rt; written.contains("<CODE>2019\r\n"));
     }
-    Ok(())
 }

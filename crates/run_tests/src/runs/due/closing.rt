@@ -1,11 +1,10 @@
 //! A transfer that has no cover on its day, byte for byte.
 
-use crate::runs::{joined, written_by_clock};
-use bank_samples::sample::{reply_with, request_with};
+use crate::runs::written_by_clock;
+use crate::sample::{joined, reply_with, request_with};
 use bank_samples::transfer::{PAID, POSTED, TRANSFER};
 use ofx_ports::MemClock;
 use ofx_types::Moment;
-use std::test::Fail;
 
 /// 31 January 2024 at 12:00:00, and five days later three times.
 const MOMENTS: [Moment; 4] = [
@@ -108,17 +107,21 @@ const REFUSED: [(&str, &str); 9] = [
 const LATER: (&str, &str) = ("20240131120000", "20240205120000");
 
 #[test]
-fn a_transfer_without_cover_is_closed(rt: HostRuntime) -> Result<(), Fail> {
+fn a_transfer_without_cover_is_closed(rt: HostRuntime) {
     let alloc = rt.alloc();
-    let asked = request_with(alloc, &ASKED)?;
-    let cancelled = request_with(alloc, &CANCELLED)?;
-    let mut clock = MemClock::new(alloc, &MOMENTS)?;
-    let written = written_by_clock(alloc, &[&asked, "DUE\n", &cancelled, "DUE\n"], &mut clock)?;
-    let answered = reply_with(alloc, &ANSWERED)?;
-    let refused = reply_with(alloc, &REFUSED)?;
+    let asked = request_with(&rt, alloc, &ASKED);
+    let cancelled = request_with(&rt, alloc, &CANCELLED);
+    let mut clock = MemClock::new(alloc, &MOMENTS).expect(&rt, "a clock");
+    let written = written_by_clock(
+        &rt,
+        alloc,
+        &[&asked, "DUE\n", &cancelled, "DUE\n"],
+        &mut clock,
+    );
+    let answered = reply_with(&rt, alloc, &ANSWERED);
+    let refused = reply_with(&rt, alloc, &REFUSED);
     assert_eq!(rt;
         written,
-        joined(alloc, &[&answered, "DUE 1\n", &refused, "DUE 0\n"])?
+        joined(&rt, alloc, &[&answered, "DUE 1\n", &refused, "DUE 0\n"])
     );
-    Ok(())
 }
