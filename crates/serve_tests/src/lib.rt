@@ -6,4 +6,6 @@ mod connections;
 #[cfg(test)]
 mod one_thread;
 #[cfg(test)]
+mod sample;
+#[cfg(test)]
 mod servers;

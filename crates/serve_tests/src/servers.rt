@@ -4,18 +4,15 @@ mod both;
 mod posts;
 mod sockets;
 
-ghost use Rattle.std.specs.Prelude.{◌≡◌, false, is_some, IfOk};
-ghost use Rattle.bank_model.specs.SetupForm.{IsWithinLimits};
+ghost use Rattle.std.specs.Prelude.{◌≡◌, false, is_some};
 
-use crate::connections::{NOON, posted, sample_reply, sample_times};
+use crate::connections::{at_noon, posted, sample_reply, sample_request, sample_times};
 use crate::one_thread::written_over;
+use crate::sample::{keys, put, request_with, setup, texts};
 use bank_connection::Served;
 use bank_counter::serve_connection;
-use bank_model::Setup;
-use bank_samples::keys::keys;
-use bank_samples::sample::{SETUP, request_with};
+use bank_samples::sample::SETUP;
 use bank_samples::transfer::TRANSFER;
-use bank_samples::words::texts;
 use bank_server::{AllEnd, serve_all, serve_open};
 use bank_shared::{Bank, BankName, Opened, Pass};
 use both::BothGate;
@@ -27,8 +24,8 @@ use ofx_types::{Moment, Note, Status, Told};
 use posts::PostKeeper;
 use std::alloc::Global;
 use std::marker::Brand;
+use std::process::Abort;
 use std::sync::Wait;
-use std::test::Fail;
 use std::thread::Threads;
 
 /// 5 February 2024, 12:00:00.
@@ -60,30 +57,23 @@ const BY_BOB: [(&str, &str); 4] = [
     ("<ACCTTYPE>CHECKING", "<ACCTTYPE>SAVINGS"),
 ];
 
-/// The sample's setup.
-fn setup(alloc: Global) -> Result<Setup, Fail>
-    ensures { IfOk result IsWithinLimits }
-{
-    Ok(Setup::read(alloc, SETUP)?)
-}
-
 /// A bank of the sample's setup that has opened from these records.
-pub fn opened_from<K: Keeper>(alloc: Global, keeper: K) -> Result<Opened<K, OfxPrinter>, Fail>
+pub fn opened_from<K: Keeper>(rt: &impl Abort, alloc: Global, keeper: K) -> Opened<K, OfxPrinter>
     requires { K.unsettled keeper ≡ false }
 {
-    match Opened::open(alloc, keys()?, keeper, setup(alloc)?, OfxPrinter) {
-        Ok(opened) => Ok(opened),
-        Err((fault, _keeper)) => Err(Fail::from(fault)),
+    match Opened::open(alloc, keys(rt), keeper, setup(rt, alloc), OfxPrinter) {
+        Ok(opened) => opened,
+        Err((fault, _keeper)) => panic!(rt; "no bank: {fault:?}"),
     }
 }
 
 /// How a link is served by a bank that has opened and whose clock stands at noon.
-fn connected<N: BankName, R: Wait>(
+fn connected<N: BankName, R: Abort + Wait>(
     rt: &R,
     alloc: Global,
     opened: Opened<MemKeeper, OfxPrinter>,
     link: &mut MemLink,
-) -> Result<Served, Fail>
+) -> Served
     requires setup { opened.setup ≡ N.setup }
     requires opening { opened.state ≡ N.opening }
 {
@@ -92,178 +82,208 @@ fn connected<N: BankName, R: Wait>(
 }
 
 /// The same by a caller of the bank.
-fn connected_by<N: BankName, R: Wait>(
+fn connected_by<N: BankName, R: Abort + Wait>(
     rt: &R,
     alloc: Global,
     bank: &Bank<N, MemKeeper, OfxPrinter>,
     pass: &mut Pass,
     link: &mut MemLink,
-) -> Result<Served, Fail> {
-    let mut clock = MemClock::new(alloc, &[NOON])?;
-    Ok(serve_connection(bank, rt, alloc, pass, link, &mut clock, &OpenGate)?)
+) -> Served {
+    let mut clock = at_noon(rt, alloc);
+    let served = serve_connection(bank, rt, alloc, pass, link, &mut clock, &OpenGate);
+    served.expect(rt, "a connection to its end")
 }
 
 /// How all workers of a bank that has opened end.
-pub fn all_served<R: Threads + Wait + Sync, K: Keeper + Send, L: Link, D: Doorway<L>, G: Gate>(
+pub fn all_served<
+    R: Abort + Threads + Wait + Sync,
+    K: Keeper + Send,
+    L: Link,
+    D: Doorway<L>,
+    G: Gate,
+>(
     rt: &R,
     alloc: Global,
     opened: Opened<K, OfxPrinter>,
     workers: Vec<(D, MemClock)>,
     gate: &G,
     most: u32,
-) -> Result<AllEnd<D, MemClock>, Fail> {
-    Ok(serve_all::<Brand, _, _, _, L, _, _, _>(rt, alloc, opened, workers, gate, most)?)
+) -> AllEnd<D, MemClock> {
+    let all = serve_all::<Brand, _, _, _, L, _, _, _>(rt, alloc, opened, workers, gate, most);
+    all.expect(rt, "workers to their ends")
 }
 
 /// A doorway that gives a link for each of these requests.
-fn door_of(alloc: Global, requests: &[&[u8]]) -> Result<MemDoor, Fail> {
+fn door_of(rt: &impl Abort, alloc: Global, requests: &[&[u8]]) -> MemDoor {
     let mut links = Vec::new(alloc);
     for request in requests {
-        links.push(MemLink::new(alloc, request, ROOM)?)?;
+        links.push(link_of(rt, alloc, request)).expect(rt, "room");
     }
-    Ok(MemDoor::new(alloc, links, &[])?)
+    MemDoor::new(alloc, links, &[]).expect(rt, "a doorway")
+}
+
+/// A link whose peer sends these bytes.
+fn link_of(rt: &impl Abort, alloc: Global, bytes: &[u8]) -> MemLink {
+    MemLink::new(alloc, bytes, ROOM).expect(rt, "a link")
+}
+
+/// How the one worker of a doorway with the sample's request twice ends, by this clock, over a bank that has opened.
+fn served_twice<R: Abort + Threads + Wait + Sync, K: Keeper + Send>(
+    rt: &R,
+    alloc: Global,
+    opened: Opened<K, OfxPrinter>,
+    clock: MemClock,
+    most: u32,
+) -> AllEnd<MemDoor, MemClock> {
+    let request = sample_times(rt, alloc, 1);
+    let door = door_of(rt, alloc, &[&request, &request]);
+    let mut workers = Vec::new(alloc);
+    workers.push((door, clock)).expect(rt, "room");
+    all_served(rt, alloc, opened, workers, &OpenGate, most)
 }
 
 #[test]
-fn a_bank_serves_a_connection_to_its_end(rt: HostRuntime) -> Result<(), Fail> {
+fn a_bank_serves_a_connection_to_its_end(rt: HostRuntime) {
     let alloc = rt.alloc();
-    let mut link = MemLink::new(alloc, &sample_times(alloc, 2)?, ROOM)?;
-    let opened = opened_from(alloc, MemKeeper::new(alloc))?;
-    let served = connected::<Brand, _>(&rt, alloc, opened, &mut link)?;
+    let mut link = link_of(&rt, alloc, &sample_times(&rt, alloc, 2));
+    let opened = opened_from(&rt, alloc, MemKeeper::new(alloc));
+    let served = connected::<Brand, _>(&rt, alloc, opened, &mut link);
     assert_eq!(rt; served, Served::End(2));
-    let mut replies = sample_reply(alloc, "keep-alive")?;
-    replies.extend_from_slice(&sample_reply(alloc, "keep-alive")?)?;
+    let mut replies = sample_reply(&rt, alloc, "keep-alive");
+    put(&rt, &mut replies, &sample_reply(&rt, alloc, "keep-alive"));
     assert!(rt; link.held() == replies.as_slice());
-    Ok(())
 }
 
 #[test]
-fn http_1_0_is_the_last_request_of_a_connection(rt: HostRuntime) -> Result<(), Fail> {
+fn http_1_0_is_the_last_request_of_a_connection(rt: HostRuntime) {
     let alloc = rt.alloc();
-    let request = request_with(alloc, &[])?;
-    let (_, file) = request.split_once("\n").unwrap_or(("", ""));
-    let mut link = MemLink::new(alloc, &posted(alloc, "1.0", file.as_bytes())?, ROOM)?;
-    let opened = opened_from(alloc, MemKeeper::new(alloc))?;
-    let served = connected::<Brand, _>(&rt, alloc, opened, &mut link)?;
+    let mut link = link_of(&rt, alloc, &sample_request(&rt, alloc, "1.0"));
+    let opened = opened_from(&rt, alloc, MemKeeper::new(alloc));
+    let served = connected::<Brand, _>(&rt, alloc, opened, &mut link);
     assert_eq!(rt; served, Served::Closed(1));
-    assert!(rt; link.held() == sample_reply(alloc, "close")?.as_slice());
-    Ok(())
+    assert!(rt; link.held() == sample_reply(&rt, alloc, "close").as_slice());
 }
 
 /// Whether these are the links that came back, each with one reply to the sample's request.
-fn are_answered(alloc: Global, back: &[MemLink], count: usize) -> Result<bool, Fail> {
-    let reply = sample_reply(alloc, "keep-alive")?;
+fn are_answered(rt: &impl Abort, alloc: Global, back: &[MemLink], count: usize) -> bool {
+    let reply = sample_reply(rt, alloc, "keep-alive");
     for link in back {
         if link.held() != reply.as_slice() || !link.left().is_empty() {
-            return Ok(false);
+            return false;
         }
     }
-    Ok(back.len() == count)
+    back.len() == count
 }
 
 #[test]
-fn a_worker_serves_each_link_of_its_doorway(rt: HostRuntime) -> Result<(), Fail> {
+fn a_worker_serves_each_link_of_its_doorway(rt: HostRuntime) {
     let alloc = rt.alloc();
-    let request = sample_times(alloc, 1)?;
-    let mut workers = Vec::new(alloc);
-    workers.push((
-        door_of(alloc, &[&request, &request])?,
-        MemClock::new(alloc, &[NOON])?,
-    ))?;
-    let opened = opened_from(alloc, MemKeeper::new(alloc))?;
-    let all = all_served(&rt, alloc, opened, workers, &OpenGate, 0)?;
+    let opened = opened_from(&rt, alloc, MemKeeper::new(alloc));
+    let all = served_twice(&rt, alloc, opened, at_noon(&rt, alloc), 0);
     assert_eq!(rt; all.status, Status(0));
     assert_eq!(rt; all.ends.len(), 1);
     for worked in &all.ends {
         assert_eq!(rt; worked.end.served, 2);
         assert_eq!(rt; worked.end.missed, 0);
         assert_eq!(rt; worked.end.status, Status(0));
-        assert!(rt; are_answered(alloc, worked.door.back(), 2)?);
+        assert!(rt; are_answered(&rt, alloc, worked.door.back(), 2));
     }
-    Ok(())
+}
+
+/// Records of the waiting transfer, as the bank of one thread keeps them.
+fn kept_by_one(rt: &impl Abort, alloc: Global) -> MemKeeper
+    ensures { is_some result.landed ≡ false }
+{
+    let mut kept = MemKeeper::new(alloc);
+    let waiting = request_with(rt, alloc, &WAITING);
+    let mut clock = at_noon(rt, alloc);
+    let told = written_over(rt, alloc, &waiting, &mut kept, &mut clock);
+    assert!(rt; told.contains("<XFERPRCCODE>WILLPROCESSON\r\n"));
+    kept
 }
 
 #[test]
-fn what_is_due_is_done_before_a_link_is_served(rt: HostRuntime) -> Result<(), Fail> {
+fn what_is_due_is_done_before_a_link_is_served(rt: HostRuntime) {
     let alloc = rt.alloc();
-    let mut kept = MemKeeper::new(alloc);
-    let waiting = request_with(alloc, &WAITING)?;
-    let mut clock = MemClock::new(alloc, &[NOON])?;
-    let told = written_over(alloc, &waiting, &mut kept, &mut clock)?;
-    assert!(rt; told.contains("<XFERPRCCODE>WILLPROCESSON\r\n"));
-    let (keeper, first) = PostKeeper::over(alloc, kept)?;
-    let request = sample_times(alloc, 1)?;
-    let mut workers = Vec::new(alloc);
-    workers.push((
-        door_of(alloc, &[&request, &request])?,
-        MemClock::new(alloc, &[FEBRUARY])?,
-    ))?;
-    let opened = opened_from(alloc, keeper)?;
-    let all = all_served(&rt, alloc, opened, workers, &OpenGate, 1)?;
+    let kept = kept_by_one(&rt, alloc);
+    let (keeper, first) = PostKeeper::over(alloc, kept).expect(&rt, "a keeper");
+    let opened = opened_from(&rt, alloc, keeper);
+    let clock = MemClock::new(alloc, &[FEBRUARY]).expect(&rt, "a clock");
+    let all = served_twice(&rt, alloc, opened, clock, 1);
     assert_eq!(rt; all.status, Status(0));
     assert!(rt; first.is_post());
     for worked in &all.ends {
         assert_eq!(rt; worked.end.served, 1);
         for link in worked.door.back() {
-            assert!(rt; str::from_utf8(link.held())?.contains("<BALAMT>0.00\r\n"));
+            let written = str::from_utf8(link.held()).expect(&rt, "a text");
+            assert!(rt; written.contains("<BALAMT>0.00\r\n"));
         }
     }
-    Ok(())
 }
 
 /// What `serve_open` tells of these words over these records. None where the bank opens.
-fn refused(alloc: Global, words: &[&str], keeper: MemKeeper) -> Result<Option<Told>, Fail>
+fn refused(rt: &impl Abort, alloc: Global, words: &[&str], keeper: MemKeeper) -> Option<Told>
     requires { is_some keeper.landed ≡ false }
 {
-    let words = texts(alloc, words)?;
-    let mut setup = MemSource::new(alloc, SETUP)?;
-    match serve_open(alloc, keys()?, &words, &mut setup, keeper, OfxPrinter) {
-        Ok(_) => Ok(None),
-        Err((told, _keeper)) => Ok(Some(told)),
+    let words = texts(rt, alloc, words);
+    let mut setup = MemSource::new(alloc, SETUP).expect(rt, "the setup");
+    match serve_open(alloc, keys(rt), &words, &mut setup, keeper, OfxPrinter) {
+        Ok(_) => None,
+        Err((told, _keeper)) => Some(told),
     }
 }
 
 #[test]
-fn words_and_records_are_judged_before_the_bank_serves(rt: HostRuntime) -> Result<(), Fail> {
+fn words_and_records_are_judged_before_the_bank_serves(rt: HostRuntime) {
     let alloc = rt.alloc();
     let many = ["serve", "setup", "-", "8080", "65", "0"];
     assert_eq!(rt;
-        refused(alloc, &many, MemKeeper::new(alloc))?,
+        refused(&rt, alloc, &many, MemKeeper::new(alloc)),
         Some(Told {
             status: Status(2),
             note: Note::Plain
         })
     );
     let words = ["serve", "setup", "-", "65535", "64", "4294967295"];
-    assert_eq!(rt; refused(alloc, &words, MemKeeper::new(alloc))?, None);
+    assert_eq!(rt; refused(&rt, alloc, &words, MemKeeper::new(alloc)), None);
     let mut keeper = MemKeeper::new(alloc);
-    keeper.append(POST)?;
+    keeper.append(POST).expect(&rt, "room");
     assert_eq!(rt;
-        refused(alloc, &words, keeper)?,
+        refused(&rt, alloc, &words, keeper),
         Some(Told {
             status: Status(9),
             note: Note::Illegal(1)
         })
     );
-    Ok(())
+}
+
+/// Workers with a doorway each, whose links are of these requests, from noon on.
+fn workers_of(rt: &impl Abort, alloc: Global, requests: &[Vec<u8>]) -> Vec<(MemDoor, MemClock)> {
+    let mut workers = Vec::new(alloc);
+    for request in requests {
+        let worker = (door_of(rt, alloc, &[request]), at_noon(rt, alloc));
+        workers.push(worker).expect(rt, "room");
+    }
+    workers
+}
+
+/// The sample's request, and that of the other user.
+fn by_both(rt: &impl Abort, alloc: Global) -> [Vec<u8>; 2] {
+    let by_bob = request_with(rt, alloc, &BY_BOB);
+    let (_, file) = by_bob.split_once("\n").unwrap_or(("", ""));
+    [
+        sample_times(rt, alloc, 1),
+        posted(rt, alloc, "1.1", file.as_bytes()),
+    ]
 }
 
 #[test]
-fn two_workers_stand_at_the_gate_at_once(rt: HostRuntime) -> Result<(), Fail> {
+fn two_workers_stand_at_the_gate_at_once(rt: HostRuntime) {
     let alloc = rt.alloc();
-    let by_bob = request_with(alloc, &BY_BOB)?;
-    let (_, file) = by_bob.split_once("\n").unwrap_or(("", ""));
-    let requests = [
-        sample_times(alloc, 1)?,
-        posted(alloc, "1.1", file.as_bytes())?,
-    ];
-    let mut workers = Vec::new(alloc);
-    for request in &requests {
-        workers.push((door_of(alloc, &[request])?, MemClock::new(alloc, &[NOON])?))?;
-    }
+    let workers = workers_of(&rt, alloc, &by_both(&rt, alloc));
     let gate = BothGate::new(&rt);
-    let opened = opened_from(alloc, MemKeeper::new(alloc))?;
-    let all = all_served(&rt, alloc, opened, workers, &gate, 1)?;
+    let opened = opened_from(&rt, alloc, MemKeeper::new(alloc));
+    let all = all_served(&rt, alloc, opened, workers, &gate, 1);
     assert!(rt; gate.let_both_through());
     assert_eq!(rt; all.status, Status(0));
     for worked in &all.ends {
@@ -273,5 +293,4 @@ fn two_workers_stand_at_the_gate_at_once(rt: HostRuntime) -> Result<(), Fail> {
             assert!(rt; link.held().starts_with(b"HTTP/1.1 200 OK\r\n"));
         }
     }
-    Ok(())
 }

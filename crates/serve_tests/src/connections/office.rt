@@ -1,18 +1,16 @@
 //! An office over a bank without records, which tells nothing of what it knows.
 
 ghost use Rattle.std.specs.Prelude.{◌≡◌, ◌<◌, [], None, IfOk, IfErr, IfSome, OnErr, true, false, length};
-ghost use Rattle.bank_model.specs.SetupForm.{IsWithinLimits};
 
+use crate::sample::{keys, setup};
 use bank_connection::Office;
 use bank_connection::laws::newest_are_told;
 use bank_model::{Event, Setup, SubmitFault};
-use bank_samples::keys::keys;
-use bank_samples::sample::SETUP;
 use bank_solo::SoloBank;
 use ofx_file::OfxPrinter;
 use ofx_types::{Duplicate, Moment, OutOfMemory, RequestFile, UserId};
 use std::alloc::Global;
-use std::test::Fail;
+use std::process::Abort;
 
 /// A bank of the sample's setup for one caller. One of its submissions fails, as if the keeper of its records did.
 #[derive(Drop)]
@@ -24,22 +22,16 @@ pub struct BookOffice {
     ghost home: { bank.held ≡ [] },
 }
 
-/// The sample's setup.
-pub fn setup(alloc: Global) -> Result<Setup, Fail>
-    ensures { IfOk result IsWithinLimits }
-{
-    Ok(Setup::read(alloc, SETUP)?)
-}
-
 impl BookOffice {
     /// A bank that opens. The submission of the number `failing` fails, counted from 1.
-    pub fn open(alloc: Global, failing: u64) -> Result<BookOffice, Fail> {
-        Ok(BookOffice {
+    pub fn open(rt: &impl Abort, alloc: Global, failing: u64) -> BookOffice {
+        let bank = SoloBank::begin(alloc, keys(rt), setup(rt, alloc), OfxPrinter);
+        BookOffice {
             alloc,
-            bank: SoloBank::begin(alloc, keys()?, setup(alloc)?, OfxPrinter)?,
+            bank: bank.expect(rt, "a bank"),
             made: 0,
             failing,
-        })
+        }
     }
 }
 
