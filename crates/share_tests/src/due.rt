@@ -3,10 +3,10 @@
 ghost use Rattle.std.specs.Prelude.{◌≡◌, false, is_some};
 ghost use Rattle.ofx_types.specs.Calendar.{IsMoment};
 
-use crate::callers::{asked, opened_over};
+use crate::callers::asked;
+use crate::sample::{failing, numbered, opened_over, request_with, tell, text};
 use bank_due::{DueFault, due_run};
 use bank_samples::changes::{DUE_LATER, NEXT_DAY, NOON};
-use bank_samples::sample::request_with;
 use bank_samples::transfer::TRANSFER;
 use bank_shared::{Bank, BankName, Opened, Pass};
 use ofx_file::OfxPrinter;
@@ -14,8 +14,8 @@ use ofx_ports::{MemKeeper, OpenGate};
 use ofx_types::Moment;
 use std::alloc::Global;
 use std::marker::Brand;
+use std::process::Abort;
 use std::sync::Wait;
-use std::test::Fail;
 
 /// The first of two transfers has another TRNUID than the second.
 const RENAMED: (&str, &str) = ("<TRNUID>t1", "<TRNUID>t0");
@@ -27,29 +27,29 @@ const DUE_LATER_TOO: (&str, &str) = (
 );
 
 /// What a run of due work at a moment answers.
-fn run_at<N: BankName, R: Wait>(
+fn run_at<N: BankName, R: Abort + Wait>(
     rt: &R,
     alloc: Global,
     bank: &Bank<N, MemKeeper, OfxPrinter>,
     pass: &mut Pass,
     at: Moment,
-) -> Result<String, Fail>
+) -> String
     requires { IsMoment at.0 }
 {
     match due_run(bank, rt, pass, at, &OpenGate) {
-        Ok(count) => Ok(format!(in alloc; "did {count}\n")?),
-        Err(DueFault::Left(id)) => Ok(format!(in alloc; "left {id}\n")?),
-        Err(DueFault::Keeper(count)) => Ok(format!(in alloc; "keeper {count}\n")?),
-        Err(DueFault::OutOfMemory) => Ok(String::from_str(alloc, "no memory\n")?),
+        Ok(count) => numbered(rt, alloc, "did", u64::from(count)),
+        Err(DueFault::Left(id)) => numbered(rt, alloc, "left", id),
+        Err(DueFault::Keeper(count)) => numbered(rt, alloc, "keeper", count),
+        Err(DueFault::OutOfMemory) => text(rt, alloc, "no memory\n"),
     }
 }
 
 /// What runs of due work answer in a bank that has opened, and what the statement after them tells.
-fn told_of_runs<N: BankName, R: Wait>(
+fn told_of_runs<N: BankName, R: Abort + Wait>(
     rt: &R,
     alloc: Global,
     opened: Opened<MemKeeper, OfxPrinter>,
-) -> Result<(String, String), Fail>
+) -> (String, String)
     requires setup { opened.setup ≡ N.setup }
     requires opening { opened.state ≡ N.opening }
 {
@@ -58,28 +58,28 @@ fn told_of_runs<N: BankName, R: Wait>(
 }
 
 /// The same of a bank with two transfers that are due on the next day, in one run on the day before and two on that day.
-fn runs_at<N: BankName, R: Wait>(
+fn runs_at<N: BankName, R: Abort + Wait>(
     rt: &R,
     alloc: Global,
     bank: &Bank<N, MemKeeper, OfxPrinter>,
     pass: &mut Pass,
-) -> Result<(String, String), Fail> {
+) -> (String, String) {
     let waiting = [TRANSFER, DUE_LATER, RENAMED, TRANSFER, DUE_LATER_TOO];
-    let file = request_with(alloc, &waiting)?;
-    let _waits = asked(rt, alloc, bank, pass, &file, NOON)?;
-    let mut told = run_at(rt, alloc, bank, pass, NOON)?;
-    told.push_str(&run_at(rt, alloc, bank, pass, NEXT_DAY)?)?;
-    told.push_str(&run_at(rt, alloc, bank, pass, NEXT_DAY)?)?;
-    let plain = request_with(alloc, &[])?;
-    let statement = asked(rt, alloc, bank, pass, &plain, NEXT_DAY)?;
-    Ok((told, statement))
+    let file = request_with(rt, alloc, &waiting);
+    let _waits = asked(rt, alloc, bank, pass, &file, NOON);
+    let mut told = run_at(rt, alloc, bank, pass, NOON);
+    tell(rt, &mut told, &run_at(rt, alloc, bank, pass, NEXT_DAY));
+    tell(rt, &mut told, &run_at(rt, alloc, bank, pass, NEXT_DAY));
+    let plain = request_with(rt, alloc, &[]);
+    let statement = asked(rt, alloc, bank, pass, &plain, NEXT_DAY);
+    (told, statement)
 }
 
 /// The same over a keeper without records.
-fn runs_over<R: Wait>(rt: &R, alloc: Global, keeper: MemKeeper) -> Result<(String, String), Fail>
+fn runs_over<R: Abort + Wait>(rt: &R, alloc: Global, keeper: MemKeeper) -> (String, String)
     requires { is_some keeper.landed ≡ false }
 {
-    told_of_runs::<Brand, _>(rt, alloc, opened_over(alloc, keeper)?)
+    told_of_runs::<Brand, _>(rt, alloc, opened_over(rt, alloc, keeper))
 }
 
 /// Which calls of the keeper fail and which of these land, and what the runs answer.
@@ -92,14 +92,13 @@ const RUNS: &[(&[u64], &[u64], &str)] = &[
 
 /// The keeper's first call is that of the file, and each transfer is posted in the end.
 #[test]
-fn all_that_is_due_happens_in_a_run(rt: HostRuntime) -> Result<(), Fail> {
+fn all_that_is_due_happens_in_a_run(rt: HostRuntime) {
     let alloc = rt.alloc();
     for case in RUNS.iter() {
-        let (failing, landing, answers) = *case;
-        let keeper = MemKeeper::failing(alloc, failing, landing)?;
-        let (told, statement) = runs_over(&rt, alloc, keeper)?;
+        let (refused, landing, answers) = *case;
+        let keeper = failing(&rt, alloc, refused, landing);
+        let (told, statement) = runs_over(&rt, alloc, keeper);
         assert_eq!(rt; told.as_str(), answers);
         assert!(rt; statement.contains("<BALAMT>80.00\r\n"), "{statement}");
     }
-    Ok(())
 }

@@ -1,17 +1,16 @@
 //! The calls of a bank over keepers whose calls fail: what is told of them, what they leave pending, and how many entries there are.
 
-use crate::script::{Call, setup, told_over};
+use crate::sample::{failing, keys, reply_with, request_with, setup, tell};
+use crate::script::{Call, told_over};
 use bank_replay::OpenFault;
 use bank_samples::changes::{DUE_LATER, NAMED, NEXT_DAY, NOON, POLL};
-use bank_samples::keys::keys;
-use bank_samples::sample::{reply_with, request_with};
 use bank_samples::transfer::{PAID, POSTED, SOURCE_BALANCE, TRANSFER};
 use bank_shared::Opened;
 use ofx_file::OfxPrinter;
 use ofx_ports::{Keeper, MemKeeper};
 use ofx_types::Moment;
 use std::alloc::Global;
-use std::test::Fail;
+use std::process::Abort;
 
 /// What the first reply to the named file with the transfer tells.
 const FIRST: [(&str, &str); 5] = [NAMED, POSTED, PAID, SOURCE_BALANCE, SOURCE_BALANCE];
@@ -27,47 +26,41 @@ const POST: &[u8] = b"\
 /// The append of a named file fails, and its record has landed. In the second call, on the next day, it can't be settled. The
 /// third one adopts it, and is answered by the reply of the first moment, which was kept then.
 #[test]
-fn a_record_that_landed_is_adopted_before_the_next_file(rt: HostRuntime) -> Result<(), Fail> {
+fn a_record_that_landed_is_adopted_before_the_next_file(rt: HostRuntime) {
     let alloc = rt.alloc();
-    let file = request_with(alloc, &[NAMED, TRANSFER])?;
-    let keeper = MemKeeper::failing(alloc, &[1, 2], &[1])?;
+    let file = request_with(&rt, alloc, &[NAMED, TRANSFER]);
+    let keeper = failing(&rt, alloc, &[1, 2], &[1]);
     let calls = [Call::File(&file), Call::File(&file), Call::File(&file)];
-    let reply = reply_with(alloc, &FIRST)?;
+    let reply = reply_with(&rt, alloc, &FIRST);
     let faults = "keeper 1\npending file\nkeeper 2\npending file\n";
     assert_eq!(rt;
-        told_over(alloc, keeper, &[NOON, NEXT_DAY], &calls)?,
-        format!(in alloc; "{faults}{reply}next entry 2\n")?
+        told_over(&rt, alloc, keeper, &[NOON, NEXT_DAY], &calls),
+        format!(in alloc; "{faults}{reply}next entry 2\n").expect(&rt, "room")
     );
-    Ok(())
 }
 
 /// The append of a file fails, and its record hasn't landed.
 #[test]
-fn a_file_whose_record_is_lost_never_happened(rt: HostRuntime) -> Result<(), Fail> {
+fn a_file_whose_record_is_lost_never_happened(rt: HostRuntime) {
     let alloc = rt.alloc();
-    let file = request_with(alloc, &[TRANSFER])?;
-    let plain = request_with(alloc, &[])?;
-    let keeper = MemKeeper::failing(alloc, &[1], &[])?;
-    let reply = reply_with(alloc, &[])?;
+    let file = request_with(&rt, alloc, &[TRANSFER]);
+    let plain = request_with(&rt, alloc, &[]);
+    let keeper = failing(&rt, alloc, &[1], &[]);
+    let reply = reply_with(&rt, alloc, &[]);
+    let calls = [Call::File(&file), Call::File(&plain)];
     assert_eq!(rt;
-        told_over(
-            alloc,
-            keeper,
-            &[NOON],
-            &[Call::File(&file), Call::File(&plain)]
-        )?,
-        format!(in alloc; "keeper 1\npending file\n{reply}next entry 1\n")?
+        told_over(&rt, alloc, keeper, &[NOON], &calls),
+        format!(in alloc; "keeper 1\npending file\n{reply}next entry 1\n").expect(&rt, "room")
     );
-    Ok(())
 }
 
 /// It can't be settled three times, and is adopted then: faults that come since the append's don't take its place.
 #[test]
-fn what_is_pending_stays_so_until_it_is_settled(rt: HostRuntime) -> Result<(), Fail> {
+fn what_is_pending_stays_so_until_it_is_settled(rt: HostRuntime) {
     let alloc = rt.alloc();
-    let file = request_with(alloc, &[TRANSFER])?;
-    let plain = request_with(alloc, &[])?;
-    let keeper = MemKeeper::failing(alloc, &[2, 3, 4, 5], &[2])?;
+    let file = request_with(&rt, alloc, &[TRANSFER]);
+    let plain = request_with(&rt, alloc, &[]);
+    let keeper = failing(&rt, alloc, &[2, 3, 4, 5], &[2]);
     let calls = [
         Call::File(&plain),
         Call::File(&file),
@@ -77,7 +70,8 @@ fn what_is_pending_stays_so_until_it_is_settled(rt: HostRuntime) -> Result<(), F
         Call::Due,
         Call::File(&plain),
     ];
-    let (before, behind) = (reply_with(alloc, &[])?, reply_with(alloc, &PAID_BEFORE)?);
+    let before = reply_with(&rt, alloc, &[]);
+    let behind = reply_with(&rt, alloc, &PAID_BEFORE);
     let faults = "\
         keeper 1\npending file\n\
         keeper 2\npending file\n\
@@ -85,10 +79,9 @@ fn what_is_pending_stays_so_until_it_is_settled(rt: HostRuntime) -> Result<(), F
         keeper 4\npending file\n\
         nothing due\n";
     assert_eq!(rt;
-        told_over(alloc, keeper, &[NOON], &calls)?,
-        format!(in alloc; "{before}{faults}{behind}next entry 2\n")?
+        told_over(&rt, alloc, keeper, &[NOON], &calls),
+        format!(in alloc; "{before}{faults}{behind}next entry 2\n").expect(&rt, "room")
     );
-    Ok(())
 }
 
 /// What is told of the keeper's first fault.
@@ -139,29 +132,37 @@ const FAILING: &[(&[u64], &[u64], [&str; 4], &str)] = &[
 
 /// What is told where these of the four calls are told of faults, and the named file happened at that moment: each other call is
 /// answered by its reply, and the transfer was posted once.
-fn told_of_once(alloc: Global, faults: &[&str; 4], moment: &str) -> Result<String, Fail> {
-    let reply = reply_with(alloc, &FIRST)?.replace(alloc, "20240131120000", moment)?;
+fn told_of_once(rt: &impl Abort, alloc: Global, faults: &[&str; 4], moment: &str) -> String {
+    let reply = told_at(rt, alloc, &FIRST, moment);
     let mut told = String::new(alloc);
     for fault in faults.iter() {
-        told.push_str(if fault.is_empty() { &reply } else { fault })?;
+        tell(rt, &mut told, if fault.is_empty() { &reply } else { fault });
     }
-    let later = reply_with(alloc, &PAID_BEFORE)?.replace(
-        alloc,
-        "20240131120000",
-        "20240131120400",
-    )?;
-    let posted = format!(in alloc; "<DTPOSTED>{moment}")?;
-    told.push_str(&later.replace(alloc, "<DTPOSTED>20240131120400", &posted)?)?;
-    told.push_str("next entry 2\n")?;
-    Ok(told)
+    tell(rt, &mut told, &paid_before(rt, alloc, moment));
+    tell(rt, &mut told, "next entry 2\n");
+    told
+}
+
+/// The sample's reply with these changes, at this moment.
+fn told_at(rt: &impl Abort, alloc: Global, changes: &[(&str, &str)], moment: &str) -> String {
+    let reply = reply_with(rt, alloc, changes).replace(alloc, "20240131120000", moment);
+    reply.expect(rt, "a reply")
+}
+
+/// What the statement of the fourth minute tells, where the transfer was posted at this moment.
+fn paid_before(rt: &impl Abort, alloc: Global, moment: &str) -> String {
+    let later = told_at(rt, alloc, &PAID_BEFORE, "20240131120400");
+    let posted = format!(in alloc; "<DTPOSTED>{moment}").expect(rt, "a line");
+    let told = later.replace(alloc, "<DTPOSTED>20240131120400", &posted);
+    told.expect(rt, "a reply")
 }
 
 /// Its transfer is posted once, whichever append fails, landed or not, and whichever settle.
 #[test]
-fn a_named_file_happens_once_however_the_keeper_fails(rt: HostRuntime) -> Result<(), Fail> {
+fn a_named_file_happens_once_however_the_keeper_fails(rt: HostRuntime) {
     let alloc = rt.alloc();
-    let file = request_with(alloc, &[NAMED, TRANSFER])?;
-    let plain = request_with(alloc, &[])?;
+    let file = request_with(&rt, alloc, &[NAMED, TRANSFER]);
+    let plain = request_with(&rt, alloc, &[]);
     let calls = [
         Call::File(&file),
         Call::File(&file),
@@ -170,8 +171,8 @@ fn a_named_file_happens_once_however_the_keeper_fails(rt: HostRuntime) -> Result
         Call::File(&plain),
     ];
     for case in FAILING.iter() {
-        let (failing, landing, faults, moment) = *case;
-        let keeper = MemKeeper::failing(alloc, failing, landing)?;
+        let (refused, landing, faults, moment) = *case;
+        let keeper = failing(&rt, alloc, refused, landing);
         let minutes = [
             NOON,
             Moment(1_706_702_460),
@@ -180,11 +181,10 @@ fn a_named_file_happens_once_however_the_keeper_fails(rt: HostRuntime) -> Result
             Moment(1_706_702_640),
         ];
         assert_eq!(rt;
-            told_over(alloc, keeper, &minutes, &calls)?,
-            told_of_once(alloc, &faults, moment)?
+            told_over(&rt, alloc, keeper, &minutes, &calls),
+            told_of_once(&rt, alloc, &faults, moment)
         );
     }
-    Ok(())
 }
 
 /// Which calls of the keeper fail and which of these land, in a bank with a transfer that is due on the next day, which is looked
@@ -208,33 +208,32 @@ const DUE: &[(&[u64], &[u64], &str)] = &[
 ];
 
 #[test]
-fn what_is_due_happens_once(rt: HostRuntime) -> Result<(), Fail> {
+fn what_is_due_happens_once(rt: HostRuntime) {
     let alloc = rt.alloc();
-    let file = request_with(alloc, &[TRANSFER, DUE_LATER])?;
+    let file = request_with(&rt, alloc, &[TRANSFER, DUE_LATER]);
     let calls = [Call::File(&file), Call::Due, Call::Due, Call::Due];
     for case in DUE.iter() {
-        let (failing, landing, lines) = *case;
-        let keeper = MemKeeper::failing(alloc, failing, landing)?;
-        let told = told_over(alloc, keeper, &[NOON, NEXT_DAY], &calls)?;
+        let (refused, landing, lines) = *case;
+        let keeper = failing(&rt, alloc, refused, landing);
+        let told = told_over(&rt, alloc, keeper, &[NOON, NEXT_DAY], &calls);
         assert!(rt; told.strip_suffix(lines).is_some(), "{told}");
     }
-    Ok(())
 }
 
 /// A poll is answered while a file is pending, as if it never had been, and settles nothing.
 #[test]
-fn a_poll_looks_at_what_was_answered(rt: HostRuntime) -> Result<(), Fail> {
+fn a_poll_looks_at_what_was_answered(rt: HostRuntime) {
     let alloc = rt.alloc();
-    let file = request_with(alloc, &[TRANSFER])?;
-    let poll = request_with(alloc, &POLL)?;
-    let keeper = MemKeeper::failing(alloc, &[1], &[1])?;
+    let file = request_with(&rt, alloc, &[TRANSFER]);
+    let poll = request_with(&rt, alloc, &POLL);
+    let keeper = failing(&rt, alloc, &[1], &[1]);
     let calls = [
         Call::File(&file),
         Call::File(&poll),
         Call::Due,
         Call::File(&poll),
     ];
-    let told = told_over(alloc, keeper, &[NOON], &calls)?;
+    let told = told_over(&rt, alloc, keeper, &[NOON], &calls);
     let (pending, settled) = told.split_once("nothing due\n").unwrap_or(("", ""));
     assert!(rt;
         pending.starts_with("keeper 1\npending file\nFILE "),
@@ -244,18 +243,15 @@ fn a_poll_looks_at_what_was_answered(rt: HostRuntime) -> Result<(), Fail> {
     assert!(rt; pending.ends_with("pending file\n"), "{told}");
     assert!(rt; settled.contains("<TOKEN>1\r\n"), "{told}");
     assert!(rt; settled.ends_with("next entry 2\n"), "{told}");
-    Ok(())
 }
 
 /// The keeper comes back with what it keeps.
 #[test]
-fn a_bank_that_does_not_open_hands_its_keeper_back(rt: HostRuntime) -> Result<(), Fail> {
+fn a_bank_that_does_not_open_hands_its_keeper_back(rt: HostRuntime) {
     let alloc = rt.alloc();
-    let setup = setup(alloc)?;
     let mut keeper = MemKeeper::new(alloc);
-    keeper.append(POST)?;
-    let keys = keys()?;
-    let refused = Opened::open(alloc, keys, keeper, setup, OfxPrinter).err();
+    keeper.append(POST).expect(&rt, "room");
+    let refused = Opened::open(alloc, keys(&rt), keeper, setup(&rt, alloc), OfxPrinter).err();
     match refused {
         Some((fault, keeper)) => {
             assert_eq!(rt; fault, OpenFault::Illegal(1));
@@ -263,5 +259,4 @@ fn a_bank_that_does_not_open_hands_its_keeper_back(rt: HostRuntime) -> Result<()
         }
         None => assert!(rt; false),
     }
-    Ok(())
 }
