@@ -3,7 +3,7 @@
 use ofx_header::{Header, HeaderFault, read_header, write_header};
 use ofx_types::FileUid;
 use std::alloc::Global;
-use std::test::Fail;
+use std::process::Abort;
 
 /// Six lines without a fault, of 89 bytes.
 const SIX_LINES: &[u8; 89] = b"\
@@ -21,22 +21,22 @@ fn uid_of(uid: &Option<FileUid>) -> &[u8] {
     }
 }
 
-fn behind_six(alloc: Global, lines: &[u8]) -> Result<Vec<u8>, Fail> {
-    let mut bytes = Vec::from_slice(alloc, SIX_LINES)?;
-    bytes.extend_from_slice(lines)?;
-    Ok(bytes)
+fn behind_six(rt: &impl Abort, alloc: Global, lines: &[u8]) -> Vec<u8> {
+    let mut bytes = Vec::from_slice(alloc, SIX_LINES).expect(rt, "room");
+    bytes.extend_from_slice(lines).expect(rt, "room");
+    bytes
 }
 
 #[test]
-fn a_header_is_written(rt: HostRuntime) -> Result<(), Fail> {
+fn a_header_is_written(rt: HostRuntime) {
     let uid = FileUid::new(b"F81D4FAE-7DEC-11D0-A765-00A0C91E6BF6");
     let header = Header {
         version: 160,
         older: None,
-        newer: Some(uid.ok().ok_or("a uid")?),
+        newer: Some(uid.expect(&rt, "a uid")),
     };
     let mut written = Vec::new(rt.alloc());
-    write_header(&header, &mut written)?;
+    write_header(&header, &mut written).expect(&rt, "room");
     let tail = b"\
         COMPRESSION:NONE\r\n\
         OLDFILEUID:NONE\r\n\
@@ -44,13 +44,12 @@ fn a_header_is_written(rt: HostRuntime) -> Result<(), Fail> {
         \r\n";
     assert_eq!(rt;
         written.as_slice(),
-        behind_six(rt.alloc(), tail)?.as_slice()
+        behind_six(&rt, rt.alloc(), tail).as_slice()
     );
-    Ok(())
 }
 
 #[test]
-fn a_header_is_read(rt: HostRuntime) -> Result<(), Fail> {
+fn a_header_is_read(rt: HostRuntime) {
     let bytes = b"\
         OFXHEADER: 100 \n\
         DATA:OFXSGML\r\r\n\
@@ -62,12 +61,11 @@ fn a_header_is_read(rt: HostRuntime) -> Result<(), Fail> {
         OLDFILEUID: a:<b> &\x7f\t\r\n\
         NEWFILEUID:NONE\n\
         <OFX>";
-    let (header, size) = read_header(bytes).ok().ok_or("a header")?;
+    let (header, size) = read_header(bytes).expect(&rt, "a header");
     assert_eq!(rt; header.version, 102);
     assert_eq!(rt; uid_of(&header.older), b"a:<b> &\x7f".as_slice());
     assert!(rt; header.newer.is_none());
     assert_eq!(rt; size, bytes.len() - 5);
-    Ok(())
 }
 
 /// Headers and their first fault.
@@ -103,13 +101,12 @@ const LATER_FAULTS: &[(&[u8], HeaderFault)] = &[
 ];
 
 #[test]
-fn the_first_fault_is_answered(rt: HostRuntime) -> Result<(), Fail> {
+fn the_first_fault_is_answered(rt: HostRuntime) {
     for (bytes, fault) in FAULTS.iter() {
         assert!(rt; read_header(bytes).err() == Some(*fault));
     }
     for (lines, fault) in LATER_FAULTS.iter() {
-        let bytes = behind_six(rt.alloc(), lines)?;
+        let bytes = behind_six(&rt, rt.alloc(), lines);
         assert!(rt; read_header(bytes.as_slice()).err() == Some(*fault));
     }
-    Ok(())
 }

@@ -6,7 +6,6 @@ use event_codec::{
     write_event,
 };
 use ofx_types::Moment;
-use std::test::Fail;
 
 /// Transfers and series with statements and tokens, mail of both kinds, and deeds that cancel and change.
 const RECORDS: &[&[u8]] = &[
@@ -21,20 +20,19 @@ const RECORDS: &[&[u8]] = &[
 const POST: &[u8] = b"\x01\x02\0\0\0\0\x65\xba\x36\x40\0\0\0\0\0\0\0\x01";
 
 #[test]
-fn posts_are_written(rt: HostRuntime) -> Result<(), Fail> {
-    let rec = write_event(rt.alloc(), &Event::Post(1), Moment(1_706_702_400))?;
+fn posts_are_written(rt: HostRuntime) {
+    let noon = Moment(1_706_702_400);
+    let rec = write_event(rt.alloc(), &Event::Post(1), noon).expect(&rt, "a record");
     assert_eq!(rt; rec.as_slice(), POST);
-    Ok(())
 }
 
 #[test]
-fn files_are_read_and_written_again(rt: HostRuntime) -> Result<(), Fail> {
+fn files_are_read_and_written_again(rt: HostRuntime) {
     for rec in RECORDS.iter() {
-        let (event, at) = read_event(rt.alloc(), rec)?;
-        let again = write_event(rt.alloc(), &event, at)?;
+        let (event, at) = read_event(rt.alloc(), rec).expect(&rt, "an event");
+        let again = write_event(rt.alloc(), &event, at).expect(&rt, "a record");
         assert_eq!(rt; again.as_slice(), *rec);
     }
-    Ok(())
 }
 
 /// Records and their faults: nothing, an unknown version, cut ones, an unknown kind, and a byte too many.
@@ -56,25 +54,25 @@ const FAULTS: &[(&[u8], RecordFault)] = &[
 ];
 
 #[test]
-fn faults_have_their_places(rt: HostRuntime) -> Result<(), Fail> {
+fn faults_have_their_places(rt: HostRuntime) {
     for (rec, fault) in FAULTS.iter() {
         assert!(rt; read_event(rt.alloc(), rec).err() == Some(*fault));
     }
-    let text = RecordFault::Bad(10).to_string(rt.alloc())?;
+    let text = RecordFault::Bad(10)
+        .to_string(rt.alloc())
+        .expect(&rt, "a text");
     assert_eq!(rt; text.as_str(), "the record has no form at byte 10");
-    Ok(())
 }
 
 #[test]
-fn fields_follow_one_another(rt: HostRuntime) -> Result<(), Fail> {
+fn fields_follow_one_another(rt: HostRuntime) {
     let mut out = Vec::new(rt.alloc());
-    put_i32(&-2, &mut out)?;
-    put_flag(&true, &mut out)?;
-    put_file_uid(&None, &mut out)?;
+    put_i32(&-2, &mut out).expect(&rt, "room");
+    put_flag(&true, &mut out).expect(&rt, "room");
+    put_file_uid(&None, &mut out).expect(&rt, "room");
     assert_eq!(rt; out.as_slice(), [0xff, 0xff, 0xff, 0xfe, 1, 0].as_slice());
-    let (number, next) = get_i32(out.as_slice(), 0)?;
-    let (flag, next) = get_flag(out.as_slice(), next)?;
-    let (uid, end) = get_file_uid(out.as_slice(), next)?;
+    let (number, next) = get_i32(out.as_slice(), 0).expect(&rt, "a number");
+    let (flag, next) = get_flag(out.as_slice(), next).expect(&rt, "a flag");
+    let (uid, end) = get_file_uid(out.as_slice(), next).expect(&rt, "a uid");
     assert!(rt; number == -2 && flag && uid.is_none() && end == 6);
-    Ok(())
 }

@@ -3,7 +3,6 @@
 use ofx_tape::{Node, SHORT_VALUE, Tape, TapeFault, short_value, value_eq, value_into};
 use ofx_types::TextFault;
 use std::process::Abort;
-use std::test::Fail;
 
 const BODY: &[u8] =
     b"\r\n<OFX>\r\n<SONRQ>\r\n<USERID>alice\r\n<X.Y>1</X.Y>\r\n</SONRQ>\r\n</OFX>\r\n";
@@ -20,11 +19,10 @@ fn assert_span(rt: &impl Abort, node: &Node, at: usize, after: usize) {
 }
 
 #[test]
-fn nodes_of_a_body(rt: HostRuntime) -> Result<(), Fail> {
-    let tape = Tape::read(rt.alloc(), BODY)?;
+fn nodes_of_a_body(rt: HostRuntime) {
+    let tape = Tape::read(rt.alloc(), BODY).expect(&rt, "a tape");
     let [ofx, sonrq, userid, unknown] = tape.nodes() else {
-        assert!(rt; false, "four start tags stand in the body");
-        return Ok(());
+        panic!(rt; "four start tags");
     };
     assert_node(&rt, ofx, false, b"OFX", b"\r\n");
     assert_span(&rt, ofx, 2, 4);
@@ -34,7 +32,6 @@ fn nodes_of_a_body(rt: HostRuntime) -> Result<(), Fail> {
     assert_span(&rt, userid, 18, 3);
     assert_node(&rt, unknown, true, b"X.Y", b"1");
     assert_span(&rt, unknown, 33, 4);
-    Ok(())
 }
 
 /// Bodies and their leftmost fault. A name has at most 32 bytes, and at most 16 aggregates are open.
@@ -74,20 +71,17 @@ fn each_fault_has_its_place(rt: HostRuntime) {
 }
 
 #[test]
-fn values_are_trimmed_and_decoded_once(rt: HostRuntime) -> Result<(), Fail> {
+fn values_are_trimmed_and_decoded_once(rt: HostRuntime) {
     assert!(rt; value_eq(b"\r\n &amp;lt;&lt;&AMP;\t", b"&lt;<&AMP;"));
     assert!(rt; !value_eq(b"a", b"ab"));
-    let text = value_into(rt.alloc(), b" a&gt;b\r\n", 3)
-        .ok()
-        .ok_or("three bytes")?;
+    let text = value_into(rt.alloc(), b" a&gt;b\r\n", 3).expect(&rt, "three bytes");
     assert_eq!(rt; text.as_bytes(), b"a>b".as_slice());
     assert!(rt; value_into(rt.alloc(), b"a&gt;b", 2).err() == Some(TextFault::TooLong(3)));
     assert!(rt; value_into(rt.alloc(), b"&gt;\x02", 9).err() == Some(TextFault::BadByte(1)));
-    Ok(())
 }
 
 #[test]
-fn short_values_have_64_bytes(rt: HostRuntime) -> Result<(), Fail> {
+fn short_values_have_64_bytes(rt: HostRuntime) {
     let mut room = [0; SHORT_VALUE];
     assert!(rt; short_value(b" 20240131\r\n", &mut room) == Some(b"20240131".as_slice()));
     assert!(rt;
@@ -95,12 +89,11 @@ fn short_values_have_64_bytes(rt: HostRuntime) -> Result<(), Fail> {
     );
     let mut raw = Vec::new(rt.alloc());
     for _ in 0..32 {
-        raw.extend_from_slice(b"a&gt;")?;
+        raw.extend_from_slice(b"a&gt;").expect(&rt, "room");
     }
-    let value = short_value(raw.as_slice(), &mut room).ok_or("64 bytes")?;
+    let value = short_value(raw.as_slice(), &mut room).expect(&rt, "64 bytes");
     assert_eq!(rt; value.len(), 64);
-    raw.push(b'a')?;
+    raw.push(b'a').expect(&rt, "room");
     assert!(rt; short_value(raw.as_slice(), &mut room).is_none());
     assert!(rt; short_value(&[b'a'; 65], &mut room).is_none());
-    Ok(())
 }

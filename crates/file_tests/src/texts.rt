@@ -5,24 +5,23 @@ use ofx_types::{
     TextFault, TrnUid,
 };
 use std::alloc::Global;
-use std::test::Fail;
+use std::process::Abort;
 
-fn text(alloc: Global, bytes: &[u8]) -> Result<Text, Fail> {
-    Ok(Text::new(alloc, bytes, 32)?)
+fn text(rt: &impl Abort, alloc: Global, bytes: &[u8]) -> Text {
+    Text::new(alloc, bytes, 32).expect(rt, "a text")
 }
 
 /// The copy outlives its text.
 #[test]
-fn texts_are_trimmed(rt: HostRuntime) -> Result<(), Fail> {
+fn texts_are_trimmed(rt: HostRuntime) {
     for (bytes, wanted) in [
         (b" \t\r\nal ice\n ".as_slice(), b"al ice".as_slice()),
         (b" \r\n".as_slice(), b"".as_slice()),
     ] {
-        let copy = text(rt.alloc(), bytes)?.copy()?;
+        let copy = text(&rt, rt.alloc(), bytes).copy().expect(&rt, "a copy");
         assert_eq!(rt; copy.as_bytes(), wanted);
-        assert!(rt; copy == text(rt.alloc(), wanted)?);
+        assert!(rt; copy == text(&rt, rt.alloc(), wanted));
     }
-    Ok(())
 }
 
 /// Bytes, the most that a text may have, and its fault. Length comes first.
@@ -58,24 +57,24 @@ const UIDS: &[(&[u8], Option<TextFault>, Option<TextFault>)] = &[
 ];
 
 #[test]
-fn uids_have_1_to_36_bytes(rt: HostRuntime) -> Result<(), Fail> {
+fn uids_have_1_to_36_bytes(rt: HostRuntime) {
     for (bytes, of_transaction, of_file) in UIDS.iter() {
         assert!(rt; TrnUid::new(bytes).err() == *of_transaction);
         assert!(rt; FileUid::new(bytes).err() == *of_file);
     }
-    let own = TrnUid::new(LONGEST).ok().ok_or("36 bytes are a uid")?;
-    assert_eq!(rt; own.copy()?.as_bytes(), LONGEST);
-    let file = FileUid::new(b" none\t")
-        .ok()
-        .ok_or("small letters are a uid")?;
-    assert_eq!(rt; file.copy()?.as_bytes(), b"none".as_slice());
-    Ok(())
+    let own = TrnUid::new(LONGEST).expect(&rt, "36 bytes");
+    assert_eq!(rt; own.copy().expect(&rt, "a copy").as_bytes(), LONGEST);
+    let file = FileUid::new(b" none\t").expect(&rt, "small letters");
+    assert_eq!(rt;
+        file.copy().expect(&rt, "a copy").as_bytes(),
+        b"none".as_slice()
+    );
 }
 
-fn statement(alloc: Global) -> Result<Ask, Fail> {
+fn statement(rt: &impl Abort, alloc: Global) -> Ask {
     let account = AcctName {
-        bank: text(alloc, b"121099999")?,
-        number: text(alloc, b"1001")?,
+        bank: text(rt, alloc, b"121099999"),
+        number: text(rt, alloc, b"1001"),
         kind: AcctKind::Checking,
     };
     let period = Period {
@@ -83,32 +82,31 @@ fn statement(alloc: Global) -> Result<Ask, Fail> {
         end: None,
         include: true,
     };
-    let trnuid = TrnUid::new(b"s1").ok().ok_or("a uid")?;
-    Ok(Ask::Statement(trnuid, account, Some(period)))
+    let trnuid = TrnUid::new(b"s1").expect(rt, "a uid");
+    Ask::Statement(trnuid, account, Some(period))
 }
 
 #[test]
-fn a_request_file_is_copied(rt: HostRuntime) -> Result<(), Fail> {
+fn a_request_file_is_copied(rt: HostRuntime) {
     let alloc = rt.alloc();
     let mut asks = Sequence::new(alloc);
-    asks.push(statement(alloc)?)?;
+    asks.push(statement(&rt, alloc)).expect(&rt, "room");
     let file = RequestFile {
         version: 160,
         older: None,
         newer: FileUid::new(b"u1").ok(),
-        user: text(alloc, b"alice")?,
-        pass: text(alloc, b"secret")?,
+        user: text(&rt, alloc, b"alice"),
+        pass: text(&rt, alloc, b"secret"),
         asks,
     };
-    let copy = file.copy()?;
+    let copy = file.copy().expect(&rt, "a copy");
     assert_eq!(rt; copy.version, 160);
     assert!(rt; copy.user == file.user);
     let [Ask::Statement(trnuid, account, Some(_))] = copy.asks.items() else {
-        return Err("a statement".into());
+        panic!(rt; "a statement");
     };
     assert_eq!(rt; trnuid.as_bytes(), b"s1".as_slice());
     assert_eq!(rt; account.number.as_bytes(), b"1001".as_slice());
     let none: Lines = Sequence::new(alloc);
     assert!(rt; none.into_vec().is_empty());
-    Ok(())
 }

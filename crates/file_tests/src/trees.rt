@@ -1,9 +1,12 @@
 //! Trees: bodies that are written, their children by name, and the places of faults.
 
+ghost use Rattle.ofx_tree.specs.Root.{AreRead};
+
 use ofx_tape::Tape;
 use ofx_tree::{Cursor, Sheet, TreeFault};
 use ofx_types::{Cents, Moment, Text};
-use std::test::Fail;
+use std::alloc::Global;
+use std::process::Abort;
 
 const BODY: &[u8; 153] = b"\
     <OFX>\r\n\
@@ -30,31 +33,44 @@ const VALUES: &[u8; 127] = b"\
     <DTEND>20240201\r\n\
     </OFX>";
 
-#[test]
-fn writes_lines(rt: HostRuntime) -> Result<(), Fail> {
-    let memo = Text::new(rt.alloc(), b" rent & tea ", 10)?;
-    let mut sheet = Sheet::new(rt.alloc());
-    sheet.start(b"OFX")?;
-    sheet.start(b"STATUS")?;
-    sheet.number(b"CODE", 2000)?;
-    sheet.element(b"SEVERITY", b"")?;
-    sheet.end(b"STATUS")?;
-    let mut sheet = Sheet::from_vec(sheet.into_bytes());
-    sheet.text(b"MEMO", &memo)?;
-    sheet.amount(b"TRNAMT", Cents(-1205))?;
-    sheet.moment(b"DTDUE", Moment(1_706_702_400))?;
-    sheet.element(b"INCLUDE", b"Y")?;
-    sheet.element(b"REFRESH", b"N")?;
-    sheet.number(b"TOKEN", 1)?;
-    sheet.number(b"TOKEN", 2)?;
-    sheet.end(b"OFX")?;
-    assert_eq!(rt; sheet.into_bytes().as_slice(), BODY.as_slice());
-    Ok(())
+/// An aggregate, whose second element has no value and isn't written.
+fn write_status(rt: &impl Abort, sheet: &mut Sheet) {
+    sheet.start(b"STATUS").expect(rt, "room");
+    sheet.number(b"CODE", 2000).expect(rt, "room");
+    sheet.element(b"SEVERITY", b"").expect(rt, "room");
+    sheet.end(b"STATUS").expect(rt, "room");
 }
 
 #[test]
-fn reads_children(rt: HostRuntime) -> Result<(), Fail> {
-    let tape = Tape::read(rt.alloc(), BODY)?;
+fn writes_lines(rt: HostRuntime) {
+    let memo = Text::new(rt.alloc(), b" rent & tea ", 10).expect(&rt, "a text");
+    let mut sheet = Sheet::new(rt.alloc());
+    sheet.start(b"OFX").expect(&rt, "room");
+    write_status(&rt, &mut sheet);
+    let mut sheet = Sheet::from_vec(sheet.into_bytes());
+    sheet.text(b"MEMO", &memo).expect(&rt, "room");
+    sheet.amount(b"TRNAMT", Cents(-1205)).expect(&rt, "room");
+    sheet
+        .moment(b"DTDUE", Moment(1_706_702_400))
+        .expect(&rt, "room");
+    sheet.element(b"INCLUDE", b"Y").expect(&rt, "room");
+    sheet.element(b"REFRESH", b"N").expect(&rt, "room");
+    sheet.number(b"TOKEN", 1).expect(&rt, "room");
+    sheet.number(b"TOKEN", 2).expect(&rt, "room");
+    sheet.end(b"OFX").expect(&rt, "room");
+    assert_eq!(rt; sheet.into_bytes().as_slice(), BODY.as_slice());
+}
+
+/// What is read of a body.
+fn tape<'a>(rt: &impl Abort, alloc: Global, body: &'a [u8]) -> Tape<'a>
+    ensures { AreRead result }
+{
+    Tape::read(alloc, body).expect(rt, "a tape")
+}
+
+#[test]
+fn reads_children(rt: HostRuntime) {
+    let tape = tape(&rt, rt.alloc(), BODY);
     let ofx = Cursor::root(&tape);
     assert_eq!(rt; ofx.name(), b"OFX".as_slice());
     let mut last = 0;
@@ -62,80 +78,79 @@ fn reads_children(rt: HostRuntime) -> Result<(), Fail> {
         last = child.place();
     }
     assert_eq!(rt; last, 135);
-    let status = ofx.one(b"STATUS")?;
+    let status = ofx.one(b"STATUS").expect(&rt, "the status");
     assert_eq!(rt; status.place(), 7);
-    assert!(rt; status.one(b"CODE")?.value_eq(b"2000"));
-    assert!(rt; ofx.maybe(b"CODE")?.is_none());
-    assert_eq!(rt;
-        ofx.text(rt.alloc(), b"MEMO", 10)?.as_bytes(),
-        b"rent & tea".as_slice()
-    );
-    assert!(rt; ofx.flag(b"INCLUDE")?);
-    assert!(rt; !ofx.flag(b"REFRESH")?);
-    Ok(())
+    let code = status.one(b"CODE").expect(&rt, "the code");
+    assert!(rt; code.value_eq(b"2000"));
+    assert!(rt; ofx.maybe(b"CODE").expect(&rt, "no code").is_none());
 }
 
 #[test]
-fn finds_faults(rt: HostRuntime) -> Result<(), Fail> {
-    let tape = Tape::read(rt.alloc(), BODY)?;
+fn reads_texts_and_flags(rt: HostRuntime) {
+    let tape = tape(&rt, rt.alloc(), BODY);
     let ofx = Cursor::root(&tape);
-    let status = ofx.one(b"STATUS")?;
-    assert_eq!(rt; status.one(b"MEMO").err(), Some(TreeFault::Missing(7)));
-    assert_eq!(rt; ofx.maybe(b"TOKEN").err(), Some(TreeFault::Repeated(135)));
-    assert_eq!(rt; ofx.flag(b"MEMO").err(), Some(TreeFault::Value(40)));
-    assert_eq!(rt;
-        ofx.text(rt.alloc(), b"MEMO", 9).err(),
-        Some(TreeFault::Value(40))
-    );
-    Ok(())
+    let memo = ofx.text(rt.alloc(), b"MEMO", 10).expect(&rt, "the memo");
+    assert_eq!(rt; memo.as_bytes(), b"rent & tea".as_slice());
+    assert_eq!(rt; ofx.flag(b"INCLUDE"), Ok(true));
+    assert_eq!(rt; ofx.flag(b"REFRESH"), Ok(false));
 }
 
 #[test]
-fn reads_amounts_dates_and_numbers(rt: HostRuntime) -> Result<(), Fail> {
-    let tape = Tape::read(rt.alloc(), VALUES)?;
+fn finds_faults(rt: HostRuntime) {
+    let tape = tape(&rt, rt.alloc(), BODY);
+    let ofx = Cursor::root(&tape);
+    let status = ofx.one(b"STATUS").expect(&rt, "the status");
+    for (found, fault) in [
+        (status.one(b"MEMO").err(), TreeFault::Missing(7)),
+        (ofx.maybe(b"TOKEN").err(), TreeFault::Repeated(135)),
+        (ofx.flag(b"MEMO").err(), TreeFault::Value(40)),
+        (ofx.text(rt.alloc(), b"MEMO", 9).err(), TreeFault::Value(40)),
+    ] {
+        assert_eq!(rt; found, Some(fault));
+    }
+}
+
+#[test]
+fn reads_amounts_dates_and_numbers(rt: HostRuntime) {
+    let tape = tape(&rt, rt.alloc(), VALUES);
     let ofx = Cursor::root(&tape);
     let noon = Moment(1_706_702_400);
-    assert_eq!(rt; ofx.amount(b"TRNAMT")?, Cents(-1250));
-    assert_eq!(rt; ofx.moment(b"DTDUE")?, noon);
-    assert_eq!(rt; ofx.maybe_moment(b"DTDUE")?, Some(noon));
-    assert_eq!(rt; ofx.maybe_moment(b"DTPOSTED")?, None);
-    assert_eq!(rt; ofx.number(b"TOKEN", 4)?, 12);
-    Ok(())
+    assert_eq!(rt; ofx.amount(b"TRNAMT"), Ok(Cents(-1250)));
+    assert_eq!(rt; ofx.moment(b"DTDUE"), Ok(noon));
+    assert_eq!(rt; ofx.maybe_moment(b"DTDUE"), Ok(Some(noon)));
+    assert_eq!(rt; ofx.maybe_moment(b"DTPOSTED"), Ok(None));
+    assert_eq!(rt; ofx.number(b"TOKEN", 4), Ok(12));
 }
 
 #[test]
-fn finds_faults_of_values(rt: HostRuntime) -> Result<(), Fail> {
-    let tape = Tape::read(rt.alloc(), VALUES)?;
+fn finds_faults_of_values(rt: HostRuntime) {
+    let tape = tape(&rt, rt.alloc(), VALUES);
     let ofx = Cursor::root(&tape);
-    assert_eq!(rt; ofx.amount(b"BALAMT").err(), Some(TreeFault::Missing(0)));
-    assert_eq!(rt; ofx.amount(b"DTEND").err(), Some(TreeFault::Repeated(104)));
-    assert_eq!(rt; ofx.amount(b"DTDUE").err(), Some(TreeFault::Value(22)));
-    assert_eq!(rt; ofx.moment(b"DTPOSTED").err(), Some(TreeFault::Missing(0)));
-    assert_eq!(rt; ofx.moment(b"DTEND").err(), Some(TreeFault::Repeated(104)));
-    assert_eq!(rt; ofx.moment(b"DTSTART").err(), Some(TreeFault::Value(56)));
-    assert_eq!(rt;
-        ofx.maybe_moment(b"DTEND").err(),
-        Some(TreeFault::Repeated(104))
-    );
-    assert_eq!(rt;
-        ofx.maybe_moment(b"DTSTART").err(),
-        Some(TreeFault::Value(56))
-    );
-    assert_eq!(rt; ofx.number(b"CODE", 10).err(), Some(TreeFault::Missing(0)));
-    assert_eq!(rt;
-        ofx.number(b"DTEND", 10).err(),
-        Some(TreeFault::Repeated(104))
-    );
-    assert_eq!(rt; ofx.number(b"TOKEN", 3).err(), Some(TreeFault::Value(74)));
-    Ok(())
+    for (found, fault) in [
+        (ofx.amount(b"BALAMT").err(), TreeFault::Missing(0)),
+        (ofx.amount(b"DTEND").err(), TreeFault::Repeated(104)),
+        (ofx.amount(b"DTDUE").err(), TreeFault::Value(22)),
+        (ofx.moment(b"DTPOSTED").err(), TreeFault::Missing(0)),
+        (ofx.moment(b"DTEND").err(), TreeFault::Repeated(104)),
+        (ofx.moment(b"DTSTART").err(), TreeFault::Value(56)),
+        (ofx.maybe_moment(b"DTEND").err(), TreeFault::Repeated(104)),
+        (ofx.maybe_moment(b"DTSTART").err(), TreeFault::Value(56)),
+        (ofx.number(b"CODE", 10).err(), TreeFault::Missing(0)),
+        (ofx.number(b"DTEND", 10).err(), TreeFault::Repeated(104)),
+        (ofx.number(b"TOKEN", 3).err(), TreeFault::Value(74)),
+    ] {
+        assert_eq!(rt; found, Some(fault));
+    }
 }
 
 #[test]
-fn finds_one_of_three(rt: HostRuntime) -> Result<(), Fail> {
+fn finds_one_of_three(rt: HostRuntime) {
     let body = b"<OFX><INTRARS><MEMO>a</INTRARS><INTRACANRS><MEMO>b</INTRACANRS></OFX>";
-    let tape = Tape::read(rt.alloc(), body)?;
+    let tape = tape(&rt, rt.alloc(), body);
     let ofx = Cursor::root(&tape);
-    let only = ofx.one_of(b"INTRARQ", b"INTRACANRS", b"INTRAMODRS")?;
+    let only = ofx
+        .one_of(b"INTRARQ", b"INTRACANRS", b"INTRAMODRS")
+        .expect(&rt, "one of three");
     assert_eq!(rt; only.place(), 31);
     assert_eq!(rt;
         ofx.one_of(b"INTRACANRS", b"INTRAMODRS", b"INTRARS").err(),
@@ -145,19 +160,21 @@ fn finds_one_of_three(rt: HostRuntime) -> Result<(), Fail> {
         only.one_of(b"INTRARS", b"INTRAMODRS", b"INTRACANRS").err(),
         Some(TreeFault::Missing(31))
     );
-    Ok(())
 }
 
 #[test]
-fn reads_ids(rt: HostRuntime) -> Result<(), Fail> {
+fn reads_ids(rt: HostRuntime) {
     let body = b"<OFX><SRVRTID>0012<TOKEN>12345678901<FITID>x</OFX>";
-    let tape = Tape::read(rt.alloc(), body)?;
+    let tape = tape(&rt, rt.alloc(), body);
     let ofx = Cursor::root(&tape);
-    assert_eq!(rt; ofx.id(b"SRVRTID")?, 12);
-    assert_eq!(rt; ofx.maybe_id(b"SRVRTID")?, 12);
-    assert_eq!(rt; ofx.id(b"TOKEN")?, 0);
-    assert_eq!(rt; ofx.id(b"FITID")?, 0);
-    assert_eq!(rt; ofx.maybe_id(b"RECSRVRTID")?, 0);
-    assert_eq!(rt; ofx.id(b"RECSRVRTID").err(), Some(TreeFault::Missing(0)));
-    Ok(())
+    for (found, wanted) in [
+        (ofx.id(b"SRVRTID"), Ok(12)),
+        (ofx.maybe_id(b"SRVRTID"), Ok(12)),
+        (ofx.id(b"TOKEN"), Ok(0)),
+        (ofx.id(b"FITID"), Ok(0)),
+        (ofx.maybe_id(b"RECSRVRTID"), Ok(0)),
+        (ofx.id(b"RECSRVRTID"), Err(TreeFault::Missing(0))),
+    ] {
+        assert_eq!(rt; found, wanted);
+    }
 }

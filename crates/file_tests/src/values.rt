@@ -6,7 +6,7 @@ use ofx_values::{
     read_moment, read_number,
 };
 use std::alloc::Global;
-use std::test::Fail;
+use std::process::Abort;
 
 /// Dates and what they are printed as in GMT, or `none` where they spell no moment.
 const DATES: &[(&str, &str)] = &[
@@ -94,40 +94,38 @@ const AMOUNTS: &[(&str, &str)] = &[
     ("", "none"),
 ];
 
-fn reprinted_date(alloc: Global, text: &str) -> Result<Vec<u8>, Fail> {
+fn reprinted_date(rt: &impl Abort, alloc: Global, text: &str) -> Vec<u8> {
     let mut out = Vec::new(alloc);
     match read_moment(text.as_bytes()) {
-        Ok(moment) => print_moment(moment, &mut out)?,
-        Err(_) => out.extend_from_slice(b"none")?,
+        Ok(moment) => print_moment(moment, &mut out).expect(rt, "room"),
+        Err(_) => out.extend_from_slice(b"none").expect(rt, "room"),
     }
-    Ok(out)
+    out
 }
 
-fn reprinted_amount(alloc: Global, text: &str) -> Result<Vec<u8>, Fail> {
+fn reprinted_amount(rt: &impl Abort, alloc: Global, text: &str) -> Vec<u8> {
     let mut out = Vec::new(alloc);
     match read_amount(text.as_bytes()) {
-        Ok(cents) => print_amount(cents, &mut out)?,
-        Err(_) => out.extend_from_slice(b"none")?,
+        Ok(cents) => print_amount(cents, &mut out).expect(rt, "room"),
+        Err(_) => out.extend_from_slice(b"none").expect(rt, "room"),
     }
-    Ok(out)
+    out
 }
 
 #[test]
-fn dates_are_read(rt: HostRuntime) -> Result<(), Fail> {
+fn dates_are_read(rt: HostRuntime) {
     for (text, want) in DATES.iter() {
-        let got = reprinted_date(rt.alloc(), text)?;
+        let got = reprinted_date(&rt, rt.alloc(), text);
         assert_eq!(rt; got.as_slice(), want.as_bytes(), "at {text}");
     }
-    Ok(())
 }
 
 #[test]
-fn amounts_are_read(rt: HostRuntime) -> Result<(), Fail> {
+fn amounts_are_read(rt: HostRuntime) {
     for (text, want) in AMOUNTS.iter() {
-        let got = reprinted_amount(rt.alloc(), text)?;
+        let got = reprinted_amount(&rt, rt.alloc(), text);
         assert_eq!(rt; got.as_slice(), want.as_bytes(), "at {text}");
     }
-    Ok(())
 }
 
 #[test]
@@ -163,20 +161,19 @@ fn numbers_are_digits_up_to_a_limit(rt: HostRuntime) {
 
 /// Each is printed after what stands, the widest ones too.
 #[test]
-fn numbers_and_amounts_are_printed(rt: HostRuntime) -> Result<(), Fail> {
+fn numbers_and_amounts_are_printed(rt: HostRuntime) {
     let mut out = Vec::new(rt.alloc());
-    print_number(0, &mut out)?;
-    out.push(b' ')?;
-    print_number(u64::MAX, &mut out)?;
-    out.push(b' ')?;
-    print_amount(Cents(i64::MIN), &mut out)?;
-    out.push(b' ')?;
-    print_amount(Cents(i64::MAX), &mut out)?;
+    print_number(0, &mut out).expect(&rt, "room");
+    out.push(b' ').expect(&rt, "room");
+    print_number(u64::MAX, &mut out).expect(&rt, "room");
+    out.push(b' ').expect(&rt, "room");
+    print_amount(Cents(i64::MIN), &mut out).expect(&rt, "room");
+    out.push(b' ').expect(&rt, "room");
+    print_amount(Cents(i64::MAX), &mut out).expect(&rt, "room");
     assert_eq!(rt;
         out.as_slice(),
         b"0 18446744073709551615 -92233720368547758.08 92233720368547758.07".as_slice()
     );
-    Ok(())
 }
 
 #[test]
@@ -189,10 +186,11 @@ fn days_are_counted_downwards(rt: HostRuntime) {
 }
 
 #[test]
-fn faults_say_which_value_has_no_form(rt: HostRuntime) -> Result<(), Fail> {
-    let amount = ValueFault::Amount.to_string(rt.alloc())?;
+fn faults_say_which_value_has_no_form(rt: HostRuntime) {
+    let amount = ValueFault::Amount
+        .to_string(rt.alloc())
+        .expect(&rt, "a text");
     assert_eq!(rt; amount.as_str(), "not an amount");
-    let date = ValueFault::Date.to_string(rt.alloc())?;
+    let date = ValueFault::Date.to_string(rt.alloc()).expect(&rt, "a text");
     assert_eq!(rt; date.as_str(), "not a date");
-    Ok(())
 }
