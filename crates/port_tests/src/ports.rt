@@ -6,57 +6,52 @@ use ofx_ports::{
 };
 use ofx_types::Moment;
 use std::io::{Error, ErrorKind, Read};
-use std::test::Fail;
 use std::{fs, io};
 
 #[test]
-fn a_source_gives_its_bytes(rt: HostRuntime) -> Result<(), Fail> {
-    let mut source = MemSource::new(rt.alloc(), b"abc")?;
+fn a_source_gives_its_bytes(rt: HostRuntime) {
+    let mut source = MemSource::new(rt.alloc(), b"abc").expect(&rt, "a source");
     let mut into = [0u8; 8];
     assert_eq!(rt; source.read(&mut into), Ok(3));
     assert_eq!(rt; &into[..3], b"abc".as_slice());
     assert_eq!(rt; source.left().len(), 0);
     assert_eq!(rt; source.read(&mut into), Ok(0));
     assert_eq!(rt; source.calls(), 2);
-    Ok(())
 }
 
 #[test]
-fn a_source_fails_where_it_is_told_to(rt: HostRuntime) -> Result<(), Fail> {
-    let mut source = MemSource::failing(rt.alloc(), b"abc", 1, &[2])?;
+fn a_source_fails_where_it_is_told_to(rt: HostRuntime) {
+    let mut source = MemSource::failing(rt.alloc(), b"abc", 1, &[2]).expect(&rt, "a source");
     let mut into = [0u8; 8];
     assert_eq!(rt; source.read(&mut into), Ok(1));
     assert_eq!(rt; source.read(&mut into), Err(Failed));
     assert_eq!(rt; source.left(), b"bc".as_slice());
     assert_eq!(rt; source.read(&mut into), Ok(1));
     assert_eq!(rt; into[0], b'b');
-    Ok(())
 }
 
 #[test]
-fn a_sink_holds_what_it_took(rt: HostRuntime) -> Result<(), Fail> {
-    let mut sink = MemSink::new(rt.alloc(), 4)?;
+fn a_sink_holds_what_it_took(rt: HostRuntime) {
+    let mut sink = MemSink::new(rt.alloc(), 4).expect(&rt, "a sink");
     assert_eq!(rt; sink.write(b"abc"), Ok(3));
     assert_eq!(rt; sink.write(b"de"), Err(Failed));
     assert_eq!(rt; sink.write(b"d"), Ok(1));
     assert_eq!(rt; sink.held(), b"abcd".as_slice());
     assert_eq!(rt; sink.calls(), 3);
-    Ok(())
 }
 
 #[test]
-fn a_sink_fails_where_it_is_told_to(rt: HostRuntime) -> Result<(), Fail> {
-    let mut sink = MemSink::failing(rt.alloc(), 4, 1, &[1])?;
+fn a_sink_fails_where_it_is_told_to(rt: HostRuntime) {
+    let mut sink = MemSink::failing(rt.alloc(), 4, 1, &[1]).expect(&rt, "a sink");
     assert_eq!(rt; sink.write(b"ab"), Err(Failed));
     assert_eq!(rt; sink.write(b"ab"), Ok(1));
     assert_eq!(rt; sink.held(), b"a".as_slice());
-    Ok(())
 }
 
 #[test]
-fn a_keeper_keeps_records(rt: HostRuntime) -> Result<(), Fail> {
+fn a_keeper_keeps_records(rt: HostRuntime) {
     let mut keeper = MemKeeper::new(rt.alloc());
-    let mut into = b"before".to_vec(rt.alloc())?;
+    let mut into = b"before".to_vec(rt.alloc()).expect(&rt, "room");
     assert_eq!(rt; keeper.append(b"one"), Ok(()));
     assert_eq!(rt; keeper.append(b"two"), Ok(()));
     assert_eq!(rt; keeper.len(), 2);
@@ -67,12 +62,11 @@ fn a_keeper_keeps_records(rt: HostRuntime) -> Result<(), Fail> {
     assert_eq!(rt; keeper.settle(), Ok(false));
     assert_eq!(rt; keeper.calls(), 4);
     assert_eq!(rt; keeper.faults(), 0);
-    Ok(())
 }
 
 #[test]
-fn a_keeper_settles_what_landed(rt: HostRuntime) -> Result<(), Fail> {
-    let mut keeper = MemKeeper::failing(rt.alloc(), &[1, 2, 4, 6], &[1])?;
+fn a_keeper_settles_what_landed(rt: HostRuntime) {
+    let mut keeper = MemKeeper::failing(rt.alloc(), &[1, 2, 4, 6], &[1]).expect(&rt, "a keeper");
     let mut into = Vec::new(rt.alloc());
     assert_eq!(rt; keeper.append(b"one"), Err(PutFault::Failed));
     assert_eq!(rt; keeper.settle(), Err(Failed));
@@ -84,16 +78,14 @@ fn a_keeper_settles_what_landed(rt: HostRuntime) -> Result<(), Fail> {
     assert_eq!(rt; keeper.fetch(1, &mut into), Ok(()));
     assert_eq!(rt; into.as_slice(), b"one".as_slice());
     assert_eq!(rt; keeper.faults(), 4);
-    Ok(())
 }
 
 #[test]
-fn a_clock_answers_in_order(rt: HostRuntime) -> Result<(), Fail> {
-    let mut clock = MemClock::new(rt.alloc(), &[Moment(5), Moment(7)])?;
+fn a_clock_answers_in_order(rt: HostRuntime) {
+    let mut clock = MemClock::new(rt.alloc(), &[Moment(5), Moment(7)]).expect(&rt, "a clock");
     assert_eq!(rt; clock.now(), Moment(5));
     assert_eq!(rt; clock.now(), Moment(7));
     assert_eq!(rt; clock.now(), Moment(7));
-    Ok(())
 }
 
 // Is cut short by a signal at the first read, gives one byte at the second, and fails from then on.
@@ -134,13 +126,12 @@ fn a_path_that_cannot_be_opened_fails(rt: HostRuntime) {
 }
 
 #[test]
-fn a_writer_is_a_sink(rt: HostRuntime) -> Result<(), Fail> {
+fn a_writer_is_a_sink(rt: HostRuntime) {
     let mut out = Vec::new(rt.alloc());
     let mut sink = WriterSink::new(&mut out);
     assert_eq!(rt; sink.write(b"abc"), Ok(3));
     drop(sink);
     assert_eq!(rt; out.as_slice(), b"abc".as_slice());
-    Ok(())
 }
 
 #[test]

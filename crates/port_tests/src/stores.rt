@@ -4,19 +4,28 @@
 use ofx_ports::{FetchFault, FileStore, MemStore, PutFault, StoreKeeper};
 use std::fs;
 use std::os::unix::fs::PermissionsExt;
-use std::test::Fail;
+use std::process::Abort;
 
 // A new folder for the files of one test.
-fn folder(rt: &HostRuntime, name: &str) -> Result<(), Fail> {
+fn folder(rt: &HostRuntime, abort: &impl Abort, name: &str) {
     let _ = fs::remove_dir_all(rt, name);
-    fs::create_dir(rt, name)?;
-    Ok(())
+    fs::create_dir(rt, name).expect(abort, "a new folder");
+}
+
+// The folder of a test that is over goes.
+fn removed(rt: &HostRuntime, abort: &impl Abort, name: &str) {
+    fs::remove_dir_all(rt, name).expect(abort, "a folder to remove");
+}
+
+// A store in the file of this path.
+fn in_file(rt: &HostRuntime, abort: &impl Abort, path: &str) -> FileStore<HostRuntime> {
+    FileStore::at(rt.alloc(), *rt, path).expect(abort, "a store")
 }
 
 #[test]
-fn a_store_keeps_its_last_text(rt: HostRuntime) -> Result<(), Fail> {
+fn a_store_keeps_its_last_text(rt: HostRuntime) {
     let mut store = MemStore::new(rt.alloc());
-    let mut into = b"before".to_vec(rt.alloc())?;
+    let mut into = b"before".to_vec(rt.alloc()).expect(&rt, "room");
     assert_eq!(rt; store.load(&mut into), Ok(()));
     assert_eq!(rt; into.len(), 0);
     assert_eq!(rt; store.save(b"one"), Ok(()));
@@ -25,12 +34,11 @@ fn a_store_keeps_its_last_text(rt: HostRuntime) -> Result<(), Fail> {
     assert_eq!(rt; into.as_slice(), b"other".as_slice());
     assert_eq!(rt; store.calls(), 4);
     assert_eq!(rt; store.faults(), 0);
-    Ok(())
 }
 
 #[test]
-fn a_save_that_fails_leaves_the_old_text_or_the_new_one(rt: HostRuntime) -> Result<(), Fail> {
-    let mut store = MemStore::failing(rt.alloc(), b"old", &[1, 2, 3], &[2])?;
+fn a_save_that_fails_leaves_the_old_text_or_the_new_one(rt: HostRuntime) {
+    let mut store = MemStore::failing(rt.alloc(), b"old", &[1, 2, 3], &[2]).expect(&rt, "a store");
     let mut into = Vec::new(rt.alloc());
     assert_eq!(rt; store.save(b"lost"), Err(PutFault::Failed));
     assert_eq!(rt; store.text(), b"old".as_slice());
@@ -40,63 +48,60 @@ fn a_save_that_fails_leaves_the_old_text_or_the_new_one(rt: HostRuntime) -> Resu
     assert_eq!(rt; store.load(&mut into), Ok(()));
     assert_eq!(rt; into.as_slice(), b"landed".as_slice());
     assert_eq!(rt; store.faults(), 3);
-    Ok(())
 }
 
 #[test]
-fn a_text_outlives_its_store(rt: HostRuntime) -> Result<(), Fail> {
-    folder(&rt, "store")?;
-    let mut into = b"before".to_vec(rt.alloc())?;
-    let mut store = FileStore::at(rt.alloc(), rt, "store/text")?;
+fn a_text_outlives_its_store(rt: HostRuntime) {
+    folder(&rt, &rt, "store");
+    let mut into = b"before".to_vec(rt.alloc()).expect(&rt, "room");
+    let mut store = in_file(&rt, &rt, "store/text");
     assert_eq!(rt; store.load(&mut into), Ok(()));
     assert_eq!(rt; into.len(), 0);
     assert_eq!(rt; store.save(b"a longer text"), Ok(()));
     assert_eq!(rt; store.save(b"a text"), Ok(()));
     drop(store);
-    let mode = fs::metadata(&rt, "store/text")?.permissions().mode();
+    let text = fs::metadata(&rt, "store/text").expect(&rt, "the file");
+    let mode = text.permissions().mode();
     assert_eq!(rt; mode & 0o777, 0o600);
     assert!(rt; fs::metadata(&rt, "store/text.new").is_err());
-    let mut store = FileStore::at(rt.alloc(), rt, "store/text")?;
+    let mut store = in_file(&rt, &rt, "store/text");
     assert_eq!(rt; store.load(&mut into), Ok(()));
     assert_eq!(rt; into.as_slice(), b"a text".as_slice());
     assert_eq!(rt; store.faults(), 0);
-    fs::remove_dir_all(&rt, "store")?;
-    Ok(())
+    removed(&rt, &rt, "store");
 }
 
 // A crash before the rename leaves a part of the new text beside the file.
 #[test]
-fn a_crash_leaves_the_old_text_and_the_next_save_goes_on(rt: HostRuntime) -> Result<(), Fail> {
-    folder(&rt, "crashed")?;
+fn a_crash_leaves_the_old_text_and_the_next_save_goes_on(rt: HostRuntime) {
+    folder(&rt, &rt, "crashed");
     let mut into = Vec::new(rt.alloc());
-    let mut store = FileStore::at(rt.alloc(), rt, "crashed/text")?;
+    let mut store = in_file(&rt, &rt, "crashed/text");
     assert_eq!(rt; store.save(b"old"), Ok(()));
-    fs::write(&rt, "crashed/text.new", b"a part of the ne")?;
+    fs::write(&rt, "crashed/text.new", b"a part of the ne").expect(&rt, "a file");
     assert_eq!(rt; store.load(&mut into), Ok(()));
     assert_eq!(rt; into.as_slice(), b"old".as_slice());
     assert_eq!(rt; store.save(b"new"), Ok(()));
     assert_eq!(rt; store.load(&mut into), Ok(()));
     assert_eq!(rt; into.as_slice(), b"new".as_slice());
-    fs::remove_dir_all(&rt, "crashed")?;
-    Ok(())
+    removed(&rt, &rt, "crashed");
 }
 
 // A folder stands where the new text is to be written, and one where the text is to be.
 #[test]
-fn a_file_that_cannot_be_written_or_read_fails(rt: HostRuntime) -> Result<(), Fail> {
-    folder(&rt, "barred")?;
+fn a_file_that_cannot_be_written_or_read_fails(rt: HostRuntime) {
+    folder(&rt, &rt, "barred");
     let mut into = Vec::new(rt.alloc());
-    let mut store = FileStore::at(rt.alloc(), rt, "barred/text")?;
+    let mut store = in_file(&rt, &rt, "barred/text");
     assert_eq!(rt; store.save(b"old"), Ok(()));
-    fs::create_dir(&rt, "barred/text.new")?;
+    fs::create_dir(&rt, "barred/text.new").expect(&rt, "a folder");
     assert_eq!(rt; store.save(b"new"), Err(PutFault::Failed));
     assert_eq!(rt; store.load(&mut into), Ok(()));
     assert_eq!(rt; into.as_slice(), b"old".as_slice());
-    let mut other = FileStore::at(rt.alloc(), rt, "barred/text.new")?;
+    let mut other = in_file(&rt, &rt, "barred/text.new");
     assert_eq!(rt; other.load(&mut into), Err(FetchFault::Failed));
     assert_eq!(rt; into.len(), 0);
     assert_eq!(rt; other.save(b"new"), Err(PutFault::Failed));
     assert_eq!(rt; other.faults(), 2);
-    fs::remove_dir_all(&rt, "barred")?;
-    Ok(())
+    removed(&rt, &rt, "barred");
 }
