@@ -9,7 +9,7 @@ use std::alloc::Global;
 use std::marker::Model;
 
 /// The balance that an account comes to, in cents.
-#[derive(Debug, Drop)]
+#[derive(Drop)]
 pub struct Balance {
     /// The account, by its number.
     pub account: AcctId,
@@ -18,7 +18,6 @@ pub struct Balance {
 }
 
 /// Balances in the order in which accounts came to them. The last one of an account counts.
-#[derive(Debug, Drop)]
 pub struct Balances {
     given: Vec<Balance>,
 }
@@ -30,6 +29,12 @@ impl Model for Balances {
     ghost Value = { BalancesView };
 
     ghost view = { λ b. record { given = b.given.items; room = vec_capacity b.given - vec_len b.given } };
+}
+
+impl Drop for Balances {
+    fn drop(self) {
+        let Balances { given: _ } = self;
+    }
 }
 
 impl Balances {

@@ -11,7 +11,6 @@ use std::alloc::Global;
 use std::marker::Model;
 
 /// Accounts in the order of their numbers, each once.
-#[derive(Debug, Drop)]
 pub struct Held {
     accounts: Vec<Account>,
 }
@@ -26,6 +25,12 @@ impl Model for Held {
     ghost view = { λ h. h.accounts.items };
 
     ghost invariant = { λ h. NumbersRise h.accounts.items };
+}
+
+impl Drop for Held {
+    fn drop(self) {
+        let Held { accounts: _ } = self;
+    }
 }
 
 /// Why an account wasn't taken among those held.

@@ -14,7 +14,6 @@ use std::alloc::Global;
 use std::marker::Model;
 
 /// The accounts of a bank, numbered from 0, each at its place unless it is lent.
-#[derive(Debug, Drop)]
 pub struct Home {
     places: Vec<Option<Account>>,
 }
@@ -30,6 +29,12 @@ impl Model for Home {
     ghost view = { λ h. h.places.items };
 
     ghost invariant = { λ h. AreUnderNumbers h.places.items };
+}
+
+impl Drop for Home {
+    fn drop(self) {
+        let Home { places: _ } = self;
+    }
 }
 
 impl Home {
@@ -106,7 +111,7 @@ impl Home {
         ensures numbered { IfOk result (λ accounts. AreNumbered accounts.items) }
         ensures all { IfOk result (λ accounts. map Some accounts.items ≡ self) }
     {
-        let mut places = self.places;
+        let Home { mut places } = self;
         let mut accounts = Vec::with_capacity(alloc, places.len())?;
         while let Some(place) = places.pop() {
             if let Some(account) = place {

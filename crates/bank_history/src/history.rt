@@ -24,7 +24,6 @@ use std::marker::Model;
 ///
 /// An entry comes without taking memory. It stands among the recent ones, which have room, until room is made for more: then it
 /// goes to its object.
-#[derive(Drop)]
 pub struct History {
     // all entries, for contracts alone
     past: Past,
@@ -59,6 +58,19 @@ impl Model for History {
     ghost invariant = { λ h. AreNumbered (entries_of h.past) × HasLasts h.lasts.entries (entries_of h.past)
         × (h.count ≡ length (entries_of h.past)) × IsLaidBefore h.laid h.recent.items (entries_of h.past)
         × (vec_len h.recent + h.left ≤ vec_capacity h.recent) × (h.left ≤ spare h.lasts) };
+}
+
+impl Drop for History {
+    fn drop(self) {
+        let History {
+            past: _,
+            count: _,
+            lasts: _,
+            laid: _,
+            recent: _,
+            left: _,
+        } = self;
+    }
 }
 
 impl History {

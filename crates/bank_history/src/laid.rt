@@ -21,7 +21,6 @@ use std::marker::Model;
 use token_window::Since;
 
 /// What is held of each object, with its mails.
-#[derive(Drop)]
 pub(crate) struct Laid {
     objects: Objects,
     mails: Mails,
@@ -33,6 +32,15 @@ impl Model for Laid {
     ghost Value = { LaidView };
 
     ghost view = { λ l. record { objects = l.objects; mails = l.mails } };
+}
+
+impl Drop for Laid {
+    fn drop(self) {
+        let Laid {
+            objects: _,
+            mails: _,
+        } = self;
+    }
 }
 
 impl Laid {

@@ -8,7 +8,7 @@ use bank_model::Entry;
 use ofx_types::{Change, Duplicate, MailRow, ObjectId, OutOfMemory};
 
 /// What an entry made.
-#[derive(Debug, Drop)]
+#[derive(Drop)]
 pub enum Made {
     /// The transfer with this id.
     Transfer(u64),

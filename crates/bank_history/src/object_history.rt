@@ -14,7 +14,6 @@ use std::marker::Model;
 use token_window::Window;
 
 /// What is held of an object.
-#[derive(Debug, Drop)]
 pub(crate) struct ObjectHistory {
     window: Window,
     origins: Vec<Origin>,
@@ -31,6 +30,15 @@ impl Model for ObjectHistory {
       origins = k.origins.items;
       room = min k.window.room (vec_capacity k.origins - vec_len k.origins);
     } };
+}
+
+impl Drop for ObjectHistory {
+    fn drop(self) {
+        let ObjectHistory {
+            window: _,
+            origins: _,
+        } = self;
+    }
 }
 
 impl ObjectHistory {

@@ -14,7 +14,6 @@ use std::collections::HashMap;
 use std::marker::Model;
 
 /// What is held of the objects that have entries.
-#[derive(Drop)]
 pub(crate) struct Objects {
     alloc: Global,
     width: u32,
@@ -30,6 +29,16 @@ impl Model for Objects {
     ghost view = { λ o. record { width = o.width; held = o.held.entries } };
 
     ghost invariant = { λ o. (0 < o.width) × (o.width < 10001) };
+}
+
+impl Drop for Objects {
+    fn drop(self) {
+        let Objects {
+            alloc: _,
+            width: _,
+            held: _,
+        } = self;
+    }
 }
 
 impl Objects {

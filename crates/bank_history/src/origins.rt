@@ -10,7 +10,7 @@ use crate::made::Made;
 use ofx_types::{Change, Duplicate, MailRow, OutOfMemory};
 
 /// What an entry made. Mails lie apart from their origins, in the same order.
-#[derive(Clone, Copy, Debug)]
+#[derive(Clone, Copy)]
 pub(crate) enum Origin {
     /// The transfer with this id.
     Transfer(u64),

@@ -7,7 +7,6 @@ use std::alloc::Global;
 use std::marker::Model;
 
 /// The mails of an object in order.
-#[derive(Debug, Drop)]
 pub(crate) struct HeldMails {
     object: ObjectId,
     rows: Vec<MailRow>,
@@ -24,6 +23,12 @@ impl Model for HeldMails {
       rows = held.rows.items;
       room = vec_capacity held.rows - vec_len held.rows;
     } };
+}
+
+impl Drop for HeldMails {
+    fn drop(self) {
+        let HeldMails { object: _, rows: _ } = self;
+    }
 }
 
 impl HeldMails {

@@ -14,7 +14,6 @@ use std::alloc::Global;
 use std::marker::Model;
 
 /// The mails of a bank: those of each object lie together, in the order in which they came.
-#[derive(Debug, Drop)]
 pub struct Mails {
     alloc: Global,
     mails: Vec<HeldMails>,
@@ -27,6 +26,12 @@ impl Model for Mails {
     ghost Value = { List ObjectMails };
 
     ghost view = { λ m. m.mails.items };
+}
+
+impl Drop for Mails {
+    fn drop(self) {
+        let Mails { alloc: _, mails: _ } = self;
+    }
 }
 
 impl Mails {

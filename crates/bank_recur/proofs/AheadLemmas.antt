@@ -1,5 +1,5 @@
 -- The next transfers beside the recurring transfers that make them, where one of these changes or is new.
-use Rattle.std.proofs.Common.{◌≡◌, ℕ, ◌+◌, ◌-◌, min, ◌<◌, ◌≤◌, Bool, true, false, cond, eqb, List, [], ◌∷◌, ◌++◌, length, get_or, set, Option, None, Some, is_some, refl, sym, ap, ◌∙◌, arith, length-append, length-set}
+use Rattle.std.proofs.Common.{◌≡◌, ℕ, ◌+◌, ◌-◌, min, ◌<◌, ◌≤◌, Bool, true, false, cond, eqb, List, [], ◌∷◌, ◌++◌, length, set, Option, None, Some, is_some, refl, sym, ap, ◌∙◌, arith, length-append, length-set}
 use Rattle.std.proofs.lemmas.List.Sums.{sum_by-append, sum_by-set}
 use Rattle.std.specs.Option.{option_map}
 use Rattle.std.specs.List.{sum_by}
@@ -91,3 +91,11 @@ ahead_pushed id new series old upcoming day none same ahead is entered many plac
     chosen : (other : ℕ) (b : Bool) → cond b day (day_in other old.spawns) ≡ date_ahead_of (cond b (Some new) (series_found other series))
     chosen other true = is
     chosen other false = ahead.days other
+
+-- Room for more of them changes nothing of what stands there.
+pub ahead_reserved : (series : List Series) (old new : UpcomingView) → new.spawns ≡ old.spawns → old.places ≤ new.places → IsAhead series old → IsAhead series new
+ahead_reserved series old new same more ahead = record {
+  days = λ id. ap (day_in id) same ∙ ahead.days id;
+  many = ap length same ∙ ahead.many;
+  places = let room = ahead.places in omega (arith, room, more);
+}

@@ -1,5 +1,5 @@
 -- Lists in order, by any relation of each element to those after it: one element more at its place, or one less.
-use Rattle.std.proofs.Common.{ℕ, zero, suc, ◌+◌, ◌<◌, ◌≤◌, List, [], ◌∷◌, ◌++◌, length, get_or, take, drop, insert, remove, arith}
+use Rattle.std.proofs.Common.{ℕ, zero, suc, ◌<◌, ◌≤◌, List, [], ◌∷◌, length, get_or, insert, remove, arith}
 use Rattle.std.specs.List.{AllByRecursion, AllWithin}
 use Rattle.bank_recur.specs.InOrder.{AllInOrder}
 

@@ -1,5 +1,5 @@
 -- Recurring transfers that stand for a list of entries, and one entry more.
-use Rattle.std.proofs.Common.{◌≡◌, ℕ, ◌+◌, ◌<◌, ◌≤◌, Bool, true, false, not, ◌||◌, cond, eqb, nat_lt, map, List, [], ◌∷◌, ◌++◌, length, get_or, set, Option, None, Some, is_some, refl, sym, ap, ◌∙◌, subst}
+use Rattle.std.proofs.Common.{arith, ◌≡◌, ℕ, ◌+◌, ◌<◌, ◌≤◌, Bool, true, false, not, ◌||◌, cond, eqb, nat_lt, map, List, [], ◌∷◌, ◌++◌, length, get_or, set, Option, None, Some, is_some, refl, sym, ap, ◌∙◌, subst}
 use Rattle.std.proofs.Math.Bool.{or-false, or-true}
 use Rattle.std.proofs.Math.Seq.{map-set_same}
 use Rattle.std.proofs.lemmas.Bool.{eqb-true, eq-eqb, ltb-false}
@@ -9,8 +9,9 @@ use Rattle.std.proofs.lemmas.List.Quantifiers.{position-Some}
 use Rattle.std.proofs.lemmas.Option.{slice_get_past, slice_get-get_or}
 use Rattle.std.specs.Option.{option_map, option_or}
 use Rattle.std.specs.Cmp.{nat_eq_equiv}
-use Rattle.std.specs.List.{AllByRecursion, IsDistinct, list_any, position, position_or_len, slice_get}
-use Rattle.indexmap.specs.IndexSet.{insert_key}
+use Rattle.std.specs.List.{AllByRecursion, IsDistinct, position, position_from, position_or_len, slice_get}
+use Rattle.std.specs.Map.{lookup}
+use Rattle.std.proofs.lemmas.Iterator.Adapters.{position_from-zero}
 use Rattle.ofx_types.specs.declared.recurring.ModelRow.{ModelRow}
 use Rattle.ofx_types.specs.declared.transfer.TransferRow.{TransferRow}
 use Rattle.ofx_types.specs.declared.transfer.Change.{Change}
@@ -18,7 +19,7 @@ use Rattle.ofx_types.specs.declared.transfer.Change.TheVariants.{NewTransfer, Se
 use Rattle.bank_model.specs.declared.entry.Entry.{Entry}
 use Rattle.bank_model.specs.Models.{model_in, if_model_named, or_model_before, model_of, drops_model, is_of_model, is_made_by, next_place}
 use Rattle.bank_recur.specs.Growth.{place_after}
-use Rattle.bank_recur.specs.ModelsView.{Series, ModelsView, series_found, row_found, is_cancelled_series, cancelled_found, place_in_series, place_found, id_made, ids_of, IsOnce, StandsFor, GivesModel, Cancels, IsMadeBy, LeavesModels}
+use Rattle.bank_recur.specs.ModelsView.{Series, ModelsView, series_found, row_found, is_cancelled_series, cancelled_found, place_in_series, place_found, id_made, ids_of, IsOnce, HasOffsets, StandsFor, GivesModel, Cancels, IsMadeBy, LeavesModels}
 use Rattle.bank_recur.proofs.GrowthLemmas.{model_of-push, is_model_dropped-push, ids_made-push, next_place-push}
 
 -- ---- one entry more
@@ -92,25 +93,44 @@ prefix-map f p [] = refl
 prefix-map f p (x ∷ xs) = ap (λ n. cond (not (p (f x))) (1 + n) 0) (prefix-map f p xs)
 
 -- The place of an id among them is that of its recurring transfer.
-pub place_by_id : (id : ℕ) (ids : List ℕ) (series : List Series) → ids ≡ ids_of series → position (λ k. eqb id k) ids ≡ position (is_named id) series
-place_by_id id ids series same =
-    ap (position (λ k. eqb id k)) same
-    ∙ (λ i. position (λ k. nat_eq_equiv.symm id k i) (ids_of series))
+pub place_by_id : (id : ℕ) (series : List Series) → position (λ k. eqb id k) (ids_of series) ≡ position (is_named id) series
+place_by_id id series =
+    (λ i. position (λ k. nat_eq_equiv.symm id k i) (ids_of series))
     ∙ (λ i. cond (nat_lt (prefix-map (λ (one : Series). one.row.id) (λ k. eqb k id) series i) (length-map series (λ (one : Series). one.row.id) i)) (Some (prefix-map (λ (one : Series). one.row.id) (λ k. eqb k id) series i)) None)
 
-no_id : (id : ℕ) (series : List Series) → series_found id series ≡ None → list_any (λ k. eqb id k) (ids_of series) ≡ false
-no_id id [] none = refl
-no_id id (one ∷ series) none = (λ i. nat_eq_equiv.symm id one.row.id i || list_any (λ k. eqb id k) (ids_of series)) ∙ (elim (eqb one.row.id id) as (λ b. cond b (Some one) (series_found id series) ≡ None → (b || list_any (λ k. eqb id k) (ids_of series)) ≡ false) [
-  | true ↦ (λ none. cc)
-  | false ↦ (λ none. no_id id series none)
-]) none
+from_push : (test : ℕ → Bool) (i : ℕ) (ids : List ℕ) (id : ℕ) → position_from test i (ids ++ id ∷ []) ≡ option_or (position_from test i ids) (cond (test id) (Some (i + length ids)) None)
+from_push test i [] id = let same : i ≡ i + 0 = omega arith in ap (λ n. cond (test id) (Some n) None) same
+from_push test i (k ∷ ids) id =
+    let rest = from_push test (i + 1) ids id in
+    let same : i + 1 + length ids ≡ i + length (k ∷ ids) = omega arith in
+    elim (test k) as (λ b. cond b (Some i) (position_from test (i + 1) (ids ++ id ∷ [])) ≡ option_or (cond b (Some i) (position_from test (i + 1) ids)) (cond (test id) (Some (i + length (k ∷ ids))) None)) [
+      | true ↦ refl
+      | false ↦ rest ∙ ap (λ n. option_or (position_from test (i + 1) ids) (cond (test id) (Some n) None)) same
+    ]
 
-pub ids_inserted : (one : Series) (ids : List ℕ) (series : List Series) → series_found one.row.id series ≡ None → ids ≡ ids_of series
-    → insert_key (λ a b. eqb a b) ids one.row.id ≡ ids_of (series ++ one ∷ [])
-ids_inserted one ids series none same =
-    ap (λ (l : List ℕ). insert_key (λ a b. eqb a b) l one.row.id) same
-    ∙ ap (λ b. cond b (ids_of series) (ids_of series ++ one.row.id ∷ [])) (no_id one.row.id series none)
-    ∙ sym (map-append (λ (s : Series). s.row.id) series (one ∷ []))
+position_push : (test : ℕ → Bool) (ids : List ℕ) (id : ℕ) → position test (ids ++ id ∷ []) ≡ option_or (position test ids) (cond (test id) (Some (length ids)) None)
+position_push test ids id =
+    let same : 0 + length ids ≡ length ids = omega arith in
+    position_from-zero test (ids ++ id ∷ []) ∙ from_push test 0 ids id
+    ∙ (λ i. option_or (sym (position_from-zero test ids) i) (cond (test id) (Some (same i)) None))
+
+-- One more id, which isn't there, comes with the offset of the end.
+pub offsets_pushed : (id at : ℕ) (ids : List ℕ) (old new : List (ℕ × ℕ)) → position (λ k. eqb id k) ids ≡ None → at ≡ length ids
+    → ((other : ℕ) → lookup (λ k. eqb other k) new ≡ cond (eqb id other) (Some at) (lookup (λ k. eqb other k) old)) → HasOffsets old ids → HasOffsets new (ids ++ id ∷ [])
+offsets_pushed id at ids old new none last put held other = put other ∙ named (eqb id other) refl ∙ sym (position_push (λ k. eqb other k) ids id)
+  where
+    alone : (found : Option ℕ) → found ≡ option_or found None
+    alone None = refl
+    alone (Some n) = refl
+
+    named : (b : Bool) → eqb id other ≡ b → cond b (Some at) (lookup (λ k. eqb other k) old) ≡ option_or (position (λ k. eqb other k) ids) (cond (eqb other id) (Some (length ids)) None)
+    named true e =
+        ap (λ n. Some n) last
+        ∙ sym (ap (λ b. cond b (Some (length ids)) None) (nat_eq_equiv.symm other id ∙ e))
+        ∙ sym (ap (λ found. option_or found (cond (eqb other id) (Some (length ids)) None)) (ap (λ n. position (λ k. eqb n k) ids) (sym (eqb-true id other e)) ∙ none))
+    named false e =
+        held other ∙ alone (position (λ k. eqb other k) ids)
+        ∙ sym (ap (λ b. option_or (position (λ k. eqb other k) ids) (cond b (Some (length ids)) None)) (nat_eq_equiv.symm other id ∙ e))
 
 pub now_set : (id at : ℕ) (one new : Series) (series : List Series) → IsAt id at one series → new.row.id ≡ id → IsNow id new series (set series at new)
 now_set id at one new series is_there same other = named (eqb id other) refl

@@ -1,7 +1,8 @@
 -- What contracts see of the recurring transfers of a bank, and the list of entries that they stand for.
 use Rattle.std.specs.Prelude.{◌≡◌, ℕ, Bool, false, true, ◌==◌, List, [], ◌∷◌, map, Option, None, Some, is_some}
 use Rattle.std.specs.Option.{option_map}
-use Rattle.std.specs.List.{find, flat_map, IsDistinct}
+use Rattle.std.specs.List.{find, flat_map, position, IsDistinct}
+use Rattle.std.specs.Map.{lookup}
 use Rattle.ofx_types.specs.declared.recurring.ModelRow.{ModelRow}
 use Rattle.ofx_types.specs.declared.transfer.Change.{Change}
 use Rattle.ofx_types.specs.declared.transfer.Change.TheVariants.{NewTransfer, SetTransfer, DropTransfer, NewModel, SetModel, DropModel, NewMail}
@@ -47,6 +48,10 @@ ids_of series = map (λ (one : Series). one.row.id) series
 -- No two recurring transfers have one id.
 abbrev pub IsOnce : List Series → Type 0
 IsOnce series = IsDistinct (λ (a b : ℕ). a == b) (ids_of series)
+
+-- Each id has the offset of the first one with it, and other numbers have none.
+abbrev pub HasOffsets : List (ℕ × ℕ) → List ℕ → Type 0
+HasOffsets offsets ids = (id : ℕ) → lookup (λ k. id == k) offsets ≡ position (λ k. id == k) ids
 
 -- the ids of the recurring transfers that entries made, in their order
 abbrev pub id_made : Change → List ℕ

@@ -13,36 +13,45 @@ ghost use Rattle.bank_recur.specs.Spawning.{date_found};
 
 use crate::series::HeldSeries;
 use crate::upcoming::Upcoming;
-use indexmap::IndexSet;
 use ofx_types::{Day, ModelRow, OutOfMemory};
 use std::alloc::Global;
+use std::collections::HashMap;
 use std::marker::Model;
 
-/// The recurring transfers of a bank, in the order in which they were made, their ids in the same order, and the next
+/// The recurring transfers of a bank, in the order in which they were made, the offset of each under its id, and the next
 /// transfers of those that make one, in the order in which they are made. There is a place for one of each.
-#[derive(Debug, Drop)]
 pub struct Models {
     series: Vec<HeldSeries>,
-    ids: IndexSet<u64>,
+    offsets: HashMap<u64, usize>,
     upcoming: Upcoming,
 }
 
 impl Model for Models {
     ghost use Rattle.std.specs.Prelude.{◌≡◌, ◌-◌, min, length, vec_len, vec_capacity};
-    ghost use Rattle.std.specs.HashSet.{spare};
-    ghost use Rattle.bank_recur.specs.ModelsView.{ModelsView, ids_of, IsOnce};
+    ghost use Rattle.std.specs.HashMap.{spare};
+    ghost use Rattle.bank_recur.specs.ModelsView.{ModelsView, ids_of, IsOnce, HasOffsets};
     ghost use Rattle.bank_recur.specs.Ahead.{IsAhead};
 
     ghost Value = { ModelsView };
 
     ghost view = { λ m. record {
       series = m.series.items;
-      room = min (min (vec_capacity m.series - vec_len m.series) (spare m.ids)) (m.upcoming.places - length m.series.items);
+      room = min (min (vec_capacity m.series - vec_len m.series) (spare m.offsets)) (m.upcoming.places - length m.series.items);
     } };
 
     ghost invariant = { λ m. IsOnce m.series.items
-        × (m.ids.keys ≡ ids_of m.series.items)
+        × HasOffsets m.offsets.entries (ids_of m.series.items)
         × IsAhead m.series.items m.upcoming };
+}
+
+impl Drop for Models {
+    fn drop(self) {
+        let Models {
+            series: _,
+            offsets: _,
+            upcoming: _,
+        } = self;
+    }
 }
 
 impl Models {
@@ -52,7 +61,7 @@ impl Models {
     {
         Models {
             series: Vec::new(alloc),
-            ids: IndexSet::new(alloc),
+            offsets: HashMap::new(alloc),
             upcoming: Upcoming::new(alloc),
         }
     }
@@ -102,7 +111,7 @@ impl Models {
         ensures room_stays { self.old.room ≤ self.new.room }
     {
         self.series.reserve(models as usize)?;
-        self.ids.reserve(models as usize)?;
+        self.offsets.reserve(models as usize)?;
         let ahead = self.series.len() - self.upcoming.len();
         self.upcoming.reserve(ahead + models as usize)?;
         Ok(())
@@ -130,10 +139,11 @@ impl Models {
                 self.upcoming.exchange(id, before, after);
             }
             None => {
+                let offset = self.series.len();
                 let one = HeldSeries::new(row);
                 let day = one.date_ahead();
                 self.series.push_reserved(one);
-                let added: Result<_, _> = self.ids.insert(id);
+                let added: Result<_, _> = self.offsets.insert(id, offset);
                 let _new = added.unwrap();
                 self.upcoming.enter(id, day);
             }
@@ -198,14 +208,17 @@ impl Models {
     fn place_of(&self, id: u64) -> Option<usize>
         ensures { result ≡ position (λ one. one.row.id == id) self.now.series }
     {
-        self.ids.get_index_of(&id)
+        match self.offsets.get(&id) {
+            Some(offset) => Some(*offset),
+            None => None,
+        }
     }
 
     /// The recurring transfer with this id.
     fn own(&self, id: u64) -> Option<&HeldSeries>
         ensures { option_copied result ≡ series_found id self.now.series }
     {
-        match self.ids.get_index_of(&id) {
+        match self.place_of(id) {
             Some(at) => Some(&self.series[at]),
             None => None,
         }

@@ -11,7 +11,7 @@ use ofx_types::{Day, ModelRow};
 use std::marker::Model;
 
 /// A recurring transfer. The date of its next transfer is kept, so that looking for the next one computes no dates.
-#[derive(Debug, Drop)]
+#[derive(Drop)]
 pub(crate) struct HeldSeries {
     row: ModelRow,
     cancelled: bool,

@@ -6,7 +6,7 @@ ghost use Rattle.bank_recur.specs.Spawning as spawning;
 use ofx_types::Day;
 
 /// A transfer to be made: its day, and the recurring transfer that makes it.
-#[derive(Clone, Copy, Debug)]
+#[derive(Clone, Copy)]
 pub(crate) struct Spawn {
     pub(crate) day: Day,
     pub(crate) id: u64,

@@ -9,7 +9,6 @@ use std::alloc::Global;
 use std::marker::Model;
 
 /// The next transfer of each recurring transfer that makes one; the one that is made first stands at the front.
-#[derive(Debug, Drop)]
 pub(crate) struct Upcoming {
     spawns: Vec<Spawn>,
 }
@@ -23,6 +22,12 @@ impl Model for Upcoming {
     ghost view = { λ upcoming. record { spawns = upcoming.spawns.items; places = vec_capacity upcoming.spawns } };
 
     ghost invariant = { λ upcoming. IsInOrder upcoming.spawns.items };
+}
+
+impl Drop for Upcoming {
+    fn drop(self) {
+        let Upcoming { spawns: _ } = self;
+    }
 }
 
 impl Upcoming {

@@ -12,11 +12,10 @@ use Rattle.bank_model.specs.declared.entry.Entry.{Entry}
 use Rattle.bank_model.specs.Ledger.{row_in, drops, is_dropped, with_code, row_of, is_posted, posting_of, moved, Posting}
 use Rattle.bank_model.specs.Models.{is_waiting, all_waiting}
 use Rattle.bank_transfers.specs.Growth.{row_given, row_after}
-use Rattle.bank_transfers.specs.Held.{settled_rows, row_put}
-use Rattle.bank_transfers.specs.TransfersView.{TransfersView, row_found, row_at, row_held, RiseById, StandsFor, IsSet, waits, GivesRow}
+use Rattle.bank_transfers.specs.TransfersView.{TransfersView, row_found, row_at, row_settled, row_held, RiseById, StandsFor, IsSet, waits, GivesRow}
 use Rattle.bank_transfers.proofs.GrowthLemmas.{moved-push, row_of-push, HasId, row_of-id}
 use Rattle.bank_transfers.proofs.WaitingLemmas.{WaitsAfter, waits_after, waiting_stays}
-use Rattle.bank_transfers.proofs.HeldLemmas.{others, found_out, found_put, waiting_swapped, closed_swapped, last_found, swapped_rises, last_rises, waits_first}
+use Rattle.bank_transfers.proofs.HeldLemmas.{waiting_swapped, closed_swapped, last_found, swapped_rises, last_rises, waits_first}
 
 -- ---- what an entry gives
 
@@ -93,19 +92,19 @@ held_last true row own rest = refl
 held_last false row own rest = refl
 
 -- a row that waits stands with those that wait
-pub stands_waiting : (old new : TransfersView) (row : TransferRow) (entries : List Entry) (entry : Entry) → (waits (row_found row.id old.settled) ≡ false) → is_waiting row.code ≡ true → ((id : ℕ) → row_at new.waiting id ≡ cond (eqb row.id id) (Some row) (row_at old.waiting id)) → new.settled ≡ old.settled → new.postings ≡ old.postings
+pub stands_waiting : (old new : TransfersView) (row : TransferRow) (entries : List Entry) (entry : Entry) → (waits (row_settled old.closed old.postings row.id) ≡ false) → is_waiting row.code ≡ true → ((id : ℕ) → row_at new.waiting id ≡ cond (eqb row.id id) (Some row) (row_at old.waiting id)) → ((id : ℕ) → row_settled new.closed new.postings id ≡ row_settled old.closed old.postings id) → new.postings ≡ old.postings
     → StandsFor old entries → GivesRow entries entry.change row → StandsFor new (entries ++ entry ∷ [])
 stands_waiting old new row entries entry closed waiting put settled postings stands gives =
     let after = waits_then (waits_after entries entry row (rows_after entries entry row gives) gives) in
     stands_after old new entries entry row stands gives
-    (λ id. (λ i. option_or (put id i) (row_found id (settled i))) ∙ held_first (eqb row.id id) row (row_at old.waiting id) (row_found id old.settled))
+    (λ id. (λ i. option_or (put id i) (settled id i)) ∙ held_first (eqb row.id id) row (row_at old.waiting id) (row_settled old.closed old.postings id))
     (λ id. put id ∙ ap (cond (eqb row.id id) (Some row)) (stands.waiting id) ∙ sym (after.0 id))
     after.1
     (postings ∙ sym (ap (λ b. old.postings ++ cond b (record { number = entry.number; row = row } ∷ []) []) (waiting_unposted row.code waiting) ∙ append-nil old.postings))
   where
     waits_then : WaitsAfter (all_waiting entries) (all_waiting (entries ++ entry ∷ [])) row (row_of row.id entries) → ((id : ℕ) → row_found id (all_waiting (entries ++ entry ∷ [])) ≡ cond (eqb row.id id) (Some row) (row_found id (all_waiting entries))) × RiseById (all_waiting (entries ++ entry ∷ []))
     waits_then (inl replaced) =
-        let there = ap waits (sym (stands.waiting row.id)) ∙ waits_first (row_at old.waiting row.id) (row_found row.id old.settled) closed (ap waits (stands.rows row.id) ∙ replaced.0 waiting) in (
+        let there = ap waits (sym (stands.waiting row.id)) ∙ waits_first (row_at old.waiting row.id) (row_settled old.closed old.postings row.id) closed (ap waits (stands.rows row.id) ∙ replaced.0 waiting) in (
           λ id. ap (row_found id) replaced.1 ∙ waiting_swapped id row (all_waiting entries) waiting there,
           subst RiseById (sym replaced.1) (swapped_rises row (all_waiting entries) stands.rise),
         )
@@ -116,12 +115,12 @@ stands_waiting old new row entries entry closed waiting put settled postings sta
 
 -- a row that doesn't wait stands with the settled ones
 pub stands_settled : (old new : TransfersView) (row : TransferRow) (entries : List Entry) (entry : Entry) → is_waiting row.code ≡ false → ((id : ℕ) → row_at new.waiting id ≡ cond (eqb row.id id) None (row_at old.waiting id))
-    → ((id : ℕ) → row_found id new.settled ≡ cond (eqb row.id id) (Some row) (row_found id old.settled)) → new.postings ≡ old.postings ++ posting_of entry.number (Some row)
+    → ((id : ℕ) → row_settled new.closed new.postings id ≡ cond (eqb row.id id) (Some row) (row_settled old.closed old.postings id)) → new.postings ≡ old.postings ++ posting_of entry.number (Some row)
     → StandsFor old entries → GivesRow entries entry.change row → StandsFor new (entries ++ entry ∷ [])
 stands_settled old new row entries entry closed out settled postings stands gives =
     let after = waits_then (waits_after entries entry row (rows_after entries entry row gives) gives) in
     stands_after old new entries entry row stands gives
-    (λ id. (λ i. option_or (out id i) (settled id i)) ∙ held_last (eqb row.id id) row (row_at old.waiting id) (row_found id old.settled))
+    (λ id. (λ i. option_or (out id i) (settled id i)) ∙ held_last (eqb row.id id) row (row_at old.waiting id) (row_settled old.closed old.postings id))
     (λ id. out id ∙ ap (cond (eqb row.id id) None) (stands.waiting id) ∙ sym (after.0 id))
     after.1
     postings
@@ -134,25 +133,30 @@ stands_settled old new row entries entry closed out settled postings stands give
     waits_then (inr added) = let no : true ≡ false = sym added.1 ∙ closed in cc
 
 -- the same rows under their ids stand for the same entries
-pub stands_same : (old new : TransfersView) (entries : List Entry) → ((id : ℕ) → row_at new.waiting id ≡ row_at old.waiting id) → new.settled ≡ old.settled → new.postings ≡ old.postings → StandsFor old entries → StandsFor new entries
-stands_same old new entries waiting settled postings stands = record {
-  rows = λ id. (λ i. option_or (waiting id i) (row_found id (settled i))) ∙ stands.rows id;
+pub stands_same : (old new : TransfersView) (entries : List Entry) → ((id : ℕ) → row_at new.waiting id ≡ row_at old.waiting id) → ((id : ℕ) → row_at new.closed id ≡ row_at old.closed id) → new.postings ≡ old.postings → StandsFor old entries → StandsFor new entries
+stands_same old new entries waiting closed postings stands = record {
+  rows = λ id. (λ i. option_or (waiting id i) (option_or (closed id i) (row_found id (map (λ (p : Posting). p.row) (reverse (postings i)))))) ∙ stands.rows id;
   waiting = λ id. waiting id ∙ stands.waiting id;
   rise = stands.rise;
   postings = postings ∙ stands.postings;
 }
 
--- what is found of the rest where a row is put among the closed ones
-pub settled_closed : (row : TransferRow) (closed : List TransferRow) (postings : List Posting) (id : ℕ) → row_found id (settled_rows (row_put row closed) postings) ≡ cond (eqb row.id id) (Some row) (row_found id (settled_rows closed postings))
-settled_closed row closed postings id = found_put id row closed (map (λ (p : Posting). p.row) (reverse postings))
+-- what is found of the settled ones where a row is put among the closed ones
+pub settled_closed : (row : TransferRow) (old new : List (ℕ × TransferRow)) (postings : List Posting) → ((id : ℕ) → row_at new id ≡ cond (eqb row.id id) (Some row) (row_at old id))
+    → (id : ℕ) → row_settled new postings id ≡ cond (eqb row.id id) (Some row) (row_settled old postings id)
+settled_closed row old new postings put id =
+    let posted = row_found id (map (λ (p : Posting). p.row) (reverse postings)) in
+    ap (λ found. option_or found posted) (put id) ∙ held_first (eqb row.id id) row (row_at old id) posted
 
 -- and where it comes with a posting
-pub settled_posted : (number : ℕ) (row : TransferRow) (closed : List TransferRow) (postings : List Posting) (id : ℕ)
-    → row_found id (settled_rows (others row.id closed) (postings ++ record { number = number; row = row } ∷ [])) ≡ cond (eqb row.id id) (Some row) (row_found id (settled_rows closed postings))
-settled_posted number row closed postings id =
+pub settled_posted : (number : ℕ) (row : TransferRow) (old new : List (ℕ × TransferRow)) (postings : List Posting) → ((id : ℕ) → row_at new id ≡ cond (eqb row.id id) None (row_at old id))
+    → (id : ℕ) → row_settled new (postings ++ record { number = number; row = row } ∷ []) id ≡ cond (eqb row.id id) (Some row) (row_settled old postings id)
+settled_posted number row old new postings out id =
     let last : Posting = record { number = number; row = row } in
-    ap (λ ps. row_found id (others row.id closed ++ map (λ (p : Posting). p.row) ps)) (reverse-append postings (last ∷ []))
-    ∙ found_out id row closed (row ∷ map (λ (p : Posting). p.row) (reverse postings)) (map (λ (p : Posting). p.row) (reverse postings)) refl
+    let posted = row_found id (map (λ (p : Posting). p.row) (reverse postings)) in
+    ap (λ ps. option_or (row_at new id) (row_found id (map (λ (p : Posting). p.row) ps))) (reverse-append postings (last ∷ []))
+    ∙ ap (λ found. option_or found (cond (eqb row.id id) (Some row) posted)) (out id)
+    ∙ held_last (eqb row.id id) row (row_at old id) posted
 
 pub posting_if : (number : ℕ) (row : TransferRow) (posted : Bool) → is_posted row.code ≡ posted → posting_of number (Some row) ≡ cond posted (record { number = number; row = row } ∷ []) []
 posting_if number row posted e = ap (λ b. cond b (record { number = number; row = row } ∷ []) []) e

@@ -1,5 +1,5 @@
 -- What contracts see of the transfers of a bank, and the list of entries that they stand for.
-use Rattle.std.specs.Prelude.{◌≡◌, ℕ, ◌<◌, ◌≤◌, Bool, false, true, ◌==◌, unsigned_abs, List, [], ◌∷◌, Option, None, Some}
+use Rattle.std.specs.Prelude.{◌≡◌, ℕ, ◌<◌, ◌≤◌, Bool, false, true, ◌==◌, unsigned_abs, List, [], ◌∷◌, map, reverse, Option, None, Some}
 use Rattle.std.specs.Option.{option_map, option_or}
 use Rattle.std.specs.Map.{lookup}
 use Rattle.std.specs.List.{find, AllByRecursion}
@@ -12,11 +12,11 @@ use Rattle.bank_model.specs.Judging.{is_cancelled}
 use Rattle.bank_model.specs.Ledger.{Posting, row_of, is_dropped, with_code, moved}
 use Rattle.bank_model.specs.Models.{is_waiting, all_waiting}
 
--- The rows of the transfers that wait, each under its id, those of the settled ones, the posted transfers in the order of
--- posting, and for how many entries more there is room.
+-- The rows of the transfers that wait, and of those that are closed or cancelled, each under its id, the posted transfers in
+-- the order of posting, and for how many entries more there is room.
 pub record TransfersView : Type 0 where
   pub waiting : List (ℕ × TransferRow)
-  pub settled : List TransferRow
+  pub closed : List (ℕ × TransferRow)
   pub postings : List Posting
   pub room : ℕ
 
@@ -28,9 +28,13 @@ row_found id rows = find (λ (row : TransferRow). row.id == id) rows
 abbrev pub row_at : List (ℕ × TransferRow) → ℕ → Option TransferRow
 row_at rows id = lookup (λ key. id == key) rows
 
+-- The row of a transfer that doesn't wait is the one by itself, or else that of the transfer's last posting.
+abbrev pub row_settled : List (ℕ × TransferRow) → List Posting → ℕ → Option TransferRow
+row_settled closed postings id = option_or (row_at closed id) (row_found id (map (λ (posted : Posting). posted.row) (reverse postings)))
+
 -- The row of a transfer is that with which it waits, or else the settled one.
 abbrev pub row_held : TransfersView → ℕ → Option TransferRow
-row_held transfers id = option_or (row_at transfers.waiting id) (row_found id transfers.settled)
+row_held transfers id = option_or (row_at transfers.waiting id) (row_settled transfers.closed transfers.postings id)
 
 -- Each row's id is above those of the rows before it.
 abbrev pub RiseById : List TransferRow → Type 0

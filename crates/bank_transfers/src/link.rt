@@ -7,7 +7,7 @@ use crate::posted::is_before;
 use ofx_types::Moment;
 
 /// The way back from a posting. Places count from 1, and 0 is none.
-#[derive(Clone, Copy, Debug)]
+#[derive(Clone, Copy)]
 pub(crate) struct Link {
     // the place of the last posting of the key before it
     pub(crate) before: usize,

@@ -23,7 +23,7 @@ use std::marker::Model;
 
 /// A posted transfer: the number of the entry that posted it (FITID), its row, and how it leads back to earlier postings that are
 /// about accounts of the keys of its source and of its destination.
-#[derive(Debug, Drop)]
+#[derive(Drop)]
 pub(crate) struct Linked {
     number: u64,
     row: TransferRow,
@@ -67,7 +67,6 @@ impl Linked {
 }
 
 /// The posted transfers, with the places of the last one of each key of an account, and of each transfer.
-#[derive(Debug, Drop)]
 pub(crate) struct Postings {
     held: Vec<Linked>,
     accounts: HashMap<u64, usize>,
@@ -93,6 +92,17 @@ impl Model for Postings {
     ghost invariant = { λ p. All IsPosted (postings_of p.held.items) × AreLinked p.held.items
         × HasLasts touches p.accounts.entries (postings_of p.held.items) × HasLasts is_of p.ids.entries (postings_of p.held.items)
         × (vec_len p.held + p.left ≤ vec_capacity p.held) × (2 * p.left ≤ spare p.accounts) × (p.left ≤ spare p.ids) };
+}
+
+impl Drop for Postings {
+    fn drop(self) {
+        let Postings {
+            held: _,
+            accounts: _,
+            ids: _,
+            left: _,
+        } = self;
+    }
 }
 
 impl Postings {

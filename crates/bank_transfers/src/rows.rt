@@ -1,53 +1,54 @@
-//! Rows of transfers in the order in which they were made, found by their ids' hashes.
+//! Rows of transfers, found by their ids' hashes.
 
-ghost use Rattle.std.specs.Prelude.{◌≡◌, ◌+◌, ◌<◌, ◌≤◌, [], not, ◌==◌, filter, OnOk};
+ghost use Rattle.std.specs.Prelude.{◌≡◌, ◌+◌, ◌<◌, ◌≤◌, ℕ, None, Some, if◌then◌else◌, ◌==◌, OnOk};
 ghost use Rattle.std.specs.Option.{option_copied};
-ghost use Rattle.bank_transfers.specs.Held.{row_put};
-ghost use Rattle.bank_transfers.specs.TransfersView.{row_found};
+ghost use Rattle.bank_transfers.specs.TransfersView.{row_at};
 
-use indexmap::IndexMap;
 use ofx_types::{OutOfMemory, TransferRow};
 use std::alloc::Global;
+use std::collections::HashMap;
 use std::marker::Model;
 
-/// The row of each of some transfers. A row that is put in another's stead has its place.
-#[derive(Debug, Drop)]
+/// The row of each of some transfers, under its id.
 pub(crate) struct Rows {
-    held: IndexMap<u64, TransferRow>,
+    held: HashMap<u64, TransferRow>,
 }
 
 impl Model for Rows {
     ghost use Rattle.std.specs.HashMap.{spare};
-    ghost use Rattle.std.specs.Map.{values_of};
-    ghost use Rattle.bank_transfers.specs.Held.{RowsView, AreKeyed, HaveOwnIds};
+    ghost use Rattle.bank_transfers.specs.Held.{RowsView};
 
     ghost Value = { RowsView };
 
-    ghost view = { λ r. record { rows = values_of r.held.entries; room = spare r.held } };
+    ghost view = { λ r. record { rows = r.held.entries; room = spare r.held } };
+}
 
-    ghost invariant = { λ r. AreKeyed r.held.entries × HaveOwnIds (values_of r.held.entries) };
+impl Drop for Rows {
+    fn drop(self) {
+        let Rows { held: _ } = self;
+    }
 }
 
 impl Rows {
     /// No rows. Takes no memory.
     pub(crate) fn new(alloc: Global) -> Rows
-        ensures { result.rows ≡ [] }
+        ensures { (id : ℕ) → row_at result.rows id ≡ None }
     {
         Rows {
-            held: IndexMap::new(alloc),
+            held: HashMap::new(alloc),
         }
     }
 
     /// The row of the transfer with this id, lent.
     pub(crate) fn get(&self, id: u64) -> Option<&TransferRow>
-        ensures { option_copied result ≡ row_found id self.now.rows }
+        ensures { option_copied result ≡ row_at self.now.rows id }
     {
         self.held.get(&id)
     }
 
     /// Makes room for so many more rows.
     pub(crate) fn reserve(&mut self, rows: u32) -> Result<(), OutOfMemory>
-        ensures rows { self.new.rows ≡ self.old.rows }
+        ensures found { (id : ℕ) → row_at self.new.rows id ≡ row_at self.old.rows id }
         ensures room { OnOk result (rows ≤ self.new.room) }
         ensures room_stays { self.old.room ≤ self.new.room }
     {
@@ -55,11 +56,10 @@ impl Rows {
         Ok(())
     }
 
-    /// Puts a row in the place of the one with its id, and at the end where there is none. There is room for it, and it takes
-    /// no memory.
+    /// Puts a row, in the place of the one with its id. There is room for it, and it takes no memory.
     pub(crate) fn put(&mut self, row: TransferRow)
         requires room { 0 < self.old.room }
-        ensures rows { self.new.rows ≡ row_put row self.old.rows }
+        ensures found { (id : ℕ) → row_at self.new.rows id ≡ (if row.id == id then Some row else row_at self.old.rows id) }
         ensures room { self.old.room ≤ self.new.room + 1 }
     {
         let id = row.id;
@@ -69,9 +69,9 @@ impl Rows {
 
     /// Takes the row of the transfer with this id out, where it is there.
     pub(crate) fn take_out(&mut self, id: u64)
-        ensures rows { self.new.rows ≡ filter (λ row. not (row.id == id)) self.old.rows }
+        ensures found { (other : ℕ) → row_at self.new.rows other ≡ (if id == other then None else row_at self.old.rows other) }
         ensures room { self.old.room ≤ self.new.room }
     {
-        let _gone = self.held.shift_remove(&id);
+        let _gone = self.held.remove(&id);
     }
 }

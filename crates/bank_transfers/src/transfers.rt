@@ -1,7 +1,7 @@
 //! The rows of a bank's transfers and the posted transfers.
 
 ghost use Rattle.std.specs.Prelude.{◌≡◌, ◌+◌, ◌<◌, ◌≤◌, ◌==◌, ◌∷◌, ◌++◌, [], ℕ, List, Some, if◌then◌else◌, map, IfOk, OnOk};
-ghost use Rattle.std.specs.List.{All, AllByRecursion};
+ghost use Rattle.std.specs.List.{All};
 ghost use Rattle.std.specs.Option.{option_copied, option_map};
 ghost use Rattle.bank_model.specs.declared.entry.Entry.{Entry};
 ghost use Rattle.bank_model.specs.Ledger as ledger;
@@ -10,9 +10,9 @@ ghost use Rattle.bank_model.specs.Models as models;
 ghost use Rattle.bank_model.specs.Models.{waiting_of};
 ghost use Rattle.bank_model.specs.Due.{first_task, to_post};
 ghost use Rattle.ofx_types.specs.declared.transfer.TransferRow.{TransferRow};
-ghost use Rattle.bank_transfers.specs.Held.{settled_rows, IsClosed};
+ghost use Rattle.bank_transfers.specs.Held.{IsClosed, AreClosed};
 ghost use Rattle.bank_transfers.specs.PostingsView.{IsPosted};
-ghost use Rattle.bank_transfers.specs.TransfersView.{row_found, row_at, row_held, StandsFor, GivesRow, IsWithinAmounts};
+ghost use Rattle.bank_transfers.specs.TransfersView.{row_at, row_settled, row_held, StandsFor, GivesRow, IsWithinAmounts};
 
 use crate::postings::Postings;
 use crate::rows::Rows;
@@ -25,7 +25,6 @@ use std::marker::Model;
 /// the order of posting.
 ///
 /// A posted row lies with its posting and every other row in one of the tables, so that putting a row never copies one.
-#[derive(Debug, Drop)]
 pub struct Transfers {
     waiting: Waiting,
     closed: Rows,
@@ -34,8 +33,8 @@ pub struct Transfers {
 
 impl Model for Transfers {
     ghost use Rattle.std.specs.Prelude.{min};
-    ghost use Rattle.std.specs.List.{All, AllByRecursion};
-    ghost use Rattle.bank_transfers.specs.Held.{settled_rows, IsClosed};
+    ghost use Rattle.std.specs.List.{All};
+    ghost use Rattle.bank_transfers.specs.Held.{AreClosed};
     ghost use Rattle.bank_transfers.specs.PostingsView.{IsPosted};
     ghost use Rattle.bank_transfers.specs.TransfersView.{TransfersView};
 
@@ -43,12 +42,22 @@ impl Model for Transfers {
 
     ghost view = { λ t. record {
       waiting = t.waiting.rows;
-      settled = settled_rows t.closed.rows t.postings.postings;
+      closed = t.closed.rows;
       postings = t.postings.postings;
       room = min t.waiting.room (min t.closed.room t.postings.room);
     } };
 
-    ghost invariant = { λ t. All IsPosted t.postings.postings × AllByRecursion IsClosed t.closed.rows };
+    ghost invariant = { λ t. All IsPosted t.postings.postings × AreClosed t.closed.rows };
+}
+
+impl Drop for Transfers {
+    fn drop(self) {
+        let Transfers {
+            waiting: _,
+            closed: _,
+            postings: _,
+        } = self;
+    }
 }
 
 impl Transfers {
@@ -141,7 +150,7 @@ impl Transfers {
 
 /// The row of a transfer that doesn't wait.
 fn settled_row<'a>(closed: &'a Rows, postings: &'a Postings, id: u64) -> Option<&'a TransferRow>
-    ensures { option_copied result ≡ row_found id (settled_rows closed.now.rows postings.now.postings) }
+    ensures { option_copied result ≡ row_settled closed.now.rows postings.now.postings id }
 {
     match closed.get(id) {
         Some(row) => Some(row),
@@ -155,11 +164,11 @@ fn settle(closed: &mut Rows, postings: &mut Postings, number: u64, row: Transfer
     requires postings { 0 < postings.old.room }
     requires amount { IsWithinAmounts row }
     requires waits { IsClosed row }
-    ensures rows { (id : ℕ) → row_found id (settled_rows closed.new.rows postings.new.postings)
-        ≡ (if row.id == id then Some row else row_found id (settled_rows closed.old.rows postings.old.postings)) }
+    ensures rows { (id : ℕ) → row_settled closed.new.rows postings.new.postings id
+        ≡ (if row.id == id then Some row else row_settled closed.old.rows postings.old.postings id) }
     ensures postings { postings.new.postings ≡ postings.old.postings ++ ledger.posting_of number (Some row) }
     ensures posted { All IsPosted postings.old.postings → All IsPosted postings.new.postings }
-    ensures closed { AllByRecursion IsClosed closed.old.rows → AllByRecursion IsClosed closed.new.rows }
+    ensures closed { AreClosed closed.old.rows → AreClosed closed.new.rows }
     ensures closed_room { closed.old.room ≤ closed.new.room + 1 }
     ensures postings_room { postings.old.room ≤ postings.new.room + 1 }
 {

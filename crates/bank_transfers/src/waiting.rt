@@ -17,7 +17,7 @@ use std::collections::HashMap;
 use std::marker::Model;
 
 /// A transfer that is to be posted: the day on which it is due, and its id (SRVRTID). What is to be done later comes first.
-#[derive(Clone, Copy, Debug, PartialEq, Eq, PartialOrd, Ord)]
+#[derive(Clone, Copy, PartialEq, Eq, PartialOrd, Ord)]
 pub(crate) struct DueTask {
     pub(crate) day: Reverse<Day>,
     pub(crate) id: Reverse<u64>,
@@ -25,7 +25,7 @@ pub(crate) struct DueTask {
 
 /// A transfer with the id of the recurring transfer that made it (RECSRVRTID, 0 is none), and its own (SRVRTID). The greater id of a
 /// recurring transfer comes first, so those that none made come last.
-#[derive(Clone, Copy, Debug, PartialEq, Eq, PartialOrd, Ord)]
+#[derive(Clone, Copy, PartialEq, Eq, PartialOrd, Ord)]
 pub(crate) struct Made {
     pub(crate) model: Reverse<u64>,
     pub(crate) id: u64,
@@ -33,7 +33,6 @@ pub(crate) struct Made {
 
 /// The rows of the transfers that wait. The one that is due first is the last of the tasks, where it is taken without moving the
 /// others. Those of a recurring transfer stand one after another, and a new one that none made comes after all.
-#[derive(Debug, Drop)]
 pub(crate) struct Waiting {
     held: HashMap<u64, TransferRow>,
     tasks: Vec<DueTask>,
@@ -53,6 +52,17 @@ impl Model for Waiting {
 
     ghost invariant = { λ w. AreListed w.held.entries w.tasks.items w.made.items
         × (w.left ≤ spare w.held) × (vec_len w.tasks + w.left ≤ vec_capacity w.tasks) × (vec_len w.made + w.left ≤ vec_capacity w.made) };
+}
+
+impl Drop for Waiting {
+    fn drop(self) {
+        let Waiting {
+            held: _,
+            tasks: _,
+            made: _,
+            left: _,
+        } = self;
+    }
 }
 
 impl Waiting {

@@ -1,3 +1,4 @@
 pub mod OnceLemmas
 mod OrderLemmas
 mod NameLemmas
+mod UsedLemmas

@@ -1,38 +1,30 @@
--- What the names in the tables tell of used pairs and kept replies.
-use Rattle.std.proofs.Common.{◌≡◌, ℕ, ◌+◌, ◌<◌, arith, Bool, true, false, cond, not, eqb, ◌&&◌, ◌||◌, List, [], ◌∷◌, ◌++◌, map, filter, Option, None, Some, refl, sym, ap, subst, ◌∙◌, is_some}
+-- What the names in the table tell of kept replies.
+use Rattle.std.proofs.Common.{◌≡◌, ℕ, ◌+◌, ◌<◌, arith, Bool, true, false, cond, not, eqb, ◌&&◌, List, [], ◌∷◌, ◌++◌, map, filter, Option, None, Some, refl, sym, ap, subst, ◌∙◌, is_some}
 use Rattle.std.specs.Cmp.{IsEquivalence, nat_eq_equiv}
 use Rattle.std.specs.Cmp.Lexicographic.{nat_list_eq_equiv}
-use Rattle.std.specs.List.{AllByRecursion, IsDistinct, find, list_any}
+use Rattle.std.specs.List.{AllByRecursion, IsDistinct, find}
 use Rattle.std.specs.List.Sorted.{IsPermutation}
 use Rattle.std.specs.Map.{lookup, remove_entry, set_value}
 use Rattle.std.specs.Option.{option_map, MatchOption}
 use Rattle.std.specs.Str.{bytes_eq}
-use Rattle.std.proofs.lemmas.Bool.{and_parts, ne_eqb}
+use Rattle.std.proofs.lemmas.Bool.{and_parts}
 use Rattle.std.proofs.lemmas.List.{map-append}
 use Rattle.std.proofs.lemmas.List.Elements.{All-from_recursion, recursion_from_All}
 use Rattle.std.proofs.lemmas.List.Sorted.{All-permutation, IsPermutation-map}
 use Rattle.std.proofs.lemmas.Map.Entries.{none_past_head}
-use Rattle.indexmap.specs.IndexSet.{insert_key}
 use Rattle.std.proofs.lemmas.Map.Keys.{IsDistinct-head, IsDistinct-tail, IsDistinct-cons, IsDistinct-IsPermutation}
 use Rattle.ofx_types.specs.declared.number.UserId.{UserId}
-use Rattle.bank_model.specs.declared.once.UsedPair.{UsedPair}
 use Rattle.bank_model.specs.declared.once.KeptReply.{KeptReply}
-use Rattle.bank_model.specs.Once.{is_pair, is_used, is_named, reply_kept, released}
+use Rattle.bank_model.specs.Once.{is_named, reply_kept, released}
 use Rattle.once_records.specs.declared.name.Name.{Name}
 use Rattle.once_records.specs.declared.replies.Numbered.{Numbered}
 use Rattle.once_records.specs.RecordsView.{KeptOnce}
-use Rattle.once_records.specs.Names.{name_of, pair_named, same_name, reply_named, number_of, ordered_by, in_order_kept, AreNumbered}
+use Rattle.once_records.specs.Names.{name_of, same_name, reply_named, number_of, ordered_by, in_order_kept, AreNumbered}
 use Rattle.once_records.proofs.OnceLemmas.{KeptOnce-push, KeptOnce-released}
-use Rattle.once_records.proofs.OrderLemmas.{ordered_filter, ordered_permuted, ordered_last, distinct_filter}
+use Rattle.once_records.proofs.OrderLemmas.{above, higher, ordered_filter, ordered_permuted, ordered_last, distinct_filter}
 
-flips : (user n : ℕ) (uid m : List ℕ) → (eqb user n && bytes_eq uid m) ≡ (eqb n user && bytes_eq m uid)
+pub flips : (user n : ℕ) (uid m : List ℕ) → (eqb user n && bytes_eq uid m) ≡ (eqb n user && bytes_eq m uid)
 flips user n uid m = (λ i. nat_eq_equiv.symm user n i && nat_list_eq_equiv.symm uid m i)
-
--- ---- used pairs
-
-pub any_named : (user : UserId) (uid : List ℕ) (names : List Name) → list_any (same_name (name_of user uid)) names ≡ is_used user uid (map pair_named names)
-any_named user uid [] = refl
-any_named user uid (name ∷ names) = (λ i. flips user.0 name.user uid name.uid i || any_named user uid names i)
 
 names_alike : IsEquivalence same_name
 names_alike = record {
@@ -41,13 +33,6 @@ names_alike = record {
   congr = λ x y z same. let parts = and_parts (eqb x.user y.user) (bytes_eq x.uid y.uid) same in
       (λ i. nat_eq_equiv.congr x.user y.user z.user parts.0 i && nat_list_eq_equiv.congr x.uid y.uid z.uid parts.1 i);
 }
-
--- A pair that isn't used up comes after all that are.
-pub used_more : (user : UserId) (uid : List ℕ) (names : List Name) → is_used user uid (map pair_named names) ≡ false
-    → map pair_named (insert_key same_name names (name_of user uid)) ≡ map pair_named names ++ record { user = user; trnuid = uid } ∷ []
-used_more user uid names unused =
-    ap (λ b. map pair_named (cond b names (names ++ name_of user uid ∷ []))) (any_named user uid names ∙ unused)
-    ∙ map-append pair_named names (name_of user uid ∷ [])
 
 -- ---- lists
 
@@ -171,14 +156,6 @@ numbered_reordered next held moved is right = record {
 
 -- ---- one more reply
 
-above : (next : ℕ) (held : List Held) → AllByRecursion (λ (one : Held). number_of one < next) held → AllByRecursion (λ n. eqb next n ≡ false) (numbers held)
-above next [] below = tt
-above next (one ∷ held) below = (ne_eqb next (number_of one) (λ same. omega (arith, same, below.0)), above next held below.1)
-
-higher : (next : ℕ) (held : List Held) → AllByRecursion (λ (one : Held). number_of one < next) held → AllByRecursion (λ (one : Held). number_of one < next + 1) held
-higher next [] below = tt
-higher next (one ∷ held) below = (omega (arith, below.0), higher next held below.1)
-
 module _ (user : UserId) (file reply : List ℕ) (next : ℕ) (held : List Held) (right : AreNumbered next held) where
   abbrev pub more : Held
   more = (name_of user file, record { number = next; reply = reply })
@@ -201,8 +178,8 @@ module _ (user : UserId) (file reply : List ℕ) (next : ℕ) (held : List Held)
 
     numbered : AreNumbered (next + 1) (more ∷ held)
     numbered = record {
-      below = (omega arith, higher next held right.below);
-      numbers = IsDistinct-cons eqb next (numbers held) (above next held right.below) right.numbers;
+      below = (omega arith, higher number_of next held right.below);
+      numbers = IsDistinct-cons eqb next (numbers held) (above number_of next held right.below) right.numbers;
       names = IsDistinct-cons same_name (name_of user file) (names held)
           (no_name (name_of user file) held (unheld (find (is_under (name_of user file)) held)
           (ap (option_map (λ (kept : Numbered). kept.reply)) (sym (looked_up (name_of user file) held)) ∙ sym (kept_under user file next held right) ∙ absent)))

@@ -1,9 +1,9 @@
 -- A list in the order of its items' numbers: its items are those of the list, whatever their order there.
-use Rattle.std.proofs.Common.{◌≡◌, ℕ, ◌<◌, ◌≤◌, ◌⊎◌, Bool, true, false, cond, not, ltb, eqb, List, [], ◌∷◌, ◌++◌, map, filter, refl, sym, ap, subst, ◌∙◌, inl, inr, arith}
-use Rattle.std.specs.List.{All, AllByRecursion, IsDistinct}
+use Rattle.std.proofs.Common.{◌≡◌, ℕ, ◌<◌, ◌≤◌, ◌+◌, ◌⊎◌, Bool, true, false, cond, ◌||◌, ltb, eqb, List, [], ◌∷◌, ◌++◌, map, filter, refl, sym, ap, ◌∙◌, inl, inr, arith}
+use Rattle.std.specs.List.{AllByRecursion, IsDistinct, list_any}
 use Rattle.std.specs.Cmp.{nat_eq_equiv}
 use Rattle.std.specs.List.Sorted.{IsPermutation}
-use Rattle.std.proofs.lemmas.Bool.{le-ltb, ltb-true, ltb-false, eqb-false}
+use Rattle.std.proofs.lemmas.Bool.{le-ltb, ltb-true, ltb-false, eqb-false, ne_eqb}
 use Rattle.std.proofs.lemmas.List.Elements.{All-from_recursion, recursion_from_All}
 use Rattle.std.proofs.lemmas.List.Sorted.{All-permutation, IsPermutation-map, IsPermutation-sym}
 use Rattle.std.proofs.lemmas.Map.Keys.{IsDistinct-head, IsDistinct-tail, IsDistinct-cons, IsDistinct-IsPermutation}
@@ -18,6 +18,11 @@ all_both P Q R by (x ∷ xs) p q = (by x p.0 q.0, all_both P Q R by xs p.1 q.1)
 all_weaker : {X : Type 0} (P Q : X → Type 0) → ((x : X) → P x → Q x) → (xs : List X) → AllByRecursion P xs → AllByRecursion Q xs
 all_weaker P Q by [] p = tt
 all_weaker P Q by (x ∷ xs) p = (by x p.0, all_weaker P Q by xs p.1)
+
+either_first : (a b c : Bool) → (a || (b || c)) ≡ (b || (a || c))
+either_first true true c = refl
+either_first true false c = refl
+either_first false b c = refl
 
 module _ {X : Type 0} (n : X → ℕ) where
   all_put : (P : X → Type 0) (x : X) (xs : List X) → P x → AllByRecursion P xs → AllByRecursion P (put_by n x xs)
@@ -43,6 +48,30 @@ module _ {X : Type 0} (n : X → ℕ) where
   pub ordered_all : (P : X → Type 0) (xs : List X) → AllByRecursion P (ordered_by n xs) → AllByRecursion P xs
   ordered_all P [] all = tt
   ordered_all P (x ∷ xs) all = let parts = put_all P x (ordered_by n xs) all in (parts.0, ordered_all P xs parts.1)
+
+  any_put : (p : X → Bool) (x : X) (xs : List X) → list_any p (put_by n x xs) ≡ (p x || list_any p xs)
+  any_put p x [] = refl
+  any_put p x (y ∷ ys) =
+      let rest = any_put p x ys in
+      elim (ltb (n x) (n y)) as (λ b. list_any p (cond b (x ∷ y ∷ ys) (y ∷ put_by n x ys)) ≡ (p x || (p y || list_any p ys))) [
+        | true ↦ refl
+        | false ↦ ap (λ b. p y || b) rest ∙ either_first (p y) (p x) (list_any p ys)
+      ]
+
+  -- One of the items passes in order if and only if one does.
+  pub any_ordered : (p : X → Bool) (xs : List X) → list_any p (ordered_by n xs) ≡ list_any p xs
+  any_ordered p [] = refl
+  any_ordered p (x ∷ xs) = any_put p x (ordered_by n xs) ∙ ap (λ b. p x || b) (any_ordered p xs)
+
+  -- ---- a number above all
+
+  pub above : (next : ℕ) (xs : List X) → AllByRecursion (λ x. n x < next) xs → AllByRecursion (λ k. eqb next k ≡ false) (map n xs)
+  above next [] below = tt
+  above next (x ∷ xs) below = (ne_eqb next (n x) (λ same. omega (arith, same, below.0)), above next xs below.1)
+
+  pub higher : (next : ℕ) (xs : List X) → AllByRecursion (λ x. n x < next) xs → AllByRecursion (λ x. n x < next + 1) xs
+  higher next [] below = tt
+  higher next (x ∷ xs) below = (omega (arith, below.0), higher next xs below.1)
 
   -- ---- lists that rise
 

@@ -1,10 +1,10 @@
 -- The names of uids and files as the code has them, and the replies that are kept under them.
-use Rattle.std.specs.Prelude.{◌≡◌, ℕ, ◌<◌, Bool, ◌&&◌, ◌==◌, nat_lt, bytes_eq, if◌then◌else◌, List, [], ◌∷◌, map}
+use Rattle.std.specs.Prelude.{ℕ, ◌<◌, Bool, ◌&&◌, ◌==◌, nat_lt, bytes_eq, if◌then◌else◌, List, [], ◌∷◌, map}
 use Rattle.std.specs.List.{AllByRecursion, IsDistinct}
 use Rattle.ofx_types.specs.declared.number.UserId.{UserId}
 use Rattle.bank_model.specs.declared.once.UsedPair.{UsedPair}
 use Rattle.bank_model.specs.declared.once.KeptReply.{KeptReply}
-use Rattle.once_records.specs.RecordsView.{KeptOnce}
+use Rattle.once_records.specs.RecordsView.{UsedOnce, KeptOnce}
 use Rattle.once_records.specs.declared.name.Name.{Name}
 use Rattle.once_records.specs.declared.replies.Numbered.{Numbered}
 
@@ -37,6 +37,21 @@ put_by number item (first ∷ more) =
 abbrev pub ordered_by : {X : Type 0} → (X → ℕ) → List X → List X
 ordered_by number [] = []
 ordered_by number (item ∷ more) = put_by number item (ordered_by number more)
+
+-- The pairs that are used up, in the order of their numbers.
+abbrev pub in_order_used : List (Name × ℕ) → List UsedPair
+in_order_used held = map (λ (one : Name × ℕ). pair_named one.0) (ordered_by (λ (one : Name × ℕ). one.1) held)
+
+-- The pairs that are used up, in the order in which they were, and for how many more there is room.
+pub record UsedView : Type 0 where
+  pub used : List UsedPair
+  pub room : ℕ
+
+-- No two pairs have one number, and the next number is above all of them. No user has used up a uid twice.
+pub record AreNumberedOnce (next : ℕ) (held : List (Name × ℕ)) : Type 0 where
+  pub below : AllByRecursion (λ (one : Name × ℕ). one.1 < next) held
+  pub numbers : IsDistinct (λ (a b : ℕ). a == b) (map (λ (one : Name × ℕ). one.1) held)
+  pub used : UsedOnce (in_order_used held)
 
 -- The replies that are kept, in the order of their numbers.
 abbrev pub in_order_kept : List (Name × Numbered) → List KeptReply

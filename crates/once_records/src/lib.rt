@@ -9,6 +9,7 @@ mod name;
 mod records;
 mod replies;
 mod uids;
+mod used;
 
 pub use records::Records;
 pub use uids::Uids;

@@ -11,7 +11,7 @@ use std::marker::Model;
 const MOST: usize = 36;
 
 /// A user's name for a deed or a file.
-#[derive(Debug, PartialEq, Eq, Hash, Drop)]
+#[derive(PartialEq, Eq, Hash, Drop)]
 pub(crate) struct Name {
     user: u32,
     uid: UidBytes,
@@ -31,7 +31,7 @@ impl Name {
 }
 
 /// The bytes of a uid, which lie in it.
-#[derive(Debug, Drop)]
+#[derive(Drop)]
 pub(crate) struct UidBytes {
     bytes: [u8; MOST],
     size: u8,

@@ -5,9 +5,8 @@ ghost use Rattle.std.specs.Option.{option_copied};
 ghost use Rattle.bank_model.specs.Once.{is_used, reply_kept, released};
 ghost use Rattle.once_records.specs.RecordsView.{UsedOnce, KeptOnce};
 
-use crate::name::Name;
 use crate::replies::Replies;
-use indexmap::IndexSet;
+use crate::used::Used;
 use ofx_types::{FileUid, OutOfMemory, TrnUid, UserId};
 use std::alloc::Global;
 use std::hash::RandomState;
@@ -16,28 +15,28 @@ use std::marker::Model;
 /// The uids that users have used up, and the replies that are kept for users' files. Each stands here once.
 ///
 /// Clients choose the names, so their hashes have keys that no client knows.
-#[derive(Drop)]
 pub struct Records {
-    used: IndexSet<Name, RandomState>,
+    used: Used,
     kept: Replies,
 }
 
 impl Model for Records {
-    ghost use Rattle.std.specs.Prelude.{map};
-    ghost use Rattle.std.specs.HashSet.{spare};
-    ghost use Rattle.once_records.specs.RecordsView.{RecordsView, UsedOnce};
-    ghost use Rattle.once_records.specs.Names.{pair_named};
+    ghost use Rattle.once_records.specs.RecordsView.{RecordsView};
 
     ghost Value = { RecordsView };
 
     ghost view = { λ r. record {
-      used = map pair_named r.used.keys;
+      used = r.used.used;
       kept = r.kept.kept;
-      pairs = spare r.used;
+      pairs = r.used.room;
       files = r.kept.room;
     } };
+}
 
-    ghost invariant = { λ r. UsedOnce (map pair_named r.used.keys) };
+impl Drop for Records {
+    fn drop(self) {
+        let Records { used: _, kept: _ } = self;
+    }
 }
 
 impl Records {
@@ -47,7 +46,7 @@ impl Records {
         ensures kept { result.kept ≡ [] }
     {
         Records {
-            used: IndexSet::with_hasher(alloc, keys),
+            used: Used::new(alloc, keys),
             kept: Replies::new(alloc, keys),
         }
     }
@@ -57,7 +56,7 @@ impl Records {
         ensures used { UsedOnce self.now.used }
         ensures kept { KeptOnce self.now.kept }
     {
-        let _used = &self.used;
+        self.used.known();
         self.kept.known();
     }
 
@@ -65,8 +64,7 @@ impl Records {
     pub fn used(&self, user: UserId, trnuid: &TrnUid) -> bool
         ensures { result ≡ is_used user trnuid.now self.now.used }
     {
-        let name = Name::new(user, trnuid.as_bytes());
-        self.used.contains(&name)
+        self.used.has(user, trnuid)
     }
 
     /// The reply that is kept for the user's file, lent. Takes no memory.
@@ -87,7 +85,7 @@ impl Records {
         ensures pairs_stay { self.old.pairs ≤ self.new.pairs }
         ensures files_stay { self.old.files ≤ self.new.files }
     {
-        self.used.reserve(pairs as usize)?;
+        self.used.reserve(pairs)?;
         self.kept.reserve(files)
     }
 
@@ -100,9 +98,7 @@ impl Records {
         ensures pairs { self.old.pairs ≤ self.new.pairs + 1 }
         ensures files { self.new.files ≡ self.old.files }
     {
-        let name = Name::new(user, trnuid.as_bytes());
-        let used: Result<_, _> = self.used.insert(name);
-        let _new = used.unwrap();
+        self.used.use_up(user, trnuid);
     }
 
     /// Keeps the reply to a user's file that has none. There is room for it, and it takes no memory.

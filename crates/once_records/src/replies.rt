@@ -13,14 +13,13 @@ use std::hash::RandomState;
 use std::marker::Model;
 
 /// The bytes of a reply, with the number of it among all that were ever kept.
-#[derive(Debug, Drop)]
+#[derive(Drop)]
 pub(crate) struct Numbered {
     number: u64,
     reply: Sequence<u8>,
 }
 
 /// The replies that are kept, each with a number of its own, above those of all that were kept before it.
-#[derive(Drop)]
 pub(crate) struct Replies {
     held: HashMap<Name, Numbered, RandomState>,
     next: u64,
@@ -40,6 +39,12 @@ impl Model for Replies {
     } };
 
     ghost invariant = { λ r. AreNumbered r.next r.held.entries };
+}
+
+impl Drop for Replies {
+    fn drop(self) {
+        let Replies { held: _, next: _ } = self;
+    }
 }
 
 impl Replies {

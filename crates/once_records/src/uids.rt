@@ -9,7 +9,6 @@ use std::collections::HashSet;
 use std::marker::Model;
 
 /// Uids in the order in which they were used up.
-#[derive(Drop)]
 pub struct Uids {
     order: Vec<TrnUid>,
     known: HashSet<TrnUid>,
@@ -24,6 +23,12 @@ impl Model for Uids {
     ghost view = { λ u. u.order.items };
 
     ghost invariant = { λ u. HaveSameUids u.known.keys u.order.items };
+}
+
+impl Drop for Uids {
+    fn drop(self) {
+        let Uids { order: _, known: _ } = self;
+    }
 }
 
 impl Uids {
@@ -67,6 +72,7 @@ impl Uids {
     pub fn into_vec(self) -> Vec<TrnUid>
         ensures { result.items ≡ self }
     {
-        self.order
+        let Uids { order, known: _ } = self;
+        order
     }
 }

@@ -12,7 +12,7 @@ use std::iter::FusedIterator;
 use std::marker::Model;
 
 /// The entries of a window above a token, from the oldest to the newest. A contract sees those that are left.
-#[derive(Debug, Drop)]
+#[derive(Drop)]
 pub struct Since<'a> {
     older: &'a [Entry],
     newer: &'a [Entry],

@@ -18,7 +18,6 @@ use std::alloc::Global;
 use std::marker::Model;
 
 /// The last entries of an object. Their numbers rise.
-#[derive(Debug, Drop)]
 pub struct Window {
     /// How many entries it holds at most.
     width: u32,
@@ -37,6 +36,17 @@ impl Model for Window {
     ghost view = { λ w. record { width = w.width; held = w.entries.items; floor = w.floor; room = w.room } };
 
     ghost invariant = { λ w. IsWindow w.width w.entries.capacity w.floor w.room w.entries.items };
+}
+
+impl Drop for Window {
+    fn drop(self) {
+        let Window {
+            width: _,
+            room: _,
+            floor: _,
+            entries: _,
+        } = self;
+    }
 }
 
 impl Window {

@@ -1,5 +1,5 @@
 use Rattle.std.proofs.Common.{sym, subst, ◌∙◌, ap, set}
-use Rattle.bank_recur.specs.ModelsView.{Series, ModelsView, StandsFor}
+use Rattle.bank_recur.specs.ModelsView.{Series, ModelsView, StandsFor, HasOffsets}
 use Rattle.bank_recur.proofs.StandsLemmas.{is_at, found_id, once_set, ids_set, none_found, stands_cancelled, none_cancelled}
 use Rattle.bank_recur.proofs.AheadLemmas.{ahead_set, place_left, stands_before}
 use Rattle.bank_recur.proofs.models.Models.cancel.Goals as goal
@@ -19,7 +19,7 @@ invariant_of-self c =
     let there = is_at c.args.id c.in-Some.at c.index_mut-one.result.now c.self.inside.series.items c.args.self.now.series c.place_of.result c.place_of.ensures (sym (ap (λ (v : ModelsView). v.series) c.self.view_is)) c.in-Some.is c.index_mut-one.ensures.value in
     let same = ap (λ (s : Series). s.row.id) c.cancel.ensures ∙ found_id c.args.id c.index_mut-one.result.now c.self.inside.series.items there.found in (
       once_set c.args.id c.in-Some.at c.index_mut-one.result.now c.cancel.new.self c.self.inside.series.items there same c.self.invariant.0,
-      c.self.invariant.1 ∙ sym (ids_set c.args.id c.in-Some.at c.index_mut-one.result.now c.cancel.new.self c.self.inside.series.items there same),
+      subst (HasOffsets c.self.inside.offsets.entries) (sym (ids_set c.args.id c.in-Some.at c.index_mut-one.result.now c.cancel.new.self c.self.inside.series.items there same)) c.self.invariant.1,
       ahead_set c.args.id c.in-Some.at c.index_mut-one.result.now c.cancel.new.self c.self.inside.series.items c.self.inside.upcoming c.exchange.new.self c.date_ahead-before.result c.date_ahead-after.result there same c.self.invariant.2 c.date_ahead-before.ensures c.date_ahead-after.ensures c.exchange.ensures.days c.exchange.ensures.length c.exchange.ensures.places,
     )
 

@@ -1,4 +1,4 @@
-use Rattle.std.proofs.Common.{refl, sym, ap, length, arith}
+use Rattle.std.proofs.Common.{refl, ap, length, arith}
 use Rattle.std.specs.List.{IsDistinct}
 use Rattle.bank_model.specs.Models.{model_of, is_model_dropped}
 use Rattle.bank_recur.specs.Upcoming.{day_in}
@@ -6,7 +6,7 @@ use Rattle.bank_recur.proofs.models.Models.new.Goals as goal
 
 pub invariant_of-result : goal.invariant_of-result
 unfolding IsDistinct
-invariant_of-result c = rw (c.new.ensures.items, c.new-2.ensures.empty) (tt, refl, record { days = λ id. ap (day_in id) c.new-3.ensures; many = ap length c.new-3.ensures; places = omega arith })
+invariant_of-result c = rw (c.new.ensures.items, c.new-2.ensures.empty) (tt, λ id. refl, record { days = λ id. ap (day_in id) c.new-3.ensures; many = ap length c.new-3.ensures; places = omega arith })
 
 pub returns : goal.returns
 unfolding model_of is_model_dropped

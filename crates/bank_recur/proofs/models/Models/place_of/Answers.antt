@@ -4,8 +4,12 @@ use Rattle.bank_recur.specs.ModelsView.{Series, ModelsView}
 use Rattle.bank_recur.proofs.StandsLemmas.{place_by_id}
 use Rattle.bank_recur.proofs.models.Models.place_of.Goals as goal
 
-pub returns : goal.returns
-returns c =
-    c.get_index_of.ensures.index
-    ∙ place_by_id c.args.id c.self.inside.ids.keys c.self.inside.series.items c.self.invariant.1
+pub returns-in-Some : goal.returns-in-Some
+returns-in-Some c =
+    c.in-Some.ensures.value ∙ c.self.invariant.1 c.args.id ∙ place_by_id c.args.id c.self.inside.series.items
+    ∙ ap (λ (v : ModelsView). position (λ (one : Series). eqb one.row.id c.args.id) v.series) c.self.view_is
+
+pub returns-in-None : goal.returns-in-None
+returns-in-None c =
+    c.in-None.ensures.value ∙ c.self.invariant.1 c.args.id ∙ place_by_id c.args.id c.self.inside.series.items
     ∙ ap (λ (v : ModelsView). position (λ (one : Series). eqb one.row.id c.args.id) v.series) c.self.view_is

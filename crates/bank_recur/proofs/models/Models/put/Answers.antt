@@ -1,8 +1,9 @@
-use Rattle.std.proofs.Common.{List, length, ◌<◌, arith, ◌≡◌, ◌++◌, ◌∷◌, [], sym, subst, ◌∙◌, ap, set, false}
-use Rattle.std.proofs.lemmas.Result.{IfOk-at_ok}
+use Rattle.std.proofs.Common.{List, length, ◌<◌, arith, ◌≡◌, ◌++◌, ◌∷◌, [], sym, subst, ◌∙◌, ap, eqb, set, false}
+use Rattle.std.proofs.lemmas.List.{map-append, length-map}
+use Rattle.std.specs.List.{position}
 use Rattle.bank_recur.specs.Ahead.{IsAhead}
-use Rattle.bank_recur.specs.ModelsView.{Series, ModelsView, StandsFor, IsOnce, ids_of}
-use Rattle.bank_recur.proofs.StandsLemmas.{is_at, once_set, ids_set, ids_inserted, none_found, once_pushed, begins_set, begins_pushed, stands_set, stands_pushed}
+use Rattle.bank_recur.specs.ModelsView.{Series, ModelsView, StandsFor, IsOnce, HasOffsets, ids_of}
+use Rattle.bank_recur.proofs.StandsLemmas.{is_at, once_set, ids_set, offsets_pushed, place_by_id, none_found, once_pushed, begins_set, begins_pushed, stands_set, stands_pushed}
 use Rattle.bank_recur.proofs.AheadLemmas.{ahead_pushed, ahead_set, at_most_one, none_more, place_left, room_left, stands_before, stands_none}
 use Rattle.bank_recur.proofs.models.Models.put.Goals as goal
 
@@ -21,7 +22,7 @@ invariant_of-self c =
     let there = is_at c.args.row.id c.in-Some.at c.index_mut-one.result.now c.self.inside.series.items c.args.self.now.series c.place_of.result c.place_of.ensures (sym (ap (λ (v : ModelsView). v.series) c.self.view_is)) c.in-Some.is c.index_mut-one.ensures.value in
     let same = ap (λ (s : Series). s.row.id) c.begin_anew.ensures in (
       once_set c.args.row.id c.in-Some.at c.index_mut-one.result.now c.begin_anew.new.self c.self.inside.series.items there same c.self.invariant.0,
-      c.self.invariant.1 ∙ sym (ids_set c.args.row.id c.in-Some.at c.index_mut-one.result.now c.begin_anew.new.self c.self.inside.series.items there same),
+      subst (HasOffsets c.self.inside.offsets.entries) (sym (ids_set c.args.row.id c.in-Some.at c.index_mut-one.result.now c.begin_anew.new.self c.self.inside.series.items there same)) c.self.invariant.1,
       ahead_set c.args.row.id c.in-Some.at c.index_mut-one.result.now c.begin_anew.new.self c.self.inside.series.items c.self.inside.upcoming c.exchange.new.self c.date_ahead-before.result c.date_ahead-after.result there same c.self.invariant.2 c.date_ahead-before.ensures c.date_ahead-after.ensures c.exchange.ensures.days c.exchange.ensures.length c.exchange.ensures.places,
     )
 
@@ -48,9 +49,14 @@ invariant_of-self-in-None c =
     let none = none_found c.args.row.id c.self.inside.series.items c.args.self.now.series c.place_of.result c.place_of.ensures (sym (ap (λ (v : ModelsView). v.series) c.self.view_is)) c.in-None.is in
     let one : Series = record { row = c.args.row; cancelled = false; place = 0 } in
     let room = room_left _ _ c.self.inside.upcoming.places (length c.self.inside.series.items) (subst (λ (v : ModelsView). 0 < v.room) (sym c.self.view_is) c.requires.room) in
+    let long = c.self.inside.series.ok.0 in
+    let last : c.len-offset.result ≡ length (ids_of c.self.inside.series.items) = omega (arith, c.len-offset.ensures, long, length-map c.self.inside.series.items (λ (s : Series). s.row.id)) in
+    let absent = place_by_id c.args.row.id c.self.inside.series.items ∙ ap (λ (v : ModelsView). position (λ (o : Series). eqb o.row.id c.args.row.id) v.series) c.self.view_is ∙ sym c.place_of.ensures ∙ c.in-None.is in
     let all : c.push_reserved.new.self.items ≡ c.self.inside.series.items ++ one ∷ [] = c.push_reserved.ensures.items ∙ ap (λ (s : Series). c.self.inside.series.items ++ s ∷ []) c.new-one.ensures in (
       subst IsOnce (sym all) (once_pushed one c.self.inside.series.items none c.self.invariant.0),
-      IfOk-at_ok _ c.unwrap-new.ensures c.insert-added.ensures.keys ∙ ids_inserted one c.self.inside.ids.keys c.self.inside.series.items none c.self.invariant.1 ∙ sym (ap ids_of all),
+      subst (HasOffsets c.insert-added.new.self.entries) (sym (ap ids_of all ∙ map-append (λ (s : Series). s.row.id) c.self.inside.series.items (one ∷ [])))
+          (offsets_pushed c.args.row.id c.len-offset.result (ids_of c.self.inside.series.items) c.self.inside.offsets.entries c.insert-added.new.self.entries
+          absent last (λ q. (rw c.unwrap-new.ensures at c.insert-added.ensures.updates).0 q) c.self.invariant.1),
       subst (λ (series : List Series). IsAhead series c.enter.new.self) (sym c.push_reserved.ensures.items) (ahead_pushed c.args.row.id c.new-one.result c.self.inside.series.items c.self.inside.upcoming c.enter.new.self c.date_ahead-day.result none (ap (λ (s : Series). s.row.id) c.new-one.ensures) c.self.invariant.2 c.date_ahead-day.ensures c.enter.ensures.days c.enter.ensures.length c.enter.ensures.places room),
     )
 

@@ -1,4 +1,4 @@
-use Rattle.std.proofs.Common.{◌≡◌, cond, eqb, insert, Some, sym, subst, ap, ◌∙◌}
+use Rattle.std.proofs.Common.{cond, eqb, insert, Some, sym, subst, ap, ◌∙◌}
 use Rattle.std.specs.Result.{is_ok}
 use Rattle.bank_recur.specs.Upcoming.{UpcomingView, IsInOrder, IsPlace, day_in}
 use Rattle.bank_recur.specs.declared.spawn.Spawn.{Spawn}

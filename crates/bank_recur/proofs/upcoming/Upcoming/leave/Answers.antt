@@ -1,6 +1,5 @@
-use Rattle.std.proofs.Common.{◌≡◌, cond, eqb, length, None, sym, subst, ap, ◌∙◌, arith}
+use Rattle.std.proofs.Common.{cond, eqb, length, None, sym, subst, ap, ◌∙◌, arith}
 use Rattle.bank_recur.specs.Upcoming.{UpcomingView, Precedes, IsInOrder, day_in}
-use Rattle.bank_recur.specs.declared.spawn.Spawn.{Spawn}
 use Rattle.bank_recur.proofs.InOrderLemmas.{in_order_remove}
 use Rattle.bank_recur.proofs.UpcomingLemmas.{there_in, day_remove}
 use Rattle.bank_recur.proofs.upcoming.Upcoming.leave.Goals as goal

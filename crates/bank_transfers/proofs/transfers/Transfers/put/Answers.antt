@@ -11,7 +11,7 @@ returns-then-is_waiting-clause-stands c entries entry stands numbered gives =
     (settled_waits c.args.row.id c.self.inside.closed.rows c.self.inside.postings.postings c.self.invariant.1 c.self.invariant.0)
     (sym c.is_waiting.ensures ∙ c.if-is_waiting.true)
     c.put.ensures.found
-    refl
+    (λ id. refl)
     refl
     (subst (λ (v : TransfersView). StandsFor v entries) (sym c.self.view_is) stands)
     gives

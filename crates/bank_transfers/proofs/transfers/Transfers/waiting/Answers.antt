@@ -1,7 +1,5 @@
-use Rattle.std.proofs.Common.{◌≡◌, ℕ, List, map, filter, ◌==◌, sym, subst}
+use Rattle.std.proofs.Common.{sym, subst}
 use Rattle.std.proofs.lemmas.Result.{IfOk-weaker}
-use Rattle.ofx_types.specs.declared.transfer.TransferRow.{TransferRow}
-use Rattle.bank_model.specs.declared.entry.Entry.{Entry}
 use Rattle.bank_model.specs.Models.{all_waiting, waiting_of}
 use Rattle.bank_transfers.specs.TransfersView.{TransfersView, StandsFor}
 use Rattle.bank_transfers.proofs.transfers.Transfers.waiting.Goals as goal

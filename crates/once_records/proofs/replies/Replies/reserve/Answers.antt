@@ -1,13 +1,5 @@
-use Rattle.std.proofs.Common.{◌≡◌, ◌++◌, ◌∷◌, [], List, ℕ, None, Some, Option, is_some, sym, ap, subst, ◌∙◌}
-use Rattle.std.specs.List.Sorted.{IsPermutation}
-use Rattle.std.specs.Map.{lookup, remove_entry}
-use Rattle.std.specs.Option.{option_map}
-use Rattle.std.proofs.lemmas.Result.{IfOk-at_ok}
-use Rattle.bank_model.specs.declared.once.KeptReply.{KeptReply}
-use Rattle.bank_model.specs.Once.{reply_kept, released}
-use Rattle.once_records.specs.declared.name.Name.{Name}
-use Rattle.once_records.specs.declared.replies.Numbered.{Numbered}
-use Rattle.once_records.specs.Names.{RepliesView, AreNumbered, name_of, same_name, in_order_kept}
+use Rattle.std.proofs.Common.{ap, ◌∙◌}
+use Rattle.once_records.specs.Names.{RepliesView}
 use Rattle.once_records.proofs.NameLemmas.{kept_reordered, numbered_reordered}
 use Rattle.once_records.proofs.replies.Replies.reserve.Goals as goal
 

@@ -1,6 +1,0 @@
-use Rattle.std.specs.List.{IsDistinct}
-use Rattle.once_records.proofs.records.Records.new.Goals as goal
-
-pub invariant_of-result : goal.invariant_of-result
-unfolding IsDistinct
-invariant_of-result c = rw c.with_hasher.ensures.empty tt
