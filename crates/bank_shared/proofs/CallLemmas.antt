@@ -9,14 +9,15 @@ use Rattle.bank_model.specs.declared.event.State.{State}
 use Rattle.bank_model.specs.declared.setup.Setup.{Setup}
 use Rattle.bank_model.specs.Polls.{poll_reply}
 use Rattle.bank_model.specs.declared.submit.SubmitFault.{SubmitFault}
-use Rattle.bank_shared.specs.Views.{JournalView}
-use Rattle.bank_shared.specs.Calls.{Answers, FailsToCommit, Settles, AnswersNext, FailsToSubmit}
+use Rattle.bank_engine.specs.Calls.{Answers, FailsToCommit}
+use Rattle.bank_engine.specs.Views.{JournalView}
+use Rattle.bank_shared.specs.Calls.{IsSettled, AnswersNext, FailsToSubmit}
 
-pub answers_next : {A : Type 0} (items : A → List ℕ) (result : Result A SubmitFault) (old between new : JournalView) (event : Event) (at : Moment) → Settles old between → IfOk result (λ (reply : A). Answers between new event at (items reply)) → IfOk result (λ (reply : A). AnswersNext old new event at (items reply))
+pub answers_next : {A : Type 0} (items : A → List ℕ) (result : Result A SubmitFault) (old between new : JournalView) (event : Event) (at : Moment) → IsSettled old between → IfOk result (λ (reply : A). Answers between new event at (items reply)) → IfOk result (λ (reply : A). AnswersNext old new event at (items reply))
 answers_next items (Ok reply) old between new event at settles answers = record { between = between; settles = settles; answers = answers }
 answers_next items (Err fault) old between new event at settles answers = tt
 
-pub fails_next : {A : Type 0} (result : Result A SubmitFault) (old between new : JournalView) (event : Event) (at : Moment) → Settles old between → IfErr result (FailsToCommit between new event at) → IfErr result (FailsToSubmit old new event at)
+pub fails_next : {A : Type 0} (result : Result A SubmitFault) (old between new : JournalView) (event : Event) (at : Moment) → IsSettled old between → IfErr result (FailsToCommit between new event at) → IfErr result (FailsToSubmit old new event at)
 fails_next (Ok reply) old between new event at settles fails = tt
 fails_next (Err fault) old between new event at settles fails = inr (record { between = between; settles = settles; fails = fails })
 
