@@ -13,9 +13,10 @@ ghost use Rattle.bank_shared.specs.Calls.{IsSettled, LeavesPending, AnswersNext,
 
 use crate::advance::Advance;
 use crate::journal::Journal;
-use crate::lending::{lend, lend_for_pending};
+use crate::lending::lend_for_pending;
 use crate::name::BankName;
 use bank_accounts::{Account, Held, Home};
+use bank_engine::lend;
 use bank_model::{Event, Printer, Setup, SubmitFault};
 use bank_solo::laws::unnamed_accounts_stay;
 use ofx_ports::Keeper;
