@@ -17,7 +17,7 @@ pub trait Envelope: Copy {
 }
 
 /// Nothing is sent.
-#[derive(Clone, Copy, Debug)]
+#[derive(Clone, Copy)]
 pub struct Unsent;
 
 impl Envelope for Unsent {
@@ -27,5 +27,17 @@ impl Envelope for Unsent {
 
     fn wrap(&self, alloc: Global, _reply: &[u8]) -> Result<Vec<u8>, OutOfMemory> {
         Ok(Vec::new(alloc))
+    }
+}
+
+/// The reply is sent as it is.
+#[derive(Clone, Copy)]
+pub struct Bare;
+
+impl Envelope for Bare {
+    ghost sent = { λ envelope reply. reply };
+
+    fn wrap(&self, alloc: Global, reply: &[u8]) -> Result<Vec<u8>, OutOfMemory> {
+        Ok(reply.to_vec(alloc)?)
     }
 }

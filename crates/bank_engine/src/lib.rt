@@ -19,7 +19,7 @@ mod solo;
 mod taking;
 
 pub use engine::Engine;
-pub use envelope::{Envelope, Unsent};
+pub use envelope::{Bare, Envelope, Unsent};
 pub use lending::lend;
 pub use log::Log;
 pub use publisher::Publisher;

@@ -161,17 +161,20 @@ impl<P: Printer> SoloEngine<P> {
         self.home.receive(&mut self.held);
     }
 
-    /// The book, without what is pending. Takes no memory.
-    pub fn into_book(self) -> Book<P>
-        ensures setup { result.setup ≡ self.setup }
-        ensures state { result.state ≡ self.state }
+    /// The book, and all accounts in the order of their numbers. What is pending is given up.
+    pub fn into_parts(mut self, alloc: Global) -> Result<(Book<P>, Vec<Account>), OutOfMemory>
+        ensures setup { IfOk result (λ parts. parts.0.setup ≡ self.setup) }
+        ensures state { IfOk result (λ parts. parts.0.state ≡ self.state) }
+        ensures accounts { IfOk result (λ parts. AreAccountsIn self.setup self.state parts.1.items) }
     {
+        self.give_up();
         let SoloEngine {
             engine,
-            home: _,
+            home,
             held: _,
         } = self;
-        engine.into_book()
+        let accounts = home.into_vec(alloc)?;
+        Ok((engine.into_book(), accounts))
     }
 }
 
