@@ -119,7 +119,6 @@ impl Server {
     }
 
     /// Settles what is pending: an event whose record stands has happened at its moment. Takes no memory.
-    #[tactic(auto, unfolding(crate::specs::Server::settled))]
     pub(crate) fn settle(&mut self)
         ensures settled { self.new ≡ settled self.old }
         ensures pending { self.new.pending ≡ None }
@@ -132,7 +131,6 @@ impl Server {
 
     /// Makes an event happen at that moment, once its record is kept, and gives its reply. Nothing is pending before. Where the
     /// append fails there is no reply, and the event is pending. Where memory is refused nothing has happened.
-    #[tactic(auto, unfolding(crate::specs::Server::committed, crate::specs::Server::reply_to))]
     fn commit(&mut self, event: Event, at: Moment) -> Result<Option<Vec<u8>>, OutOfMemory>
         requires moment { IsMoment at.0 }
         requires legal { IsLegal self.old.setup self.old.state at event }
@@ -142,14 +140,7 @@ impl Server {
         ensures codes { OnOk result (Codes (coded at event) at event) }
         ensures refused { OnErr result (self.new ≡ self.old) }
     {
-        match self.engine.commit(
-            self.alloc,
-            &mut self.keeper,
-            &mut self.log,
-            event,
-            at,
-            Bare,
-        ) {
+        match self.engine.commit(self.alloc, &mut self.keeper, &mut self.log, event, at, Bare) {
             Ok(reply) => Ok(Some(reply)),
             Err(SubmitFault::Keeper(_)) => Ok(None),
             Err(SubmitFault::OutOfMemory) => Err(OutOfMemory),
