@@ -11,7 +11,10 @@ use Rattle.bank_model.specs.SetupLookups.{signed_on}
 use Rattle.bank_model.specs.declared.event.Event.{Event}
 use Rattle.bank_model.specs.declared.event.State.{State}
 use Rattle.bank_model.specs.declared.setup.Setup.{Setup}
-use Rattle.bank_engine.specs.Calls.{IsAsBefore, Answers, FailsToKeep, pending_after, SettlesAny, Settles}
+use Rattle.bank_model.specs.declared.submit.SubmitFault.{SubmitFault}
+use Rattle.bank_model.specs.declared.submit.SubmitFault.TheVariants.{Keeper}
+use Rattle.bank_engine.specs.Calls.{IsAsBefore, Answers, FailsToKeep, FailsToCommit, pending_after, SettlesAny, Settles}
+use Rattle.bank_engine.specs.Solo.{Sends, AppendsOne}
 use Rattle.bank_engine.specs.Views as engines
 use Rattle.bank_engine.specs.Views.{JournalView}
 use Rattle.bank_replay.specs.Opening.{Stands}
@@ -20,7 +23,7 @@ use Rattle.event_codec.specs.Coding.{coded}
 use Rattle.event_codec.specs.Records.{Codes, Reopens}
 use Rattle.ofx_world.specs.Kept.{Awaits, IsOpen, IsRequest, pending_seen}
 use Rattle.ofx_world.specs.Server.{PendingView, ServerView, happened, given_up, happened_unless, committed, reply_unless, reply_to, settled, settled_as, with_state, Restarts}
-use Rattle.ofx_world.specs.Views.{KeeperView, Unsettled, Succeeds, FailsAs, SettlesAs, is_landed, landed_record}
+use Rattle.ofx_world.specs.Views.{KeeperView, Unsettled, Succeeds, FailsAs, Tries, SettlesAs, is_landed, landed_record}
 use Rattle.ofx_world.proofs.Lists.{same_some, none_some}
 
 -- ---- records
@@ -158,6 +161,26 @@ awaits_it old new after event at count keeper rec landed fails codes failed =
     there : engines.PendingView
     there = pending_after old event at
 
+-- ---- the same, of what a commit tells of its append
+
+pub happens_as : {A : Type 0} (line : A) (sent : List ℕ → List ℕ) (old new : JournalView) (keeper after : KeeperView) (now : ServerView) (event : Event) (at : Moment) (bytes : List ℕ) → seen old.setup old.state keeper old.pending ≡ now → now.pending ≡ None → Sends sent old new event at bytes → AppendsOne Tries keeper after at event (Ok line) → seen new.setup new.state after new.pending ≡ committed now at event
+happens_as line sent old new keeper after now event at bytes same settled sends appends =
+    happens old new keeper after now event at sends.reply appends.0 same settled sends.answers appends.1 appends.2
+
+pub replied_as : {A : Type 0} (line : A) (old new : JournalView) (keeper after : KeeperView) (now : ServerView) (event : Event) (at : Moment) (reply : List ℕ) → seen old.setup old.state keeper old.pending ≡ now → now.pending ≡ None → Answers old new event at reply → AppendsOne Tries keeper after at event (Ok line) → Some reply ≡ reply_to now at event
+replied_as line old new keeper after now event at reply same settled answers appends =
+    replied old new keeper after now event at reply appends.0 same settled answers appends.2
+
+pub puts_off_as : (A : Type 0) (old new : JournalView) (keeper after : KeeperView) (now : ServerView) (event : Event) (at : Moment) (fault : SubmitFault) (count : ℕ) → fault ≡ Keeper count → seen old.setup old.state keeper old.pending ≡ now → now.pending ≡ None → FailsToCommit old new event at fault → AppendsOne {A = A} Tries keeper after at event (Err fault) → seen new.setup new.state after new.pending ≡ committed now at event
+puts_off_as A old new keeper after now event at fault count is same settled fails appends =
+    let appended : AppendsOne {A = A} Tries keeper after at event (Err (Keeper count)) = subst (λ (f : SubmitFault). AppendsOne {A = A} Tries keeper after at event (Err f)) is appends in
+    puts_off old new keeper after now event at count appended.0 appended.2.0 same settled (subst (FailsToCommit old new event at) is fails) appended.2.1
+
+pub tells_none_as : (A : Type 0) (old : JournalView) (keeper after : KeeperView) (now : ServerView) (event : Event) (at : Moment) (fault : SubmitFault) (count : ℕ) → fault ≡ Keeper count → seen old.setup old.state keeper old.pending ≡ now → now.pending ≡ None → AppendsOne {A = A} Tries keeper after at event (Err fault) → None ≡ reply_to now at event
+tells_none_as A old keeper after now event at fault count is same settled appends =
+    let appended : AppendsOne {A = A} Tries keeper after at event (Err (Keeper count)) = subst (λ (f : SubmitFault). AppendsOne {A = A} Tries keeper after at event (Err f)) is appends in
+    tells_none old keeper after now event at appended.0 appended.2.0 same settled appended.2.1
+
 -- nothing has happened
 pub stays_so : (old new : JournalView) (keeper after : KeeperView) → IsAsBefore old new → after ≡ keeper → seen new.setup new.state after new.pending ≡ seen old.setup old.state keeper old.pending
 stays_so old new keeper after before same =
@@ -257,7 +280,7 @@ setup_if : (server : ServerView) (pending : PendingView) (b : Bool) → (if b th
 setup_if server pending true = refl
 setup_if server pending false = refl
 
-setup_as : (server : ServerView) (pending : Option engines.PendingViewView) → (settled_as server pending).setup ≡ server.setup
+setup_as : (server : ServerView) (pending : Option PendingView) → (settled_as server pending).setup ≡ server.setup
 setup_as server None = refl
 setup_as server (Some pending) = setup_if server pending pending.landed
 
