@@ -17,7 +17,7 @@ use Rattle.bank_model.specs.SetupForm.{IsWithinLimits}
 use Rattle.bank_rules.specs.Books.{AreBooksRight}
 use Rattle.bank_rules.specs.Standing.{IsSoundState}
 use Rattle.bank_replay.specs.Opening.{Stands}
-use Rattle.bank_shared.specs.Views.{JournalView}
+use Rattle.bank_engine.specs.Views.{JournalView}
 use Rattle.bank_shared.specs.Calls.{AnswersNext, FailsToSubmit}
 use Rattle.bank_connection.specs.Polled.{Load, loads_made}
 use Rattle.bank_connection.specs.NewestTokens.{newest_loads, NewestAreTold}

@@ -1,5 +1,5 @@
 -- What the calls of the teller do to what its office knows.
-use Rattle.std.proofs.Common.{◌≡◌, ℕ, ◌+◌, inl, inr, List, [], ◌∷◌, ◌++◌, length, drop, All, Option, None, Some, Result, Ok, Err, IfOk, IfErr, refl, sym, ap, ◌∙◌, append_assoc, append-nil, flat_map}
+use Rattle.std.proofs.Common.{◌≡◌, ℕ, ◌+◌, inl, inr, List, [], ◌∷◌, ◌++◌, length, drop, All, Bool, true, false, Option, None, Some, Result, Ok, Err, IfOk, IfErr, refl, sym, ap, ◌∙◌, append_assoc, append-nil, flat_map}
 use Rattle.std.proofs.lemmas.List.Elements.{filter-append, Contains-append_left}
 use Rattle.ofx_types.specs.declared.number.UserId.{UserId}
 use Rattle.ofx_types.specs.declared.number.Moment.{Moment}
@@ -15,8 +15,9 @@ use Rattle.bank_model.specs.declared.submit.SubmitFault.TheVariants.{Keeper, Out
 use Rattle.bank_model.specs.LegalLog.{effects_of, group}
 use Rattle.bank_model.specs.Log.{is_ending, endings, entry_of, entries_in}
 use Rattle.bank_model.specs.Rules.{state_after}
-use Rattle.bank_shared.specs.Views.{JournalView}
-use Rattle.bank_shared.specs.Calls.{Answers, SettlesAny, AnswersNext, FailsToSubmit}
+use Rattle.bank_engine.specs.Calls.{Answers, SettlesAny}
+use Rattle.bank_engine.specs.Views.{PendingView, JournalView}
+use Rattle.bank_shared.specs.Calls.{AnswersNext, FailsToSubmit}
 use Rattle.bank_connection.specs.Polled.{Load}
 use Rattle.bank_connection.specs.Offices.{GainsEnding, GainsNothing, StandsIn, IsOfFile, IsCommitted, IsFaulted, IsUncommitted}
 use Rattle.bank_counter.specs.Views.{own_from, own_endings, office_view}
@@ -72,14 +73,14 @@ record HasSettled (old between : JournalView) : Type 0 where
 nothing_added : (old between : JournalView) → between.log ≡ old.log → HasSettled old between
 nothing_added old between same = record { added = []; log = same ∙ sym (append-nil old.log); no_ones = λ number. refl }
 
-settled : (old between : JournalView) (pending : Option (Event × Moment)) → SettlesAny old between pending → HasSettled old between
-settled old between None adds = nothing_added old between adds.log
-settled old between (Some pending) (inl landed) = record {
-  added = group old.setup old.state (Adopted landed.1.number pending.0 pending.1);
+settled : (old between : JournalView) (pending : Option PendingView) (adopted : Bool) → SettlesAny old between pending adopted → HasSettled old between
+settled old between None adopted adds = nothing_added old between adds.1.log
+settled old between (Some pending) true landed = record {
+  added = group old.setup old.state (Adopted pending.number pending.event pending.at);
   log = landed.1.log;
-  no_ones = no_adopted old.setup old.state landed.1.number pending.0 pending.1;
+  no_ones = no_adopted old.setup old.state pending.number pending.event pending.at;
 }
-settled old between (Some pending) (inr lost) = nothing_added old between lost.1.log
+settled old between (Some pending) false lost = nothing_added old between lost.1.log
 
 -- ---- what the office knows after a call
 
@@ -122,7 +123,7 @@ pub committed : (opening : State) (old new : JournalView) (polled : List Load) (
     → All (StandsIn (entries_in opening old.log)) polled → AnswersNext old new (File user file) at reply
     → IsCommitted user file at reply (Some (office_view opening (record { teller = old; polled = polled }))) (Some (office_view opening (record { teller = new; polled = polled })))
 committed opening old new polled user file at reply stand next =
-    let s = settled old next.between old.pending next.settles.settles in
+    let s = settled old next.between old.pending next.settles.0 next.settles.1.settles in
     let others : List LogItem = s.added ++ effects_of next.between.setup next.between.state at (File user file) in
     record {
       others = others;
@@ -152,28 +153,28 @@ refused opening old new polled user file at (Keeper count) stand (inl fails) =
 refused opening old new polled user file at OutOfMemory stand (inl same) =
     gains_nothing opening old new polled [] (same.log ∙ sym (append-nil old.log)) (λ number. refl)
 refused opening old new polled user file at (Keeper count) stand (inr behind) =
-    let s = settled old behind.between old.pending behind.settles.settles in
+    let s = settled old behind.between old.pending behind.settles.0 behind.settles.1.settles in
     faulted opening old new polled user file at count s.added (Some (File user file, at)) stand
     (behind_settling old.log behind.between.log new.log s.added (Fault count (Some (File user file, at)) ∷ []) s.log behind.fails.fails.log) s.no_ones (refl, refl)
 refused opening old new polled user file at OutOfMemory stand (inr behind) =
-    let s = settled old behind.between old.pending behind.settles.settles in
+    let s = settled old behind.between old.pending behind.settles.0 behind.settles.1.settles in
     gains_nothing opening old new polled s.added (behind.fails.log ∙ s.log) s.no_ones
 
 -- ---- the log grows by every call
 
 grown_answer : (old new : JournalView) (event : Event) (at : Moment) (reply : List ℕ) → AnswersNext old new event at reply → HasGrown old.log new.log
 grown_answer old new event at reply next =
-    let s = settled old next.between old.pending next.settles.settles in
+    let s = settled old next.between old.pending next.settles.0 next.settles.1.settles in
     (_, answer_log old next.between new event at reply s next.answers)
 
 grown_fault : (old new : JournalView) (event : Event) (at : Moment) (fault : SubmitFault) → FailsToSubmit old new event at fault → HasGrown old.log new.log
 grown_fault old new event at (Keeper count) (inl fails) = (_, fails.fails.log)
 grown_fault old new event at OutOfMemory (inl same) = ([], same.log ∙ sym (append-nil old.log))
 grown_fault old new event at (Keeper count) (inr behind) =
-    let s = settled old behind.between old.pending behind.settles.settles in
+    let s = settled old behind.between old.pending behind.settles.0 behind.settles.1.settles in
     (_, behind_settling old.log behind.between.log new.log s.added _ s.log behind.fails.fails.log)
 grown_fault old new event at OutOfMemory (inr behind) =
-    let s = settled old behind.between old.pending behind.settles.settles in
+    let s = settled old behind.between old.pending behind.settles.0 behind.settles.1.settles in
     (s.added, behind.fails.log ∙ s.log)
 
 pub grown : {A : Type 0} (bytes : A → List ℕ) (old new : JournalView) (event : Event) (at : Moment) (result : Result A SubmitFault) → IfOk result (λ reply. AnswersNext old new event at (bytes reply))

@@ -7,7 +7,7 @@ use Rattle.bank_model.specs.declared.setup.Setup.{Setup}
 use Rattle.bank_model.specs.Log.{endings}
 use Rattle.bank_model.specs.Rules.{opening_state}
 use Rattle.event_codec.specs.Records.{Reopens}
-use Rattle.bank_shared.specs.Views.{JournalView}
+use Rattle.bank_engine.specs.Views.{JournalView}
 use Rattle.bank_connection.specs.Offices.{OfficeView}
 use Rattle.bank_connection.specs.Polled.{Load, loads_made}
 use Rattle.bank_connection.specs.NewestTokens.{newest_loads}

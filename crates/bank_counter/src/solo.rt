@@ -48,8 +48,8 @@ impl<N: BankName, K: Keeper, P: Printer> SoloOffice<N, K, P> {
     pub fn new(alloc: Global, opened: Opened<K, P>) -> Result<SoloOffice<N, K, P>, OutOfMemory>
         requires setup { opened.setup ≡ N.setup }
         requires opening { opened.state ≡ N.opening }
+        requires first { opened.opened ≡ N.first }
         ensures log { IfOk result (λ office. office.teller.log ≡ []) }
-        ensures opened { IfOk result (λ office. office.teller.opened ≡ opened.opened) }
         ensures records { IfOk result (λ office. office.teller.records ≡ opened.records) }
         ensures polled { IfOk result (λ office. office.polled ≡ []) }
     {

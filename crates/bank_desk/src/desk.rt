@@ -14,12 +14,11 @@ ghost use Rattle.bank_model.specs.Rules as rules;
 ghost use Rattle.bank_replay.specs.Opening.{Stands, HasCause};
 ghost use Rattle.bank_desk.specs.Answering.{Answers, FileUnkept};
 
-use crate::envelope::Envelope;
 use crate::fault::DeskFault;
+use bank_engine::{Envelope, SoloEngine};
 use bank_model::{Event, Setup};
 use bank_replay::{OpenFault, reopen};
 use bank_signon::{Judgement, denial_text, judge};
-use bank_solo::SoloBank;
 use ofx_file::OfxPrinter;
 use ofx_ports::Keeper;
 use ofx_types::{Moment, OutOfMemory, RequestFile, UserId};
@@ -28,21 +27,20 @@ use std::hash::RandomState;
 use std::marker::Model;
 
 /// A bank that answers one file after another, and does what is due.
-#[derive(Drop)]
 pub struct Desk {
-    bank: SoloBank<OfxPrinter>,
+    engine: SoloEngine<OfxPrinter>,
 }
 
 impl Model for Desk {
-    ghost use Rattle.std.specs.Prelude.{◌≡◌, []};
+    ghost use Rattle.std.specs.Prelude.{◌≡◌, None};
     ghost use Rattle.bank_core.specs.BookView.{BookView};
-    ghost use Rattle.bank_model.specs.SetupForm.{IsWithinLimits};
 
     ghost Value = { BookView };
 
-    ghost view = { λ d. record { setup = d.bank.setup; state = d.bank.state } };
+    ghost view = { λ d. record { setup = d.engine.setup; state = d.engine.state } };
 
-    ghost invariant = { λ d. (d.bank.held ≡ []) × IsWithinLimits d.bank.setup };
+    // A run ends at an append that failed, so nothing is ever pending.
+    ghost invariant = { λ d. d.engine.pending ≡ None };
 }
 
 /// What is answered to the bytes of a file.
@@ -73,7 +71,7 @@ impl Desk {
     {
         let (book, accounts) = reopen(alloc, keys, keeper, setup, OfxPrinter)?;
         Ok(Desk {
-            bank: SoloBank::new(alloc, book, accounts)?,
+            engine: SoloEngine::new(alloc, book, accounts)?,
         })
     }
 
@@ -82,7 +80,7 @@ impl Desk {
         ensures setup { result.now ≡ self.now.setup }
         ensures within { IsWithinLimits self.now.setup }
     {
-        self.bank.book().setup()
+        self.engine.book().setup()
     }
 
     /// The number of the next entry. None exactly where the bank makes no more entries in its life. Takes no memory.
@@ -91,7 +89,7 @@ impl Desk {
         ensures some { IfSome result (λ _. length self.now.state.entries < self.now.setup.entries) }
         ensures none { IfNone result (length self.now.state.entries ≡ self.now.setup.entries) }
     {
-        self.bank.book().next_number()
+        self.engine.book().next_number()
     }
 
     /// What is to be sent for the bytes of a file, at most 262,144 of them, at that moment, in that envelope. Where they are a
@@ -127,7 +125,7 @@ impl Desk {
             }
             Judgement::Event(user, file) => {
                 let event = Event::File(user, file);
-                Ok(Answered::Sent(self.commit(alloc, keeper, at, &event, envelope)?))
+                Ok(Answered::Sent(self.commit(alloc, keeper, at, event, envelope)?))
             }
         }
     }
@@ -147,7 +145,7 @@ impl Desk {
         ensures { IfOk result (λ line. line.items
             ≡ E.sent envelope (reply_text (polls.poll_reply self.now.setup self.now.state user at file.now))) }
     {
-        let reply = self.bank.book().poll(alloc, user, file, at)?;
+        let reply = self.engine.book().poll(alloc, user, file, at)?;
         envelope.wrap(alloc, &reply)
     }
 }
@@ -164,4 +162,10 @@ fn denied<E: Envelope>(
 {
     let reply = denial_text(alloc, at, file)?;
     envelope.wrap(alloc, &reply)
+}
+
+impl Drop for Desk {
+    fn drop(self) {
+        let Desk { engine: _ } = self;
+    }
 }

@@ -3,10 +3,8 @@
 #![tactic(auto)]
 
 mod desk;
-mod envelope;
 mod fault;
-mod keeping;
 
+pub use bank_engine::{Envelope, Unsent};
 pub use desk::{Answered, Desk};
-pub use envelope::{Envelope, Unsent};
 pub use fault::DeskFault;

@@ -5,7 +5,7 @@ use Rattle.bank_model.specs.declared.event.Event.{Event}
 use Rattle.bank_model.specs.declared.submit.SubmitFault.{SubmitFault}
 use Rattle.bank_model.specs.declared.submit.SubmitFault.TheVariants as refused
 use Rattle.bank_shared.specs.Calls.{DoesDue, Advances, FailsToAdvance}
-use Rattle.bank_shared.specs.Views.{JournalView}
+use Rattle.bank_engine.specs.Views.{JournalView}
 use Rattle.bank_shared.specs.declared.advance.Advance.TheVariants.{Done, Gone}
 use Rattle.bank_due.specs.DueRuns.{Knows, DoesEach, id_in, fault_of, RunsDue}
 use Rattle.bank_due.specs.declared.fault.DueFault.TheVariants as faults

@@ -6,7 +6,7 @@ use Rattle.bank_model.specs.declared.event.Event.TheVariants.{File, Post, Spawn,
 use Rattle.bank_model.specs.declared.submit.SubmitFault.{SubmitFault}
 use Rattle.bank_model.specs.declared.submit.SubmitFault.TheVariants as refused
 use Rattle.bank_shared.specs.Calls.{DoesDue, HasNothingDue, FailsToAdvance}
-use Rattle.bank_shared.specs.Views.{JournalView}
+use Rattle.bank_engine.specs.Views.{JournalView}
 use Rattle.bank_due.specs.declared.fault.DueFault.{DueFault}
 use Rattle.bank_due.specs.declared.fault.DueFault.TheVariants as faults
 

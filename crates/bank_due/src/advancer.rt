@@ -3,7 +3,7 @@
 ghost use Rattle.std.specs.Prelude.{◌≡◌, Option, Some, IfOk, IfErr};
 ghost use Rattle.ofx_types.specs.Calendar.{IsMoment};
 ghost use Rattle.bank_shared.specs.Calls.{Advances, FailsToAdvance};
-ghost use Rattle.bank_shared.specs.Views.{JournalView};
+ghost use Rattle.bank_engine.specs.Views.{JournalView};
 ghost use Rattle.bank_due.specs.DueRuns.{Knows};
 
 use bank_model::{Printer, SubmitFault};

@@ -20,10 +20,12 @@ use Rattle.bank_shared.below.bank_core.specs.contracts.prepared.Prepared as prep
 use Rattle.bank_shared.below.bank_core.specs.contracts.prepared.Prepared.TheInside as prepared_inside
 use Rattle.ofx_ports.specs.declared.keeper.Keeper as kept
 use Rattle.bank_shared.specs.declared.name.BankName as named
-use Rattle.bank_shared.specs.contracts.step.Step as step
-use Rattle.bank_shared.specs.contracts.past.Past as past
-use Rattle.bank_shared.specs.contracts.log.Log as log
-use Rattle.bank_shared.specs.contracts.log.Log.TheInside as log_inside
+use Rattle.bank_shared.below.bank_engine.specs.contracts.pending.Pending as pending
+use Rattle.bank_shared.below.bank_engine.specs.contracts.engine.Engine as engine
+use Rattle.bank_shared.below.bank_engine.specs.contracts.engine.Engine.TheInside as engine_inside
+use Rattle.bank_shared.below.bank_engine.specs.contracts.past.Past as past
+use Rattle.bank_shared.below.bank_engine.specs.contracts.log.Log as log
+use Rattle.bank_shared.below.bank_engine.specs.contracts.log.Log.TheInside as log_inside
 use Rattle.bank_shared.specs.contracts.journal.Journal as journal
 use Rattle.bank_shared.specs.contracts.journal.Journal.TheInside as journal_inside
 use Rattle.bank_shared.specs.contracts.teller.Teller as teller
@@ -46,8 +48,11 @@ prepared_send = view_send _ _ _ _ _ (
     )
     )
 
-step_send : IsSend step.the_row
-step_send = declared_send step.the_type (event.the_send, (moment.the_send, (search sendable, (prepared_send, tt))))
+pending_send : IsSend pending.the_row
+pending_send = declared_send pending.the_type (event.the_send, (moment.the_send, (search sendable, (prepared_send, tt))))
+
+engine_send : (P : RattleType) → IsSend P → IsSend (engine.the_row P)
+engine_send P sp = view_send _ _ _ _ _ (declared_send (engine_inside.the_type P) (book_send _ sp, (option.the_send _ pending_send, tt)))
 
 -- the log's items, of which it has no bytes
 past_send : IsSend past.the_row
@@ -76,7 +81,7 @@ module _ (N K P : RattleType) (n : named.Ghosts N.Denot) (k : kept.Ghosts K.Deno
   journal_send sk sp = view_send _ _ _ _ _ (
       declared_send (journal_inside.the_type N K P n k) (
         handle.the_send,
-        (search (sendable, crosses), (as_row_send (row_field K) sk, (book_send _ sp, (log_send, (option.the_send _ step_send, (search (sendable, crosses), tt)))))),
+        (as_row_send (row_field K) sk, (engine_send _ sp, (log_send, (search (sendable, crosses), tt)))),
       )
       )
 

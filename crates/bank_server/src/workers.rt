@@ -69,6 +69,7 @@ pub fn serve_all<
 ) -> Result<AllEnd<D, C>, OutOfMemory>
     requires setup { opened.setup ≡ N.setup }
     requires opening { opened.state ≡ N.opening }
+    requires first { opened.opened ≡ N.first }
     ensures count { IfOk result (λ all. length all.ends.items ≡ length workers.items) }
     ensures each { IfOk result (λ all. (i : ℕ) (worker : (D × C)) (worked : OneEnded D C) → slice_get workers.items i ≡ Some worker → slice_get all.ends.items i ≡ Some worked
         → Works (faces L.left L.read_faults L.held L.write_faults) N.setup most

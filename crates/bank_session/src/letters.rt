@@ -46,6 +46,6 @@ pub fn letter<K: Keeper>(
 {
     let event = Event::Letter(to.0, subject.copy()?, body);
     let line = letter_line(alloc, to.1)?;
-    desk.commit(alloc, keeper, at, &event, Unsent)?;
+    desk.commit(alloc, keeper, at, event, Unsent)?;
     Ok(line)
 }

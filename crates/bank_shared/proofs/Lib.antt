@@ -1,5 +1,1 @@
-mod LogLemmas
-mod Truth
-mod LentAccounts
-mod CallLemmas
-mod Committing
+pub mod CallLemmas

@@ -46,6 +46,7 @@ impl<N: BankName, K: Keeper, P: Printer> Bank<N, K, P> {
     pub fn begin(opened: Opened<K, P>) -> (Bank<N, K, P>, Pass)
         requires setup { opened.setup ≡ N.setup }
         requires opening { opened.state ≡ N.opening }
+        requires first { opened.opened ≡ N.first }
     {
         let (setup, teller) = opened.into_teller();
         let bank = Bank {

@@ -1,4 +1,4 @@
-//! The journal of a bank: its book, the keeper of its records, and its log.
+//! The journal of a bank: its engine, the keeper of its records, and its log.
 
 ghost use Rattle.std.specs.Prelude.{◌≡◌, false, [], None, All, OnOk, OnErr, IfOk, IfErr};
 ghost use Rattle.std.specs.Option.{IfSome, IsSomeAnd, option_map, option_copied};
@@ -11,93 +11,74 @@ ghost use Rattle.bank_model.specs.SetupForm.{IsWithinLimits};
 ghost use Rattle.bank_accounts.specs.HeldAccounts.{AreHeld, HaveSameNumbers};
 ghost use Rattle.bank_ledger.specs.Balanced.{AreBalanced};
 ghost use Rattle.bank_replay.specs.Opening.{Stands};
-ghost use Rattle.bank_shared.specs.Kept.{AreKept, IsUpTo};
-ghost use Rattle.bank_shared.specs.Calls.{Answers, FailsToCommit, IsOfKeeper, Settles, FailsToSettle};
+ghost use Rattle.bank_engine.specs.Kept.{AreKept};
+ghost use Rattle.bank_engine.specs.Truth.{IsUpTo};
+ghost use Rattle.bank_engine.specs.Calls.{Answers, FailsToCommit, FailsToSettle};
+ghost use Rattle.bank_shared.specs.Calls.{IsOfKeeper, IsSettled};
 
-use crate::log::Log;
 use crate::name::BankName;
-use crate::ready::make_ready;
-use crate::step::Step;
-use crate::taking::{answer, finish, put_off};
 use bank_accounts::Held;
 use bank_core::Book;
+use bank_engine::{Engine, Log};
 use bank_model::{Event, Printer, SubmitFault};
-use ofx_ports::{Keeper, PutFault};
-use ofx_types::Moment;
+use ofx_ports::Keeper;
+use ofx_types::{Duplicate, Moment};
 use std::alloc::Global;
 use std::marker::{Model, PhantomData};
-use std::snapshot::Snapshot;
 
 /// The journal of the bank that `N` names.
 ///
 /// Its log is legal from the state in which the bank opened, without a cut group, and its book stands for the state that the log
 /// ends in. Where the keeper told its records when the bank opened, it has these, then those of the events that the log answered and
 /// adopted; while an append that failed isn't settled, its record may stand besides.
-#[derive(Drop)]
 pub struct Journal<N: BankName, K: Keeper, P: Printer> {
     alloc: Global,
-    // as it was when the bank opened, for contracts alone
-    opened: Snapshot<K>,
     keeper: K,
-    book: Book<P>,
+    engine: Engine<P>,
     log: Log,
-    pending: Option<Step>,
     name: PhantomData<N>,
 }
 
 impl<N: BankName, K: Keeper, P: Printer> Model for Journal<N, K, P> {
-    ghost use Rattle.std.specs.Option.{option_map};
-    ghost use Rattle.bank_shared.specs.Kept.{IsTrue, pending_of};
-    ghost use Rattle.bank_shared.specs.Views.{JournalView};
+    ghost use Rattle.bank_engine.specs.Truth.{IsTrue};
+    ghost use Rattle.bank_engine.specs.Views.{JournalView, journal_of};
 
     ghost Value = { JournalView };
 
-    ghost view = { λ j. record {
-      setup = j.book.setup;
-      state = j.book.state;
-      log = j.log;
-      pending = option_map pending_of j.pending;
-      opened = K.records j.opened.value;
-      records = K.records j.keeper;
-      landed = K.landed j.keeper;
-      faults = K.faults j.keeper;
-    } };
-
-    ghost invariant = { λ j. IsTrue N.setup N.opening (K.records j.opened.value) j.book j.log j.pending (record {
+    ghost view = { λ j. journal_of j.engine (record {
       records = K.records j.keeper;
       landed = K.landed j.keeper;
       unsettled = K.unsettled j.keeper;
       faults = K.faults j.keeper;
-    }) };
+    }) j.log };
+
+    ghost invariant = { λ j. IsTrue N.setup N.opening N.first (journal_of j.engine (record {
+      records = K.records j.keeper;
+      landed = K.landed j.keeper;
+      unsettled = K.unsettled j.keeper;
+      faults = K.faults j.keeper;
+    }) j.log) };
 }
 
 impl<N: BankName, K: Keeper, P: Printer> Journal<N, K, P> {
-    /// The journal of a bank that has opened from a keeper as it was then. Its log is empty. Takes no memory.
-    pub(crate) fn new(
-        alloc: Global,
-        opened: Snapshot<K>,
-        keeper: K,
-        book: Book<P>,
-    ) -> Journal<N, K, P>
+    /// The journal of a bank that has opened from a keeper with the records that `N` names. Its log is empty. Takes no memory.
+    pub(crate) fn new(alloc: Global, keeper: K, book: Book<P>) -> Journal<N, K, P>
         requires setup { book.setup ≡ N.setup }
         requires state { book.state ≡ N.opening }
-        requires stands { Stands book.setup (K.records opened.value) book.state }
-        requires kept { Stays (K.records opened.value) (K.records keeper) }
+        requires stands { Stands N.setup N.first N.opening }
+        requires kept { Stays N.first (K.records keeper) }
         requires settled { K.unsettled keeper ≡ false }
         ensures setup { result.setup ≡ N.setup }
         ensures state { result.state ≡ N.opening }
         ensures log { result.log ≡ [] }
         ensures pending { result.pending ≡ None }
-        ensures opened { result.opened ≡ K.records opened.value }
         ensures records { result.records ≡ K.records keeper }
     {
         Journal {
             alloc,
-            opened,
             keeper,
-            book,
+            engine: Engine::new(book),
             log: Log::new(),
-            pending: None,
             name: PhantomData,
         }
     }
@@ -109,9 +90,7 @@ impl<N: BankName, K: Keeper, P: Printer> Journal<N, K, P> {
         ensures own { self.now.setup ≡ N.setup }
         ensures within { IsWithinLimits self.now.setup }
     {
-        // For the proof alone: its contract says that the setup is within its limits.
-        let _setup = self.book.setup();
-        &self.book
+        self.engine.book()
     }
 
     /// What is true of the log whenever the lock is free. It does nothing: proofs call it for what it says.
@@ -119,7 +98,7 @@ impl<N: BankName, K: Keeper, P: Printer> Journal<N, K, P> {
         ensures legal { IsWholeLog N.setup N.opening self.now.log }
         ensures ends { self.now.state ≡ ends N.setup N.opening self.now.log }
         ensures entries { self.now.state.entries ≡ entries_in N.opening self.now.log }
-        ensures kept { IfSome self.now.opened (λ first. IsSomeAnd self.now.records
+        ensures kept { IfSome N.first (λ first. IsSomeAnd self.now.records
             (AreKept N.setup N.opening first self.now.log self.now.landed self.now.pending)) }
         ensures counts { All (IsUpTo self.now.faults) (endings self.now.log) }
     {
@@ -128,12 +107,9 @@ impl<N: BankName, K: Keeper, P: Printer> Journal<N, K, P> {
 
     /// The event whose append failed, until it is settled whether its record stands. Takes no memory.
     pub fn pending(&self) -> Option<&Event>
-        ensures { option_copied result ≡ option_map (λ pending. pending.0) self.now.pending }
+        ensures { option_copied result ≡ option_map (λ pending. pending.event) self.now.pending }
     {
-        match &self.pending {
-            Some(step) => Some(&step.event),
-            None => None,
-        }
+        self.engine.pending()
     }
 
     /// Settles whether the record of the pending event stands. Where it does, the event is adopted: it has happened at its moment.
@@ -141,29 +117,16 @@ impl<N: BankName, K: Keeper, P: Printer> Journal<N, K, P> {
     ///
     /// - `Keeper(n)`: the keeper's count of faults rose to n in this call. The event is still pending.
     pub fn settle(&mut self, held: &mut Held) -> Result<(), SubmitFault>
-        requires named { IfSome self.old.pending (λ pending. AreHeld held.old (named self.old.setup self.old.state pending.0)) }
+        requires named { IfSome self.old.pending (λ pending. AreHeld held.old (named self.old.setup self.old.state pending.event)) }
         requires balanced { AreBalanced self.old.setup self.old.state held.old }
-        ensures settled { OnOk result (Settles self.old self.new) }
+        ensures settled { OnOk result (IsSettled self.old self.new) }
         ensures fails { IfErr result (FailsToSettle self.old self.new) }
         ensures keeper { IfErr result IsOfKeeper }
         ensures numbers { HaveSameNumbers held.new held.old }
         ensures balanced { AreBalanced self.new.setup self.new.state held.new }
     {
-        let Some(step) = self.pending.take() else {
-            return Ok(());
-        };
-        match self.keeper.settle() {
-            Ok(stands) => {
-                finish(&mut self.book, &mut self.log, held, step, stands);
-                Ok(())
-            }
-            Err(_) => {
-                let count = self.keeper.faults();
-                self.log.add_unsettled(count);
-                self.pending = Some(step);
-                Err(SubmitFault::Keeper(count))
-            }
-        }
+        let _adopted = self.engine.settle(&mut self.keeper, &mut self.log, held)?;
+        Ok(())
     }
 
     /// Makes an event happen at that moment, keeps its record, and gives its reply. The accounts that it names are held, and
@@ -190,19 +153,21 @@ impl<N: BankName, K: Keeper, P: Printer> Journal<N, K, P> {
         ensures balanced { AreBalanced self.new.setup self.new.state held.new }
         ensures accounts { OnErr result (held.new ≡ held.old) }
     {
-        let number = self.log.next_number();
-        let ready = make_ready(self.alloc, &mut self.book, held, event, at, number)?;
-        match self.keeper.append(ready.rec.items()) {
-            Ok(()) => Ok(answer(&mut self.book, &mut self.log, held, ready)),
-            Err(PutFault::Failed) => {
-                let count = self.keeper.faults();
-                self.pending = Some(put_off(&mut self.log, ready, count));
-                Err(SubmitFault::Keeper(count))
-            }
-            Err(PutFault::OutOfMemory) => {
-                drop(ready);
-                Err(SubmitFault::OutOfMemory)
-            }
-        }
+        let event = event.copy()?;
+        let ready = self.engine.prepare(self.alloc, held, event, at)?;
+        self.engine
+            .commit(&mut self.keeper, &mut self.log, held, ready)
+    }
+}
+
+impl<N: BankName, K: Keeper, P: Printer> Drop for Journal<N, K, P> {
+    fn drop(self) {
+        let Journal {
+            alloc: _,
+            keeper: _,
+            engine: _,
+            log: _,
+            name: _,
+        } = self;
     }
 }

@@ -9,14 +9,9 @@ mod advance;
 mod bank;
 mod journal;
 mod lending;
-mod log;
 mod name;
 mod opened;
 mod pass;
-mod past;
-mod ready;
-mod step;
-mod taking;
 mod teller;
 
 pub use advance::Advance;

@@ -1,5 +1,6 @@
 //! What names one bank.
 
+ghost use Rattle.std.specs.Prelude.{ℕ, List, Option};
 ghost use Rattle.bank_model.specs.declared.event.State.{State};
 ghost use Rattle.bank_model.specs.declared.setup.Setup.{Setup};
 
@@ -15,13 +16,18 @@ pub trait BankName {
 
     // the state in which it opened
     ghost opening: { State };
+
+    // the records from which it opened, where the keeper told them
+    ghost first: { Option (List (List ℕ)) };
 }
 
 impl BankName for Brand {
-    ghost use Rattle.std.specs.Prelude.{[]};
+    ghost use Rattle.std.specs.Prelude.{[], None};
     ghost use Rattle.bank_model.specs.Rules.{opening_state};
 
     ghost setup = { record { bank = []; users = []; accounts = []; lead = 0; window = 0; entries = 0 } };
 
     ghost opening = { opening_state };
+
+    ghost first = { None };
 }

@@ -126,18 +126,18 @@ impl<K: Keeper, P: Printer> Opened<K, P> {
     pub fn solo<N: BankName>(self) -> (Setup, Journal<N, K, P>, Vec<Account>)
         requires setup { self.setup ≡ N.setup }
         requires opening { self.state ≡ N.opening }
+        requires first { self.opened ≡ N.first }
         ensures setup { result.0 ≡ N.setup }
         ensures of { result.1.setup ≡ N.setup }
         ensures state { result.1.state ≡ N.opening }
         ensures log { result.1.log ≡ [] }
         ensures pending { result.1.pending ≡ None }
-        ensures opened { result.1.opened ≡ self.opened }
         ensures records { result.1.records ≡ self.records }
-        ensures stands { Stands N.setup self.opened N.opening }
+        ensures stands { Stands N.setup N.first N.opening }
         ensures accounts { AreAccountsIn N.setup N.opening result.2.items }
         ensures within { IsWithinLimits N.setup }
     {
-        let journal = Journal::new(self.alloc, self.opened, self.keeper, self.book);
+        let journal = Journal::new(self.alloc, self.keeper, self.book);
         (self.setup, journal, self.accounts)
     }
 
@@ -145,12 +145,13 @@ impl<K: Keeper, P: Printer> Opened<K, P> {
     pub(crate) fn into_teller<N: BankName>(self) -> (Setup, Teller<N, K, P>)
         requires setup { self.setup ≡ N.setup }
         requires opening { self.state ≡ N.opening }
+        requires first { self.opened ≡ N.first }
         ensures setup { result.0 ≡ N.setup }
         ensures of { result.1.setup ≡ N.setup }
         ensures pending { result.1.pending ≡ None }
         ensures within { IsWithinLimits N.setup }
     {
-        let journal = Journal::new(self.alloc, self.opened, self.keeper, self.book);
+        let journal = Journal::new(self.alloc, self.keeper, self.book);
         (self.setup, Teller::new(self.alloc, journal, self.home))
     }
 }

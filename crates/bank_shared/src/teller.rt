@@ -8,13 +8,15 @@ ghost use Rattle.bank_model.specs.Polls as polls;
 ghost use Rattle.bank_model.specs.Rules.{IsLegal};
 ghost use Rattle.bank_model.specs.Sound.{IsSound};
 ghost use Rattle.bank_solo.specs.Solo.{AreAccountsIn, accounts_in};
-ghost use Rattle.bank_shared.specs.Calls.{Answers, FailsToCommit, Settles, FailsToSettle, AnswersNext, FailsToSubmit, Advances, FailsToAdvance};
+ghost use Rattle.bank_engine.specs.Calls.{Answers, FailsToCommit};
+ghost use Rattle.bank_shared.specs.Calls.{IsSettled, LeavesPending, AnswersNext, FailsToSubmit, Advances, FailsToAdvance};
 
 use crate::advance::Advance;
 use crate::journal::Journal;
-use crate::lending::{lend, lend_for_pending};
+use crate::lending::lend_for_pending;
 use crate::name::BankName;
 use bank_accounts::{Account, Held, Home};
+use bank_engine::lend;
 use bank_model::{Event, Printer, Setup, SubmitFault};
 use bank_solo::laws::unnamed_accounts_stay;
 use ofx_ports::Keeper;
@@ -24,7 +26,6 @@ use std::marker::Model;
 
 /// The journal of the bank that `N` names, and all of its accounts. Between two calls all accounts are at home, each with its
 /// balance in the state that the log ends in.
-#[derive(Drop)]
 pub struct Teller<N: BankName, K: Keeper, P: Printer> {
     alloc: Global,
     journal: Journal<N, K, P>,
@@ -34,7 +35,7 @@ pub struct Teller<N: BankName, K: Keeper, P: Printer> {
 impl<N: BankName, K: Keeper, P: Printer> Model for Teller<N, K, P> {
     ghost use Rattle.std.specs.Prelude.{◌≡◌};
     ghost use Rattle.bank_solo.specs.Solo.{accounts_in};
-    ghost use Rattle.bank_shared.specs.Views.{JournalView};
+    ghost use Rattle.bank_engine.specs.Views.{JournalView};
 
     ghost Value = { JournalView };
 
@@ -180,8 +181,8 @@ impl<N: BankName, K: Keeper, P: Printer> Teller<N, K, P> {
 
     /// Settles what is pending, with the accounts that its event names.
     fn settle(&mut self) -> Result<(), SubmitFault>
-        ensures settled { OnOk result (Settles self.old self.new) }
-        ensures fails { IfErr result (FailsToSettle self.old self.new) }
+        ensures settled { OnOk result (IsSettled self.old self.new) }
+        ensures fails { IfErr result (LeavesPending self.old self.new) }
     {
         unnamed_accounts_stay();
         // For the proof alone: its contract says that the setup is within its limits.
@@ -191,5 +192,15 @@ impl<N: BankName, K: Keeper, P: Printer> Teller<N, K, P> {
         let settled = self.journal.settle(&mut held);
         self.home.receive(&mut held);
         settled
+    }
+}
+
+impl<N: BankName, K: Keeper, P: Printer> Drop for Teller<N, K, P> {
+    fn drop(self) {
+        let Teller {
+            alloc: _,
+            journal: _,
+            home: _,
+        } = self;
     }
 }

@@ -1,8 +1,9 @@
 -- What a keeper's calls do to the records that it keeps.
 use Rattle.std.specs.Prelude.{◌≡◌, ℕ, ◌+◌, Bool, true, false, List, [], ◌∷◌, ⊤, Option, None, Some, Result, Ok, Err}
 use Rattle.ofx_ports.specs.Told.{Stays, Grows}
+use Rattle.ofx_ports.specs.declared.fault.Failed.{Failed}
 use Rattle.ofx_ports.specs.declared.fault.PutFault.{PutFault}
-use Rattle.ofx_ports.specs.declared.fault.PutFault.TheVariants.{Failed, OutOfMemory}
+use Rattle.ofx_ports.specs.declared.fault.PutFault.TheVariants as puts
 use Rattle.ofx_ports.specs.declared.fault.FetchFault.{FetchFault}
 
 -- After an append that failed the list has the record at its end where the record landed, and otherwise is as before.
@@ -16,14 +17,19 @@ MayGrow (Some rs) new (Some false) rec = Stays (Some rs) new
 -- nothing is to be settled. Want of memory leaves the list as it was.
 abbrev pub Appended : Option (List (List ℕ)) → Option (List (List ℕ)) → Option Bool → Bool → List ℕ → Result (Unit {0}) PutFault → Type 0
 Appended old new landed unsettled rec (Ok done) = Grows old new (rec ∷ []) × (unsettled ≡ false)
-Appended old new landed unsettled rec (Err Failed) = MayGrow old new landed rec × (unsettled ≡ true)
-Appended old new landed unsettled rec (Err OutOfMemory) = Stays old new × (unsettled ≡ false)
+Appended old new landed unsettled rec (Err puts.Failed) = MayGrow old new landed rec × (unsettled ≡ true)
+Appended old new landed unsettled rec (Err puts.OutOfMemory) = Stays old new × (unsettled ≡ false)
 
 -- Settling answers whether the record landed, where that is told. Where nothing is to be settled, no record did.
 abbrev pub TellsLanding : Bool → Option Bool → Bool → Type 0
 TellsLanding false landed stands = stands ≡ false
 TellsLanding true None stands = ⊤
 TellsLanding true (Some landed) stands = stands ≡ landed
+
+-- what a settling answers: whether the record stands, or nothing where it failed
+abbrev pub stands_if : Result Bool Failed → Option Bool
+stands_if (Ok stands) = Some stands
+stands_if (Err failed) = None
 
 -- the number of records with one more, where that one stands
 abbrev pub counted : ℕ → Bool → ℕ
@@ -33,8 +39,8 @@ counted size false = size
 -- the append failed, and not for want of memory
 abbrev pub put_failed : Result (Unit {0}) PutFault → Bool
 put_failed (Ok done) = false
-put_failed (Err Failed) = true
-put_failed (Err OutOfMemory) = false
+put_failed (Err puts.Failed) = true
+put_failed (Err puts.OutOfMemory) = false
 
 -- the fetch failed, and not for want of memory
 abbrev pub fetch_failed : Result (Unit {0}) FetchFault → Bool

@@ -1,9 +1,10 @@
 //! Where records are kept for good.
 
-ghost use Rattle.std.specs.Prelude.{◌≡◌, ℕ, ◌-◌, ◌≤◌, Bool, false, List, [], Option, length, slice_get, Some, is_ok, IfOk, IfSome, OnOk, OnErr, IsErr, IsErrOf};
+ghost use Rattle.std.specs.Prelude.{◌≡◌, ℕ, ◌-◌, ◌≤◌, ⊤, Bool, false, List, [], Option, Result, length, slice_get, Some, is_ok, IfOk, IfSome, OnOk, OnErr, IsErr, IsErrOf};
 ghost use Rattle.ofx_ports.specs.Faults.{CountsFaults};
 ghost use Rattle.ofx_ports.specs.Told.{Stays};
-ghost use Rattle.ofx_ports.specs.Kept.{Appended, TellsLanding, counted};
+ghost use Rattle.ofx_ports.specs.Kept.{Appended, TellsLanding, counted, stands_if};
+ghost use Rattle.ofx_ports.specs.declared.fault.PutFault.{PutFault};
 
 use crate::fault::{Failed, FetchFault, PutFault};
 
@@ -27,6 +28,12 @@ pub trait Keeper: Drop {
     // how many of its calls failed
     ghost faults: { Self → ℕ };
 
+    // what else is known of an append of these bytes that ended so
+    ghost appends: { Self → Self → List ℕ → Result (Unit {0}) PutFault → Type 0 } = { λ _ _ _ _. ⊤ };
+
+    // what else is known of a settling: whether the record stands, or nothing where it failed
+    ghost settles: { Self → Self → Option Bool → Type 0 } = { λ _ _ _. ⊤ };
+
     /// Appends a record.
     ///
     /// - `Failed` only where the count of faults rose in this call. The records are as before or have this one at
@@ -36,7 +43,8 @@ pub trait Keeper: Drop {
         requires { unsettled self.old ≡ false }
         ensures list { Appended (records self.old) (records self.new) (landed self.new) (unsettled self.new) rec.now result }
         ensures size { size self.new ≡ counted (size self.old) (is_ok result) }
-        ensures faults { CountsFaults (faults self.old) (faults self.new) (IsErrOf result PutFault.Failed) };
+        ensures faults { CountsFaults (faults self.old) (faults self.new) (IsErrOf result PutFault.Failed) }
+        ensures appends { appends self.old self.new rec.now result };
 
     /// Answers whether the record of the append that failed stands, and from then on nothing is to be settled. Where
     /// nothing was to be settled the answer is `false`.
@@ -49,7 +57,8 @@ pub trait Keeper: Drop {
         ensures size { IfOk result (λ stands. size self.new ≡ counted (size self.old) stands) }
         ensures open { OnErr result (unsettled self.new ≡ unsettled self.old) }
         ensures kept { OnErr result ((landed self.new ≡ landed self.old) × (size self.new ≡ size self.old)) }
-        ensures faults { CountsFaults (faults self.old) (faults self.new) (IsErr result) };
+        ensures faults { CountsFaults (faults self.old) (faults self.new) (IsErr result) }
+        ensures settles { settles self.old self.new (stands_if result) };
 
     /// Puts the record of this number into `into`, in place of what it held.
     ///

@@ -18,29 +18,29 @@ use Rattle.client_core.specs.ClientForm.{new_client}
 use Rattle.client_saved.specs.declared.state.ClientState.{ClientState}
 use Rattle.event_codec.specs.Coding.{coded}
 use Rattle.event_codec.specs.Records.{Codes}
+use Rattle.bank_engine.specs.Views as engines
 use Rattle.ofx_world.specs.Server.{PendingView, settled}
 use Rattle.ofx_world.specs.Views.{Unsettled, is_landed}
 use Rattle.ofx_world.specs.World.{WorldView}
-use Rattle.ofx_world.specs.declared.server.Pending.{Pending}
 use Rattle.ofx_world.specs.declared.step.Step.{Step}
 use Rattle.ofx_world.specs.declared.step.Step.TheVariants as steps
 
 -- ---- the server
 
 -- What is pending, with what the keeper knows of its record.
-abbrev pub pending_seen : Option Pending → Option Unsettled → Option PendingView
+abbrev pub pending_seen : Option engines.PendingView → Option Unsettled → Option PendingView
 pending_seen None unsettled = None
 pending_seen (Some pending) unsettled = Some (record { event = pending.event; at = pending.at; landed = is_landed unsettled })
 
 -- The keeper has the record of what is pending unsettled, which may happen in the state that the bank is in.
-pub record IsOpen (setup : Setup) (state : State) (pending : Pending) (unsettled : Option Unsettled) : Type 0 where
+pub record IsOpen (setup : Setup) (state : State) (pending : engines.PendingView) (unsettled : Option Unsettled) : Type 0 where
   pub moment : IsMoment pending.at.0
   pub legal : IsLegal setup state pending.at pending.event
   pub kept : Unsettled
   pub is_kept : unsettled ≡ Some kept
   pub codes : Codes kept.rec pending.at pending.event
 
-abbrev pub Awaits : Setup → State → Option Pending → Option Unsettled → Type 0
+abbrev pub Awaits : Setup → State → Option engines.PendingView → Option Unsettled → Type 0
 Awaits setup state None unsettled = unsettled ≡ None
 Awaits setup state (Some pending) unsettled = IsOpen setup state pending unsettled
 

@@ -55,3 +55,15 @@ abbrev pub Fetches : Result (Unit {0}) FetchFault → Type 0
 Fetches (Ok done) = Unit {0}
 Fetches (Err fetches.Failed) = ⊥
 Fetches (Err fetches.OutOfMemory) = Unit {0}
+
+-- Settling never fails. It answers whether the record landed, which then stands after the others; what was set stays set.
+abbrev pub SettlesAs : KeeperView → KeeperView → Option Bool → Type 0
+SettlesAs before after None = ⊥
+SettlesAs before after (Some stands) =
+    (stands ≡ is_landed before.unsettled)
+    × (after ≡ record {
+      records = before.records ++ landed_record before.unsettled;
+      unsettled = None;
+      fault = before.fault;
+      faults = before.faults;
+    })

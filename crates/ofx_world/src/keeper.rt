@@ -4,8 +4,8 @@ ghost use Rattle.std.specs.Prelude.{◌≡◌, ◌-◌, ◌≤◌, true, false, 
 ghost use Rattle.std.specs.Option.{option_map};
 ghost use Rattle.ofx_ports.specs.Faults.{CountsFaults};
 ghost use Rattle.ofx_ports.specs.Told.{Stays};
-ghost use Rattle.ofx_ports.specs.Kept.{Appended, TellsLanding, counted};
-ghost use Rattle.ofx_world.specs.Views.{Unsettled, landed_record, is_landed, Tries, Fetches};
+ghost use Rattle.ofx_ports.specs.Kept.{Appended, TellsLanding, counted, stands_if};
+ghost use Rattle.ofx_world.specs.Views.{Unsettled, landed_record, Tries, SettlesAs, Fetches};
 
 use ofx_ports::{Failed, FetchFault, Keeper, PutFault};
 use ofx_types::Sequence;
@@ -100,15 +100,18 @@ impl Keeper for FaultyKeeper {
 
     ghost faults = { λ k. k.faults };
 
+    // An append fails where a fault is set, which is used up then.
+    ghost appends = { Tries };
+
+    ghost settles = { SettlesAs };
+
     fn append(&mut self, rec: &[u8]) -> Result<(), PutFault>
         requires { is_some self.old.unsettled ≡ false }
         ensures list { Appended (Some (self.old.records ++ landed_record self.old.unsettled)) (Some (self.new.records ++ landed_record self.new.unsettled))
             (option_map (λ (unsettled : Unsettled). unsettled.landed) self.new.unsettled) (is_some self.new.unsettled) rec.now result }
         ensures size { length self.new.records ≡ counted (length self.old.records) (is_ok result) }
         ensures faults { CountsFaults self.old.faults self.new.faults (IsErrOf result PutFault.Failed) }
-
-        // It fails where a fault is set, which is used up then.
-        ensures tries { Tries self.old self.new rec.now result }
+        ensures appends { Tries self.old self.new rec.now result }
     {
         if self.records.reserve(1).is_err() {
             return Err(PutFault::OutOfMemory);
@@ -139,16 +142,7 @@ impl Keeper for FaultyKeeper {
         ensures kept { OnErr result ((option_map (λ (unsettled : Unsettled). unsettled.landed) self.new.unsettled ≡ option_map (λ (unsettled : Unsettled). unsettled.landed) self.old.unsettled)
             × (length self.new.records ≡ length self.old.records)) }
         ensures faults { CountsFaults self.old.faults self.new.faults (IsErr result) }
-
-        // It never fails, and what was set stays set.
-        ensures succeeds { is_ok result ≡ true }
-        ensures landed { IfOk result (λ stands. stands ≡ is_landed self.old.unsettled) }
-        ensures after { self.new ≡ record {
-          records = self.old.records ++ landed_record self.old.unsettled;
-          unsettled = None;
-          fault = self.old.fault;
-          faults = self.old.faults;
-        } }
+        ensures settles { SettlesAs self.old self.new (stands_if result) }
     {
         match self.unsettled.take() {
             None => Ok(false),

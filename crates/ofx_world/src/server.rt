@@ -10,6 +10,7 @@ ghost use Rattle.bank_model.specs.Rules.{IsLegal, due};
 ghost use Rattle.bank_model.specs.SetupForm.{IsWithinLimits};
 ghost use Rattle.bank_model.specs.declared.event.Event.{Event};
 ghost use Rattle.bank_model.specs.declared.event.Event.TheVariants.{File};
+ghost use Rattle.bank_solo.specs.Solo.{AreAccountsIn};
 ghost use Rattle.bank_signon.specs.Signon.{IsOfUser, IsSignedOn};
 ghost use Rattle.event_codec.specs.Coding.{coded};
 ghost use Rattle.event_codec.specs.Records.{Codes};
@@ -18,49 +19,42 @@ ghost use Rattle.ofx_world.specs.Server.{fresh, settled, committed, reply_to, du
 
 use crate::fault::want_of_memory;
 use crate::keeper::FaultyKeeper;
-use bank_model::{Event, Setup};
-use bank_replay::{record_of, reopen};
-use bank_solo::SoloBank;
+use bank_accounts::Account;
+use bank_core::Book;
+use bank_engine::{Bare, Log, SoloEngine};
+use bank_model::{Event, Setup, SubmitFault};
+use bank_replay::reopen;
 use ofx_file::{OfxPrinter, read_request};
-use ofx_ports::{Keeper, PutFault};
+use ofx_ports::Keeper;
 use ofx_types::{Duplicate, Moment, OutOfMemory, RequestFile, Text, UserId};
 use std::alloc::Global;
 use std::hash::RandomState;
 use std::marker::Model;
 
-/// An event whose append failed, until it is settled whether its record stands.
-#[derive(Drop)]
-struct Pending {
-    event: Event,
-    at: Moment,
-}
-
 /// A bank on one thread, with its keeper.
-#[derive(Drop)]
 pub(crate) struct Server {
-    bank: SoloBank<OfxPrinter>,
+    engine: SoloEngine<OfxPrinter>,
     keeper: FaultyKeeper,
-    pending: Option<Pending>,
+    log: Log,
     keys: RandomState,
     alloc: Global,
 }
 
 impl Model for Server {
-    ghost use Rattle.std.specs.Prelude.{◌≡◌, []};
     ghost use Rattle.ofx_world.specs.Server.{ServerView};
     ghost use Rattle.ofx_world.specs.Kept.{Awaits, pending_seen};
 
     ghost Value = { ServerView };
 
     ghost view = { λ s. record {
-      setup = s.bank.setup;
-      state = s.bank.state;
+      setup = s.engine.setup;
+      state = s.engine.state;
       records = s.keeper.records;
-      pending = pending_seen s.pending s.keeper.unsettled;
+      pending = pending_seen s.engine.pending s.keeper.unsettled;
       fault = s.keeper.fault;
     } };
 
-    ghost invariant = { λ s. (s.bank.held ≡ []) × Awaits s.bank.setup s.bank.state s.pending s.keeper.unsettled };
+    ghost invariant = { λ s. Awaits s.engine.setup s.engine.state s.engine.pending s.keeper.unsettled };
 }
 
 impl Server {
@@ -73,10 +67,11 @@ impl Server {
         requires { IsWithinLimits setup }
         ensures { IfOk result (λ server. server ≡ fresh setup) }
     {
+        let (book, accounts) = Book::begin(alloc, keys, setup, OfxPrinter)?;
         Ok(Server {
-            bank: SoloBank::begin(alloc, keys, setup, OfxPrinter)?,
+            engine: SoloEngine::new(alloc, book, accounts)?,
             keeper: FaultyKeeper::new(alloc),
-            pending: None,
+            log: Log::new(),
             keys,
             alloc,
         })
@@ -87,16 +82,26 @@ impl Server {
         ensures setup { result.now ≡ self.now.setup }
         ensures within { IsWithinLimits self.now.setup }
     {
-        self.bank.book().setup()
+        self.engine.book().setup()
     }
 
-    /// The bank, without its keeper.
-    pub(crate) fn into_bank(self) -> SoloBank<OfxPrinter>
-        ensures setup { result.setup ≡ self.setup }
-        ensures state { result.state ≡ self.state }
-        ensures home { result.held ≡ [] }
+    /// The book and the accounts of the bank, without its keeper.
+    pub(crate) fn into_parts(
+        self,
+        alloc: Global,
+    ) -> Result<(Book<OfxPrinter>, Vec<Account>), OutOfMemory>
+        ensures setup { IfOk result (λ parts. parts.0.setup ≡ self.setup) }
+        ensures state { IfOk result (λ parts. parts.0.state ≡ self.state) }
+        ensures accounts { IfOk result (λ parts. AreAccountsIn self.setup self.state parts.1.items) }
     {
-        self.bank
+        let Server {
+            engine,
+            keeper: _,
+            log: _,
+            keys: _,
+            alloc: _,
+        } = self;
+        engine.into_parts(alloc)
     }
 
     /// The number of records that aren't pending. Takes no memory.
@@ -113,37 +118,19 @@ impl Server {
         self.keeper.set_fault(Some(landed));
     }
 
-    /// Settles what is pending: an event whose record stands has happened at its moment. Where memory is refused nothing is
-    /// settled.
-    #[tactic(auto, using(crate::proofs::Serving::landed_as_coded, crate::proofs::Serving::none_landed), unfolding(crate::specs::Server::settled))]
-    pub(crate) fn settle(&mut self) -> Result<(), OutOfMemory>
-        ensures settled { OnOk result (self.new ≡ settled self.old) }
-        ensures pending { OnOk result (self.new.pending ≡ None) }
-        ensures refused { OnErr result (self.new ≡ self.old) }
+    /// Settles what is pending: an event whose record stands has happened at its moment. Takes no memory.
+    pub(crate) fn settle(&mut self)
+        ensures settled { self.new ≡ settled self.old }
+        ensures pending { self.new.pending ≡ None }
     {
-        let Some(pending) = &self.pending else {
-            return Ok(());
-        };
-        let at = pending.at;
-        let prepared = self.bank.prepare(self.alloc, &pending.event, at)?;
-        match self.keeper.settle() {
-            Ok(true) => {
-                let _reply = self.bank.adopt(at, prepared);
-                self.pending = None;
-                Ok(())
-            }
-            Ok(false) => {
-                self.bank.give_up();
-                self.pending = None;
-                Ok(())
-            }
+        match self.engine.settle(&mut self.keeper, &mut self.log) {
+            Ok(_) => {}
             Err(_) => unreachable!(),
         }
     }
 
     /// Makes an event happen at that moment, once its record is kept, and gives its reply. Nothing is pending before. Where the
     /// append fails there is no reply, and the event is pending. Where memory is refused nothing has happened.
-    #[tactic(auto, using(crate::proofs::Serving::codes_itself), unfolding(crate::specs::Server::committed, crate::specs::Server::reply_to))]
     fn commit(&mut self, event: Event, at: Moment) -> Result<Option<Vec<u8>>, OutOfMemory>
         requires moment { IsMoment at.0 }
         requires legal { IsLegal self.old.setup self.old.state at event }
@@ -153,19 +140,10 @@ impl Server {
         ensures codes { OnOk result (Codes (coded at event) at event) }
         ensures refused { OnErr result (self.new ≡ self.old) }
     {
-        let rec = record_of(self.alloc, self.bank.book(), &event, at)?;
-        let prepared = self.bank.prepare(self.alloc, &event, at)?;
-        match self.keeper.append(&rec) {
-            Ok(()) => Ok(Some(self.bank.adopt(at, prepared))),
-            Err(PutFault::Failed) => {
-                self.bank.give_up();
-                self.pending = Some(Pending { event, at });
-                Ok(None)
-            }
-            Err(PutFault::OutOfMemory) => {
-                self.bank.give_up();
-                Err(OutOfMemory)
-            }
+        match self.engine.commit(self.alloc, &mut self.keeper, &mut self.log, event, at, Bare) {
+            Ok(reply) => Ok(Some(reply)),
+            Err(SubmitFault::Keeper(_)) => Ok(None),
+            Err(SubmitFault::OutOfMemory) => Err(OutOfMemory),
         }
     }
 
@@ -199,7 +177,7 @@ impl Server {
         ensures refused { OnErr result ((self.new ≡ self.old) ⊎ (self.new ≡ settled self.old)) }
     {
         let (user, file) = self.read(bytes)?;
-        self.settle()?;
+        self.settle();
         self.commit(Event::File(user, file), at)
     }
 
@@ -212,8 +190,8 @@ impl Server {
             → Codes (coded at event) at event) }
         ensures refused { OnErr result ((self.new ≡ self.old) ⊎ (self.new ≡ settled self.old)) }
     {
-        self.settle()?;
-        match self.bank.book().due(at) {
+        self.settle();
+        match self.engine.book().due(at) {
             Some(event) => {
                 let _reply = self.commit(event, at)?;
                 Ok(())
@@ -235,9 +213,9 @@ impl Server {
         ensures written { OnOk result (WritesLetter self.old at user subject.now body.now self.new) }
         ensures refused { OnErr result ((self.new ≡ self.old) ⊎ (self.new ≡ settled self.old)) }
     {
-        self.settle()?;
+        self.settle();
         let event = Event::Letter(user, subject.copy()?, body.copy()?);
-        if !self.bank.book().legal(&event, at) {
+        if !self.engine.book().legal(&event, at) {
             return Ok(());
         }
         let _reply = self.commit(event, at)?;
@@ -250,18 +228,30 @@ impl Server {
         ensures restarted { OnOk result (Restarts self.old self.new) }
         ensures refused { OnErr result ((self.new ≡ self.old) ⊎ (self.new ≡ settled self.old)) }
     {
-        self.settle()?;
+        self.settle();
         let setup = self.setup().copy()?;
         let fault = self.keeper.fault();
         let opened = reopen(self.alloc, self.keys, &mut self.keeper, setup, OfxPrinter);
         self.keeper.set_fault(fault);
         match opened {
             Ok((book, accounts)) => {
-                self.bank = SoloBank::new(self.alloc, book, accounts)?;
+                self.engine = SoloEngine::new(self.alloc, book, accounts)?;
                 Ok(())
             }
             // By the world's invariant the records are the bank's own, and reading them never fails: it is memory that was refused.
             Err(_) => Err(OutOfMemory),
         }
+    }
+}
+
+impl Drop for Server {
+    fn drop(self) {
+        let Server {
+            engine: _,
+            keeper: _,
+            log: _,
+            keys: _,
+            alloc: _,
+        } = self;
     }
 }

@@ -4,6 +4,7 @@ ghost use Rattle.std.specs.Prelude.{◌≡◌, [], length, slice_get, IfOk, OnOk
 ghost use Rattle.std.specs.List.{AllByRecursion};
 ghost use Rattle.std.specs.Option.{option_copied, option_map};
 ghost use Rattle.bank_model.specs.SetupForm.{IsWithinLimits};
+ghost use Rattle.bank_solo.specs.Solo.{AreAccountsIn};
 ghost use Rattle.ofx_world.specs.Customer.{CustomerView};
 ghost use Rattle.ofx_world.specs.Kept.{AreNew, HasLawfulClock};
 ghost use Rattle.ofx_world.specs.Truths.{IsRightWorld};
@@ -13,8 +14,9 @@ use crate::customer::Customer;
 use crate::laws::laws_below;
 use crate::parts::Parts;
 use crate::step::Step;
+use bank_accounts::Account;
+use bank_core::Book;
 use bank_model::Setup;
-use bank_solo::SoloBank;
 use client_core::Client;
 use ofx_file::OfxPrinter;
 use ofx_types::{Moment, OutOfMemory, Sequence};
@@ -145,12 +147,12 @@ impl World {
         self.parts.server.record_count()
     }
 
-    /// The bank, when the world is over.
-    pub fn into_bank(self) -> SoloBank<OfxPrinter>
-        ensures setup { result.setup ≡ self.server.setup }
-        ensures state { result.state ≡ self.server.state }
-        ensures home { result.held ≡ [] }
+    /// The book and the accounts of the bank, when the world is over.
+    pub fn into_parts(self, alloc: Global) -> Result<(Book<OfxPrinter>, Vec<Account>), OutOfMemory>
+        ensures setup { IfOk result (λ parts. parts.0.setup ≡ self.server.setup) }
+        ensures state { IfOk result (λ parts. parts.0.state ≡ self.server.state) }
+        ensures accounts { IfOk result (λ parts. AreAccountsIn self.server.setup self.server.state parts.1.items) }
     {
-        self.parts.server.into_bank()
+        self.parts.server.into_parts(alloc)
     }
 }

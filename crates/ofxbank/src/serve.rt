@@ -141,6 +141,7 @@ fn all_served<N: BankName + Send + Sync, R: Threads + Wait + Sync, K: Keeper + S
 ) -> Told
     requires setup { opened.setup ≡ N.setup }
     requires opening { opened.state ≡ N.opening }
+    requires first { opened.opened ≡ N.first }
 {
     match serve_all::<N, _, _, _, _, _, _, _>(
         threads,

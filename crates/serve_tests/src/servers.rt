@@ -76,6 +76,7 @@ fn connected<N: BankName, R: Abort + Wait>(
 ) -> Served
     requires setup { opened.setup ≡ N.setup }
     requires opening { opened.state ≡ N.opening }
+    requires first { opened.opened ≡ N.first }
 {
     let (bank, mut pass) = Bank::<N, _, _>::begin(opened);
     connected_by(rt, alloc, &bank, &mut pass, link)

@@ -72,6 +72,7 @@ fn told_by_turns<N: BankName, R: Abort + Wait>(
 ) -> String
     requires setup { opened.setup ≡ N.setup }
     requires opening { opened.state ≡ N.opening }
+    requires first { opened.opened ≡ N.first }
 {
     let (bank, mut first) = Bank::<N, _, _>::begin(opened);
     let mut second = bank.door(&mut first);

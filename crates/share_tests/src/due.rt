@@ -52,6 +52,7 @@ fn told_of_runs<N: BankName, R: Abort + Wait>(
 ) -> (String, String)
     requires setup { opened.setup ≡ N.setup }
     requires opening { opened.state ≡ N.opening }
+    requires first { opened.opened ≡ N.first }
 {
     let (bank, mut pass) = Bank::<N, _, _>::begin(opened);
     runs_at(rt, alloc, &bank, &mut pass)

@@ -49,6 +49,7 @@ fn told<N: BankName, R: Abort>(
 ) -> String
     requires setup { opened.setup ≡ N.setup }
     requires opening { opened.state ≡ N.opening }
+    requires first { opened.opened ≡ N.first }
 {
     let (_, journal, accounts) = opened.solo::<N>();
     let teller = Teller::with_accounts(alloc, journal, accounts);

@@ -432,7 +432,7 @@ fn last_entry<P: Printer>(book: &Book<P>) -> u64 {
 }
 
 fn entries(alloc: Global, world: World) -> Result<u64, OutOfMemory> {
-    match world.into_bank().into_parts(alloc) {
+    match world.into_parts(alloc) {
         Ok((book, _accounts)) => Ok(last_entry(&book)),
         Err(full) => Err(full),
     }

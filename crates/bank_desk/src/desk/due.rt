@@ -6,8 +6,8 @@ ghost use Rattle.ofx_types.specs.Calendar.{IsMoment};
 ghost use Rattle.bank_desk.specs.DueSteps.{TakesNext, LeavesNext, MadeRun, StoppedWork};
 
 use crate::desk::Desk;
-use crate::envelope::Unsent;
 use crate::fault::DeskFault;
+use bank_engine::Unsent;
 use ofx_ports::Keeper;
 use ofx_types::Moment;
 use std::alloc::Global;
@@ -60,10 +60,10 @@ impl Desk {
         ensures unsettled { result ≡ Err DeskFault.AppendFailed → K.unsettled keeper.new ≡ true }
         ensures faults { CountsFaults (K.faults keeper.old) (K.faults keeper.new) (IsErrOf result DeskFault.AppendFailed) }
     {
-        match self.bank.book().due(at) {
+        match self.engine.book().due(at) {
             None => Ok(false),
             Some(event) => {
-                self.commit(alloc, keeper, at, &event, Unsent)?;
+                self.commit(alloc, keeper, at, event, Unsent)?;
                 Ok(true)
             }
         }

@@ -10,7 +10,6 @@ use crate::world::World;
 use bank_accounts::Account;
 use bank_core::Book;
 use bank_model::Printer;
-use bank_solo::SoloBank;
 use client_store::Store;
 use ofx_types::{Cents, OutOfMemory};
 use std::alloc::Global;
@@ -37,7 +36,7 @@ pub(crate) fn summary_of(alloc: Global, world: World) -> Result<Summary, OutOfMe
     let files = files_made(world.customers());
     let lost = stores_lost(world.customers());
     let events = world.event_count();
-    let (entries, sum) = entries_and_sum(alloc, world.into_bank())?;
+    let (entries, sum) = entries_and_sum(alloc, world)?;
     Ok(Summary {
         files: files?,
         events,
@@ -47,16 +46,12 @@ pub(crate) fn summary_of(alloc: Global, world: World) -> Result<Summary, OutOfMe
     })
 }
 
-/// The number of entries of a bank's history, and the balances of all its accounts together.
-fn entries_and_sum<P: Printer>(
-    alloc: Global,
-    bank: SoloBank<P>,
-) -> Result<(u64, Cents), OutOfMemory>
-    requires { bank.held ≡ [] }
-    ensures entries { IfOk result (λ told. told.0 ≡ length bank.state.entries) }
-    ensures sum { IfOk result (λ told. told.1.0 ≡ balances bank.setup bank.state.entries) }
+/// The number of entries of the bank's history, and the balances of all its accounts together.
+fn entries_and_sum(alloc: Global, world: World) -> Result<(u64, Cents), OutOfMemory>
+    ensures entries { IfOk result (λ told. told.0 ≡ length world.server.state.entries) }
+    ensures sum { IfOk result (λ told. told.1.0 ≡ balances world.server.setup world.server.state.entries) }
 {
-    match bank.into_parts(alloc) {
+    match world.into_parts(alloc) {
         Ok((book, accounts)) => told_of(&book, &accounts),
         Err(full) => Err(full),
     }

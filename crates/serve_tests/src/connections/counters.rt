@@ -62,6 +62,7 @@ fn shared<N: BankName, R: Abort + Wait>(
 ) -> Outcome
     requires setup { opened.setup ≡ N.setup }
     requires opening { opened.state ≡ N.opening }
+    requires first { opened.opened ≡ N.first }
 {
     let (bank, mut pass) = Bank::<N, _, _>::begin(opened);
     served_by(rt, alloc, &bank, &mut pass, bytes)
@@ -91,6 +92,7 @@ fn alone<N: BankName, R: Abort>(
 ) -> (Outcome, Option<u64>)
     requires setup { opened.setup ≡ N.setup }
     requires opening { opened.state ≡ N.opening }
+    requires first { opened.opened ≡ N.first }
 {
     let office = SoloOffice::<N, _, _>::new(alloc, opened);
     served_alone(rt, alloc, &mut office.expect(rt, "an office"), bytes)

@@ -1,5 +1,10 @@
-use Rattle.bank_shared.proofs.Truth.{truth_new}
+use Rattle.std.proofs.Common.{◌∙◌, ap}
+use Rattle.bank_engine.specs.Views.{EngineView}
+use Rattle.bank_engine.proofs.Truth.{true_new}
 use Rattle.bank_shared.proofs.journal.Journal.new.Goals as goal
 
 pub invariant_of-result : goal.invariant_of-result
-invariant_of-result g c = truth_new _ _ _ _ _ _ c.requires.setup c.requires.state c.requires.stands c.requires.kept c.requires.settled c.new.ensures
+invariant_of-result g c =
+    true_new g.N.BankName.setup g.N.BankName.opening g.N.BankName.first _
+    (ap (λ (v : EngineView). v.setup) c.new.ensures ∙ c.requires.setup) (ap (λ (v : EngineView). v.state) c.new.ensures ∙ c.requires.state)
+    c.new-2.ensures (ap (λ (v : EngineView). v.pending) c.new.ensures) c.requires.settled c.requires.stands c.requires.kept

@@ -3,8 +3,8 @@ use Rattle.bank_accounts.specs.AccountView.{AccountView}
 use Rattle.bank_accounts.specs.AtHome.{AreLent}
 use Rattle.bank_solo.specs.Solo.{accounts_in}
 use Rattle.bank_solo.proofs.Accounts.{held_balanced, same_known}
-use Rattle.bank_shared.proofs.Committing.{named_again}
-use Rattle.bank_shared.proofs.LentAccounts.{lent_at, lent_committed, commit_setup}
+use Rattle.bank_engine.proofs.LentAccounts.{lent_at, lent_committed, commit_setup}
+use Rattle.bank_shared.proofs.CallLemmas.{named_again}
 use Rattle.bank_shared.proofs.teller.Teller.commit.Goals as goal
 
 pub commit-committed-requires-clause-named : goal.commit-committed-requires-clause-named

@@ -1,7 +1,7 @@
 use Rattle.std.proofs.Common.{◌≡◌, ◌∙◌}
 use Rattle.bank_solo.specs.Solo.{accounts_in}
 use Rattle.bank_solo.proofs.Accounts.{held_balanced, same_known}
-use Rattle.bank_shared.proofs.LentAccounts.{lent_settled, settle_setup}
+use Rattle.bank_shared.proofs.CallLemmas.{settled_lent, settled_setup}
 use Rattle.bank_shared.proofs.teller.Teller.settle.Goals as goal
 
 pub settle-settled-requires-clause-balanced : goal.settle-settled-requires-clause-balanced
@@ -19,9 +19,9 @@ pub invariant_of-self-2 : goal.invariant_of-self-2
 invariant_of-self-2 g c =
     let old = c.self.inside.journal in
     let new = c.settle-settled.new.self in (
-      settle_setup c.settle-settled.result old new c.settle-settled.ensures.settled c.settle-settled.ensures.fails ∙ c.self.invariant.0,
+      settled_setup c.settle-settled.result old new c.settle-settled.ensures.settled c.settle-settled.ensures.fails ∙ c.self.invariant.0,
       c.receive.ensures.home (accounts_in new.setup new.state)
-          (lent_settled c.settle-settled.result old new c.lend_for_pending.new.home c.lend_for_pending.new.held c.settle-settled.new.held
+          (settled_lent c.settle-settled.result old new c.lend_for_pending.new.home c.lend_for_pending.new.held c.settle-settled.new.held
           c.unnamed_accounts_stay.ensures c.book-book.ensures.within c.in_ok-lend_for_pending.ensures.named
           c.settle-settled.ensures.numbers c.settle-settled.ensures.balanced c.settle-settled.ensures.settled c.settle-settled.ensures.fails
           c.in_ok-lend_for_pending.ensures.lent),

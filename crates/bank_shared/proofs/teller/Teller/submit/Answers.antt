@@ -6,7 +6,7 @@ use Rattle.bank_shared.proofs.teller.Teller.submit.Goals as goal
 
 pub answer-requires-clause-legal : goal.answer-requires-clause-legal
 answer-requires-clause-legal g c =
-    (subst (λ (s : Setup). c.args.user.0 < length s.users) (sym (c.in_ok-settle.ensures.settled.setup ∙ c.setup-setup.ensures.own)) c.requires.known, c.requires.sound, c.requires.event)
+    (subst (λ (s : Setup). c.args.user.0 < length s.users) (sym (c.in_ok-settle.ensures.settled.1.setup ∙ c.setup-setup.ensures.own)) c.requires.known, c.requires.sound, c.requires.event)
 
 pub returns-clause-answers : goal.returns-clause-answers
 returns-clause-answers g c =

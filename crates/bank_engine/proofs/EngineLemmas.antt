@@ -1,0 +1,44 @@
+-- What an engine knows of what is ready and of what is pending.
+use Rattle.std.proofs.Common.{◌≡◌, ◌++◌, List, Option, None, Some, sym, subst}
+use Rattle.std.specs.Option.{IfSome, option_map}
+use Rattle.ofx_types.specs.Calendar.{IsMoment}
+use Rattle.ofx_types.specs.declared.number.Moment.{Moment}
+use Rattle.bank_model.specs.declared.entry.Entry.{Entry}
+use Rattle.bank_model.specs.declared.event.Event.{Event}
+use Rattle.bank_model.specs.declared.event.State.{State}
+use Rattle.bank_model.specs.declared.setup.Setup.{Setup}
+use Rattle.bank_model.specs.Rules.{IsLegal, answer_to, named, state_after}
+use Rattle.bank_accounts.specs.AccountView.{AccountView}
+use Rattle.bank_accounts.specs.HeldAccounts.{AreHeld}
+use Rattle.bank_core.specs.BookView.{PreparedView, ReservedBook, HasRoom}
+use Rattle.bank_ledger.specs.LedgerView.{Room}
+use Rattle.bank_engine.specs.declared.pending.Pending.{Pending}
+use Rattle.bank_engine.specs.Pending.{pending_of, IsReadyStill}
+use Rattle.bank_engine.specs.Steps.{IsReady}
+use Rattle.bank_engine.specs.Views.{PendingView}
+
+-- nothing is pending
+pub idle : (book : ReservedBook) (pending : Option Pending) → option_map pending_of pending ≡ None → IfSome pending (IsReadyStill book)
+idle book None is = tt
+idle book (Some pending) is = absurd (let none : Some (pending_of pending) ≡ None = is in cc)
+
+-- the accounts that the pending event names
+pub names_held : (setup : Setup) (state : State) (held : List AccountView) (pending : Option Pending) (here : Pending) → pending ≡ Some here → IfSome (option_map pending_of pending) (λ (p : PendingView). AreHeld held (named setup state p.event)) → AreHeld held (named setup state here.event)
+names_held setup state held pending here some names =
+    subst (λ (q : Option Pending). IfSome (option_map pending_of q) (λ (p : PendingView). AreHeld held (named setup state p.event))) some names
+
+-- what a book has prepared is ready
+pub ready_now : (setup setup' : Setup) (S S' : State) (room : Room) (at : Moment) (event : Event) (prepared : PreparedView) (added : List Entry) → setup' ≡ setup → S' ≡ S → IsMoment at.0 → IsLegal setup S at event → prepared.setup ≡ setup → prepared.before ≡ S → prepared.event ≡ event → prepared.after ≡ state_after setup S at event → prepared.reply ≡ answer_to setup S at event → HasRoom room S prepared.after → prepared.after.entries ≡ prepared.before.entries ++ added → IsReady setup' S' room at event prepared
+ready_now setup setup' S S' room at event prepared added own same moment legal of before is after reply room_for entries =
+    subst (λ (s : Setup). IsReady s S' room at event prepared) (sym own)
+    (subst (λ (T : State). IsReady setup T room at event prepared) (sym same)
+    record {
+      may_happen = (moment, legal);
+      own = of;
+      before = before;
+      of = is;
+      after = after;
+      reply = reply;
+      fits = room_for;
+      adds = record { added = added; entries = cc (entries, after, before) };
+    })

@@ -1,0 +1,9 @@
+pub mod Past
+pub mod Views
+pub mod Pending
+pub mod Steps
+pub mod Calls
+pub mod Kept
+pub mod Truth
+pub mod Solo
+pub mod Laws

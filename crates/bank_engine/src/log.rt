@@ -1,0 +1,91 @@
+//! The log of a bank.
+
+ghost use Rattle.std.specs.Prelude.{◌≡◌, []};
+
+use crate::past::Past;
+use crate::publisher::Publisher;
+use bank_model::{Entry, Event};
+use ofx_types::Moment;
+use std::marker::Model;
+use std::snapshot::Snapshot;
+
+/// The log of a bank, which contracts alone read, with its endings counted modulo 2^64. However long it grows, it takes no more
+/// memory.
+#[derive(Drop)]
+pub struct Log {
+    // the items, for contracts alone
+    past: Past,
+    ended: u64,
+}
+
+impl Model for Log {
+    ghost use Rattle.std.specs.Prelude.{◌≡◌, ◌%◌, ◌^◌, List, length};
+    ghost use Rattle.bank_model.specs.declared.log.LogItem.{LogItem};
+    ghost use Rattle.bank_model.specs.Log.{endings};
+    ghost use Rattle.bank_engine.specs.Past.{items_of};
+
+    ghost Value = { List LogItem };
+
+    ghost view = { λ l. items_of l.past };
+
+    ghost invariant = { λ l. l.ended ≡ length (endings (items_of l.past)) % 2 ^ 64 };
+}
+
+impl Log {
+    /// A log without items.
+    pub fn new() -> Log
+        ensures { result ≡ [] }
+    {
+        Log {
+            past: Past::Start,
+            ended: 0,
+        }
+    }
+}
+
+impl Publisher for Log {
+    ghost log = { λ l. l };
+
+    fn next_number(&self) -> u64 {
+        self.ended.wrapping_add(1)
+    }
+
+    fn effect(&mut self, entry: &Entry) {
+        self.past = Past::Effect(Snapshot::of(&self.past), Snapshot::of(entry));
+    }
+
+    fn answer(&mut self, event: &Event, at: Moment, reply: &Vec<u8>) {
+        self.past = Past::Answer(
+            Snapshot::of(&self.past),
+            Snapshot::of(event),
+            Snapshot::of(&at),
+            Snapshot::of(reply),
+        );
+        self.ended = self.ended.wrapping_add(1);
+    }
+
+    fn adopted(&mut self, fault: u64, event: &Event, at: Moment) {
+        self.past = Past::Adopted(
+            Snapshot::of(&self.past),
+            Snapshot::of(&fault),
+            Snapshot::of(event),
+            Snapshot::of(&at),
+        );
+        self.ended = self.ended.wrapping_add(1);
+    }
+
+    fn failed(&mut self, count: u64, event: &Event, at: Moment) {
+        self.past = Past::Failed(
+            Snapshot::of(&self.past),
+            Snapshot::of(&count),
+            Snapshot::of(event),
+            Snapshot::of(&at),
+        );
+        self.ended = self.ended.wrapping_add(1);
+    }
+
+    fn unsettled(&mut self, count: u64) {
+        self.past = Past::Unsettled(Snapshot::of(&self.past), Snapshot::of(&count));
+        self.ended = self.ended.wrapping_add(1);
+    }
+}

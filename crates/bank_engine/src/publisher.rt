@@ -1,0 +1,40 @@
+//! Who publishes what happens to a bank.
+
+ghost use Rattle.std.specs.Prelude.{◌≡◌, ◌+◌, ◌%◌, ◌^◌, List, [], ◌∷◌, ◌++◌, None, Some, length};
+ghost use Rattle.bank_model.specs.declared.log.LogItem.{LogItem};
+ghost use Rattle.bank_model.specs.declared.log.LogItem.TheVariants.{Effect, Answer, Adopted, Fault};
+ghost use Rattle.bank_model.specs.Log.{endings};
+
+use bank_model::{Entry, Event};
+use ofx_types::Moment;
+
+/// Who publishes the items of a bank's log in their order: the entries that an event adds, and then its ending. None of its calls
+/// takes memory.
+pub trait Publisher {
+    // the items so far
+    ghost log: { Self → List LogItem };
+
+    /// The number of the ending that comes next, modulo 2^64.
+    fn next_number(&self) -> u64
+        ensures { result ≡ (length (endings (log self.now)) + 1) % 2 ^ 64 };
+
+    /// An entry of the event whose ending comes next.
+    fn effect(&mut self, entry: &Entry)
+        ensures { log self.new ≡ log self.old ++ Effect entry.now ∷ [] };
+
+    /// The event has happened at that moment, and this is its reply.
+    fn answer(&mut self, event: &Event, at: Moment, reply: &Vec<u8>)
+        ensures { log self.new ≡ log self.old ++ Answer event.now at reply.now.items ∷ [] };
+
+    /// The event whose append failed in the ending of this number has happened at its moment after all.
+    fn adopted(&mut self, fault: u64, event: &Event, at: Moment)
+        ensures { log self.new ≡ log self.old ++ Adopted fault event.now at ∷ [] };
+
+    /// The append of an event failed, and raised the keeper's count of faults to this one.
+    fn failed(&mut self, count: u64, event: &Event, at: Moment)
+        ensures { log self.new ≡ log self.old ++ Fault count (Some (event.now, at)) ∷ [] };
+
+    /// The settling of an append that had failed did so too, and raised the keeper's count of faults to this one.
+    fn unsettled(&mut self, count: u64)
+        ensures { log self.new ≡ log self.old ++ Fault count None ∷ [] };
+}

@@ -1,0 +1,189 @@
+//! An engine with all accounts of its bank.
+
+ghost use Rattle.std.specs.Prelude.{◌≡◌, ◌≢◌, None, true, false, is_ok, is_some, IfOk, IfErr, OnErr};
+ghost use Rattle.ofx_types.specs.Calendar.{IsMoment};
+ghost use Rattle.ofx_ports.specs.Kept.{counted};
+ghost use Rattle.bank_model.specs.Rules.{IsLegal};
+ghost use Rattle.bank_model.specs.SetupForm.{IsWithinLimits};
+ghost use Rattle.bank_rules.specs.Standing.{IsSoundState};
+ghost use Rattle.bank_solo.specs.Solo.{AreAccountsIn};
+ghost use Rattle.bank_engine.specs.Calls.{FailsToCommit, Settles, FailsToSettle, settling_of};
+ghost use Rattle.bank_engine.specs.Solo.{Sends, AppendsOne};
+ghost use Rattle.bank_engine.specs.Views.{journal_of};
+
+use crate::engine::Engine;
+use crate::envelope::Envelope;
+use crate::lending::lend;
+use crate::publisher::Publisher;
+use bank_accounts::{Account, Held, Home};
+use bank_core::Book;
+use bank_model::{Event, Printer, SubmitFault};
+use bank_solo::laws::unnamed_accounts_stay;
+use ofx_ports::Keeper;
+use ofx_types::{Moment, OutOfMemory};
+use std::alloc::Global;
+use std::marker::Model;
+
+/// An engine with all accounts of its bank, for one caller. The accounts that an event names are lent for its step. They stay lent
+/// while the event is pending, so that settling takes no memory.
+pub struct SoloEngine<P: Printer> {
+    engine: Engine<P>,
+    home: Home,
+    held: Held,
+}
+
+impl<P: Printer> Model for SoloEngine<P> {
+    ghost use Rattle.bank_accounts.specs.AtHome.{AreLent};
+    ghost use Rattle.bank_engine.specs.Solo.{AreLentFor};
+    ghost use Rattle.bank_engine.specs.Views.{EngineView};
+    ghost use Rattle.bank_solo.specs.Solo.{accounts_in};
+
+    ghost Value = { EngineView };
+
+    ghost view = { λ e. e.engine };
+
+    ghost invariant = { λ e. AreLent (accounts_in e.engine.setup e.engine.state) e.home e.held
+        × AreLentFor e.engine.setup e.engine.state e.held e.engine.pending };
+}
+
+impl<P: Printer> SoloEngine<P> {
+    /// The engine of a bank with this book, and all of its accounts in the order of their numbers.
+    pub fn new(
+        alloc: Global,
+        book: Book<P>,
+        accounts: Vec<Account>,
+    ) -> Result<SoloEngine<P>, OutOfMemory>
+        requires { AreAccountsIn book.setup book.state accounts.items }
+        ensures setup { IfOk result (λ engine. engine.setup ≡ book.setup) }
+        ensures state { IfOk result (λ engine. engine.state ≡ book.state) }
+        ensures pending { IfOk result (λ engine. engine.pending ≡ None) }
+    {
+        let home = Home::from_vec(alloc, accounts)?;
+        Ok(SoloEngine {
+            engine: Engine::new(book),
+            home,
+            held: Held::new(alloc),
+        })
+    }
+
+    /// The book, lent. Takes no memory.
+    pub fn book(&self) -> &Book<P>
+        ensures setup { result.now.setup ≡ self.now.setup }
+        ensures state { result.now.state ≡ self.now.state }
+        ensures within { IsWithinLimits self.now.setup }
+        ensures sound { IsSoundState self.now.setup self.now.state }
+    {
+        self.engine.book()
+    }
+
+    /// Makes an event happen at that moment that may: its record is appended, and then its step is taken. Gives its reply in that
+    /// envelope. Nothing is pending. All memory is taken before the record is appended.
+    ///
+    /// - `Keeper(n)`: the append failed, and the keeper's count of faults rose to n in this call. The event is pending.
+    /// - `OutOfMemory`: nothing has happened.
+    pub fn commit<K: Keeper, L: Publisher, E: Envelope>(
+        &mut self,
+        alloc: Global,
+        keeper: &mut K,
+        log: &mut L,
+        event: Event,
+        at: Moment,
+        envelope: E,
+    ) -> Result<Vec<u8>, SubmitFault>
+        requires moment { IsMoment at.0 }
+        requires legal { IsLegal self.old.setup self.old.state at event }
+        requires settled { self.old.pending ≡ None }
+        requires unsettled { K.unsettled keeper.old ≡ false }
+        ensures answers { IfOk result (λ line. Sends (E.sent envelope)
+            (journal_of self.old (record { records = K.records keeper.old; landed = K.landed keeper.old; unsettled = K.unsettled keeper.old; faults = K.faults keeper.old }) (L.log log.old))
+            (journal_of self.new (record { records = K.records keeper.new; landed = K.landed keeper.new; unsettled = K.unsettled keeper.new; faults = K.faults keeper.new }) (L.log log.new))
+            event at line.items) }
+        ensures fails { IfErr result (FailsToCommit
+            (journal_of self.old (record { records = K.records keeper.old; landed = K.landed keeper.old; unsettled = K.unsettled keeper.old; faults = K.faults keeper.old }) (L.log log.old))
+            (journal_of self.new (record { records = K.records keeper.new; landed = K.landed keeper.new; unsettled = K.unsettled keeper.new; faults = K.faults keeper.new }) (L.log log.new))
+            event at) }
+        ensures size { K.size keeper.new ≡ counted (K.size keeper.old) (is_ok result) }
+        ensures appends { AppendsOne K.appends keeper.old keeper.new at event result }
+    {
+        unnamed_accounts_stay();
+        lend(
+            alloc,
+            self.engine.book(),
+            &mut self.home,
+            &mut self.held,
+            &event,
+        )?;
+        let sent = self
+            .engine
+            .send(alloc, keeper, log, &mut self.held, event, at, envelope);
+        match self.engine.pending() {
+            None => self.home.receive(&mut self.held),
+            Some(_) => {}
+        }
+        sent
+    }
+
+    /// Settles whether the record of the pending event stands, and answers whether the event is adopted: it has happened at its
+    /// moment. Afterwards nothing is pending. Takes no memory.
+    ///
+    /// - `Keeper(n)`: the keeper's count of faults rose to n in this call. The event is pending still.
+    pub fn settle<K: Keeper, L: Publisher>(
+        &mut self,
+        keeper: &mut K,
+        log: &mut L,
+    ) -> Result<bool, SubmitFault>
+        requires unsettled { K.unsettled keeper.old ≡ is_some self.old.pending }
+        ensures settled { IfOk result (Settles
+            (journal_of self.old (record { records = K.records keeper.old; landed = K.landed keeper.old; unsettled = K.unsettled keeper.old; faults = K.faults keeper.old }) (L.log log.old))
+            (journal_of self.new (record { records = K.records keeper.new; landed = K.landed keeper.new; unsettled = K.unsettled keeper.new; faults = K.faults keeper.new }) (L.log log.new))) }
+        ensures fails { IfErr result (FailsToSettle
+            (journal_of self.old (record { records = K.records keeper.old; landed = K.landed keeper.old; unsettled = K.unsettled keeper.old; faults = K.faults keeper.old }) (L.log log.old))
+            (journal_of self.new (record { records = K.records keeper.new; landed = K.landed keeper.new; unsettled = K.unsettled keeper.new; faults = K.faults keeper.new }) (L.log log.new))) }
+        ensures idle { self.old.pending ≡ None → keeper.new ≡ keeper.old }
+        ensures settles { self.old.pending ≢ None → K.settles keeper.old keeper.new (settling_of result) }
+    {
+        unnamed_accounts_stay();
+        // For the proof alone: its contract says that the setup is within its limits.
+        let _book = self.engine.book();
+        let adopted = self.engine.settle(keeper, log, &mut self.held)?;
+        self.home.receive(&mut self.held);
+        Ok(adopted)
+    }
+
+    /// Gives up what is pending without asking the keeper: all accounts are at home again. That is right for a bank that ends: the
+    /// one that opens from the records after it finds that of the pending event, or doesn't. Takes no memory.
+    pub fn give_up(&mut self)
+        ensures setup { self.new.setup ≡ self.old.setup }
+        ensures state { self.new.state ≡ self.old.state }
+        ensures pending { self.new.pending ≡ None }
+    {
+        self.engine.give_up();
+        self.home.receive(&mut self.held);
+    }
+
+    /// The book, and all accounts in the order of their numbers. What is pending is given up.
+    pub fn into_parts(mut self, alloc: Global) -> Result<(Book<P>, Vec<Account>), OutOfMemory>
+        ensures setup { IfOk result (λ parts. parts.0.setup ≡ self.setup) }
+        ensures state { IfOk result (λ parts. parts.0.state ≡ self.state) }
+        ensures accounts { IfOk result (λ parts. AreAccountsIn self.setup self.state parts.1.items) }
+    {
+        self.give_up();
+        let SoloEngine {
+            engine,
+            home,
+            held: _,
+        } = self;
+        let accounts = home.into_vec(alloc)?;
+        Ok((engine.into_book(), accounts))
+    }
+}
+
+impl<P: Printer> Drop for SoloEngine<P> {
+    fn drop(self) {
+        let SoloEngine {
+            engine: _,
+            home: _,
+            held: _,
+        } = self;
+    }
+}
