@@ -1,0 +1,10 @@
+mod OrderLaws
+mod SortedLists
+mod RegisterLaws
+mod GatheringLaws
+mod TextLaws
+mod Loading
+mod Loops
+mod Searching
+mod Taking
+mod ExactLaws

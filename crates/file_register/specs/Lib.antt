@@ -1,0 +1,9 @@
+pub mod Order
+pub mod Lines
+pub mod Registers
+pub mod Importing
+pub mod Exact
+pub mod Gathering
+pub mod Coding
+pub mod Reading
+pub mod SavedText
