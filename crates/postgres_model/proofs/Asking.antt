@@ -38,7 +38,7 @@ module _ (e : Engine) (recs : List (List ℕ)) (sound : IsSound e recs) (k : ℕ
         | inr ne ↦ inr (sym (updated-else e.calls (suc e.sent) (Waits k request) n ne) ∙ h)
       ]
 
-  is-done : (n other : ℕ) (asked : Request) (answer : Answer) → updated e.calls (suc e.sent) (Waits k request) n ≡ Done other asked answer → e.calls n ≡ Done other asked answer
+  pub is-done : (n other : ℕ) (asked : Request) (answer : Answer) → updated e.calls (suc e.sent) (Waits k request) n ≡ Done other asked answer → e.calls n ≡ Done other asked answer
   is-done n other asked answer h =
       elim (cases_eq n (suc e.sent)) [
         | inl here ↦ absurd (

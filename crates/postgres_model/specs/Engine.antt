@@ -94,8 +94,5 @@ answer log (Append epoch first group) = append_answer log epoch first group
 
 -- the answer says that records were inserted
 abbrev pub has_inserted : Answer → Bool
-has_inserted (Inserted zero) = false
 has_inserted (Inserted (suc count)) = true
-has_inserted (Took epoch rows) = false
-has_inserted NotHolder = false
-has_inserted Duplicate = false
+has_inserted _ = false

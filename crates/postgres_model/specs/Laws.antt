@@ -13,18 +13,16 @@ StandsFrom first group log = (i : ℕ) → i < length group → record_at (first
 
 -- The call is an append, and its group was inserted.
 abbrev pub has_landed : Call → Bool
-has_landed Unsent = false
-has_landed (Waits keeper request) = false
 has_landed (Done keeper request found) = has_inserted found
+has_landed _ = false
 
 -- The keeper has the log, and holds these records of it.
 abbrev pub HasLog : Keeper → Held → Type 0
-HasLog Closed held = ⊥
-HasLog (Taking call) held = ⊥
 HasLog (Idle known) held = known ≡ held
 HasLog (Appending known group append) held = known ≡ held
 HasLog (Unsettled known group append) held = known ≡ held
 HasLog (Settling known group append retake) held = known ≡ held
+HasLog _ held = ⊥
 
 abbrev pub texts : List Row → List (List ℕ)
 texts rows = map (λ row. row.bytes) rows

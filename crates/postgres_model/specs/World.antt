@@ -25,9 +25,7 @@ pub record Engine : Type 0 where
 -- as many times the keeper as records were inserted
 abbrev pub made : ℕ → Answer → List ℕ
 made keeper (Inserted count) = replicate count keeper
-made keeper (Took epoch rows) = []
-made keeper NotHolder = []
-made keeper Duplicate = []
+made keeper _ = []
 
 abbrev pub sending : Engine → ℕ → Request → Engine
 sending e keeper request =
@@ -100,9 +98,7 @@ with_group held group = held.records ++ group
 -- A take makes the log the keeper's, with all that stands.
 abbrev pub told_take : (call : ℕ) → Answer → Told
 told_take call (Took epoch rows) = silent (Idle (record { epoch = epoch; token = call; records = fetched 1 (length rows) rows }))
-told_take call NotHolder = silent Closed
-told_take call (Inserted count) = silent Closed
-told_take call Duplicate = silent Closed
+told_take call _ = silent Closed
 
 -- An append is acknowledged where as many records were inserted as the group has. At any other answer it is to be settled.
 abbrev pub told_append : (keeper : ℕ) → Held → List (List ℕ) → (append : ℕ) → Answer → Told
@@ -114,9 +110,7 @@ told_append k held group append (Inserted count) =
       settled = [];
     }
     else silent (Unsettled held group append)
-told_append k held group append (Took epoch rows) = silent (Unsettled held group append)
-told_append k held group append NotHolder = silent (Unsettled held group append)
-told_append k held group append Duplicate = silent (Unsettled held group append)
+told_append k held group append _ = silent (Unsettled held group append)
 
 -- What settling finds under the group's numbers: the group, nothing, or what another keeper put there, after which the
 -- keeper gives the log up.
@@ -140,15 +134,12 @@ told_settle k held group append epoch (one ∷ more) =
 abbrev pub told_retake : (keeper : ℕ) → Held → List (List ℕ) → (append : ℕ) → Answer → Told
 told_retake k held group append (Took epoch rows) =
     told_settle k held group append epoch (fetched (next_number held) (length group) rows)
-told_retake k held group append NotHolder = silent Closed
-told_retake k held group append (Inserted count) = silent Closed
-told_retake k held group append Duplicate = silent Closed
+told_retake k held group append _ = silent Closed
 
 -- A keeper hears the answer of the call that it waits for, where the engine has done it.
 abbrev pub heard_call : Keeper → (Answer → Told) → Call → Told
-heard_call keeper told Unsent = silent keeper
-heard_call keeper told (Waits by request) = silent keeper
 heard_call keeper told (Done by request found) = told found
+heard_call keeper told _ = silent keeper
 
 abbrev pub heard : (keeper : ℕ) → Keeper → (ℕ → Call) → Told
 heard k Closed calls = silent Closed
@@ -162,12 +153,10 @@ heard k (Settling held group append retake) calls =
 
 -- A keeper gives up waiting: an answer was lost, or said nothing of the call. What was to be settled still is.
 abbrev pub given_up : Keeper → Keeper
-given_up Closed = Closed
 given_up (Taking call) = Closed
-given_up (Idle held) = Idle held
 given_up (Appending held group append) = Unsettled held group append
-given_up (Unsettled held group append) = Unsettled held group append
 given_up (Settling held group append retake) = Unsettled held group append
+given_up keeper = keeper
 
 -- ---- the world
 
@@ -201,30 +190,18 @@ asked w k request keeper =
 -- Only who holds no log takes it. The token of a take is new: here it is the number of its call.
 abbrev pub opened : World → ℕ → Keeper → World
 opened w k Closed = asked w k (Take (suc w.engine.sent)) (Taking (suc w.engine.sent))
-opened w k (Taking call) = w
-opened w k (Idle held) = w
-opened w k (Appending held group append) = w
-opened w k (Unsettled held group append) = w
-opened w k (Settling held group append retake) = w
+opened w k _ = w
 
 -- Only who holds the log, with nothing to be settled, appends to it.
 abbrev pub added : World → ℕ → List (List ℕ) → Keeper → World
-added w k group Closed = w
-added w k group (Taking call) = w
 added w k group (Idle held) =
     asked w k (Append held.epoch (next_number held) group) (Appending held group (suc w.engine.sent))
-added w k group (Appending held old append) = w
-added w k group (Unsettled held old append) = w
-added w k group (Settling held old append retake) = w
+added w k group _ = w
 
 -- Settling begins by the fence, with the token of the take by which the keeper has the log.
 abbrev pub settling : World → ℕ → Keeper → World
-settling w k Closed = w
-settling w k (Taking call) = w
-settling w k (Idle held) = w
-settling w k (Appending held group append) = w
 settling w k (Unsettled held group append) = asked w k (Retake held.token) (Settling held group append (suc w.engine.sent))
-settling w k (Settling held group append retake) = w
+settling w k _ = w
 
 abbrev pub with_engine : World → Engine → World
 with_engine w e = record { engine = e; keepers = w.keepers; acknowledged = w.acknowledged; settled = w.settled }

@@ -1,9 +1,9 @@
 //! What holds of every schedule of calls: whatever the engine does late or never, whatever answers are lost, whichever keepers
 //! take the log from one another, give up and start anew. Nothing here runs: each contract is a law.
 
-ghost use Rattle.std.specs.Prelude.{◌≡◌, ◌+◌, ◌<◌, ◌++◌, ℕ, List, Some, length, slice_get};
-ghost use Rattle.postgres_model.specs.Engine.{numbered};
-ghost use Rattle.postgres_model.specs.World.{Acknowledged, Settled, Held, Keeper, Idle, Event};
+ghost use Rattle.std.specs.Prelude.{◌≡◌, ◌+◌, ◌<◌, ◌≤◌, ◌++◌, ℕ, suc, List, Some, length, slice_get};
+ghost use Rattle.postgres_model.specs.Engine.{numbered, Row, Request, Append, Took, Inserted};
+ghost use Rattle.postgres_model.specs.World.{Acknowledged, Settled, Held, Keeper, Idle, Event, Done};
 ghost use Rattle.postgres_model.specs.Laws.{reached, StandsFrom, has_landed, HasLog, texts};
 
 /// A record whose append a keeper was told to stand stands under its number for ever, whatever happens later.
@@ -32,6 +32,15 @@ pub fn keepers_hold_a_prefix()
         → StandsFrom 1 held.records (reached events).engine.log }
     ensures whole { (events : List Event) (k : ℕ) (held : Held) → (reached events).keepers k ≡ Idle held
         → (reached events).engine.log.epoch ≡ held.epoch → (reached events).engine.log.rows ≡ numbered 1 held.records }
+{}
+
+/// Whatever was ever appended under an epoch before one that was taken is among the records that this take was told. So no
+/// append of an epoch that is over lands later, and one that is heard of later was known already.
+pub fn past_appends_are_told()
+    ensures { (events : List Event) (t c k j epoch past first count : ℕ) (taking : Request) (rows : List Row) (group : List (List ℕ))
+        → (reached events).engine.calls t ≡ Done k taking (Took epoch rows)
+        → (reached events).engine.calls c ≡ Done j (Append past first group) (Inserted (suc count))
+        → past < epoch → first + length group ≤ suc (length rows) }
 {}
 
 /// The log's numbers go up from 1 with no gap.

@@ -6,4 +6,8 @@
 //! all is the premise.
 #![tactic(auto)]
 
+mod engine;
 pub mod laws;
+mod rows;
+
+pub use engine::{Appended, EngineFault, MemEngine};
