@@ -1,0 +1,11 @@
+pub mod Lists
+pub mod Tables
+pub mod Invariant
+pub mod Steps
+pub mod Effects
+pub mod Asking
+pub mod Hearing
+pub mod Runs
+pub mod Told
+pub mod Telling
+pub mod MemRows

@@ -1,0 +1,4 @@
+pub mod Engine
+pub mod World
+pub mod Laws
+pub mod MemView

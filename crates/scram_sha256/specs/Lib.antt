@@ -1,0 +1,5 @@
+pub mod Hmac
+pub mod Keyed
+pub mod Salted
+pub mod Exchange
+pub mod Views
