@@ -62,6 +62,12 @@ abbrev pub GoesOn : Option History → Option History → List Change → Type 0
 GoesOn None new more = ⊤
 GoesOn (Some old) new more = new ≡ Some (after old more)
 
+-- Nothing was done to a disk that tells, or it was synced: at each moment a crash leaves what it may have left before, or the
+-- image.
+abbrev pub AtMostSynced : Option History → Option History → Type 0
+AtMostSynced None new = ⊤
+AtMostSynced (Some old) new = (new ≡ Some old) ⊎ (new ≡ Some (after old (Sync ∷ [])))
+
 -- A disk that tells its history goes on telling it.
 abbrev pub TellsOn : Option History → Option History → Type 0
 TellsOn None new = ⊤

@@ -11,7 +11,7 @@ use crate::reading::{HEAD, OPEN, SHUT};
 use ofx_ports::Failed;
 
 /// How far an append came.
-#[derive(Clone, Copy, Debug, Drop)]
+#[derive(Clone, Copy, Drop)]
 pub enum Reached {
     /// The record is kept, and the gate after it is at this place.
     Acknowledged(u64),

@@ -5,7 +5,7 @@ ghost use Rattle.std.specs.Prelude.{◌≡◌};
 use crate::reading::OPEN;
 
 /// How far an append came that failed and isn't settled.
-#[derive(Clone, Copy, Debug)]
+#[derive(Clone, Copy)]
 pub enum Begun {
     /// There is none.
     Nothing,

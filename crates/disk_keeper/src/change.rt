@@ -6,7 +6,7 @@ use std::alloc::{AllocError, Global};
 use std::marker::Model;
 
 /// The bytes of a write.
-#[derive(Debug, Drop)]
+#[derive(Drop)]
 pub struct Bytes {
     bytes: Vec<u8>,
 }
@@ -38,7 +38,7 @@ impl Bytes {
 }
 
 /// A call that changed a disk.
-#[derive(Debug, Drop)]
+#[derive(Drop)]
 pub enum Change {
     /// A write at this place, of so many bytes, and what it put there: all of them, where it didn't fail.
     Write(u64, u64, Bytes),

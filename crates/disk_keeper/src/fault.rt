@@ -1,7 +1,7 @@
 //! Why a disk could not be made or opened.
 
 /// Why no keeper stands over a disk. The disk is handed back.
-#[derive(Debug, Drop)]
+#[derive(Drop)]
 pub enum DiskFault<D> {
     /// A call of the disk failed.
     Failed(D),

@@ -4,7 +4,7 @@ ghost use Rattle.std.specs.Prelude.{◌≡◌, ◌+◌, ◌^◌, ◌<◌, ◌≤
 ghost use Rattle.ofx_ports.specs.Faults.{CountsFaults};
 
 use crate::disk::Disk;
-use ofx_ports::Failed;
+use ofx_ports::{Failed, folder_of};
 use std::fs::{File, OpenOptions};
 use std::io;
 use std::io::ErrorKind;
@@ -83,15 +83,6 @@ fn open_or_make(rt: &HostRuntime, path: &str) -> io::Result<File> {
             options.create_new(true).mode(MODE).open(rt, path)
         }
         opened => opened,
-    }
-}
-
-// The folder in which the file of this path is.
-fn folder_of(path: &str) -> &str {
-    match path.rsplit_once('/') {
-        Some(("", _)) => "/",
-        Some((folder, _)) => folder,
-        None => ".",
     }
 }
 

@@ -4,7 +4,7 @@ ghost use Rattle.std.specs.Prelude.{◌≡◌, ℕ, ◌+◌, ◌-◌, ◌<◌, �
 ghost use Rattle.ofx_ports.specs.Faults.{CountsFaults};
 ghost use Rattle.ofx_ports.specs.Told.{Stays};
 ghost use Rattle.ofx_ports.specs.Kept.{Appended, TellsLanding, counted};
-ghost use Rattle.disk_keeper.specs.Disk.{LeavesOnly, TellsOn};
+ghost use Rattle.disk_keeper.specs.Disk.{AtMostSynced, LeavesOnly, TellsOn};
 ghost use Rattle.disk_keeper.specs.DiskKeeperView.{records_on, landed_on, acknowledged, Lists, ListsWith, NowLeaves, SettlesWith};
 
 use crate::appending::{Reached, append_record};
@@ -31,7 +31,6 @@ const EMPTY: [u8; 9] = *b"OFXKEEP1\0";
 ///
 /// A record is on the disk when its append is acknowledged. A crash at any moment, within a write too, leaves the
 /// acknowledged records in order, and at most the one whose append was begun.
-#[derive(Drop)]
 pub struct DiskKeeper<D: Disk> {
     disk: D,
     // the gate after the last record
@@ -39,6 +38,18 @@ pub struct DiskKeeper<D: Disk> {
     // the gate that was read last
     last: Gate,
     begun: Begun,
+}
+
+// It is written out, so that a caller does not prove again how each part is dropped.
+impl<D: Disk> Drop for DiskKeeper<D> {
+    fn drop(self) {
+        let DiskKeeper {
+            disk: _,
+            end: _,
+            last: _,
+            begun: _,
+        } = self;
+    }
 }
 
 impl<D: Disk> Model for DiskKeeper<D> {
@@ -83,13 +94,15 @@ impl<D: Disk> DiskKeeper<D> {
         })
     }
 
-    /// A keeper on a disk that has a file of records, also one that a crash has left.
+    /// A keeper on a disk that has a file of records, also one that a crash has left. At most a sync is done to the disk, also
+    /// where it is handed back.
     ///
     /// - `Failed` only where the disk's count of faults rose in this call.
     /// - `BadMark` where the first eight bytes aren't the mark.
     /// - `BadRecord` with the number of the first record or gate that passes the end.
     pub fn open(mut disk: D) -> Result<DiskKeeper<D>, DiskFault<D>>
         ensures opened { IfOk result (λ k. k.unsettled ≡ false) }
+        ensures moments { AtMostSynced (D.history disk) (D.history (disk_of result)) }
         ensures opens { Opens D.history (D.history disk) result }
         ensures leaves { IfOk result (λ k. NowLeaves (Lists (acknowledged D.history k)) (D.history k.disk)) }
         ensures faults { CountsFaults (D.faults disk) (D.faults (disk_of result)) (DiskFailed result) }

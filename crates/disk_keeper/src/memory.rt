@@ -1,10 +1,10 @@
 //! A disk in memory.
 
-ghost use Rattle.std.specs.Prelude.{◌≡◌, ◌+◌, ◌-◌, ◌^◌, ◌<◌, ◌≤◌, true, [], ◌∷◌, Some, None, length, max, is_err, IfOk, IsErr, OnOk, OnErr};
-ghost use Rattle.ofx_ports.specs.Faults.{CountsFaults};
-ghost use Rattle.ofx_ports.specs.Calls.{fails_next};
+ghost use Rattle.std.specs.Prelude.{◌≡◌, ◌+◌, ◌-◌, ◌^◌, ◌<◌, ◌≤◌, true, false, [], ◌∷◌, Some, None, length, max, is_err, IfOk, IsErr, OnOk, OnErr};
+ghost use Rattle.ofx_ports.specs.Faults.{CountsFaults, Rose};
+ghost use Rattle.ofx_ports.specs.Calls.{fails_next, one_more};
 ghost use Rattle.disk_keeper.specs.Disk.{image, overlaid, GoesOn, Breaks, Shows, HasSize, write_of};
-ghost use Rattle.disk_keeper.specs.Memory.{told_by};
+ghost use Rattle.disk_keeper.specs.Memory.{told_by, tried, starved, Syncs, Writes};
 ghost use Rattle.disk_keeper.specs.declared.change.Change.TheVariants.{Sync};
 
 use crate::change::{Bytes, Change};
@@ -18,7 +18,6 @@ mod crash;
 
 /// A disk in memory, which tells all that was done to it. It can be told which of its calls fail, and which of the
 /// writes that fail have put their bytes all the same.
-#[derive(Drop)]
 pub struct MemDisk {
     found: Vec<u8>,
     // what was done, the oldest first
@@ -28,7 +27,24 @@ pub struct MemDisk {
     room: u64,
     landing: Vec<u64>,
     schedule: Schedule,
+    memory_faults: u64,
     alloc: Global,
+}
+
+// It is written out, so that a caller does not prove again how each part is dropped.
+impl Drop for MemDisk {
+    fn drop(self) {
+        let MemDisk {
+            found: _,
+            changes: _,
+            bytes: _,
+            room: _,
+            landing: _,
+            schedule: _,
+            memory_faults: _,
+            alloc: _,
+        } = self;
+    }
 }
 
 impl Model for MemDisk {
@@ -44,6 +60,7 @@ impl Model for MemDisk {
       room = d.room;
       landing = d.landing.items;
       calls = d.schedule;
+      memory_faults = d.memory_faults;
     } };
 
     ghost invariant = { λ d. (d.bytes.items ≡ image d.found.items (reverse d.changes.items)) × (length d.bytes.items ≤ d.room) × (d.room < 2 ^ 63) };
@@ -63,6 +80,7 @@ impl MemDisk {
           room = room;
           landing = [];
           calls = record { failing = []; made = 0; faults = 0 };
+          memory_faults = 0;
         }) }
     {
         MemDisk::failing(alloc, found, room, &[], &[])
@@ -86,6 +104,7 @@ impl MemDisk {
           room = room;
           landing = landing.now;
           calls = record { failing = failing.now; made = 0; faults = 0 };
+          memory_faults = 0;
         }) }
     {
         Ok(MemDisk {
@@ -95,6 +114,7 @@ impl MemDisk {
             room,
             landing: landing.to_vec(alloc)?,
             schedule: Schedule::new(alloc, failing)?,
+            memory_faults: 0,
             alloc,
         })
     }
@@ -111,6 +131,24 @@ impl MemDisk {
         ensures { result ≡ length self.now.changes }
     {
         self.changes.len() as u64
+    }
+
+    /// How many of its calls failed for want of memory.
+    pub fn memory_faults(&self) -> u64
+        ensures { result ≡ self.now.memory_faults }
+    {
+        self.memory_faults
+    }
+
+    // Counts a call that fails for want of memory.
+    fn starve(&mut self) -> Failed
+        ensures counted { self.new ≡ record self.old { memory_faults = one_more self.old.memory_faults; calls = record self.old.calls { faults = one_more self.old.calls.faults } } }
+        ensures later { self.old.calls.faults ≤ self.new.calls.faults }
+        ensures rose { Rose self.old.calls.faults self.new.calls.faults }
+    {
+        self.memory_faults = self.memory_faults.saturating_add(1);
+        self.schedule.fail();
+        Failed
     }
 
     // Puts bytes at a place.
@@ -142,6 +180,14 @@ impl MemDisk {
     }
 }
 
+// Whether a write puts none of its bytes, by whether it fails and whether they land where it does.
+fn is_lost(fails: bool, lands: bool) -> bool
+    ensures lost { result ≡ true → (fails ≡ true) × (lands ≡ false) }
+    ensures put { result ≡ false → fails ≡ true → lands ≡ true }
+{
+    fails && !lands
+}
+
 // Bytes with others in their place from a place on.
 fn overlay(alloc: Global, old: &[u8], at: u64, bytes: &[u8]) -> Result<Vec<u8>, AllocError>
     ensures { IfOk result (λ new. new.items ≡ overlaid old.now at bytes.now) }
@@ -166,7 +212,18 @@ impl Disk for MemDisk {
         self.bytes.len() as u64
     }
 
-    fn read_at(&mut self, at: u64, into: &mut [u8]) -> Result<(), Failed> {
+    fn read_at(&mut self, at: u64, into: &mut [u8]) -> Result<(), Failed>
+        requires { at + length into.old ≤ length (image self.old.found self.old.changes) }
+        ensures shown { OnOk result (Shows (told_by self.old) at into.new) }
+        ensures told { HasSize (told_by self.old) (length (image self.old.found self.old.changes)) }
+        ensures history { told_by self.new ≡ told_by self.old }
+        ensures extent { length (image self.new.found self.new.changes) ≡ length (image self.old.found self.old.changes) }
+        ensures faults { CountsFaults self.old.calls.faults self.new.calls.faults (IsErr result) }
+
+        // It fails exactly where its number is one of those that fail.
+        ensures fails { is_err result ≡ fails_next self.old.calls }
+        ensures calls { self.new ≡ tried self.old (is_err result) self.old.changes }
+    {
         if self.schedule.start() {
             self.schedule.fail();
             return Err(Failed);
@@ -176,16 +233,35 @@ impl Disk for MemDisk {
         Ok(())
     }
 
-    fn write_at(&mut self, at: u64, bytes: &[u8]) -> Result<(), Failed> {
+    fn write_at(&mut self, at: u64, bytes: &[u8]) -> Result<(), Failed>
+        requires place { at ≤ length (image self.old.found self.old.changes) }
+        requires some { 0 < length bytes.now }
+        ensures written { OnOk result (GoesOn (told_by self.old) (told_by self.new) (write_of at bytes.now ∷ [])) }
+        ensures broken { OnErr result (Breaks at (length bytes.now) (told_by self.old) (told_by self.new)) }
+        ensures quiet { told_by self.old ≡ None → told_by self.new ≡ None }
+        ensures told { HasSize (told_by self.old) (length (image self.old.found self.old.changes)) }
+        ensures extent { OnOk result (length (image self.new.found self.new.changes)
+            ≡ max (length (image self.old.found self.old.changes)) (at + length bytes.now)) }
+        ensures no_shorter { length (image self.old.found self.old.changes) ≤ length (image self.new.found self.new.changes) }
+        ensures most { OnOk result (at + length bytes.now < 2 ^ 63) }
+        ensures faults { CountsFaults self.old.calls.faults self.new.calls.faults (IsErr result) }
+
+        // It fails exactly where its number is one of those that fail, past the room, or for want of memory, and one that fails has
+        // put its bytes exactly where it lands.
+        ensures tries { Writes self.old self.new (write_of at bytes.now) (at + length bytes.now) result }
+    {
         let fails = self.schedule.start();
-        let lands = !fails || self.landing.contains(&self.schedule.made());
-        if !lands || bytes.len() as u64 > self.room - at {
+        let lands = self.landing.contains(&self.schedule.made());
+        if bytes.len() as u64 > self.room - at {
+            self.schedule.fail();
+            return Err(Failed);
+        }
+        if is_lost(fails, lands) {
             self.schedule.fail();
             return Err(Failed);
         }
         let Ok(()) = self.put(at, bytes) else {
-            self.schedule.fail();
-            return Err(Failed);
+            return Err(self.starve());
         };
         if fails {
             self.schedule.fail();
@@ -194,10 +270,22 @@ impl Disk for MemDisk {
         Ok(())
     }
 
-    fn sync(&mut self) -> Result<(), Failed> {
-        if self.schedule.start() || self.note_sync().is_err() {
+    fn sync(&mut self) -> Result<(), Failed>
+        ensures synced { OnOk result (GoesOn (told_by self.old) (told_by self.new) (Sync ∷ [])) }
+        ensures refused { OnErr result (told_by self.new ≡ told_by self.old) }
+        ensures quiet { told_by self.old ≡ None → told_by self.new ≡ None }
+        ensures extent { length (image self.new.found self.new.changes) ≡ length (image self.old.found self.old.changes) }
+        ensures faults { CountsFaults self.old.calls.faults self.new.calls.faults (IsErr result) }
+
+        // It fails exactly where its number is one of those that fail, or for want of memory.
+        ensures tries { Syncs self.old self.new result }
+    {
+        if self.schedule.start() {
             self.schedule.fail();
             return Err(Failed);
+        }
+        if self.note_sync().is_err() {
+            return Err(self.starve());
         }
         Ok(())
     }

@@ -24,7 +24,7 @@ pub const SHUT: u8 = 0;
 pub const HEAD: u64 = 9;
 
 /// A gate, by the number of records in front of it and its place.
-#[derive(Clone, Copy, Debug)]
+#[derive(Clone, Copy)]
 pub struct Gate {
     pub records: u64,
     pub place: u64,
@@ -37,7 +37,7 @@ pub const FIRST: Gate = Gate {
 };
 
 /// What stands at a gate.
-#[derive(Clone, Copy, Debug)]
+#[derive(Clone, Copy)]
 pub enum Step {
     /// A record, and the next gate.
     Next(Gate),
@@ -48,7 +48,7 @@ pub enum Step {
 }
 
 /// What a file was found to be.
-#[derive(Clone, Copy, Debug)]
+#[derive(Clone, Copy)]
 pub enum Found {
     /// Records, and the gate after the last one.
     End(Gate),

@@ -1,7 +1,7 @@
 //! What heads tell, and why there is none.
 
 /// What a request's head tells.
-#[derive(Clone, Copy, Debug, PartialEq, Eq)]
+#[derive(Clone, Copy, PartialEq, Eq)]
 pub struct Head {
     /// The method is `POST`, byte for byte.
     pub method_is_post: bool,
@@ -16,7 +16,7 @@ pub struct Head {
 }
 
 /// What a reply's head tells.
-#[derive(Clone, Copy, Debug, PartialEq, Eq)]
+#[derive(Clone, Copy, PartialEq, Eq)]
 pub struct ReplyHead {
     /// The status code, below 1,000.
     pub code: u16,
@@ -27,7 +27,7 @@ pub struct ReplyHead {
 }
 
 /// Why the bytes begin with no head that is taken.
-#[derive(Clone, Copy, Debug, PartialEq, Eq)]
+#[derive(Clone, Copy, PartialEq, Eq)]
 pub enum HeadFault {
     /// More bytes are awaited.
     NotYet,

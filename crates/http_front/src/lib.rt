@@ -16,6 +16,3 @@ pub use head::{Head, HeadFault, ReplyHead};
 pub use request::read_request;
 pub use response::read_response;
 pub use writing::{HEAD_ROOM, write_head, write_post};
-
-#[cfg(test)]
-mod tests;

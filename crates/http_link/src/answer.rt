@@ -14,7 +14,7 @@ use ofx_ports::Link;
 const MOST_BODY: u64 = 67_108_864;
 
 /// A whole reply at the front of the bytes that have come.
-#[derive(Clone, Copy, Debug)]
+#[derive(Clone, Copy)]
 pub struct Answer {
     /// The status code, below 1,000.
     pub code: u16,
@@ -25,7 +25,7 @@ pub struct Answer {
 }
 
 /// Why no reply came.
-#[derive(Clone, Copy, Debug, PartialEq, Eq)]
+#[derive(Clone, Copy, PartialEq, Eq)]
 pub enum CallFault {
     /// A read of the link failed.
     ReadFault,

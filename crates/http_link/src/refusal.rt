@@ -1,7 +1,7 @@
 //! Requests that are refused by their heads.
 
 /// Why a request is refused by its head alone. The connection ends after each.
-#[derive(Clone, Copy, Debug, PartialEq, Eq)]
+#[derive(Clone, Copy, PartialEq, Eq)]
 pub enum Refusal {
     /// No head comes of the bytes, or one that is too long or has too many fields.
     BadHead,

@@ -15,7 +15,7 @@ use ofx_ports::Link;
 const MOST_BODY: u64 = 262_144;
 
 /// What stands in front of the bytes that have come.
-#[derive(Clone, Copy, Debug)]
+#[derive(Clone, Copy)]
 enum Front {
     /// Nothing, and the link has ended.
     End,
@@ -26,7 +26,7 @@ enum Front {
 }
 
 /// What comes next on a link.
-#[derive(Clone, Copy, Debug)]
+#[derive(Clone, Copy)]
 pub enum Next {
     /// Nothing: the link has ended where the last request had.
     End,

@@ -2,6 +2,7 @@
 //! and tell nothing of what those hold.
 
 pub mod file_store;
+pub mod folder;
 pub mod reader;
 pub mod system_clock;
 pub mod tcp_door;

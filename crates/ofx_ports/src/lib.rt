@@ -19,6 +19,7 @@ mod source;
 mod store_keeper;
 
 pub use adapters::file_store::FileStore;
+pub use adapters::folder::folder_of;
 pub use adapters::reader::ReaderSource;
 pub use adapters::system_clock::SystemClock;
 pub use adapters::tcp_door::{TcpDoor, listen};

@@ -1,29 +1,11 @@
 //! The keepers that the word RECORDS asks for, besides the one in memory.
 
-ghost use Rattle.std.specs.Prelude.{◌≡◌, false, None, IfSome};
+ghost use Rattle.std.specs.Prelude.{◌≡◌, false, None};
 
-use disk_keeper::{Disk, DiskKeeper, FileDisk};
 use ofx_ports::{Failed, FetchFault, Keeper, PutFault};
 
 /// The front of a word that names a file of records on a disk.
 pub const ON_DISK: &str = "disk:";
-
-/// The keeper on the file of this path. A file that is new or empty is made. None where it can't be opened or made, or is
-/// no file of records.
-pub fn on_disk(rt: &HostRuntime, path: &str) -> Option<DiskKeeper<FileDisk>>
-    ensures { IfSome result (λ k. k.unsettled ≡ false) }
-{
-    let disk = FileDisk::open(rt, path).ok()?;
-    let keeper = if disk.size() == 0 {
-        DiskKeeper::make(disk)
-    } else {
-        DiskKeeper::open(disk)
-    };
-    match keeper {
-        Ok(keeper) => Some(keeper),
-        Err(_) => None,
-    }
-}
 
 /// A keeper of records that couldn't be opened: it has one record and refuses every call, so that whoever goes over the
 /// records meets the fault at the first.

@@ -3,7 +3,7 @@
 ghost use Rattle.std.specs.Prelude.{◌≡◌, false};
 
 use crate::binding::{Unbound, bind_records};
-use crate::keepers::{ON_DISK, Unopened, on_disk};
+use crate::keepers::{ON_DISK, Unopened};
 use crate::paths::{RECORDS, named};
 use crate::serve::served;
 use crate::setup_file::SetupFile;
@@ -14,7 +14,7 @@ use bank_server::plan_of;
 use bank_session::end_told;
 use ofx_ports::{Keeper, MemKeeper, MemSource, ReaderSource, Source, SystemClock, WriterSink};
 use ofx_types::{Text, Told};
-use record_files::Cause;
+use record_files::{Cause, on_disk};
 use sqlite_keeper::SqliteKeeper;
 use std::hash::RandomState;
 use std::io;
@@ -79,8 +79,8 @@ fn answered(rt: HostRuntime, words: &[Text], setup: &SetupFile) -> Told {
 /// The end of a run over the records in a file on a disk. Where it can't be opened, each call of the keeper fails.
 fn over_disk(rt: HostRuntime, words: &[Text], setup: &SetupFile, path: &str) -> Told {
     match on_disk(&rt, path) {
-        Some(mut keeper) => run_over(rt, words, setup, &mut keeper),
-        None => run_over(rt, words, setup, &mut Unopened::new()),
+        Ok(mut keeper) => run_over(rt, words, setup, &mut keeper),
+        Err(_) => run_over(rt, words, setup, &mut Unopened::new()),
     }
 }
 

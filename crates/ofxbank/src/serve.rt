@@ -2,7 +2,7 @@
 
 ghost use Rattle.std.specs.Prelude.{◌≡◌, false};
 
-use crate::keepers::{ON_DISK, Unopened, on_disk};
+use crate::keepers::{ON_DISK, Unopened};
 use crate::paths::{RECORDS, SETUP, named};
 use crate::setup_file::SetupFile;
 use crate::told::{plain, tell_listening, tell_served};
@@ -12,6 +12,7 @@ use bank_shared::{BankName, Opened};
 use ofx_file::OfxPrinter;
 use ofx_ports::{Keeper, LINK_SECONDS, MemKeeper, OpenGate, SystemClock, TcpDoor, listen};
 use ofx_types::{OutOfMemory, Text, Told};
+use record_files::on_disk;
 use serve_log::{Journal, Level, LoggedDoor, LoggedKeeper};
 use sqlite_keeper::SqliteKeeper;
 use std::hash::RandomState;
@@ -55,8 +56,8 @@ fn served_on_disk<R: Threads + Wait + Sync>(
     path: &str,
 ) -> Told {
     match on_disk(rt, path) {
-        Some(keeper) => served_over(threads, rt, words, setup, keeper),
-        None => served_over(threads, rt, words, setup, Unopened::new()),
+        Ok(keeper) => served_over(threads, rt, words, setup, keeper),
+        Err(_) => served_over(threads, rt, words, setup, Unopened::new()),
     }
 }
 

@@ -9,8 +9,7 @@ use bank_model::Setup;
 use bank_session::{Stop, read_setup};
 use ofx_ports::{MemSource, ReaderSource};
 use ofx_types::{OutOfMemory, Text};
-use record_files::{Cause, cause_of};
-use setup_binding::bound_text;
+use record_files::{Cause, bound_text, cause_of};
 use std::alloc::Global;
 use std::fs;
 

@@ -6,9 +6,8 @@ use crate::setup_file::SetupFile;
 use command_help::text_at;
 use ofx_types::{Note, Text, Told};
 use record_files::{
-    Cause, is_open_to_others, open_on_disk, why_stopped_on_disk, why_stopped_on_sqlite,
+    Cause, is_open_to_others, open_on_disk, wanted_in, why_stopped_on_disk, why_stopped_on_sqlite,
 };
-use setup_binding::wanted_in;
 use std::io;
 
 /// Tells on the error stream where and why a run ended that has told its first line. `unopened` is why its records weren't opened,

@@ -1,11 +1,14 @@
-//! Tests of the outside by public calls: sources, sinks, keepers, stores, clocks, and links over a real socket.
+//! Tests of the outside by public calls: sources, sinks, keepers, stores, clocks, links over a real socket, and heads of HTTP
+//! messages.
 #![tactic(auto)]
 
 #[cfg(test)]
-mod keepers;
+mod heads;
 #[cfg(test)]
 mod links;
 #[cfg(test)]
 mod ports;
+#[cfg(test)]
+mod same;
 #[cfg(test)]
 mod stores;

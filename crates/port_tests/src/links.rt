@@ -1,5 +1,6 @@
 //! Links over sockets of the machine itself.
 
+use crate::same::same;
 use ofx_ports::{Doorway, Failed, Link, TcpDoor, TcpLink, connect, listen};
 use std::net::{Shutdown, TcpStream};
 use std::time::Duration;
@@ -14,13 +15,13 @@ fn bytes_go_over_a_socket_and_a_silent_peer_is_a_fault(rt: HostRuntime) {
     let Ok(Some(mut link)) = door.accept() else {
         panic!(rt; "a link");
     };
-    assert_eq!(rt; peer.write(b"hello"), Ok(5));
+    same(&rt, peer.write(b"hello"), Ok(5));
     let mut into = [0u8; 8];
-    assert_eq!(rt; link.read(&mut into), Ok(5));
+    same(&rt, link.read(&mut into), Ok(5));
     assert!(rt; into.starts_with(b"hello"));
-    assert_eq!(rt; link.read(&mut into), Err(Failed));
+    same(&rt, link.read(&mut into), Err(Failed));
     drop(peer);
-    assert_eq!(rt; link.read(&mut into), Ok(0));
+    same(&rt, link.read(&mut into), Ok(0));
     door.ended(link);
 }
 
@@ -31,8 +32,8 @@ fn a_peer_that_cannot_be_reached_fails_at_each_call(rt: HostRuntime) {
     drop(listener);
     let mut link = connect(&rt, port, Duration::from_millis(20));
     let mut into = [0u8; 8];
-    assert_eq!(rt; link.read(&mut into), Err(Failed));
-    assert_eq!(rt; link.write(b"hello"), Err(Failed));
+    same(&rt, link.read(&mut into), Err(Failed));
+    same(&rt, link.write(b"hello"), Err(Failed));
 }
 
 // Were the link closed while bytes are unread, its peer would meet a reset after the reply.
@@ -52,10 +53,10 @@ fn a_peer_whose_bytes_were_not_read_gets_the_reply_and_the_end(rt: HostRuntime) 
         panic!(rt; "a link");
     };
     let mut into = [0u8; 8];
-    assert_eq!(rt; link.read(&mut into), Ok(8));
-    assert_eq!(rt; link.write(b"reply"), Ok(5));
+    same(&rt, link.read(&mut into), Ok(8));
+    same(&rt, link.write(b"reply"), Ok(5));
     door.ended(link);
-    assert_eq!(rt; peer.read(&mut into), Ok(5));
+    same(&rt, peer.read(&mut into), Ok(5));
     assert!(rt; into.starts_with(b"reply"));
-    assert_eq!(rt; peer.read(&mut into), Ok(0));
+    same(&rt, peer.read(&mut into), Ok(0));
 }

@@ -1,6 +1,7 @@
 //! Stores of one text: the one in memory, whose calls fail where they are told to, and the one in a file, which a crash or a
 //! save that fails leaves with a whole text.
 
+use crate::same::{same, same_bytes};
 use ofx_ports::{FetchFault, FileStore, MemStore, PutFault, StoreKeeper};
 use std::fs;
 use std::os::unix::fs::PermissionsExt;
@@ -26,28 +27,28 @@ fn in_file(rt: &HostRuntime, abort: &impl Abort, path: &str) -> FileStore<HostRu
 fn a_store_keeps_its_last_text(rt: HostRuntime) {
     let mut store = MemStore::new(rt.alloc());
     let mut into = b"before".to_vec(rt.alloc()).expect(&rt, "room");
-    assert_eq!(rt; store.load(&mut into), Ok(()));
-    assert_eq!(rt; into.len(), 0);
-    assert_eq!(rt; store.save(b"one"), Ok(()));
-    assert_eq!(rt; store.save(b"other"), Ok(()));
-    assert_eq!(rt; store.load(&mut into), Ok(()));
-    assert_eq!(rt; into.as_slice(), b"other".as_slice());
-    assert_eq!(rt; store.calls(), 4);
-    assert_eq!(rt; store.faults(), 0);
+    same(&rt, store.load(&mut into), Ok(()));
+    same(&rt, into.len(), 0);
+    same(&rt, store.save(b"one"), Ok(()));
+    same(&rt, store.save(b"other"), Ok(()));
+    same(&rt, store.load(&mut into), Ok(()));
+    same_bytes(&rt, &into, b"other");
+    same(&rt, store.calls(), 4);
+    same(&rt, store.faults(), 0);
 }
 
 #[test]
 fn a_save_that_fails_leaves_the_old_text_or_the_new_one(rt: HostRuntime) {
     let mut store = MemStore::failing(rt.alloc(), b"old", &[1, 2, 3], &[2]).expect(&rt, "a store");
     let mut into = Vec::new(rt.alloc());
-    assert_eq!(rt; store.save(b"lost"), Err(PutFault::Failed));
-    assert_eq!(rt; store.text(), b"old".as_slice());
-    assert_eq!(rt; store.save(b"landed"), Err(PutFault::Failed));
-    assert_eq!(rt; store.text(), b"landed".as_slice());
-    assert_eq!(rt; store.load(&mut into), Err(FetchFault::Failed));
-    assert_eq!(rt; store.load(&mut into), Ok(()));
-    assert_eq!(rt; into.as_slice(), b"landed".as_slice());
-    assert_eq!(rt; store.faults(), 3);
+    same(&rt, store.save(b"lost"), Err(PutFault::Failed));
+    same_bytes(&rt, store.text(), b"old");
+    same(&rt, store.save(b"landed"), Err(PutFault::Failed));
+    same_bytes(&rt, store.text(), b"landed");
+    same(&rt, store.load(&mut into), Err(FetchFault::Failed));
+    same(&rt, store.load(&mut into), Ok(()));
+    same_bytes(&rt, &into, b"landed");
+    same(&rt, store.faults(), 3);
 }
 
 #[test]
@@ -55,19 +56,19 @@ fn a_text_outlives_its_store(rt: HostRuntime) {
     folder(&rt, &rt, "store");
     let mut into = b"before".to_vec(rt.alloc()).expect(&rt, "room");
     let mut store = in_file(&rt, &rt, "store/text");
-    assert_eq!(rt; store.load(&mut into), Ok(()));
-    assert_eq!(rt; into.len(), 0);
-    assert_eq!(rt; store.save(b"a longer text"), Ok(()));
-    assert_eq!(rt; store.save(b"a text"), Ok(()));
+    same(&rt, store.load(&mut into), Ok(()));
+    same(&rt, into.len(), 0);
+    same(&rt, store.save(b"a longer text"), Ok(()));
+    same(&rt, store.save(b"a text"), Ok(()));
     drop(store);
     let text = fs::metadata(&rt, "store/text").expect(&rt, "the file");
     let mode = text.permissions().mode();
-    assert_eq!(rt; mode & 0o777, 0o600);
+    same(&rt, mode & 0o777, 0o600);
     assert!(rt; fs::metadata(&rt, "store/text.new").is_err());
     let mut store = in_file(&rt, &rt, "store/text");
-    assert_eq!(rt; store.load(&mut into), Ok(()));
-    assert_eq!(rt; into.as_slice(), b"a text".as_slice());
-    assert_eq!(rt; store.faults(), 0);
+    same(&rt, store.load(&mut into), Ok(()));
+    same_bytes(&rt, &into, b"a text");
+    same(&rt, store.faults(), 0);
     removed(&rt, &rt, "store");
 }
 
@@ -77,13 +78,13 @@ fn a_crash_leaves_the_old_text_and_the_next_save_goes_on(rt: HostRuntime) {
     folder(&rt, &rt, "crashed");
     let mut into = Vec::new(rt.alloc());
     let mut store = in_file(&rt, &rt, "crashed/text");
-    assert_eq!(rt; store.save(b"old"), Ok(()));
+    same(&rt, store.save(b"old"), Ok(()));
     fs::write(&rt, "crashed/text.new", b"a part of the ne").expect(&rt, "a file");
-    assert_eq!(rt; store.load(&mut into), Ok(()));
-    assert_eq!(rt; into.as_slice(), b"old".as_slice());
-    assert_eq!(rt; store.save(b"new"), Ok(()));
-    assert_eq!(rt; store.load(&mut into), Ok(()));
-    assert_eq!(rt; into.as_slice(), b"new".as_slice());
+    same(&rt, store.load(&mut into), Ok(()));
+    same_bytes(&rt, &into, b"old");
+    same(&rt, store.save(b"new"), Ok(()));
+    same(&rt, store.load(&mut into), Ok(()));
+    same_bytes(&rt, &into, b"new");
     removed(&rt, &rt, "crashed");
 }
 
@@ -93,15 +94,15 @@ fn a_file_that_cannot_be_written_or_read_fails(rt: HostRuntime) {
     folder(&rt, &rt, "barred");
     let mut into = Vec::new(rt.alloc());
     let mut store = in_file(&rt, &rt, "barred/text");
-    assert_eq!(rt; store.save(b"old"), Ok(()));
+    same(&rt, store.save(b"old"), Ok(()));
     fs::create_dir(&rt, "barred/text.new").expect(&rt, "a folder");
-    assert_eq!(rt; store.save(b"new"), Err(PutFault::Failed));
-    assert_eq!(rt; store.load(&mut into), Ok(()));
-    assert_eq!(rt; into.as_slice(), b"old".as_slice());
+    same(&rt, store.save(b"new"), Err(PutFault::Failed));
+    same(&rt, store.load(&mut into), Ok(()));
+    same_bytes(&rt, &into, b"old");
     let mut other = in_file(&rt, &rt, "barred/text.new");
-    assert_eq!(rt; other.load(&mut into), Err(FetchFault::Failed));
-    assert_eq!(rt; into.len(), 0);
-    assert_eq!(rt; other.save(b"new"), Err(PutFault::Failed));
-    assert_eq!(rt; other.faults(), 2);
+    same(&rt, other.load(&mut into), Err(FetchFault::Failed));
+    same(&rt, into.len(), 0);
+    same(&rt, other.save(b"new"), Err(PutFault::Failed));
+    same(&rt, other.faults(), 2);
     removed(&rt, &rt, "barred");
 }

@@ -1,7 +1,8 @@
 //! The setup of a file of records of `disk:PATH`: `PATH.setup`, a file beside it.
 
 use crate::cause::{Binding, Cause, compared};
-use crate::looking::{cause_of, folder_of};
+use crate::looking::cause_of;
+use ofx_ports::folder_of;
 use std::alloc::AllocError;
 use std::fs::{File, OpenOptions};
 use std::io::{ErrorKind, Read, Write};

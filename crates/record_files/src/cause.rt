@@ -1,11 +1,11 @@
 //! Why a file of records can't be opened or used, as people are told it.
 
-use setup_binding::{first_difference, line_of};
+use crate::setup_lines::{first_difference, line_of};
 use std::alloc::Global;
 use std::{fmt, io};
 
 /// Whether records are bound to a setup.
-#[derive(Clone, Copy, Debug, PartialEq, Eq)]
+#[derive(Clone, Copy)]
 pub enum Binding {
     /// They are bound to the one that was given.
     Bound,
@@ -14,7 +14,6 @@ pub enum Binding {
 }
 
 /// Why a file of records can't be opened or used.
-#[derive(Debug, Drop)]
 pub enum Cause {
     /// Nothing is there.
     NoFile,
@@ -56,6 +55,21 @@ pub enum Cause {
     System(io::Error),
     /// Memory was refused.
     NoMemory,
+}
+
+// It is written out, so that a caller does not prove again how each part is dropped.
+impl Drop for Cause {
+    fn drop(self) {
+        match self {
+            Cause::OtherSetup(_line, _was) => {}
+            Cause::System(_error) => {}
+            Cause::Cut(_) | Cause::Gap(_) => {}
+            Cause::NoFile | Cause::NoPath | Cause::NoFolder | Cause::Folder | Cause::NotPlain => {}
+            Cause::SecondName | Cause::Journal | Cause::NoRights | Cause::ReadOnly => {}
+            Cause::Held | Cause::NoDatabase | Cause::OtherDatabase | Cause::NoMark => {}
+            Cause::Full | Cause::Failed | Cause::NoMemory => {}
+        }
+    }
 }
 
 impl fmt::Display for Cause {

@@ -11,14 +11,34 @@ use std::io::ErrorKind;
 /// The most bytes of a file that is copied.
 const MOST: u64 = i64::MAX as u64;
 
+/// The keeper on the file of this path. One that isn't there or is empty is made, with no records.
+pub fn on_disk(rt: &HostRuntime, path: &str) -> Result<DiskKeeper<FileDisk>, Cause>
+    ensures settled { IfOk result (λ k. k.unsettled ≡ false) }
+{
+    let disk = file_at(rt, path)?;
+    if disk.size() > 0 {
+        keeper_on(disk)
+    } else {
+        made_on(disk)
+    }
+}
+
 /// The keeper on the file of this path, where it isn't there or is empty: it is made, with no records. None where it has bytes.
 pub fn make_on_disk(rt: &HostRuntime, path: &str) -> Result<Option<DiskKeeper<FileDisk>>, Cause> {
     let disk = file_at(rt, path)?;
     if disk.size() > 0 {
         return Ok(None);
     }
+    Ok(Some(made_on(disk)?))
+}
+
+/// The keeper on an empty file, with no records.
+fn made_on(disk: FileDisk) -> Result<DiskKeeper<FileDisk>, Cause>
+    requires { disk.size ≡ 0 }
+    ensures settled { IfOk result (λ k. k.unsettled ≡ false) }
+{
     match DiskKeeper::make(disk) {
-        Ok(keeper) => Ok(Some(keeper)),
+        Ok(keeper) => Ok(keeper),
         Err(_) => Err(Cause::Full),
     }
 }

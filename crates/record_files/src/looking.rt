@@ -1,6 +1,7 @@
 //! Looking at a path that can't be opened, for the cause that a person can mend.
 
 use crate::cause::Cause;
+use ofx_ports::folder_of;
 use std::fs::OpenOptions;
 use std::io::ErrorKind;
 use std::os::unix::fs::MetadataExt;
@@ -18,15 +19,6 @@ pub fn cause_of(error: io::Error) -> Cause {
         ErrorKind::StorageFull | ErrorKind::QuotaExceeded | ErrorKind::FileTooLarge => Cause::Full,
         ErrorKind::OutOfMemory => Cause::NoMemory,
         _ => Cause::System(error),
-    }
-}
-
-/// The folder in which the file of a path is.
-pub fn folder_of(path: &str) -> &str {
-    match path.rsplit_once('/') {
-        Some(("", _)) => "/",
-        Some((folder, _)) => folder,
-        None => ".",
     }
 }
 

@@ -10,12 +10,23 @@ use std::fs::{File, OpenOptions};
 use std::io::{ErrorKind, Read};
 
 /// Records in memory that take no more, and the text of the setup to which they are bound.
-#[derive(Drop)]
 pub struct ReadRecords {
     records: Vec<Vec<u8>>,
     pub lines: Option<String>,
     faults: u64,
     pub is_unsettled: bool,
+}
+
+// It is written out, so that a caller does not prove again how each part is dropped.
+impl Drop for ReadRecords {
+    fn drop(self) {
+        let ReadRecords {
+            records: _,
+            lines: _,
+            faults: _,
+            is_unsettled: _,
+        } = self;
+    }
 }
 
 impl ReadRecords {
@@ -26,6 +37,18 @@ impl ReadRecords {
         ReadRecords {
             records: Vec::new(alloc),
             lines: None,
+            faults: 0,
+            is_unsettled: false,
+        }
+    }
+
+    /// No records, bound to the setup of this text.
+    pub fn bound(alloc: Global, lines: String) -> ReadRecords
+        ensures { result.is_unsettled ≡ false }
+    {
+        ReadRecords {
+            records: Vec::new(alloc),
+            lines: Some(lines),
             faults: 0,
             is_unsettled: false,
         }

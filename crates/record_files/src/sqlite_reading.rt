@@ -1,11 +1,12 @@
 //! Reading an SQLite file of records without writing: its bytes and those of its log are copied, and the copy is opened in memory.
 
 use crate::cause::Cause;
-use crate::database::{Found, cause_of_sqlite, found_without_writing};
+use crate::database::cause_of_sqlite;
 use crate::looking::cause_of;
 use crate::reading::{ReadRecords, bytes_if_there, bytes_of, open_to_read};
+use crate::setup_table::{Found, found_without_writing};
 use os::RangeLock;
-use sqlite::{Connection, Error, ErrorCode, FileStore, Files, Options};
+use sqlite::{Alter, Connection, Error, ErrorCode, FileStore, Files, Options, Rows};
 use sqlite_disk::{Disk, Memory};
 use std::alloc::{AllocError, Global};
 use std::fs;
@@ -50,13 +51,7 @@ fn log_bytes(rt: &HostRuntime, path: &str) -> Result<Vec<u8>, Cause> {
 
 /// What is in a database of these bytes and of this log.
 fn read_copy(alloc: Global, bytes: &[u8], log: &[u8]) -> Result<Result<ReadRecords, Cause>, Error> {
-    let mut database = opened(alloc, bytes, log)?;
-    match found_without_writing(&mut database)? {
-        Found::Other => Ok(Err(Cause::OtherDatabase)),
-        Found::Nothing => Ok(Ok(ReadRecords::none(alloc))),
-        Found::Unbound => records_in(alloc, &mut database, None),
-        Found::Lines(lines) => records_in(alloc, &mut database, Some(lines)),
-    }
+    read_all(alloc, opened(alloc, bytes, log)?)
 }
 
 fn opened(alloc: Global, bytes: &[u8], log: &[u8]) -> Result<Database, Error> {
@@ -82,26 +77,56 @@ fn memory_of(alloc: Global, bytes: &[u8]) -> Result<Memory, AllocError> {
     Ok(memory)
 }
 
-/// The records of a database, up to one that is missing.
-fn records_in(
+/// The records of a database, and the text to which they are bound. A record that is missing is a cause.
+fn read_all<S: Alter + Drop>(
     alloc: Global,
-    database: &mut Database,
-    lines: Option<String>,
+    database: Connection<S>,
 ) -> Result<Result<ReadRecords, Cause>, Error> {
-    let mut records = ReadRecords::none(alloc);
-    records.lines = lines;
+    let mut database = database;
+    match found_without_writing(&mut database)? {
+        Found::Other => Ok(Err(Cause::OtherDatabase)),
+        Found::Nothing => Ok(Ok(ReadRecords::none(alloc))),
+        Found::Unbound => records_in(&mut database, ReadRecords::none(alloc)),
+        Found::Lines(lines) => records_in(&mut database, ReadRecords::bound(alloc, lines)),
+    }
+}
+
+/// Puts the records of a database into these, which have none yet.
+fn records_in<S: Alter>(
+    database: &mut Connection<S>,
+    records: ReadRecords,
+) -> Result<Result<ReadRecords, Cause>, Error> {
+    let mut records = records;
     let mut rows = database.query(RECORDS, &[])?;
     for _ in 0..u64::MAX {
-        let Some(row) = rows.next()? else {
-            break;
-        };
-        let number: i64 = row.get(0)?;
-        let bytes: Vec<u8> = row.get(1)?;
         let wanted = records.count().saturating_add(1);
-        if u64::try_from(number) != Ok(wanted) {
-            return Ok(Err(Cause::Gap(wanted)));
+        match next_record(&mut rows, wanted)? {
+            Next::Record(bytes) => records.put(bytes)?,
+            Next::Gap => return Ok(Err(Cause::Gap(wanted))),
+            Next::End => break,
         }
-        records.put(bytes)?;
     }
     Ok(Ok(records))
+}
+
+/// What stands where the record of a number is looked for.
+#[derive(Drop)]
+enum Next {
+    /// It.
+    Record(Vec<u8>),
+    /// A later one.
+    Gap,
+    /// Nothing.
+    End,
+}
+
+fn next_record<S: Alter>(rows: &mut Rows<'_, S>, wanted: u64) -> Result<Next, Error> {
+    let Some(row) = rows.next()? else {
+        return Ok(Next::End);
+    };
+    let number: i64 = row.get(0)?;
+    if u64::try_from(number) != Ok(wanted) {
+        return Ok(Next::Gap);
+    }
+    Ok(Next::Record(row.get(1)?))
 }

@@ -3,7 +3,7 @@
 use crate::cause::Cause;
 use crate::database::cause_of_sqlite;
 use crate::looking::cause_of;
-use sqlite::{Connection, Error, File, FileStore};
+use sqlite::{Alter, Connection, Error};
 use std::fs::OpenOptions;
 use std::io::Write;
 use std::os::unix::fs::OpenOptionsExt;
@@ -34,9 +34,14 @@ pub fn why_stopped_on_disk(rt: &HostRuntime, path: &str) -> Option<Cause> {
     }
 }
 
-/// The number of the first record that is missing.
+/// The number of the first record that is missing from the file at this path.
 fn first_gap(rt: &HostRuntime, path: &str) -> Result<Option<u64>, Error> {
-    let mut database: Connection<FileStore<File>> = Connection::open(rt, path)?;
+    first_gap_in(Connection::open(rt, path)?)
+}
+
+/// The number of the first record that is missing.
+fn first_gap_in<S: Alter + Drop>(database: Connection<S>) -> Result<Option<u64>, Error> {
+    let mut database = database;
     let mut wanted = 1u64;
     let mut rows = database.query(NUMBERS, &[])?;
     for _ in 0..u64::MAX {

@@ -3,56 +3,59 @@
 ghost use Rattle.std.specs.Prelude.{◌≡◌, OnErr};
 
 use crate::refusal::Refusal;
-use crate::table;
-use crate::table::Database;
+use crate::table::{Prepared, Table, prepare};
 use sqlite::types::ValueRef;
-use sqlite::{Connection, Row, Statement, params};
+use sqlite::{Connection, File, FileStore, Row, Statement, params};
 use std::fs;
 
-/// A database that has the table of records, with its statements compiled.
-#[derive(Drop)]
+/// A database in a file that has the table of records, with its statements compiled.
+///
+/// Each call of it enters the code of a database once, at the type of files: what that type owes is proved anew at each entry.
 pub struct RecordFile {
-    database: Database,
+    database: Connection<FileStore<File>>,
     append: Statement,
     fetch: Statement,
 }
 
+// It is written out, so that a caller does not prove again how each part is dropped.
+impl Drop for RecordFile {
+    fn drop(self) {
+        let RecordFile {
+            database: _,
+            append: _,
+            fetch: _,
+        } = self;
+    }
+}
+
 impl RecordFile {
-    /// Opens the file. One that isn't there is made, with the table in it.
-    pub fn open(rt: &HostRuntime, path: &str) -> Result<RecordFile, Refusal> {
-        let mut database = Connection::open(rt, path)?;
-        table::make_or_find(&mut database)?;
-        RecordFile::over(database)
+    /// Opens the file, with the greatest number of a record in it, 0 where there is none. A file that isn't there is made, with
+    /// the table in it.
+    pub fn open(rt: &HostRuntime, path: &str) -> Result<(RecordFile, u64), Refusal> {
+        RecordFile::at(rt, path, Table::MayBeMade)
     }
 
     /// Opens the file again. One that isn't there is not made.
-    pub fn reopen(rt: &HostRuntime, path: &str) -> Result<RecordFile, Refusal> {
+    pub fn reopen(rt: &HostRuntime, path: &str) -> Result<(RecordFile, u64), Refusal> {
         if fs::metadata(rt, path).is_err() {
             return Err(Refusal::Failed);
         }
-        let mut database = Connection::open(rt, path)?;
-        table::find(&mut database)?;
-        RecordFile::over(database)
+        RecordFile::at(rt, path, Table::IsThere)
     }
 
-    fn over(mut database: Database) -> Result<RecordFile, Refusal> {
-        let append = database.prepare(table::APPEND)?;
-        let fetch = database.prepare(table::FETCH)?;
-        Ok(RecordFile {
+    fn at(rt: &HostRuntime, path: &str, table: Table) -> Result<(RecordFile, u64), Refusal> {
+        let Prepared {
             database,
             append,
             fetch,
-        })
-    }
-
-    /// The greatest number of a record, 0 where there is none.
-    pub fn greatest(&mut self) -> Result<u64, Refusal> {
-        let row = self.database.query_row(table::GREATEST, &[])?;
-        let greatest: Option<i64> = row.get(0)?;
-        match u64::try_from(greatest.unwrap_or(0)) {
-            Ok(number) => Ok(number),
-            Err(_) => Err(Refusal::Failed),
-        }
+            greatest,
+        } = prepare(Connection::open(rt, path)?, table)?;
+        let file = RecordFile {
+            database,
+            append,
+            fetch,
+        };
+        Ok((file, greatest))
     }
 
     /// Writes a record under this number, which has to be free. It is on the disk when the call returns.

@@ -73,8 +73,7 @@ struct Opened {
 impl Opened {
     fn at(rt: &HostRuntime, path: &str) -> Result<Opened, Refusal> {
         let path = String::from_str(rt.alloc(), path)?;
-        let mut file = RecordFile::open(rt, path.as_str())?;
-        let count = file.greatest()?;
+        let (file, count) = RecordFile::open(rt, path.as_str())?;
         Ok(Opened { path, file, count })
     }
 }
@@ -173,8 +172,7 @@ impl SqliteKeeper {
         ensures { self.new ≡ self.old }
     {
         self.file = None;
-        let mut file = RecordFile::reopen(&self.rt, self.path.as_str())?;
-        let greatest = file.greatest()?;
+        let (file, greatest) = RecordFile::reopen(&self.rt, self.path.as_str())?;
         self.file = Some(file);
         Ok(greatest)
     }

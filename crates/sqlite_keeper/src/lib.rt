@@ -11,3 +11,4 @@ mod table;
 
 pub use keeper::SqliteKeeper;
 pub use refusal::Refusal;
+pub use table::{RECORDS_TABLE, greatest_number, has_records_table, has_table, is_blank};

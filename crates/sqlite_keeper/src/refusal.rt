@@ -4,7 +4,7 @@ use sqlite::{Error, ErrorCode};
 use std::alloc::AllocError;
 
 /// Why a call of a keeper over a file was refused.
-#[derive(Clone, Copy, Debug, PartialEq, Eq)]
+#[derive(Clone, Copy)]
 pub enum Refusal {
     /// The file, its form or the disk.
     Failed,

@@ -1,7 +1,8 @@
 //! What a crash leaves of a disk in memory.
 
-ghost use Rattle.std.specs.Prelude.{◌≡◌, ℕ, ◌-◌, ◌≤◌, List, ◌∷◌, length, drop, reverse, IfOk};
+ghost use Rattle.std.specs.Prelude.{◌≡◌, ℕ, ◌-◌, ◌/◌, ◌%◌, ◌≤◌, List, ◌∷◌, length, take, drop, reverse, nat_lt, if◌then◌else◌, IfOk};
 ghost use Rattle.disk_keeper.specs.Disk.{image, overlaid, Torn, MayLeave};
+ghost use Rattle.disk_keeper.specs.Memory.{crashed, torn_bytes};
 ghost use Rattle.disk_keeper.specs.declared.change.Change.{Change as TheChange};
 
 use super::{MemDisk, overlay};
@@ -16,40 +17,41 @@ const SECTOR: usize = 512;
 const WAYS: u64 = 5;
 
 impl MemDisk {
-    /// What a crash may have left behind the first so many changes, one of many, chosen by a number. Of each write
-    /// since the last sync it has nothing, all, its front up to a sector or up to a byte, or ones in its range.
+    /// What a crash may have left after the first so many changes, one of many, chosen by a number: its digits in fives are the
+    /// ways in which the writes since the last sync are torn.
     pub fn crash_image(&self, moment: u64, choice: u64) -> Result<Vec<u8>, OutOfMemory>
         requires { moment ≤ length self.now.changes }
-        ensures { IfOk result (λ crash. MayLeave self.now.found (drop (length self.now.changes - moment) self.now.changes) crash.items) }
+        ensures may { IfOk result (λ crash. MayLeave self.now.found (drop (length self.now.changes - moment) self.now.changes) crash.items) }
+        ensures chosen { IfOk result (λ crash. crash.items ≡ (crashed choice self.now.found (drop (length self.now.changes - moment) self.now.changes)).0) }
     {
         let front = &self.changes[..moment as usize];
         Ok(crash_of(self.alloc, &self.found, front, choice)?)
     }
 }
 
-// What a crash may have left behind these changes, the oldest first.
+// What a crash may have left after these changes, the oldest first.
 fn crash_of(
     alloc: Global,
     found: &[u8],
     changes: &[Change],
     choice: u64,
 ) -> Result<Vec<u8>, AllocError>
-    ensures { IfOk result (λ crash. MayLeave found.now (reverse changes.now) crash.items) }
+    ensures may { IfOk result (λ crash. MayLeave found.now (reverse changes.now) crash.items) }
+    ensures chosen { IfOk result (λ crash. crash.items ≡ (crashed choice found.now (reverse changes.now)).0) }
 {
     let mut shown = found.to_vec(alloc)?;
     let mut crash = found.to_vec(alloc)?;
-    let mut choice = choice;
+    let mut left = choice;
     for change in changes {
-        choice = next_choice(choice);
-        let left = crash_behind(alloc, &shown, &crash, change, choice)?;
-        shown = shown_behind(alloc, &shown, change)?;
-        crash = left;
+        crash = crash_after(alloc, &shown, &crash, change, left)?;
+        shown = shown_after(alloc, &shown, change)?;
+        left = choice_after(change, choice, left);
     }
     Ok(crash)
 }
 
 // What a read shows after one more change.
-fn shown_behind(alloc: Global, shown: &[u8], change: &Change) -> Result<Vec<u8>, AllocError>
+fn shown_after(alloc: Global, shown: &[u8], change: &Change) -> Result<Vec<u8>, AllocError>
     ensures { IfOk result (λ new. (found : List ℕ) (changes : List TheChange) → shown.now ≡ image found changes
         → new.items ≡ image found (change.now ∷ changes)) }
 {
@@ -65,21 +67,24 @@ fn shown_behind(alloc: Global, shown: &[u8], change: &Change) -> Result<Vec<u8>,
     }
 }
 
-// What a crash may leave after one more change.
-fn crash_behind(
+// What a crash leaves after one more change, where so much of the number is left that chooses it.
+fn crash_after(
     alloc: Global,
     shown: &[u8],
     crash: &[u8],
     change: &Change,
-    choice: u64,
+    left: u64,
 ) -> Result<Vec<u8>, AllocError>
-    ensures { IfOk result (λ new. (found : List ℕ) (changes : List TheChange) → shown.now ≡ image found changes → MayLeave found changes crash.now
+    ensures may { IfOk result (λ new. (found : List ℕ) (changes : List TheChange) → shown.now ≡ image found changes → MayLeave found changes crash.now
         → MayLeave found (change.now ∷ changes) new.items) }
+    ensures chosen { IfOk result (λ new. (found : List ℕ) (changes : List TheChange) (choice : ℕ) → shown.now ≡ image found changes
+        → crash.now ≡ (crashed choice found changes).0 → left ≡ (crashed choice found changes).1
+        → new.items ≡ (crashed choice found (change.now ∷ changes)).0) }
 {
     match change {
         Change::Write(at, size, bytes) => {
-            let left = torn(alloc, crash, *at, *size, bytes.as_slice(), choice)?;
-            Ok(left)
+            let torn = torn(alloc, crash, *at, *size, bytes.as_slice(), left % WAYS)?;
+            Ok(torn)
         }
         Change::Sync => {
             let synced = shown.to_vec(alloc)?;
@@ -88,44 +93,58 @@ fn crash_behind(
     }
 }
 
-// What a torn write of so many bytes at a place may leave.
+// What is left of the number that chooses after one more change.
+fn choice_after(change: &Change, choice: u64, left: u64) -> u64
+    ensures { (found : List ℕ) (changes : List TheChange) → left ≡ (crashed choice found changes).1
+        → result ≡ (crashed choice found (change.now ∷ changes)).1 }
+{
+    match change {
+        Change::Write(..) => left / WAYS,
+        Change::Sync => choice,
+    }
+}
+
+// What a write of so many bytes at a place leaves that is torn in one of the ways.
 fn torn(
     alloc: Global,
     old: &[u8],
     at: u64,
     size: u64,
     bytes: &[u8],
-    choice: u64,
+    way: u64,
 ) -> Result<Vec<u8>, AllocError>
-    ensures { IfOk result (λ new. Torn at size old.now new.items) }
+    ensures may { IfOk result (λ new. Torn at size old.now new.items) }
+    ensures chosen { IfOk result (λ new. new.items
+        ≡ (if nat_lt (length old.now) at then old.now else overlaid old.now at (torn_bytes way (take size bytes.now)))) }
 {
     if at > old.len() as u64 {
         let same = old.to_vec(alloc)?;
         return Ok(same);
     }
-    let front = torn_front(alloc, bytes, size, choice)?;
+    let front = torn_front(alloc, first_bytes(bytes, size), way)?;
     let new = overlay(alloc, old, at, &front)?;
     Ok(new)
 }
 
-// What stands at the front of the range of a torn write.
-fn torn_front(alloc: Global, bytes: &[u8], size: u64, choice: u64) -> Result<Vec<u8>, AllocError>
-    ensures { IfOk result (λ front. length front.items ≤ size) }
+// The first so many bytes, or all where there are fewer.
+#[tactic(auto, using(std::proofs::lemmas::List::take_min, crate::proofs::CrashLemmas::at_most_first))]
+fn first_bytes(bytes: &[u8], size: u64) -> &[u8]
+    ensures first { result.now ≡ take size bytes.now }
+    ensures no_more { length result.now ≤ size }
 {
-    let most = bytes.len().min(size as usize);
-    match choice % WAYS {
-        0 => Ok(Vec::new(alloc)),
-        1 => bytes[..most].to_vec(alloc),
-        2 => bytes[..most - most % SECTOR].to_vec(alloc),
-        3 => bytes[..(choice / WAYS) as usize % (most + 1)].to_vec(alloc),
-        _ => vec![in alloc; 1u8; most],
-    }
+    &bytes[..(size as usize).min(bytes.len())]
 }
 
-// The choice for the next change.
-fn next_choice(choice: u64) -> u64 {
-    choice
-        .wrapping_mul(6_364_136_223_846_793_005)
-        .wrapping_add(1_442_695_040_888_963_407)
-        >> 1
+// What a crash leaves of the bytes of a write.
+fn torn_front(alloc: Global, bytes: &[u8], way: u64) -> Result<Vec<u8>, AllocError>
+    ensures chosen { IfOk result (λ front. front.items ≡ torn_bytes way bytes.now) }
+    ensures no_longer { IfOk result (λ front. length front.items ≤ length bytes.now) }
+{
+    match way {
+        0 => Ok(Vec::new(alloc)),
+        1 => bytes.to_vec(alloc),
+        2 => bytes[..bytes.len() - bytes.len() % SECTOR].to_vec(alloc),
+        3 => bytes[..bytes.len() / 2].to_vec(alloc),
+        _ => vec![in alloc; 1u8; bytes.len()],
+    }
 }

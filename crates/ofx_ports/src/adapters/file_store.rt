@@ -3,6 +3,7 @@
 ghost use Rattle.std.specs.Prelude.{◌≡◌, None, IfOk};
 ghost use Rattle.ofx_ports.specs.Adapters.{store_faults};
 
+use crate::adapters::folder::folder_of;
 use crate::fault::{FetchFault, PutFault};
 use crate::store_keeper::StoreKeeper;
 use ofx_types::OutOfMemory;
@@ -63,15 +64,6 @@ fn write_beside<R: Files>(rt: &R, beside: &str, text: &[u8]) -> io::Result<()> {
     let mut file = options.open(rt, beside)?;
     file.write_all(text)?;
     file.sync_all()
-}
-
-// The folder in which the file of this path is.
-fn folder_of(path: &str) -> &str {
-    match path.rsplit_once('/') {
-        Some(("", _)) => "/",
-        Some((folder, _)) => folder,
-        None => ".",
-    }
 }
 
 // Puts what the file holds after what `into` holds. What is no file, as a folder, is refused.

@@ -3,6 +3,8 @@ use Rattle.std.proofs.Common.{arith}
 use Rattle.disk_keeper.proofs.DiskLemmas.{torn_overlaid}
 use Rattle.disk_keeper.proofs.memory.crash.torn.Goals as goal
 
-pub returns : goal.returns
-returns c =
-    rw (c.in_ok-new.ensures, c.deref.ensures.value) (torn_overlaid c.args.old.now c.args.at c.args.size c.in_ok-front.front.items (omega (arith, c.if-at-old.false)) c.in_ok-front.ensures)
+pub returns-clause-may : goal.returns-clause-may
+returns-clause-may c =
+    rw (c.in_ok-new.ensures, c.deref.ensures.value) (
+    torn_overlaid c.args.old.now c.args.at c.args.size c.in_ok-front.front.items (omega (arith, c.if-at-old.false)) (omega (arith, c.in_ok-front.ensures.no_longer, c.first_bytes.ensures.no_more))
+    )

@@ -1,6 +1,6 @@
 -- Nothing is to be settled, and no more is acknowledged than there were moments.
 use Rattle.std.proofs.Common.{◌≡◌, ◌≤◌, false}
-use Rattle.disk_keeper.proofs.tests.crashes.a_crash_leaves_what_was_acknowledged.Given as goal
+use Rattle.keeper_tests.proofs.crashes.a_crash_leaves_what_was_acknowledged.Given as goal
 
 abbrev pub invariant-loop-number : goal.invariant-loop-number
 invariant-loop-number g l = l.keeper.unsettled ≡ false

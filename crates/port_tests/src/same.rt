@@ -1,0 +1,14 @@
+//! What the tests compare by.
+
+use std::fmt::Debug;
+use std::process::Abort;
+
+/// What was found is what was wanted.
+pub fn same<T: PartialEq + Debug + Drop>(rt: &impl Abort, found: T, wanted: T) {
+    assert_eq!(rt; found, wanted);
+}
+
+/// These bytes are the ones that were wanted.
+pub fn same_bytes(rt: &impl Abort, found: &[u8], wanted: &[u8]) {
+    assert_eq!(rt; found, wanted);
+}
