@@ -12,7 +12,7 @@ use Rattle.ofx_types.specs.declared.number.Cents.{Cents}
 use Rattle.bank_accounts.specs.AccountView.{AccountView}
 use Rattle.bank_accounts.specs.BalancesView.{amount_given}
 use Rattle.bank_accounts.specs.declared.balances.Balance.{Balance}
-use Rattle.bank_accounts.specs.HeldAccounts.{NumbersRise, balance_held, IsHeld, with_amount, settled}
+use Rattle.bank_accounts.specs.HeldAccounts.{NumbersRise, balance_held, IsHeld, with_amount, with_balances}
 
 abbrev pub number_of : AccountView → AcctId
 number_of account = account.number
@@ -21,16 +21,16 @@ abbrev amount_of : AccountView → Cents
 amount_of account = account.balance
 
 -- numbers that rise still do without the last ones
-pub rising_front : (xs ys : List ℕ) → IsStrictlyIncreasing (xs ++ ys) → IsStrictlyIncreasing xs
-rising_front xs ys rising k below =
+pub rising_prefix : (xs ys : List ℕ) → IsStrictlyIncreasing (xs ++ ys) → IsStrictlyIncreasing xs
+rising_prefix xs ys rising k below =
     let here : k < length xs = omega arith in
     let both : k + 1 < length (xs ++ ys) = omega (arith, length-append xs ys) in
     let rise = rising k both in
     omega (arith, rise, get_or-append xs ys 0 k here, get_or-append xs ys 0 (k + 1) below)
 
-pub NumbersRise-front : (xs ys : List AccountView) → NumbersRise (xs ++ ys) → NumbersRise xs
-NumbersRise-front xs ys rising =
-    rising_front (map (λ (account : AccountView). account.number.0) xs) (map (λ (account : AccountView). account.number.0) ys)
+pub NumbersRise-prefix : (xs ys : List AccountView) → NumbersRise (xs ++ ys) → NumbersRise xs
+NumbersRise-prefix xs ys rising =
+    rising_prefix (map (λ (account : AccountView). account.number.0) xs) (map (λ (account : AccountView). account.number.0) ys)
     (rw map-append at rising)
 
 -- where nothing is found, the rest has nothing either
@@ -77,7 +77,7 @@ rising_through change keeps xs ys i n rising changed whole =
     let numbers : map rank_of ys ≡ map rank_of xs =
     ap (map rank_of) changed
     ∙ map-append rank_of (map change (take i xs)) (drop i xs)
-    ∙ ap (λ (front : List ℕ). front ++ map rank_of (drop i xs)) (same_numbers change keeps (take i xs))
+    ∙ ap (λ (prefix : List ℕ). prefix ++ map rank_of (drop i xs)) (same_numbers change keeps (take i xs))
     ∙ sym (map-append rank_of (take i xs) (drop i xs))
     ∙ ap (map rank_of) (take-append-drop i xs) in
     rw (all_back xs ys n same whole, numbers) rising
@@ -86,12 +86,12 @@ keeps_with_amount : (account : AccountView) (amount : Option Cents) → rank_of 
 keeps_with_amount account None = refl
 keeps_with_amount account (Some amount) = refl
 
-pub rising_settled : (given : List Balance) (xs ys : List AccountView) (i n : ℕ) → NumbersRise xs → ys ≡ map (settled given) (take i xs) ++ drop i xs → n ≡ length xs → NumbersRise (take n (ys ++ drop (length ys) xs))
+pub rising_settled : (given : List Balance) (xs ys : List AccountView) (i n : ℕ) → NumbersRise xs → ys ≡ map (with_balances given) (take i xs) ++ drop i xs → n ≡ length xs → NumbersRise (take n (ys ++ drop (length ys) xs))
 rising_settled given xs ys i n =
-    rising_through (settled given) (λ account. keeps_with_amount account (amount_given given account.number)) xs ys i n
+    rising_through (with_balances given) (λ account. keeps_with_amount account (amount_given given account.number)) xs ys i n
 
 -- where no account came to another balance, all have what they had
-pub settled_none : (given : List Balance) (accounts : List AccountView) → eqb (length given) 0 ≡ true → accounts ≡ map (settled given) accounts
+pub settled_none : (given : List Balance) (accounts : List AccountView) → eqb (length given) 0 ≡ true → accounts ≡ map (with_balances given) accounts
 settled_none [] [] none = refl
 settled_none [] (account ∷ accounts) none = ap (λ (l : List AccountView). account ∷ l) (settled_none [] accounts none)
 settled_none (balance ∷ given) accounts none = absurd (let empty : length (balance ∷ given) ≡ 0 = eqb-true (length (balance ∷ given)) 0 none in omega arith)

@@ -36,8 +36,8 @@ AreNamed accounts named =
     All (λ (number : AcctId). Contains named (Some number)) (map (λ (account : AccountView). account.number) accounts)
 
 -- An account with the balance that it came to, where it came to another one.
-abbrev pub settled : List Balance → AccountView → AccountView
-settled given account = with_amount account (amount_given given account.number)
+abbrev pub with_balances : List Balance → AccountView → AccountView
+with_balances given account = with_amount account (amount_given given account.number)
 
 -- The accounts have the same numbers in the same order.
 abbrev pub HaveSameNumbers : List AccountView → List AccountView → Type 0

@@ -1,4 +1,4 @@
 pub mod AccountView
 pub mod BalancesView
 pub mod HeldAccounts
-pub mod AtHome
+pub mod Pool

@@ -1,7 +1,7 @@
 //! The accounts that are held while an event is answered.
 
 ghost use Rattle.std.specs.Prelude.{◌≡◌, ◌∷◌, ◌++◌, [], map, OnOk, IfErr, OnErr, IfSome, IfNone};
-ghost use Rattle.bank_accounts.specs.HeldAccounts.{NumbersRise, balance_held, settled};
+ghost use Rattle.bank_accounts.specs.HeldAccounts.{NumbersRise, balance_held, with_balances};
 ghost use Rattle.bank_accounts.specs.declared.held.HeldFault.TheVariants.{NoMemory};
 
 use crate::account::Account;
@@ -112,20 +112,20 @@ impl Held {
     }
 
     /// Gives each account the balance that it came to, where it came to another one. Takes no memory.
-    pub fn settle(&mut self, balances: &Balances)
-        ensures { self.new ≡ map (settled balances.now.given) self.old }
+    pub fn set_balances(&mut self, balances: &Balances)
+        ensures { self.new ≡ map (with_balances balances.now.given) self.old }
     {
         if balances.is_empty() {
             return;
         }
         for account in self.accounts.iter_mut() {
-            settle_one(account, balances);
+            set_balance(account, balances);
         }
     }
 }
 
-fn settle_one(account: &mut Account, balances: &Balances)
-    ensures { account.new ≡ settled balances.now.given account.old }
+fn set_balance(account: &mut Account, balances: &Balances)
+    ensures { account.new ≡ with_balances balances.now.given account.old }
 {
     if let Some(amount) = balances.get(account.number()) {
         account.set(amount);

@@ -4,9 +4,9 @@
 mod account;
 mod balances;
 mod held;
-mod home;
+mod pool;
 
 pub use account::Account;
 pub use balances::{Balance, Balances};
 pub use held::{Held, HeldFault};
-pub use home::Home;
+pub use pool::AccountPool;

@@ -1,4 +1,4 @@
--- The words of `rehearse`, the lines that are written for them, and how that ends.
+-- The arguments of `rehearse`, the lines that are written for them, and how that ends.
 use Rattle.std.specs.Prelude.{◌≡◌, ℕ, ◌<◌, ◌^◌, ◌⊎◌, List, [], ◌∷◌, ◌++◌, codes, Option}
 use Rattle.std.specs.Fmt.{decimal}
 use Rattle.std.specs.Io.KnownBytes.{Appends, Keeps}
@@ -6,21 +6,21 @@ use Rattle.ofx_ports.specs.Faults.{Rose}
 use Rattle.ofx_ports.specs.Writes.{AppendsPart}
 use Rattle.ofx_types.specs.AmountForm.{amount_text}
 use Rattle.ofx_types.specs.declared.told.Told.{Told}
-use Rattle.bank_session.specs.Run.{told}
-use Rattle.bank_session.specs.Words.{IsUsage}
+use Rattle.bank_session.specs.Run.{reported}
+use Rattle.bank_session.specs.Arguments.{IsUsage}
 use Rattle.ofx_types.specs.declared.told.Note.TheVariants.{Plain}
 use Rattle.ofx_world.specs.Rehearsal.{IsRehearsed}
 use Rattle.ofx_world.specs.declared.rehearsal.summary.Summary.{Summary}
 
--- The words `rehearse` and a number of eight bytes, the seed, without a sign or a leading zero.
-pub record AreSeedWords (words : List (List ℕ)) (seed : ℕ) : Type 0 where
-  pub spelled : words ≡ codes "rehearse" ∷ decimal seed ∷ []
+-- The arguments `rehearse` and a number of eight bytes, the seed, without a sign or a leading zero.
+pub record AreSeedArguments (arguments : List (List ℕ)) (seed : ℕ) : Type 0 where
+  pub spelled : arguments ≡ codes "rehearse" ∷ decimal seed ∷ []
   pub fits : seed < 2 ^ 64
 
--- Words of no command have no form.
-pub record HaveNoForm (words : List (List ℕ)) : Type 0 where
-  pub usage : IsUsage words
-  pub unrehearsed : (seed : ℕ) → AreSeedWords words seed → ⊥
+-- Arguments of no command have no form.
+pub record HaveNoForm (arguments : List (List ℕ)) : Type 0 where
+  pub usage : IsUsage arguments
+  pub unrehearsed : (seed : ℕ) → AreSeedArguments arguments seed → ⊥
 
 -- ---- lines
 
@@ -40,7 +40,7 @@ rehearsal_text seed came =
 
 -- ---- the end
 
--- The lines of the seed's rehearsal are written. Where a write fails a front of them is, and where memory is refused nothing is.
+-- The lines of the seed's rehearsal are written. Where a write fails a prefix of them is, and where memory is refused nothing is.
 pub record IsWritten (seed : ℕ) (before after : Option (List ℕ)) : Type 0 where
   pub came : Summary
   pub rehearsed : IsRehearsed seed came
@@ -55,6 +55,6 @@ pub record IsPartWritten (seed : ℕ) (before after : Option (List ℕ)) (faults
 -- The status is 0 where the lines are written, 6 where a write failed, and 7 where memory was refused, with no note.
 abbrev pub EndsSo : ℕ → Option (List ℕ) → Option (List ℕ) → ℕ → ℕ → Told → Type 0
 EndsSo seed before after faults faults' what =
-    ((what ≡ told 0 Plain) × IsWritten seed before after)
-    ⊎ (((what ≡ told 6 Plain) × IsPartWritten seed before after faults faults')
-    ⊎ ((what ≡ told 7 Plain) × Keeps before after))
+    ((what ≡ reported 0 Plain) × IsWritten seed before after)
+    ⊎ (((what ≡ reported 6 Plain) × IsPartWritten seed before after faults faults')
+    ⊎ ((what ≡ reported 7 Plain) × Keeps before after))

@@ -2,9 +2,9 @@
 //! `bank_session`.
 #![tactic(auto)]
 
+mod dispatch;
 mod lines;
 mod seed;
-mod told;
 
+pub use dispatch::bank_told;
 pub use seed::seed_of;
-pub use told::bank_told;

@@ -1,4 +1,4 @@
-//! The six lines that tell what came of a rehearsal.
+//! The six lines that say what came of a rehearsal.
 
 ghost use Rattle.std.specs.Prelude.{◌≡◌, ◌++◌, codes, IfOk, OnOk};
 ghost use Rattle.ofx_types.specs.AmountForm.{amount_text};

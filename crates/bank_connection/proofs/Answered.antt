@@ -6,8 +6,8 @@ use Rattle.ofx_types.specs.ReplyForm.{reply_text}
 use Rattle.ofx_types.specs.declared.number.UserId.{UserId}
 use Rattle.ofx_types.specs.declared.number.Moment.{Moment}
 use Rattle.ofx_types.specs.declared.request.RequestFile.{RequestFile}
-use Rattle.ofx_ports.specs.Told.{Grows}
-use Rattle.ofx_ports.proofs.ToldLaws.{Grows-nil}
+use Rattle.ofx_ports.specs.Known.{Grows}
+use Rattle.ofx_ports.proofs.KnownLaws.{Grows-nil}
 use Rattle.bank_model.specs.declared.setup.Setup.{Setup}
 use Rattle.bank_model.specs.declared.log.LogItem.{LogItem}
 use Rattle.bank_model.specs.declared.log.LogItem.TheVariants.{Answer as AnswerItem, Fault}
@@ -21,18 +21,18 @@ use Rattle.bank_connection.specs.Exchanges.{Outcome, misspelled, denied, polled,
 use Rattle.http_link.specs.Replies.{line, reply_of}
 use Rattle.bank_connection.specs.ReplyText.{ending_reply, outcome_reply}
 use Rattle.bank_connection.specs.Watched.{SeesAt, loads_of}
-use Rattle.bank_connection.specs.Answering.{answer_code, answer_body, tells_no_memory, HasSeen, Watches, IsAnswerTo, Answers}
+use Rattle.bank_connection.specs.Answering.{answer_code, answer_body, reports_no_memory, HasSeen, Watches, IsAnswerTo, Answers}
 use Rattle.bank_connection.specs.declared.answer.Answer.{Answer}
 use Rattle.bank_connection.specs.declared.answer.Answer.TheVariants.{NoMemory}
 use Rattle.bank_connection.proofs.Logs.{last_ending}
 
 -- the later elements of a list are among all of its elements
-all_behind : (xs ys : List Load) → All (Contains (xs ++ ys)) ys
-all_behind xs ys k d below = Contains-append_right xs ys (get_or ys k d) (Contains-get_or ys k d below)
+all_after : (xs ys : List Load) → All (Contains (xs ++ ys)) ys
+all_after xs ys k d below = Contains-append_right xs ys (get_or ys k d) (Contains-get_or ys k d below)
 
 -- an answer that says this is so much
 abbrev pub HasAnswer : Answer → ℕ → List ℕ → Type 0
-HasAnswer answer code body = (answer_code answer ≡ code) × (answer_body answer ≡ body) × (tells_no_memory answer ≡ false)
+HasAnswer answer code body = (answer_code answer ≡ code) × (answer_body answer ≡ body) × (reports_no_memory answer ≡ false)
 
 -- ---- answers for which the office isn't asked
 
@@ -51,20 +51,20 @@ watches-same outcome no_endings no_loads sees office = knows-same office (Watche
   loads = [];
   polled = sym (append-nil v.polled);
   among = subst (All (Contains v.polled)) (sym no_loads) (All-nil (Contains v.polled));
-  stand = λ some. absurd (some no_endings);
+  hold = λ some. absurd (some no_endings);
 })
 
-pub misspelled_is : (setup : Setup) (body : List ℕ) (place : ℕ) (shown : Option (List Moment)) (known : Option OfficeView) (answer : Answer)
-    → IsRefused body place → HasAnswer answer 400 (line (codes "bad file at " ++ decimal place)) → Answers setup body shown shown known known answer
+pub misspelled_is : (setup : Setup) (body : List ℕ) (offset : ℕ) (shown : Option (List Moment)) (known : Option OfficeView) (answer : Answer)
+    → IsRefused body offset → HasAnswer answer 400 (line (codes "bad file at " ++ decimal offset)) → Answers setup body shown shown known known answer
 unfolding outcome_reply
-misspelled_is setup body place shown known answer is says log seen = record {
+misspelled_is setup body offset shown known answer is says log seen = record {
   grown = [];
-  outcome = misspelled place;
+  outcome = misspelled offset;
   comes_to = is;
   text = λ closes. rw (says.0, says.1) refl;
   no_memory = sym says.2;
   moments = Grows-nil shown;
-  watches = watches-same (misspelled place) refl refl (λ v. ([], sym (append-nil v.seen))) known;
+  watches = watches-same (misspelled offset) refl refl (λ v. ([], sym (append-nil v.seen))) known;
 }
 
 pub denied_is : (setup : Setup) (body : List ℕ) (file : RequestFile) (at : Moment) (shown shown' : Option (List Moment)) (known : Option OfficeView) (answer : Answer)
@@ -114,8 +114,8 @@ polled_watches (Some v) (Some w) user file at loads p = record {
   mine = p.mine ∙ sym (append-nil v.mine);
   loads = loads_made loads;
   polled = p.polled;
-  among = subst (λ (l : List Load). All (Contains l) (loads_made loads)) (sym p.polled) (all_behind v.polled (loads_made loads));
-  stand = λ some. absurd (some refl);
+  among = subst (λ (l : List Load). All (Contains l) (loads_made loads)) (sym p.polled) (all_after v.polled (loads_made loads));
+  hold = λ some. absurd (some refl);
 }
 
 pub looked_is : (setup : Setup) (body : List ℕ) (user : UserId) (file : RequestFile) (at : Moment) (reply : List ℕ) (shown shown' : Option (List Moment)) (old new : Option OfficeView) (answer : Answer)
@@ -126,7 +126,7 @@ looked_is setup body user file at reply shown shown' old new answer signed poll 
   grown = [];
   outcome = polled user file at looked.loads;
   comes_to = (signed, poll, looked.are_loads);
-  text = λ closes. rw (says.0, says.1, looked.told) refl;
+  text = λ closes. rw (says.0, says.1, looked.reported) refl;
   no_memory = sym says.2;
   moments = moments;
   watches = polled_watches old new user file at looked.loads looked.knows;
@@ -144,7 +144,7 @@ loaded_watches (Some v) (Some w) at p = record {
   loads = p.loads;
   polled = p.polled;
   among = All-nil (Contains w.polled);
-  stand = λ some. absurd (some refl);
+  hold = λ some. absurd (some refl);
 }
 
 pub look_refused : (setup : Setup) (body : List ℕ) (user : UserId) (file : RequestFile) (at : Moment) (shown shown' : Option (List Moment)) (old new : Option OfficeView)
@@ -176,7 +176,7 @@ gains_watches (Some v) (Some w) log grown user file at seen g =
       loads = [];
       polled = g.polled ∙ sym (append-nil v.polled);
       among = All-nil (Contains w.polled);
-      stand = λ some. g.stand;
+      hold = λ some. g.hold;
     }
 
 -- a file that an ending of its own answers
@@ -228,7 +228,7 @@ nothing_watches (Some v) (Some w) p = (
     loads = [];
     polled = p.polled ∙ sym (append-nil v.polled);
     among = All-nil (Contains w.polled);
-    stand = λ some. absurd (some refl);
+    hold = λ some. absurd (some refl);
   },
 )
 

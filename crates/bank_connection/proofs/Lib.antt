@@ -3,6 +3,6 @@ mod Lifting
 mod Joining
 mod Answered
 mod Steps
-mod PollTold
+mod PollReported
 mod OneExchange
-mod NewestStand
+mod NewestHold

@@ -22,7 +22,7 @@ reply-found user file at log more number (Some item) closes is ends = ap (λ (o 
 
 pub comes_to-kept : (setup : Setup) (log more : List LogItem) (body : List ℕ) (outcome : Outcome) → ComesTo setup log body outcome → ComesTo setup (log ++ more) body outcome
 comes_to-kept setup log more body (refused refusal) c = c
-comes_to-kept setup log more body (misspelled place) c = c
+comes_to-kept setup log more body (misspelled offset) c = c
 comes_to-kept setup log more body (denied file at) c = c
 comes_to-kept setup log more body (polled user file at loads) c = c
 comes_to-kept setup log more body (ended user file at number) c =
@@ -33,7 +33,7 @@ pub text-kept : (setup : Setup) (log more : List LogItem) (body : List ℕ) (out
     → outcome_reply (log ++ more) outcome closes ≡ outcome_reply log outcome closes
 unfolding outcome_reply
 text-kept setup log more body (refused refusal) closes c = refl
-text-kept setup log more body (misspelled place) closes c = refl
+text-kept setup log more body (misspelled offset) closes c = refl
 text-kept setup log more body (denied file at) closes c = refl
 text-kept setup log more body (polled user file at loads) closes c = refl
 text-kept setup log more body (ended user file at number) closes c = reply-found user file at log more number (ending log number) closes refl c.3
@@ -41,7 +41,7 @@ text-kept setup log more body (no_memory at) closes c = refl
 
 outcome-kept : (setup : Setup) (log more : List LogItem) (number : ℕ) (x : Exchange) (outcome : Outcome) → IsOutcome setup log number x outcome → IsOutcome setup (log ++ more) number x outcome
 outcome-kept setup log more number x (refused refusal) is = is
-outcome-kept setup log more number x (misspelled place) is = record { head = is.head; body = is.body; whole = is.whole; comes_to = comes_to-kept setup log more is.body x.outcome is.comes_to; closes_is = is.closes_is }
+outcome-kept setup log more number x (misspelled offset) is = record { head = is.head; body = is.body; whole = is.whole; comes_to = comes_to-kept setup log more is.body x.outcome is.comes_to; closes_is = is.closes_is }
 outcome-kept setup log more number x (denied file at) is = record { head = is.head; body = is.body; whole = is.whole; comes_to = comes_to-kept setup log more is.body x.outcome is.comes_to; closes_is = is.closes_is }
 outcome-kept setup log more number x (polled user file at loads) is = record { head = is.head; body = is.body; whole = is.whole; comes_to = comes_to-kept setup log more is.body x.outcome is.comes_to; closes_is = is.closes_is }
 outcome-kept setup log more number x (ended user file at ending) is = record { head = is.head; body = is.body; whole = is.whole; comes_to = comes_to-kept setup log more is.body x.outcome is.comes_to; closes_is = is.closes_is }
@@ -56,7 +56,7 @@ same_text : (setup : Setup) (log more : List LogItem) (number : ℕ) (x : Exchan
     → outcome_reply (log ++ more) outcome x.closes ≡ outcome_reply log outcome x.closes
 unfolding outcome_reply
 same_text setup log more number x (refused refusal) e is = refl
-same_text setup log more number x (misspelled place) e is = refl
+same_text setup log more number x (misspelled offset) e is = refl
 same_text setup log more number x (denied file at) e is = refl
 same_text setup log more number x (polled user file at loads) e is = refl
 same_text setup log more number x (ended user file at ending) e is =

@@ -6,7 +6,7 @@ use Rattle.bank_model.specs.declared.log.LogItem.{LogItem}
 use Rattle.bank_model.specs.declared.log.LogItem.TheVariants.{Effect, Answer, Adopted, Fault}
 use Rattle.bank_model.specs.Log.{is_ending, endings, ending}
 use Rattle.bank_connection.specs.Polled.{Load}
-use Rattle.bank_connection.specs.Offices.{StandsIn}
+use Rattle.bank_connection.specs.Offices.{HoldsIn}
 
 -- the element after a list is at the list's length
 slice_get-last : {A : Type 0} (xs : List A) (x : A) → slice_get (xs ++ x ∷ []) (length xs) ≡ Some x
@@ -34,8 +34,8 @@ pub last_ending : (log : List LogItem) (item : LogItem) → is_ending item ≡ t
 last_ending log item is =
     let all : endings (log ++ item ∷ []) ≡ endings log ++ item ∷ [] = endings-last log item is in
     let size : length (endings log ++ item ∷ []) ≡ length (endings log) + 1 = length-append (endings log) (item ∷ []) in
-    let place : length (endings log ++ item ∷ []) - 1 ≡ length (endings log) = omega (arith, size) in
-    (rw all (omega (arith, size)), rw (all, place) (slice_get-last (endings log) item))
+    let offset : length (endings log ++ item ∷ []) - 1 ≡ length (endings log) = omega (arith, size) in
+    (rw all (omega (arith, size)), rw (all, offset) (slice_get-last (endings log) item))
 
 -- an ending keeps its number when the log grows
 pub ending-kept : (log more : List LogItem) (number : ℕ) (item : LogItem) → ending log number ≡ Some item → ending (log ++ more) number ≡ Some item
@@ -43,6 +43,6 @@ ending-kept log more number item is =
     rw (filter-append is_ending log more) (slice_get-kept (endings log) (endings more) (number - 1) item is)
 
 -- a token that is the number of an entry stays one when there are more entries
-pub stands-kept : (entries more : List Entry) (load : Load) → StandsIn entries load → StandsIn (entries ++ more) load
-stands-kept entries more load stands low =
-    let s = stands low in (s.0, Contains-append_left entries more s.0 s.1, s.2, s.3)
+pub holds-kept : (entries more : List Entry) (load : Load) → HoldsIn entries load → HoldsIn (entries ++ more) load
+holds-kept entries more load holds low =
+    let s = holds low in (s.0, Contains-append_left entries more s.0 s.1, s.2, s.3)

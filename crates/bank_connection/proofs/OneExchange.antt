@@ -3,8 +3,8 @@ use Rattle.std.proofs.Common.{◌≡◌, ℕ, ◌-◌, Bool, true, false, ◌||�
 use Rattle.std.specs.Io.KnownBytes.{Keeps}
 use Rattle.ofx_types.specs.declared.number.Moment.{Moment}
 use Rattle.http_front.specs.declared.head.Head.{Head}
-use Rattle.ofx_ports.specs.Told.{Grows}
-use Rattle.ofx_ports.proofs.ToldLaws.{Grows-nil}
+use Rattle.ofx_ports.specs.Known.{Grows}
+use Rattle.ofx_ports.proofs.KnownLaws.{Grows-nil}
 use Rattle.bank_model.specs.declared.setup.Setup.{Setup}
 use Rattle.bank_model.specs.declared.log.LogItem.{LogItem}
 use Rattle.http_link.specs.Requests.{IsRefusedByHead}
@@ -13,7 +13,7 @@ use Rattle.bank_connection.specs.Offices.{OfficeView}
 use Rattle.bank_connection.specs.Exchanges.{Outcome, refused, misspelled, denied, polled, ended, no_memory, Exchange, ComesTo, IsAnswered, IsOutcome}
 use Rattle.http_link.specs.Replies.{reply_of, refusal_code, refusal_body}
 use Rattle.bank_connection.specs.ReplyText.{outcome_reply}
-use Rattle.bank_connection.specs.Answering.{answer_code, answer_body, tells_no_memory, HasSeen, IsAnswerTo, Answers}
+use Rattle.bank_connection.specs.Answering.{answer_code, answer_body, reports_no_memory, HasSeen, IsAnswerTo, Answers}
 use Rattle.bank_connection.specs.Connection.{LinkView, around}
 use Rattle.bank_connection.specs.Steps.{SendsReply, HasExchange, Exchanges}
 use Rattle.bank_connection.specs.declared.answer.Answer.{Answer}
@@ -40,7 +40,7 @@ refused_exchange setup number ahead size refusal left left' reads reads' held he
 
 is_outcome : (setup : Setup) (log : List LogItem) (number : ℕ) (x : Exchange) (outcome : Outcome) → x.outcome ≡ outcome → (is : IsAnswered setup log number x) → IsOutcome setup log number x outcome
 is_outcome setup log number x (refused refusal) e is = absurd (subst (λ (o : Outcome). ComesTo setup log is.body o) e is.comes_to)
-is_outcome setup log number x (misspelled place) e is = is
+is_outcome setup log number x (misspelled offset) e is = is
 is_outcome setup log number x (denied file at) e is = is
 is_outcome setup log number x (polled user file at loads) e is = is
 is_outcome setup log number x (ended user file at ending) e is = is
@@ -49,7 +49,7 @@ is_outcome setup log number x (no_memory at) e is = is
 -- a whole request
 pub answered_exchange : (setup : Setup) (number : ℕ) (ahead : List ℕ) (head : Head) (size : ℕ) (answer : Answer) (closes : Bool) (before after : LinkView) (result : Result Bool ServeError)
     → HoldsWhole ahead head size → Answers setup (take (size - head.size) (drop head.size ahead)) before.shown after.shown before.office after.office answer
-    → closes ≡ (head.last || tells_no_memory answer || number == 100) → Keeps before.left after.left
+    → closes ≡ (head.last || reports_no_memory answer || number == 100) → Keeps before.left after.left
     → SendsReply before after (reply_of (answer_code answer) (answer_body answer) closes) closes result → Exchanges setup number ahead (drop size ahead) before after result
 answered_exchange setup number ahead head size answer closes before after result whole answers closes_is unread sends log seen =
     let a = answers log seen in

@@ -4,8 +4,8 @@ use Rattle.std.proofs.lemmas.List.Elements.{All-append, Contains-append_left, Al
 use Rattle.std.proofs.Math.Seq.{take-append-add}
 use Rattle.std.specs.Io.KnownBytes.{Keeps, Consumes, Appends, prepend_known}
 use Rattle.std.proofs.KnownBytes.{Consumes-nil, Consumes-trans, Consumes-kept, Appends-nil, Appends-trans, Appends-kept, prepend_known-nil}
-use Rattle.ofx_ports.specs.Told.{Grows}
-use Rattle.ofx_ports.proofs.ToldLaws.{Grows-nil, Grows-trans}
+use Rattle.ofx_ports.specs.Known.{Grows}
+use Rattle.ofx_ports.proofs.KnownLaws.{Grows-nil, Grows-trans}
 use Rattle.ofx_ports.proofs.FaultLaws.{Rose-later}
 use Rattle.bank_model.specs.declared.setup.Setup.{Setup}
 use Rattle.bank_model.specs.declared.entry.Entry.{Entry}
@@ -13,10 +13,10 @@ use Rattle.bank_model.specs.declared.event.State.{State}
 use Rattle.bank_model.specs.declared.log.LogItem.{LogItem}
 use Rattle.bank_model.specs.Log.{entry_of, entries_in}
 use Rattle.bank_connection.specs.Polled.{Load}
-use Rattle.bank_connection.specs.Offices.{OfficeView, Knows, IsRightView, StandsIn, entries_seen}
+use Rattle.bank_connection.specs.Offices.{OfficeView, Knows, IsRightView, HoldsIn, entries_seen}
 use Rattle.bank_connection.specs.Exchanges.{Exchange, IsExchange, AreExchanges, requests_in, moments_of, moments_in, endings_of, endings_in, GoOn}
 use Rattle.bank_connection.specs.ReplyText.{outcome_reply, out}
-use Rattle.bank_connection.specs.Watched.{SeesAt, loads_of, loads_in, TokensStand, HasWatched}
+use Rattle.bank_connection.specs.Watched.{SeesAt, loads_of, loads_in, TokensHold, HasWatched}
 use Rattle.bank_connection.specs.Answering.{HasSeen, Watches}
 use Rattle.bank_connection.specs.Connection.{LinkView, Converses}
 use Rattle.ofx_ports.specs.Writes.{AppendsPart}
@@ -33,10 +33,10 @@ just x is zero d below = is
 just x is (suc k) d below = absurd (omega (arith, below))
 
 -- tokens among others stand where those do
-stand_among : (entries : List Entry) (polled loads : List Load) → All (StandsIn entries) polled → All (Contains polled) loads → All (StandsIn entries) loads
-stand_among entries polled loads stand among k d below =
-    let place = among k d below in
-    subst (StandsIn entries) place.2 (stand place.0 (get_or loads k d) place.1)
+hold_among : (entries : List Entry) (polled loads : List Load) → All (HoldsIn entries) polled → All (Contains polled) loads → All (HoldsIn entries) loads
+hold_among entries polled loads hold among k d below =
+    let offset = among k d below in
+    subst (HoldsIn entries) offset.2 (hold offset.0 (get_or loads k d) offset.1)
 
 -- ---- the start
 
@@ -52,7 +52,7 @@ start_watched (Some v) = record {
   sees = refl;
   mine = sym (append-nil v.mine);
   polled = All-nil (Contains v.polled);
-  stand = tt;
+  hold = tt;
 }
 
 pub start : (setup : Setup) (before : LinkView) → SoFar setup 0 [] before before
@@ -70,7 +70,7 @@ start setup before = record {
 
 -- ---- bytes that come
 
--- what stands around after the link was read or written: its bytes and its counts
+-- what is around after the link was read or written: its bytes and its counts
 abbrev pub with_link : LinkView → Option (List ℕ) → ℕ → Option (List ℕ) → ℕ → LinkView
 with_link now left reads held writes = record { left = left; reads = reads; held = held; writes = writes; shown = now.shown; office = now.office }
 
@@ -124,9 +124,9 @@ joined_watch log grown xs x u v w h s =
       mine = s.mine ∙ (ap (λ (l : List ℕ). l ++ endings_of x.outcome) h.mine ∙ (append_assoc u.mine (endings_in xs) (endings_of x.outcome)
           ∙ ap (λ (l : List ℕ). u.mine ++ l) (sym (one_more (λ (y : Exchange). endings_of y.outcome) xs x))));
       polled = subst (All (Contains w.polled)) (sym (one_more (λ (y : Exchange). loads_of y.outcome) xs x)) (All-append (Contains w.polled) (loads_in xs) (loads_of x.outcome) polled s.among);
-      stand = tokens-more (entries_seen w) xs x (endings_of x.outcome) refl
-          (subst (λ (es : List Entry). TokensStand es xs) (sym entries) (tokens-kept (entries_seen v) (flat_map entry_of grown) xs h.stand))
-          (λ some. stand_among (entries_seen w) v.polled (loads_in xs) (s.stand some) h.polled);
+      hold = tokens-more (entries_seen w) xs x (endings_of x.outcome) refl
+          (subst (λ (es : List Entry). TokensHold es xs) (sym entries) (tokens-kept (entries_seen v) (flat_map entry_of grown) xs h.hold))
+          (λ some. hold_among (entries_seen w) v.polled (loads_in xs) (s.hold some) h.polled);
     }
 
 joined_watches : (log grown : List LogItem) (xs : List Exchange) (x : Exchange) (a b c : Option OfficeView) → Knows a b (HasWatched log xs) → Knows b c (Watches grown x.outcome)
@@ -151,11 +151,11 @@ joined : (setup : Setup) (count : ℕ) (ahead ahead' : List ℕ) (before now the
     (h : HasExchange setup s.log (count + 1) ahead ahead' now then result) → Joined setup (count + 1) ahead' before then s.exchanges (s.log ++ h.grown) h.x
 joined setup count ahead ahead' before now then result s h =
     let xs = s.exchanges in
-    let place : count + 1 ≡ 1 + length xs = omega (arith, s.counted) in
+    let offset : count + 1 ≡ 1 + length xs = omega (arith, s.counted) in
     record {
       counted = omega (arith, s.counted, length-append xs (h.x ∷ []));
       are_exchanges = exchanges-more setup (s.log ++ h.grown) 1 xs h.x (exchanges-kept setup s.log h.grown 1 xs s.are_exchanges)
-          (subst (λ (n : ℕ). IsExchange setup (s.log ++ h.grown) n h.x) place h.is_exchange);
+          (subst (λ (n : ℕ). IsExchange setup (s.log ++ h.grown) n h.x) offset h.is_exchange);
       go_on = s.go_on;
       read = subst (Consumes before.left (prepend_known ahead' then.left)) (sym (one_more (λ (y : Exchange). y.request) xs h.x))
           (Consumes-trans before.left (prepend_known ahead now.left) (prepend_known ahead' then.left) (requests_in xs) h.x.request s.read
@@ -212,10 +212,10 @@ closes setup count ahead ahead' before now then low right s exchanges =
       ends = (j.counted, record { earlier = s.exchanges; last = h.x; parts = refl; go_on = s.go_on; closes = sym h.sends.1 });
     }
 
--- a front of the last reply is a front of all replies
-front_written : (a b c : Option (List ℕ)) (text reply : List ℕ) → Appends a b text → AppendsPart b c reply
+-- a prefix of the last reply is a prefix of all replies
+prefix_written : (a b c : Option (List ℕ)) (text reply : List ℕ) → Appends a b text → AppendsPart b c reply
     → (count : ℕ) × (count ≤ length (text ++ reply)) × Appends a c (take count (text ++ reply))
-front_written a b c text reply whole part = (
+prefix_written a b c text reply whole part = (
   length text + part.count,
   omega (arith, length-append text reply, part.within),
   subst (Appends a c) (sym (take-append-add text reply part.count)) (Appends-trans a b c text (take part.count reply) whole part.appended),
@@ -236,7 +236,7 @@ breaks setup count ahead ahead' before now then low right earlier s exchanges =
       read = consumes-ahead before.left then.left ahead' (requests_in (s.exchanges ++ h.x ∷ [])) j.read;
       moments = j.moments;
       written = subst (λ (text : List ℕ). (n : ℕ) × (n ≤ length text) × Appends before.held then.held (take n text)) (sym (joined_text setup s.log h.grown s.exchanges h.x s.are_exchanges))
-          (front_written before.held now.held then.held (out s.log s.exchanges) _ s.written h.sends.0);
+          (prefix_written before.held now.held then.held (out s.log s.exchanges) _ s.written h.sends.0);
       watched = j.watched;
       right = right;
       ends = (record { earlier = s.exchanges; last = h.x; parts = refl; go_on = s.go_on }, Rose-later before.writes now.writes then.writes earlier h.sends.1);

@@ -2,12 +2,12 @@
 use Rattle.std.specs.Prelude.{◌≡◌, ◌≢◌, ℕ, Bool, true, false, List, [], ◌++◌, codes, All, Contains, ⊤, Option, None, Some, Result, Ok, Err}
 use Rattle.std.specs.Option.{IfSome}
 use Rattle.std.specs.Io.KnownBytes.{Keeps, Appends}
-use Rattle.ofx_ports.specs.Told.{Grows}
+use Rattle.ofx_ports.specs.Known.{Grows}
 use Rattle.ofx_types.specs.declared.number.Moment.{Moment}
 use Rattle.bank_model.specs.declared.setup.Setup.{Setup}
 use Rattle.bank_model.specs.declared.log.LogItem.{LogItem}
 use Rattle.bank_connection.specs.Polled.{Load}
-use Rattle.bank_connection.specs.Offices.{OfficeView, Knows, StandsIn, entries_seen}
+use Rattle.bank_connection.specs.Offices.{OfficeView, Knows, HoldsIn, entries_seen}
 use Rattle.bank_connection.specs.Exchanges.{Outcome, Exchange, ComesTo, IsExchange, is_no_memory, moments_of, endings_of}
 use Rattle.http_link.specs.Replies.{line, reply_of}
 use Rattle.bank_connection.specs.ReplyText.{outcome_reply}
@@ -28,13 +28,13 @@ answer_body (Misspelled text) = text.items
 answer_body KeeperFailed = line (codes "keeper failed")
 answer_body NoMemory = line (codes "no memory")
 
-abbrev pub tells_no_memory : Answer → Bool
-tells_no_memory (File reply) = false
-tells_no_memory (Misspelled text) = false
-tells_no_memory KeeperFailed = false
-tells_no_memory NoMemory = true
+abbrev pub reports_no_memory : Answer → Bool
+reports_no_memory (File reply) = false
+reports_no_memory (Misspelled text) = false
+reports_no_memory KeeperFailed = false
+reports_no_memory NoMemory = true
 
--- An office has seen this log, where it tells what it has seen.
+-- An office has seen this log, where it says what it has seen.
 abbrev pub HasSeen : List LogItem → Option OfficeView → Type 0
 HasSeen log office = IfSome office (λ view. view.seen ≡ log)
 
@@ -48,7 +48,7 @@ pub record Watches (grown : List LogItem) (outcome : Outcome) (before after : Of
   pub loads : List Load
   pub polled : after.polled ≡ before.polled ++ loads
   pub among : All (Contains after.polled) (loads_of outcome)
-  pub stand : endings_of outcome ≢ [] → All (StandsIn (entries_seen after)) before.polled
+  pub hold : endings_of outcome ≢ [] → All (HoldsIn (entries_seen after)) before.polled
 
 -- An answer to the body of a request, after this log.
 pub record IsAnswerTo (setup : Setup) (log : List LogItem) (body : List ℕ) (shown shown' : Option (List Moment)) (old new : Option OfficeView) (answer : Answer) : Type 0 where
@@ -56,7 +56,7 @@ pub record IsAnswerTo (setup : Setup) (log : List LogItem) (body : List ℕ) (sh
   pub outcome : Outcome
   pub comes_to : ComesTo setup (log ++ grown) body outcome
   pub text : (closes : Bool) → outcome_reply (log ++ grown) outcome closes ≡ reply_of (answer_code answer) (answer_body answer) closes
-  pub no_memory : is_no_memory outcome ≡ tells_no_memory answer
+  pub no_memory : is_no_memory outcome ≡ reports_no_memory answer
   pub moments : Grows shown shown' (moments_of outcome)
   pub watches : Knows old new (Watches grown outcome)
 

@@ -3,7 +3,7 @@ use Rattle.std.specs.Prelude.{◌≡◌, ℕ, ◌≤◌, false, true, List, [], 
 use Rattle.std.specs.Option.{IfSome}
 use Rattle.std.specs.Io.KnownBytes.{Consumes, Appends, IsAtEnd}
 use Rattle.ofx_ports.specs.Faults.{Rose}
-use Rattle.ofx_ports.specs.Told.{Grows}
+use Rattle.ofx_ports.specs.Known.{Grows}
 use Rattle.ofx_types.specs.declared.number.Moment.{Moment}
 use Rattle.bank_model.specs.declared.setup.Setup.{Setup}
 use Rattle.bank_model.specs.declared.log.LogItem.{LogItem}
@@ -64,7 +64,7 @@ EndsSo xs rest before after (Err ReadFault) = GoOn xs × IsUnfinished rest × Ro
 EndsSo xs rest before after (Err WriteFault) = BreaksInLast xs × Rose before.writes after.writes
 EndsSo xs rest before after (Err OutOfMemory) = GoOn xs
 
--- The whole text is written, or where a write failed a front of it.
+-- The whole text is written, or where a write failed a prefix of it.
 abbrev pub Writes : Option (List ℕ) → Option (List ℕ) → List ℕ → Result Served ServeError → Type 0
 Writes old new text (Err WriteFault) = (count : ℕ) × (count ≤ length text) × Appends old new (take count text)
 Writes old new text answer = Appends old new text
@@ -72,7 +72,7 @@ Writes old new text answer = Appends old new text
 -- ---- the whole of it
 
 -- A connection has had these exchanges, at most a hundred. The bytes read are their requests and a rest; the bytes written are
--- the replies to them over one log, which is what the office has seen where that is told, and is legal; and the moments are the
+-- the replies to them over one log, which is what the office has seen where that is reported, and is legal; and the moments are the
 -- clock's answers.
 pub record Converses (setup : Setup) (before after : LinkView) (answer : Result Served ServeError) : Type 0 where
   pub exchanges : List Exchange

@@ -24,7 +24,7 @@ use Rattle.http_link.specs.declared.refusal.Refusal.{Refusal}
 pub data Outcome : Type 0 where
   -- its head is refused
   refused : Refusal → Outcome
-  -- its body spells no file, and the fault stands at this place
+  -- its body spells no file, and the fault is at this offset
   misspelled : ℕ → Outcome
   -- its body spells a file whose signon fails, at this moment
   denied : RequestFile → Moment → Outcome
@@ -53,10 +53,10 @@ EndsFile user file at (Some (Fault count pending)) = IsOfFile user file at pendi
 
 -- What the body of a whole request comes to, with the endings of this log: it is refused where it spells no file; denied where its
 -- signon fails; a poll of the user who signs on loads tokens; and any other file of that user is ended. Memory may be refused in
--- the place of any of these.
+-- the offset of any of these.
 abbrev pub ComesTo : Setup → List LogItem → List ℕ → Outcome → Type 0
 ComesTo setup log body (refused refusal) = ⊥
-ComesTo setup log body (misspelled place) = IsRefused body place
+ComesTo setup log body (misspelled offset) = IsRefused body offset
 ComesTo setup log body (denied file at) = IsDenied setup body file
 ComesTo setup log body (polled user file at loads) =
     IsSignedOn setup body file user × (is_poll file ≡ true) × AreLoadsOf setup user file loads
@@ -68,7 +68,7 @@ ComesTo setup log body (no_memory at) = IfSome at (λ moment. (file : RequestFil
 
 abbrev pub is_no_memory : Outcome → Bool
 is_no_memory (refused refusal) = false
-is_no_memory (misspelled place) = false
+is_no_memory (misspelled offset) = false
 is_no_memory (denied file at) = false
 is_no_memory (polled user file at loads) = false
 is_no_memory (ended user file at number) = false
@@ -76,8 +76,8 @@ is_no_memory (no_memory at) = true
 
 -- The connection ends after a reply to a whole request where the request is HTTP/1.0 or says `close`, where memory was refused,
 -- and after the hundredth reply.
-abbrev pub closes_behind : Head → ℕ → Outcome → Bool
-closes_behind head number outcome = head.last || is_no_memory outcome || number == 100
+abbrev pub closes_after : Head → ℕ → Outcome → Bool
+closes_after head number outcome = head.last || is_no_memory outcome || number == 100
 
 -- a whole request, and what its body comes to
 pub record IsAnswered (setup : Setup) (log : List LogItem) (number : ℕ) (x : Exchange) : Type 0 where
@@ -85,7 +85,7 @@ pub record IsAnswered (setup : Setup) (log : List LogItem) (number : ℕ) (x : E
   pub body : List ℕ
   pub whole : IsWhole x.request head body
   pub comes_to : ComesTo setup log body x.outcome
-  pub closes_is : x.closes ≡ closes_behind head number x.outcome
+  pub closes_is : x.closes ≡ closes_after head number x.outcome
 
 -- The exchange of this number, over a log. A refused head ends the connection.
 abbrev pub IsOutcome : Setup → List LogItem → ℕ → Exchange → Outcome → Type 0
@@ -108,7 +108,7 @@ requests_in xs = flat_map (λ (x : Exchange). x.request) xs
 
 abbrev pub moments_of : Outcome → List Moment
 moments_of (refused refusal) = []
-moments_of (misspelled place) = []
+moments_of (misspelled offset) = []
 moments_of (denied file at) = at ∷ []
 moments_of (polled user file at loads) = at ∷ []
 moments_of (ended user file at number) = at ∷ []
@@ -120,7 +120,7 @@ moments_in xs = flat_map (λ (x : Exchange). moments_of x.outcome) xs
 
 abbrev pub endings_of : Outcome → List ℕ
 endings_of (refused refusal) = []
-endings_of (misspelled place) = []
+endings_of (misspelled offset) = []
 endings_of (denied file at) = []
 endings_of (polled user file at loads) = []
 endings_of (ended user file at number) = number ∷ []

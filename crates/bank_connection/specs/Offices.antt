@@ -20,11 +20,11 @@ use Rattle.bank_model.specs.Objects.{newest}
 use Rattle.bank_model.specs.Rules.{opening_state}
 use Rattle.bank_model.specs.Log.{endings, entries_in}
 use Rattle.bank_model.specs.LegalLog.{ends, IsWholeLog}
-use Rattle.bank_rules.specs.Books.{AreBooksRight}
+use Rattle.bank_invariants.specs.Books.{AreBooksRight}
 use Rattle.event_codec.specs.Records.{Reopens}
-use Rattle.bank_connection.specs.Polled.{Load, AreLoadsOf, loads_made, poll_told}
+use Rattle.bank_connection.specs.Polled.{Load, AreLoadsOf, loads_made, poll_reported}
 
--- What an office knows of its bank: the state that the bank opened in; a front of the bank's log, which it has seen; which of
+-- What an office knows of its bank: the state that the bank opened in; a prefix of the bank's log, which it has seen; which of
 -- the endings in it are its own, by their numbers; and the tokens that it has loaded, in order.
 pub record OfficeView : Type 0 where
   pub opening : State
@@ -47,7 +47,7 @@ pub record IsRightView (setup : Setup) (view : OfficeView) : Type 0 where
   pub rises : Rises view.mine
   pub own : All (λ number. (1 ≤ number) × (number ≤ length (endings view.seen))) view.mine
 
--- Where an office tells what it knows, it tells it again, and the two are related so. One that doesn't tell never does.
+-- Where an office says what it knows, it tells it again, and the two are related so. One that doesn't tell never does.
 abbrev pub Knows : Option OfficeView → Option OfficeView → (OfficeView → OfficeView → Type 0) → Type 0
 Knows None None P = ⊤
 Knows None (Some w) P = ⊥
@@ -61,8 +61,8 @@ abbrev pub entries_seen : OfficeView → List Entry
 entries_seen view = entries_in view.opening view.seen
 
 -- A token of at least 1 is the number of an entry of its object.
-abbrev pub StandsIn : List Entry → Load → Type 0
-StandsIn entries load =
+abbrev pub HoldsIn : List Entry → Load → Type 0
+HoldsIn entries load =
     1 ≤ load.token → (entry : Entry) × Contains entries entry × (entry.object ≡ load.object) × (entry.number ≡ load.token)
 
 -- A token is no older than the newest one of its object among these entries.
@@ -78,7 +78,7 @@ pub record GainsEnding (grown : List LogItem) (before after : OfficeView) : Type
   pub seen : after.seen ≡ before.seen ++ grown
   pub mine : after.mine ≡ before.mine ++ length (endings after.seen) ∷ []
   pub polled : after.polled ≡ before.polled
-  pub stand : All (StandsIn (entries_seen after)) before.polled
+  pub hold : All (HoldsIn (entries_seen after)) before.polled
 
 -- Nothing ended, though more may be seen.
 pub record GainsNothing (before after : OfficeView) : Type 0 where
@@ -125,7 +125,7 @@ pub record HasPolled (loads : List Load) (before after : OfficeView) : Type 0 wh
 pub record IsLooked (setup : Setup) (user : UserId) (file : RequestFile) (at : Moment) (reply : List ℕ) (old new : Option OfficeView) : Type 0 where
   pub loads : List (Option Load)
   pub are_loads : AreLoadsOf setup user file loads
-  pub told : reply ≡ reply_text (poll_told file at loads)
+  pub reported : reply ≡ reply_text (poll_reported file at loads)
   pub knows : Knows old new (HasPolled (loads_made loads))
 
 -- Memory was refused: tokens may have been loaded, and nothing else changes.

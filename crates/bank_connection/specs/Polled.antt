@@ -13,7 +13,7 @@ use Rattle.ofx_types.specs.declared.reply.AskReply.TheVariants as replies
 use Rattle.ofx_types.specs.declared.reply.ReplyFile.{ReplyFile}
 use Rattle.bank_model.specs.declared.setup.Setup.{Setup}
 use Rattle.bank_model.specs.Objects.{object_named}
-use Rattle.bank_model.specs.Polls.{told_token}
+use Rattle.bank_model.specs.Polls.{reported_token}
 
 -- A load: an object, and the token that was loaded for it.
 pub record Load : Type 0 where
@@ -38,20 +38,20 @@ loads_made loads = flat_map option_to_list loads
 abbrev pub answer_told : Ask → Option Load → List AskReply
 answer_told (asks.Statement trnuid account period) load = []
 answer_told (asks.One trnuid deed) load = []
-answer_told (asks.Sync ask) load = replies.Sync (told_token ask (option_map (λ (l : Load). l.token) load)) ∷ []
+answer_told (asks.Sync ask) load = replies.Sync (reported_token ask (option_map (λ (l : Load). l.token) load)) ∷ []
 
 -- Each ask is told its token, or that the account isn't the user's.
-abbrev pub answers_told : List Ask → List (Option Load) → List AskReply
-answers_told [] loads = []
-answers_told (ask ∷ more) [] = []
-answers_told (ask ∷ more) (load ∷ loads) = answer_told ask load ++ answers_told more loads
+abbrev pub answers_reported : List Ask → List (Option Load) → List AskReply
+answers_reported [] loads = []
+answers_reported (ask ∷ more) [] = []
+answers_reported (ask ∷ more) (load ∷ loads) = answer_told ask load ++ answers_reported more loads
 
 -- the reply to a poll at a moment
-unfoldable pub poll_told : RequestFile → Moment → List (Option Load) → ReplyFile
-poll_told file at loads = record {
+unfoldable pub poll_reported : RequestFile → Moment → List (Option Load) → ReplyFile
+poll_reported file at loads = record {
   version = file.version;
   newer = file.newer;
   signon = 0;
   moment = at;
-  replies = answers_told file.asks loads;
+  replies = answers_reported file.asks loads;
 }

@@ -3,7 +3,7 @@ use Rattle.std.specs.Prelude.{◌≡◌, ℕ, ◌+◌, ◌<◌, ◌≤◌, Bool,
 use Rattle.std.specs.Option.{IfSome}
 use Rattle.std.specs.Io.KnownBytes.{Keeps, Consumes, Appends, prepend_known}
 use Rattle.ofx_ports.specs.Faults.{Rose}
-use Rattle.ofx_ports.specs.Told.{Grows}
+use Rattle.ofx_ports.specs.Known.{Grows}
 use Rattle.bank_model.specs.declared.setup.Setup.{Setup}
 use Rattle.bank_model.specs.declared.log.LogItem.{LogItem}
 use Rattle.bank_connection.specs.Offices.{OfficeView, Knows, IsRightView}
@@ -16,13 +16,13 @@ use Rattle.ofx_ports.specs.Writes.{AppendsPart}
 use Rattle.http_link.specs.declared.served.ServeError.{ServeError}
 use Rattle.http_link.specs.declared.served.ServeError.TheVariants.{WriteFault}
 
--- A reply is written whole, or where a write failed a front of it.
+-- A reply is written whole, or where a write failed a prefix of it.
 abbrev pub SendsReply : LinkView → LinkView → List ℕ → Bool → Result Bool ServeError → Type 0
 SendsReply before after text closes (Ok closed) = Appends before.held after.held text × (closed ≡ closes)
 SendsReply before after text closes (Err WriteFault) = AppendsPart before.held after.held text × Rose before.writes after.writes
 SendsReply before after text closes (Err fault) = ⊥
 
--- The exchange of this number, after this log: its request was in front of the bytes that had come.
+-- The exchange of this number, after this log: its request was before the bytes that had come.
 pub record HasExchange (setup : Setup) (log : List LogItem) (number : ℕ) (ahead ahead' : List ℕ) (before after : LinkView) (result : Result Bool ServeError) : Type 0 where
   pub x : Exchange
   pub grown : List LogItem

@@ -6,12 +6,12 @@ use Rattle.bank_model.specs.declared.event.State.{State}
 use Rattle.bank_model.specs.declared.log.LogItem.{LogItem}
 use Rattle.bank_model.specs.Log.{endings, entries_in}
 use Rattle.bank_connection.specs.Polled.{Load, loads_made}
-use Rattle.bank_connection.specs.Offices.{OfficeView, entries_seen, IsFresh, StandsIn}
+use Rattle.bank_connection.specs.Offices.{OfficeView, entries_seen, IsFresh, HoldsIn}
 use Rattle.bank_connection.specs.Exchanges.{Outcome, refused, misspelled, denied, polled, ended, no_memory, Exchange, endings_in}
 
 -- A list begins with another one.
 abbrev pub Begins : {A : Type 0} → List A → List A → Type 0
-Begins {A} front all = (rest : List A) × (all ≡ front ++ rest)
+Begins {A} prefix all = (rest : List A) × (all ≡ prefix ++ rest)
 
 -- What was seen before an exchange and after it. It never shrinks. Each token of a poll is no older than the newest one of its
 -- object in what was seen then, and a file's ending is the last of those that were seen after it.
@@ -29,7 +29,7 @@ SeesIn opening seen (x ∷ xs) next = (mid : List LogItem) × SeesAt opening see
 
 abbrev pub loads_of : Outcome → List Load
 loads_of (refused refusal) = []
-loads_of (misspelled place) = []
+loads_of (misspelled offset) = []
 loads_of (denied file at) = []
 loads_of (polled user file at loads) = loads_made loads
 loads_of (ended user file at number) = []
@@ -44,9 +44,9 @@ abbrev pub HasEnding : List Exchange → Type 0
 HasEnding xs = endings_in xs ≢ []
 
 -- Where a file's ending follows, each token of at least 1 that a poll was told is the number of an entry of its object.
-abbrev pub TokensStand : List Entry → List Exchange → Type 0
-TokensStand entries [] = Unit {0}
-TokensStand entries (x ∷ xs) = (HasEnding xs → All (StandsIn entries) (loads_of x.outcome)) × TokensStand entries xs
+abbrev pub TokensHold : List Entry → List Exchange → Type 0
+TokensHold entries [] = Unit {0}
+TokensHold entries (x ∷ xs) = (HasEnding xs → All (HoldsIn entries) (loads_of x.outcome)) × TokensHold entries xs
 
 -- What an office knows after a connection: it has seen this log, which begins with what it had seen; the endings of its own that
 -- are new are just those of the exchanges, in order; the tokens of polls stand among those loaded, none was too old, and none
@@ -57,4 +57,4 @@ pub record HasWatched (log : List LogItem) (xs : List Exchange) (before after : 
   pub sees : SeesIn before.opening before.seen xs after.seen
   pub mine : after.mine ≡ before.mine ++ endings_in xs
   pub polled : All (Contains after.polled) (loads_in xs)
-  pub stand : TokensStand (entries_seen after) xs
+  pub hold : TokensHold (entries_seen after) xs

@@ -10,7 +10,7 @@ ghost use Rattle.bank_model.specs.Sound.{IsSound};
 ghost use Rattle.bank_signon.specs.Signon.{IsSignedOn, IsDenied, IsRefused};
 ghost use Rattle.bank_connection.specs.Offices.{OfficeView, IsRightView};
 ghost use Rattle.http_link.specs.Replies.{line};
-ghost use Rattle.bank_connection.specs.Answering.{answer_code, answer_body, tells_no_memory, Answers};
+ghost use Rattle.bank_connection.specs.Answering.{answer_code, answer_body, reports_no_memory, Answers};
 
 use crate::office::Office;
 use bank_model::SubmitFault;
@@ -25,7 +25,7 @@ use std::alloc::Global;
 pub enum Answer {
     /// A reply file.
     File(Vec<u8>),
-    /// The body spells no file: a line that tells the place of the fault.
+    /// The body spells no file: a line that tells the offset of the fault.
     Misspelled(Vec<u8>),
     /// A call of the keeper of the records failed.
     KeeperFailed,
@@ -61,7 +61,7 @@ impl Answer {
 
     /// Whether memory was refused.
     pub fn is_no_memory(&self) -> bool
-        ensures { result ≡ tells_no_memory self.now }
+        ensures { result ≡ reports_no_memory self.now }
     {
         matches!(self, Answer::NoMemory)
     }
@@ -76,13 +76,13 @@ pub fn answer_to<O: Office, C: Clock>(
     body: &[u8],
 ) -> Answer
     requires { length body.now ≤ 262144 }
-    ensures answers { Answers (O.setup office.old) body.now (C.told clock.old) (C.told clock.new) (O.knows office.old) (O.knows office.new) result }
+    ensures answers { Answers (O.setup office.old) body.now (C.shown clock.old) (C.shown clock.new) (O.knows office.old) (O.knows office.new) result }
     ensures setup { O.setup office.new ≡ O.setup office.old }
     ensures right { IfSome (O.knows office.new) (IsRightView (O.setup office.new)) }
 {
     match judge(alloc, office.setup(), body) {
         Err(OutOfMemory) => Answer::NoMemory,
-        Ok(Judgement::Refused(place)) => misspelled(alloc, place),
+        Ok(Judgement::Refused(offset)) => misspelled(alloc, offset),
         Ok(Judgement::Denied(file)) => denied(alloc, clock, file),
         Ok(Judgement::Poll(user, file)) => look(office, clock, user, &file),
         Ok(Judgement::Event(user, file)) => ask(office, clock, user, &file),
@@ -90,21 +90,21 @@ pub fn answer_to<O: Office, C: Clock>(
 }
 
 /// The line for a body that spells no file.
-fn bad_file_line(alloc: Global, place: u64) -> Result<Vec<u8>, OutOfMemory>
-    ensures { IfOk result (λ text. text.items ≡ line (codes "bad file at " ++ decimal place)) }
+fn bad_file_line(alloc: Global, offset: u64) -> Result<Vec<u8>, OutOfMemory>
+    ensures { IfOk result (λ text. text.items ≡ line (codes "bad file at " ++ decimal offset)) }
 {
     let mut text = Vec::from_slice(alloc, b"bad file at ")?;
-    text.extend_from_slice(Buffer::new().format(place).as_bytes())?;
+    text.extend_from_slice(Buffer::new().format(offset).as_bytes())?;
     text.push(b'\n')?;
     Ok(text)
 }
 
 /// The answer to a body that spells no file. Neither the clock nor the office is asked.
-fn misspelled(alloc: Global, place: u64) -> Answer
+fn misspelled(alloc: Global, offset: u64) -> Answer
     ensures { (setup : TheSetup) (body : List ℕ) (shown : Option (List TheMoment)) (known : Option OfficeView) →
-        IsRefused body place → Answers setup body shown shown known known result }
+        IsRefused body offset → Answers setup body shown shown known known result }
 {
-    match bad_file_line(alloc, place) {
+    match bad_file_line(alloc, offset) {
         Ok(text) => Answer::Misspelled(text),
         Err(OutOfMemory) => Answer::NoMemory,
     }
@@ -113,7 +113,7 @@ fn misspelled(alloc: Global, place: u64) -> Answer
 /// The answer to a file whose signon failed. The office isn't asked.
 fn denied<C: Clock>(alloc: Global, clock: &mut C, file: RequestFile) -> Answer
     ensures { (setup : TheSetup) (body : List ℕ) (known : Option OfficeView) →
-        IsDenied setup body file → Answers setup body (C.told clock.old) (C.told clock.new) known known result }
+        IsDenied setup body file → Answers setup body (C.shown clock.old) (C.shown clock.new) known known result }
 {
     let at = clock.now();
     match denial_text(alloc, at, file) {
@@ -133,7 +133,7 @@ fn look<O: Office, C: Clock>(
     requires sound { IsSound file.now }
     requires poll { is_poll file.now ≡ true }
     ensures answers { (body : List ℕ) → IsSignedOn (O.setup office.old) body file.now user →
-        Answers (O.setup office.old) body (C.told clock.old) (C.told clock.new) (O.knows office.old) (O.knows office.new) result }
+        Answers (O.setup office.old) body (C.shown clock.old) (C.shown clock.new) (O.knows office.old) (O.knows office.new) result }
     ensures setup { O.setup office.new ≡ O.setup office.old }
     ensures right { IfSome (O.knows office.new) (IsRightView (O.setup office.new)) }
 {
@@ -155,7 +155,7 @@ fn ask<O: Office, C: Clock>(
     requires sound { IsSound file.now }
     requires event { is_poll file.now ≡ false }
     ensures answers { (body : List ℕ) → IsSignedOn (O.setup office.old) body file.now user →
-        Answers (O.setup office.old) body (C.told clock.old) (C.told clock.new) (O.knows office.old) (O.knows office.new) result }
+        Answers (O.setup office.old) body (C.shown clock.old) (C.shown clock.new) (O.knows office.old) (O.knows office.new) result }
     ensures setup { O.setup office.new ≡ O.setup office.old }
     ensures right { IfSome (O.knows office.new) (IsRightView (O.setup office.new)) }
 {

@@ -6,7 +6,7 @@ ghost use Rattle.bank_model.specs.declared.setup.Setup.{Setup};
 ghost use Rattle.http_link.specs.Requests.{IsRefusedByHead};
 ghost use Rattle.bank_connection.specs.Offices.{OfficeView, IsRightView};
 ghost use Rattle.http_link.specs.Incoming.{HoldsWhole};
-ghost use Rattle.bank_connection.specs.Answering.{tells_no_memory};
+ghost use Rattle.bank_connection.specs.Answering.{reports_no_memory};
 ghost use Rattle.bank_connection.specs.Connection.{around};
 ghost use Rattle.bank_connection.specs.Steps.{closing, Exchanges};
 
@@ -18,7 +18,7 @@ use ofx_ports::{Clock, Failed, Link};
 use std::alloc::Global;
 
 /// The most exchanges of a connection.
-pub const MOST_EXCHANGES: u32 = 100;
+pub const MAX_EXCHANGES: u32 = 100;
 
 /// Refuses a request of so many bytes for its head.
 pub fn refuse<L: Link>(
@@ -62,8 +62,8 @@ pub fn exchange<O: Office, L: Link, C: Clock>(
     requires request { HoldsWhole incoming.old head size }
     requires room { 512 ≤ vec_capacity room.old }
     ensures exchange { Exchanges (O.setup office.old) number incoming.old incoming.new
-        (around (L.left link.old) (L.read_faults link.old) (L.held link.old) (L.write_faults link.old) (C.told clock.old) (O.knows office.old))
-        (around (L.left link.new) (L.read_faults link.new) (L.held link.new) (L.write_faults link.new) (C.told clock.new) (O.knows office.new))
+        (around (L.left link.old) (L.read_faults link.old) (L.held link.old) (L.write_faults link.old) (C.shown clock.old) (O.knows office.old))
+        (around (L.left link.new) (L.read_faults link.new) (L.held link.new) (L.write_faults link.new) (C.shown clock.new) (O.knows office.new))
         result }
     ensures goes_on { result ≡ Ok false → number < 100 }
     ensures setup { O.setup office.new ≡ O.setup office.old }
@@ -73,7 +73,7 @@ pub fn exchange<O: Office, L: Link, C: Clock>(
 {
     let answer = answer_to(alloc, office, clock, &incoming.bytes()[head.size..size]);
     incoming.consume(size);
-    let closes = closes_behind(&head, &answer, number);
+    let closes = closes_after(&head, &answer, number);
     match send(room, link, answer.code(), answer.body(), closes) {
         Ok(()) => Ok(closes),
         Err(Failed) => Err(ServeError::WriteFault),
@@ -81,10 +81,10 @@ pub fn exchange<O: Office, L: Link, C: Clock>(
 }
 
 /// Whether the connection ends after the reply of this number.
-fn closes_behind(head: &Head, answer: &Answer, number: u32) -> bool
+fn closes_after(head: &Head, answer: &Answer, number: u32) -> bool
     requires { number ≤ 100 }
-    ensures value { result ≡ (head.now.last || tells_no_memory answer.now || number == 100) }
+    ensures value { result ≡ (head.now.last || reports_no_memory answer.now || number == 100) }
     ensures goes_on { result ≡ false → number < 100 }
 {
-    head.last || answer.is_no_memory() || number == MOST_EXCHANGES
+    head.last || answer.is_no_memory() || number == MAX_EXCHANGES
 }

@@ -27,8 +27,8 @@ pub fn serve_link<O: Office, L: Link, C: Clock>(
     clock: &mut C,
 ) -> Result<Served, ServeError>
     ensures converses { Converses (O.setup office.old)
-        (around (L.left link.old) (L.read_faults link.old) (L.held link.old) (L.write_faults link.old) (C.told clock.old) (O.knows office.old))
-        (around (L.left link.new) (L.read_faults link.new) (L.held link.new) (L.write_faults link.new) (C.told clock.new) (O.knows office.new))
+        (around (L.left link.old) (L.read_faults link.old) (L.held link.old) (L.write_faults link.old) (C.shown clock.old) (O.knows office.old))
+        (around (L.left link.new) (L.read_faults link.new) (L.held link.new) (L.write_faults link.new) (C.shown clock.new) (O.knows office.new))
         result }
     ensures reads { L.read_faults link.old ≤ L.read_faults link.new }
     ensures writes { L.write_faults link.old ≤ L.write_faults link.new }

@@ -17,23 +17,23 @@ use Rattle.bank_model.proofs.Lists.{rest_is}
 
 -- ---- the accounts that one ask names
 
-all_front : {X : Type 0} (P : X → Type 0) (xs ys : List X) → All P (xs ++ ys) → All P xs
-all_front P xs ys all k d below =
+all_prefix : {X : Type 0} (P : X → Type 0) (xs ys : List X) → All P (xs ++ ys) → All P xs
+all_prefix P xs ys all k d below =
     subst P (get_or_append_left xs ys d k below) (all k d (omega (arith, length-append xs ys)))
 
 all_rest : {X : Type 0} (P : X → Type 0) (xs ys : List X) → All P (xs ++ ys) → All P ys
 all_rest P xs ys all k d below =
     subst P (get_or-append-add xs ys k d) (all (length xs + k) d (omega (arith, length-append xs ys)))
 
-pub AreHeld-front : (accounts : List AccountView) (names more : List (Option AcctId)) → AreHeld accounts (names ++ more) → AreHeld accounts names
-AreHeld-front accounts names more held = all_front (λ (entry : Option AcctId). IfSome entry (λ n. Contains (map (λ (a : AccountView). a.number) accounts) n)) names more held
+pub AreHeld-prefix : (accounts : List AccountView) (names more : List (Option AcctId)) → AreHeld accounts (names ++ more) → AreHeld accounts names
+AreHeld-prefix accounts names more held = all_prefix (λ (entry : Option AcctId). IfSome entry (λ n. Contains (map (λ (a : AccountView). a.number) accounts) n)) names more held
 
 pub AreHeld-rest : (accounts : List AccountView) (names more : List (Option AcctId)) → AreHeld accounts (names ++ more) → AreHeld accounts more
 AreHeld-rest accounts names more held = all_rest (λ (entry : Option AcctId). IfSome entry (λ n. Contains (map (λ (a : AccountView). a.number) accounts) n)) names more held
 
 held_at : {X : Type 0} (names : X → List (Option AcctId)) (accounts : List AccountView) (xs : List X) (k : ℕ) (d : X) → AreHeld accounts (flat_map names xs) → k < length xs → AreHeld accounts (names (get_or xs k d))
 held_at names accounts [] k d held below = absurd (omega arith)
-held_at names accounts (x ∷ xs) zero d held below = AreHeld-front accounts (names x) (flat_map names xs) held
+held_at names accounts (x ∷ xs) zero d held below = AreHeld-prefix accounts (names x) (flat_map names xs) held
 held_at names accounts (x ∷ xs) (suc k) d held below = held_at names accounts xs k d (AreHeld-rest accounts (names x) (flat_map names xs) held) (omega arith)
 
 -- Where the accounts that all name are held, those that one names are.
@@ -42,8 +42,8 @@ AreHeld-one names accounts xs k x held below is = subst (λ y. AreHeld accounts 
 
 -- ---- one more of some that are answered in turn, each in the state that the one before left
 
-pub told_more : {X R : Type 0} (answers : State → List X → List R) (S next : State) (xs : List X) (k : ℕ) (x : X) (all replies more : List R) (reply : R) → k < length xs → x ≡ get_or xs k x → answers S (x ∷ drop (k + 1) xs) ≡ reply ∷ answers next (drop (k + 1) xs) → more ≡ replies ++ reply ∷ [] → all ≡ replies ++ answers S (drop k xs) → all ≡ more ++ answers next (drop (k + 1) xs)
-told_more answers S next xs k x all replies more reply below is step is_more so_far =
+pub reported_more : {X R : Type 0} (answers : State → List X → List R) (S next : State) (xs : List X) (k : ℕ) (x : X) (all replies more : List R) (reply : R) → k < length xs → x ≡ get_or xs k x → answers S (x ∷ drop (k + 1) xs) ≡ reply ∷ answers next (drop (k + 1) xs) → more ≡ replies ++ reply ∷ [] → all ≡ replies ++ answers S (drop k xs) → all ≡ more ++ answers next (drop (k + 1) xs)
+reported_more answers S next xs k x all replies more reply below is step is_more so_far =
     so_far
     ∙ ap (λ l. replies ++ answers S l) (rest_is xs k x below is)
     ∙ ap (λ l. replies ++ l) step
@@ -59,8 +59,8 @@ nothing_left [] (suc k) past = refl
 nothing_left (x ∷ xs) zero past = absurd (omega arith)
 nothing_left (x ∷ xs) (suc k) past = nothing_left xs k (omega arith)
 
-pub told_end : {X R : Type 0} (answers : State → List X → List R) (S : State) (xs : List X) (k : ℕ) (all replies : List R) → length xs ≤ k → answers S [] ≡ [] → all ≡ replies ++ answers S (drop k xs) → replies ≡ all
-told_end answers S xs k all replies past none so_far =
+pub reported_end : {X R : Type 0} (answers : State → List X → List R) (S : State) (xs : List X) (k : ℕ) (all replies : List R) → length xs ≤ k → answers S [] ≡ [] → all ≡ replies ++ answers S (drop k xs) → replies ≡ all
+reported_end answers S xs k all replies past none so_far =
     sym (so_far ∙ ap (λ l. replies ++ answers S l) (nothing_left xs k past) ∙ ap (λ l. replies ++ l) none ∙ append-nil replies)
 
 pub left_end : {X : Type 0} (left : State → List X → State) (S : State) (xs : List X) (k : ℕ) (all : State) → length xs ≤ k → left S [] ≡ S → all ≡ left S (drop k xs) → S ≡ all
@@ -78,7 +78,7 @@ step_after setup S next user at ask rest is_next = rw is_next refl
 
 pub replies_more : (setup : Setup) (S next : State) (user : UserId) (at : Moment) (asks : List Ask) (k : ℕ) (ask : Ask) (all replies more : List AskReply) (reply : AskReply) → k < length asks → ask ≡ get_or asks k ask → reply ≡ (ask_answer setup S user at ask).reply → next ≡ (ask_answer setup S user at ask).after → more ≡ replies ++ reply ∷ [] → all ≡ replies ++ (ask_answers setup S user at (drop k asks)).replies → all ≡ more ++ (ask_answers setup next user at (drop (k + 1) asks)).replies
 replies_more setup S next user at asks k ask all replies more reply below is is_reply is_next is_more so_far =
-    told_more (λ (T : State) l. (ask_answers setup T user at l).replies) S next asks k ask all replies more reply below is (step_replies setup S next user at ask (drop (k + 1) asks) reply is_reply is_next) is_more so_far
+    reported_more (λ (T : State) l. (ask_answers setup T user at l).replies) S next asks k ask all replies more reply below is (step_replies setup S next user at ask (drop (k + 1) asks) reply is_reply is_next) is_more so_far
 
 pub after_more : (setup : Setup) (S next : State) (user : UserId) (at : Moment) (asks : List Ask) (k : ℕ) (ask : Ask) (all : State) → k < length asks → ask ≡ get_or asks k ask → next ≡ (ask_answer setup S user at ask).after → all ≡ (ask_answers setup S user at (drop k asks)).after → all ≡ (ask_answers setup next user at (drop (k + 1) asks)).after
 after_more setup S next user at asks k ask all below is is_next so_far =
@@ -96,7 +96,7 @@ none_after setup S user at = refl
 
 pub replies_end : (setup : Setup) (S : State) (user : UserId) (at : Moment) (asks : List Ask) (k : ℕ) (all replies : List AskReply) → length asks ≤ k → all ≡ replies ++ (ask_answers setup S user at (drop k asks)).replies → replies ≡ all
 replies_end setup S user at asks k all replies past so_far =
-    told_end (λ (T : State) l. (ask_answers setup T user at l).replies) S asks k all replies past (none_replies setup S user at) so_far
+    reported_end (λ (T : State) l. (ask_answers setup T user at l).replies) S asks k all replies past (none_replies setup S user at) so_far
 
 pub after_end : (setup : Setup) (S : State) (user : UserId) (at : Moment) (asks : List Ask) (k : ℕ) (all : State) → length asks ≤ k → all ≡ (ask_answers setup S user at (drop k asks)).after → S ≡ all
 after_end setup S user at asks k all past so_far =

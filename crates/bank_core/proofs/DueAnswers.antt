@@ -11,7 +11,7 @@ use Rattle.bank_model.specs.declared.setup.Setup.{Setup}
 use Rattle.bank_model.specs.declared.event.State.{State}
 use Rattle.bank_model.specs.declared.event.Event.{Event}
 use Rattle.bank_model.specs.declared.event.Event.TheVariants.{Post, Spawn}
-use Rattle.bank_model.specs.Models.{next_place}
+use Rattle.bank_model.specs.Models.{next_occurrence}
 use Rattle.bank_model.specs.Due.{Task, last_day, first_task, to_make, to_post}
 use Rattle.bank_model.specs.Rules.{raised, post_event, spawn_or_post, due}
 
@@ -38,7 +38,7 @@ due_left setup S at below =
     ap (λ (b : Bool). full_or b (spawn_or_post (raised S at) (first_task (to_make (last_day setup (raised S at).day) S.entries)))) (left_is setup.entries (length S.entries) (ltb setup.entries (length S.entries + 1)) refl below)
 
 abbrev place_of : State → Task → ℕ × ℕ
-place_of S task = (task.id, next_place task.id S.entries)
+place_of S task = (task.id, next_occurrence task.id S.entries)
 
 abbrev id_of : Task → ℕ
 id_of task = task.id
@@ -50,7 +50,7 @@ spawn_found S (Some task) next is = some_spawn (some_pair next (place_of S task)
     some_pair : (a b : ℕ × ℕ) → Some a ≡ Some b → a ≡ b
     some_pair a b is = cc
 
-    some_spawn : next ≡ place_of S task → Some (Spawn next.0 next.1) ≡ Some (Spawn task.id (next_place task.id S.entries))
+    some_spawn : next ≡ place_of S task → Some (Spawn next.0 next.1) ≡ Some (Spawn task.id (next_occurrence task.id S.entries))
     some_spawn is = ap (λ (n : ℕ × ℕ). Some (Spawn n.0 n.1)) is
 
 none_found : (S : State) (task : Option Task) → None ≡ option_map (place_of S) task → spawn_or_post S task ≡ option_map post_event (first_task (to_post S.day S.entries))
@@ -71,14 +71,14 @@ nothing_found (Some task) is = cc
 -- ---- what the look-ups told
 
 pub none_left : (found : Option ℕ) (none : Bool) (P : Type 0) → is_some found ≡ not none → none ≡ true → IfNone found P → P
-none_left None none P is test told = told
-none_left (Some n) true P is test told = cc
-none_left (Some n) false P is test told = cc
+none_left None none P is test reported = reported
+none_left (Some n) true P is test reported = cc
+none_left (Some n) false P is test reported = cc
 
 pub some_left : (found : Option ℕ) (none : Bool) (P : Type 0) → is_some found ≡ not none → none ≡ false → IfSome found (λ (n : ℕ). P) → P
-some_left (Some n) none P is test told = told
-some_left None true P is test told = cc
-some_left None false P is test told = cc
+some_left (Some n) none P is test reported = reported
+some_left None true P is test reported = cc
+some_left None false P is test reported = cc
 
 abbrev day_at : ℤ → Day
 day_at z = record { 0 = z }

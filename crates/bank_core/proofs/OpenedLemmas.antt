@@ -5,8 +5,8 @@ use Rattle.std.proofs.lemmas.List.{get_or_append_left, get_or_push}
 use Rattle.bank_accounts.specs.AccountView.{AccountView}
 
 -- one account more, numbered by its place
-pub numbered_push : (accounts : List AccountView) (account : AccountView) (place : ℕ) → length accounts ≡ place → ((k : ℕ) (d : AccountView) → k < length accounts → (get_or accounts k d).number.0 ≡ k) → account.number.0 ≡ place → (k : ℕ) (d : AccountView) → k < length (accounts ++ account ∷ []) → (get_or (accounts ++ account ∷ []) k d).number.0 ≡ k
-numbered_push accounts account place count numbered is k d below = number_at (ltb k (length accounts)) refl
+pub numbered_push : (accounts : List AccountView) (account : AccountView) (occurrence : ℕ) → length accounts ≡ occurrence → ((k : ℕ) (d : AccountView) → k < length accounts → (get_or accounts k d).number.0 ≡ k) → account.number.0 ≡ occurrence → (k : ℕ) (d : AccountView) → k < length (accounts ++ account ∷ []) → (get_or (accounts ++ account ∷ []) k d).number.0 ≡ k
+numbered_push accounts account occurrence count numbered is k d below = number_at (ltb k (length accounts)) refl
   where
     number_at : (b : Bool) → ltb k (length accounts) ≡ b → (get_or (accounts ++ account ∷ []) k d).number.0 ≡ k
     number_at true less =

@@ -25,16 +25,16 @@ use Rattle.bank_model.specs.declared.entry.Entry.{Entry}
 use Rattle.bank_model.specs.Rules.{Outcome, with_entries, unasked, raised, ask_answers, reply_file, release, keep, with_kept, kept_for, outcome_with, new_outcome, outcome_or_kept, file_outcome, letter_entry, step, state_after, answer_to, named_by, named_by_row, named, IsLegal}
 use Rattle.bank_accounts.specs.AccountView.{AccountView}
 use Rattle.bank_accounts.specs.HeldAccounts.{AreHeld}
-use Rattle.bank_rules.specs.Standing.{IsSoundState}
-use Rattle.bank_rules.proofs.EventLemmas.{few_number}
-use Rattle.bank_rules.proofs.StateLemmas.{IsSoundState-raised, IsSoundState-step, absent-release}
+use Rattle.bank_invariants.specs.SoundStates.{IsSoundState}
+use Rattle.bank_invariants.proofs.EventLemmas.{few_number}
+use Rattle.bank_invariants.proofs.StateLemmas.{IsSoundState-raised, IsSoundState-step, absent-release}
 use Rattle.bank_ledger.specs.LedgerView.{Room}
 use Rattle.bank_ledger.specs.DraftView.{AddedView, DraftView, pair_of, with_added, IsAdded, AreGiven, drafted, IsSameFile, HasAdded, IsAddedBy}
 use Rattle.bank_ledger.proofs.StateParts.{same_state}
 use Rattle.bank_ledger.proofs.DraftStates.{drafted-added, added_as}
 use Rattle.bank_core.specs.BookView.{PreparedView, HasRoom}
 use Rattle.bank_core.specs.Preparing.{prepared_after, IsPrepared}
-use Rattle.bank_rules.proofs.RunLaws.{kept_for-raised, again_outcome}
+use Rattle.bank_invariants.proofs.RunLaws.{kept_for-raised, again_outcome}
 
 abbrev pub started : Setup → State → List AccountView → UserId → Moment → DraftView
 started setup S held user at = record { setup = setup; before = S; held = held; user = user; at = at; day = (raised S at).day; entries = []; uids = [] }
@@ -72,8 +72,8 @@ IsAddedTo-of setup S old draft added is_setup is_before same by =
 abbrev pub prepared_with : Setup → State → Event → State → List ℕ → PreparedView
 prepared_with setup S event after reply = record { setup = setup; before = S; event = event; after = after; reply = reply }
 
-same_prepared : (setup : Setup) (S : State) (event : Event) (after other : State) (reply told : List ℕ) → after ≡ other → reply ≡ told → prepared_with setup S event after reply ≡ prepared_with setup S event other told
-same_prepared setup S event after other reply told is_after is_reply =
+same_prepared : (setup : Setup) (S : State) (event : Event) (after other : State) (reply reported : List ℕ) → after ≡ other → reply ≡ reported → prepared_with setup S event after reply ≡ prepared_with setup S event other reported
+same_prepared setup S event after other reply reported is_after is_reply =
     ap (λ (T : State). prepared_with setup S event T reply) is_after ∙ ap (prepared_with setup S event other) is_reply
 
 pub IsPrepared-again : (setup : Setup) (S : State) (held : List AccountView) (user : UserId) (at : Moment) (draft : DraftView) (added : AddedView) (bytes : List ℕ) → draft ≡ started setup S held user at → IsAddedTo setup S draft added → IsSoundState setup S → IsMoment at.0 → IsPrepared setup S added None None bytes
@@ -84,10 +84,10 @@ IsPrepared-again setup S held user at draft added bytes is to sound moment = rec
   absent = tt;
 }
 
-pub again_is : (setup : Setup) (S : State) (event : Event) (held : List AccountView) (user : UserId) (at : Moment) (draft : DraftView) (added : AddedView) (file : RequestFile) (bytes reply told : List ℕ) → event ≡ File user file → draft ≡ started setup S held user at → IsAddedTo setup S draft added → kept_for S user file.newer ≡ Some reply → told ≡ reply → prepared_with setup S event (prepared_after S added None None bytes) told ≡ prepared_with setup S event (state_after setup S at event) (answer_to setup S at event)
-again_is setup S event held user at draft added file bytes reply told is_file is to kept same =
+pub again_is : (setup : Setup) (S : State) (event : Event) (held : List AccountView) (user : UserId) (at : Moment) (draft : DraftView) (added : AddedView) (file : RequestFile) (bytes reply reported : List ℕ) → event ≡ File user file → draft ≡ started setup S held user at → IsAddedTo setup S draft added → kept_for S user file.newer ≡ Some reply → reported ≡ reply → prepared_with setup S event (prepared_after S added None None bytes) reported ≡ prepared_with setup S event (state_after setup S at event) (answer_to setup S at event)
+again_is setup S event held user at draft added file bytes reply reported is_file is to kept same =
     let outcome : step setup S at event ≡ record { reply = reply; after = raised S at } = ap (step setup S at) is_file ∙ again_outcome setup S user at file reply kept in
-    same_prepared setup S event _ _ told _
+    same_prepared setup S event _ _ reported _
     (to.state ∙ ap drafted is ∙ drafted-started setup S held user at ∙ sym (ap (λ (o : Outcome). o.after) outcome))
     (same ∙ sym (ap (λ (o : Outcome). o.reply) outcome))
 
@@ -108,7 +108,7 @@ pub record IsAnswered (setup : Setup) (S : State) (user : UserId) (at : Moment) 
   pub rows : IsAdded S added
   pub balances : AreGiven setup S added
   pub after : with_added S added ≡ (ask_answers setup (raised S at) user at file.asks).after
-  pub told : reply ≡ reply_text (reply_file at file (ask_answers setup (raised S at) user at file.asks).replies)
+  pub reported : reply ≡ reply_text (reply_file at file (ask_answers setup (raised S at) user at file.asks).replies)
   pub copied : is_some file.newer ≡ true → copy ≡ reply
 
 pub anew_after : (setup : Setup) (S : State) (user : UserId) (at : Moment) (file : RequestFile) (added : AddedView) (reply copy : List ℕ) → kept_for S user file.newer ≡ None → IsAnswered setup S user at file added reply copy → prepared_after S added file.older file.newer copy ≡ state_after setup S at (File user file)
@@ -118,14 +118,14 @@ anew_after setup S user at file added reply copy absent answered =
     ap (λ (u : UserId). with_kept (with_added S added) (keep u file.newer copy (release u file.older S.kept))) answered.asked_by
     ∙ ap (λ (kept : List KeptReply). with_kept (with_added S added) kept) (same_keep user file.newer reply copy (release user file.older S.kept) answered.copied)
     ∙ ap (λ (T : State). with_kept T (keep user file.newer reply (release user file.older T.kept))) answered.after
-    ∙ ap (λ (bytes : List ℕ). with_kept after (keep user file.newer bytes (release user file.older after.kept))) answered.told
+    ∙ ap (λ (bytes : List ℕ). with_kept after (keep user file.newer bytes (release user file.older after.kept))) answered.reported
     ∙ sym (ap (λ (o : Outcome). o.after) outcome)
 
 pub anew_is : (setup : Setup) (S : State) (event : Event) (user : UserId) (at : Moment) (file : RequestFile) (added : AddedView) (reply copy : List ℕ) → event ≡ File user file → kept_for S user file.newer ≡ None → IsAnswered setup S user at file added reply copy → prepared_with setup S event (prepared_after S added file.older file.newer copy) reply ≡ prepared_with setup S event (state_after setup S at event) (answer_to setup S at event)
 anew_is setup S event user at file added reply copy is_file absent answered =
     same_prepared setup S event _ _ reply _
     (anew_after setup S user at file added reply copy absent answered ∙ sym (ap (state_after setup S at) is_file))
-    (answered.told ∙ sym (ap (λ (o : Outcome). o.reply) (anew_outcome setup S user at file absent)) ∙ sym (ap (answer_to setup S at) is_file))
+    (answered.reported ∙ sym (ap (λ (o : Outcome). o.reply) (anew_outcome setup S user at file absent)) ∙ sym (ap (answer_to setup S at) is_file))
 
 absent_named : (S : State) (user other : UserId) (older newer : Option (List ℕ)) → other ≡ user → kept_for S user newer ≡ None → IfSome newer (λ (file : List ℕ). reply_kept other file (release other older S.kept) ≡ None)
 absent_named S user other older None same absent = tt
@@ -161,15 +161,15 @@ named_asks setup S held event user at draft file items is are started_is named_h
     let asked : AreHeld held (flat_map (named_by setup) file.asks) = subst (λ (e : Event). AreHeld held (named setup S e)) is named_held in
     rw (started_is, are) asked
 
-pub answered_of : (setup : Setup) (S : State) (held : List AccountView) (user : UserId) (at : Moment) (file : RequestFile) (draft more : DraftView) (added : AddedView) (items : List Ask) (replies : List AskReply) (reply : ReplyFile) (told copy : List ℕ) → draft ≡ started setup S held user at → items ≡ file.asks → IsSameFile draft more → IsAddedBy more added → drafted more ≡ (ask_answers draft.setup (drafted draft) draft.user draft.at items).after → replies ≡ (ask_answers draft.setup (drafted draft) draft.user draft.at items).replies → reply ≡ reply_file at file replies → told ≡ reply_text reply → (is_some file.newer ≡ true → copy ≡ told) → IsAnswered setup S user at file added told copy
-answered_of setup S held user at file draft more added items replies reply told copy is are same by after replied is_reply is_told copied =
+pub answered_of : (setup : Setup) (S : State) (held : List AccountView) (user : UserId) (at : Moment) (file : RequestFile) (draft more : DraftView) (added : AddedView) (items : List Ask) (replies : List AskReply) (reply : ReplyFile) (reported copy : List ℕ) → draft ≡ started setup S held user at → items ≡ file.asks → IsSameFile draft more → IsAddedBy more added → drafted more ≡ (ask_answers draft.setup (drafted draft) draft.user draft.at items).after → replies ≡ (ask_answers draft.setup (drafted draft) draft.user draft.at items).replies → reply ≡ reply_file at file replies → reported ≡ reply_text reply → (is_some file.newer ≡ true → copy ≡ reported) → IsAnswered setup S user at file added reported copy
+answered_of setup S held user at file draft more added items replies reply reported copy is are same by after replied is_reply is_reported copied =
     let to = IsAddedTo-of setup S draft more added (ap (λ (d : DraftView). d.setup) is) (ap (λ (d : DraftView). d.before) is) same by in
     record {
       asked_by = to.user ∙ same.user ∙ ap (λ (d : DraftView). d.user) is;
       rows = to.rows;
       balances = to.balances;
       after = to.state ∙ asks_after-is setup S (drafted more) held user at draft file.asks items is are after;
-      told = is_told ∙ ap reply_text (is_reply ∙ ap (reply_file at file) (asks_replies-are setup S held user at draft file.asks items replies is are replied));
+      reported = is_reported ∙ ap reply_text (is_reply ∙ ap (reply_file at file) (asks_replies-are setup S held user at draft file.asks items replies is are replied));
       copied = copied;
     }
 
@@ -189,12 +189,12 @@ HasRoom-added room before after entries count uids are counted used in_entries i
 -- ---- events that nobody asks for
 
 -- What is prepared of such an event, and that it is the event's.
-pub record IsUnasked (setup : Setup) (S : State) (event : Event) (at : Moment) (added : AddedView) (kept told : List ℕ) : Type 0 where
+pub record IsUnasked (setup : Setup) (S : State) (event : Event) (at : Moment) (added : AddedView) (kept reported : List ℕ) : Type 0 where
   pub prepared : IsPrepared setup S added None None kept
-  pub is : prepared_with setup S event (prepared_after S added None None kept) told ≡ prepared_with setup S event (state_after setup S at event) (answer_to setup S at event)
+  pub is : prepared_with setup S event (prepared_after S added None None kept) reported ≡ prepared_with setup S event (state_after setup S at event) (answer_to setup S at event)
 
-unasked_of : (setup : Setup) (S : State) (event : Event) (held : List AccountView) (user : UserId) (at : Moment) (draft more : DraftView) (added : AddedView) (entries : List Entry) (kept told : List ℕ) → draft ≡ started setup S held user at → step setup S at event ≡ unasked (raised S at) entries → HasAdded draft more entries → IsAddedBy more added → told ≡ [] → IsWithinLimits setup → IsSoundState setup S → IsMoment at.0 → IsLegal setup S at event → IsUnasked setup S event at added kept told
-unasked_of setup S event held user at draft more added entries kept told is does has by none within sound moment legal =
+unasked_of : (setup : Setup) (S : State) (event : Event) (held : List AccountView) (user : UserId) (at : Moment) (draft more : DraftView) (added : AddedView) (entries : List Entry) (kept reported : List ℕ) → draft ≡ started setup S held user at → step setup S at event ≡ unasked (raised S at) entries → HasAdded draft more entries → IsAddedBy more added → reported ≡ [] → IsWithinLimits setup → IsSoundState setup S → IsMoment at.0 → IsLegal setup S at event → IsUnasked setup S event at added kept reported
+unasked_of setup S event held user at draft more added entries kept reported is does has by none within sound moment legal =
     let to = IsAddedTo-of setup S draft more added (ap (λ (d : DraftView). d.setup) is) (ap (λ (d : DraftView). d.before) is) has.same by in
     let after : with_added S added ≡ with_entries (raised S at) entries =
     to.state ∙ drafted-added draft more entries has ∙ ap (λ (T : State). with_entries T entries) (ap drafted is ∙ drafted-started setup S held user at) in
@@ -205,7 +205,7 @@ unasked_of setup S event held user at draft more added entries kept told is does
         sound = subst (IsSoundState setup) (sym after) (subst (IsSoundState setup) (ap (λ (o : Outcome). o.after) does) (IsSoundState-step setup S at event within sound moment legal));
         absent = tt;
       };
-      is = same_prepared setup S event _ _ told _ (after ∙ sym (ap (λ (o : Outcome). o.after) does)) (none ∙ sym (ap (λ (o : Outcome). o.reply) does));
+      is = same_prepared setup S event _ _ reported _ (after ∙ sym (ap (λ (o : Outcome). o.after) does)) (none ∙ sym (ap (λ (o : Outcome). o.reply) does));
     }
 
 drafted_is : (setup : Setup) (S : State) (held : List AccountView) (user : UserId) (at : Moment) (draft : DraftView) → draft ≡ started setup S held user at → drafted draft ≡ raised S at
@@ -223,22 +223,22 @@ named_started setup S event held user at draft id is is_event named_held =
     subst (λ (d : DraftView). AreHeld d.held (named_by_row d.setup (row_of id (drafted d).entries))) (sym is)
     (subst (λ (T : State). AreHeld held (named_by_row setup (row_of id T.entries))) (sym (drafted-started setup S held user at)) (subst (λ (e : Event). AreHeld held (named setup S e)) is_event named_held))
 
-pub unasked_post : (setup : Setup) (S : State) (event : Event) (held : List AccountView) (user : UserId) (at : Moment) (draft more : DraftView) (added : AddedView) (id : ℕ) (kept told : List ℕ) → draft ≡ started setup S held user at → event ≡ Post id → HasAdded draft more (posts draft.setup (drafted draft) draft.at (row_of id (drafted draft).entries)) → IsAddedBy more added → told ≡ [] → IsWithinLimits setup → IsSoundState setup S → IsMoment at.0 → IsLegal setup S at event → IsUnasked setup S event at added kept told
-unasked_post setup S event held user at draft more added id kept told is is_event has by none within sound moment legal =
-    unasked_of setup S event held user at draft more added (posts setup (raised S at) at (row_of id S.entries)) kept told is (ap (step setup S at) is_event)
+pub unasked_post : (setup : Setup) (S : State) (event : Event) (held : List AccountView) (user : UserId) (at : Moment) (draft more : DraftView) (added : AddedView) (id : ℕ) (kept reported : List ℕ) → draft ≡ started setup S held user at → event ≡ Post id → HasAdded draft more (posts draft.setup (drafted draft) draft.at (row_of id (drafted draft).entries)) → IsAddedBy more added → reported ≡ [] → IsWithinLimits setup → IsSoundState setup S → IsMoment at.0 → IsLegal setup S at event → IsUnasked setup S event at added kept reported
+unasked_post setup S event held user at draft more added id kept reported is is_event has by none within sound moment legal =
+    unasked_of setup S event held user at draft more added (posts setup (raised S at) at (row_of id S.entries)) kept reported is (ap (step setup S at) is_event)
     (added_as draft more _ _ (ap (λ (d : DraftView). posts d.setup (drafted draft) d.at (row_of id (drafted draft).entries)) is ∙ ap (λ (T : State). posts setup T at (row_of id T.entries)) (drafted_is setup S held user at draft is)) has) by none within sound moment legal
 
 -- making the next transfer
 
-pub may_spawn_started : (setup : Setup) (S : State) (event : Event) (held : List AccountView) (user : UserId) (at : Moment) (draft : DraftView) (id place : ℕ) → draft ≡ started setup S held user at → event ≡ Spawn id place → IsLegal setup S at event → may_spawn draft.setup (drafted draft) id place ≡ true
-may_spawn_started setup S event held user at draft id place is is_event legal =
-    subst (λ (d : DraftView). may_spawn d.setup (drafted d) id place ≡ true) (sym is)
-    (subst (λ (T : State). may_spawn setup T id place ≡ true) (sym (drafted-started setup S held user at)) (subst (IsLegal setup S at) is_event legal))
+pub may_spawn_started : (setup : Setup) (S : State) (event : Event) (held : List AccountView) (user : UserId) (at : Moment) (draft : DraftView) (id occurrence : ℕ) → draft ≡ started setup S held user at → event ≡ Spawn id occurrence → IsLegal setup S at event → may_spawn draft.setup (drafted draft) id occurrence ≡ true
+may_spawn_started setup S event held user at draft id occurrence is is_event legal =
+    subst (λ (d : DraftView). may_spawn d.setup (drafted d) id occurrence ≡ true) (sym is)
+    (subst (λ (T : State). may_spawn setup T id occurrence ≡ true) (sym (drafted-started setup S held user at)) (subst (IsLegal setup S at) is_event legal))
 
-pub unasked_spawn : (setup : Setup) (S : State) (event : Event) (held : List AccountView) (user : UserId) (at : Moment) (draft more : DraftView) (added : AddedView) (id place : ℕ) (kept told : List ℕ) → draft ≡ started setup S held user at → event ≡ Spawn id place → HasAdded draft more (spawns draft.setup (drafted draft) id place) → IsAddedBy more added → told ≡ [] → IsWithinLimits setup → IsSoundState setup S → IsMoment at.0 → IsLegal setup S at event → IsUnasked setup S event at added kept told
-unasked_spawn setup S event held user at draft more added id place kept told is is_event has by none within sound moment legal =
-    unasked_of setup S event held user at draft more added (spawns setup (raised S at) id place) kept told is (ap (step setup S at) is_event)
-    (added_as draft more _ _ (ap (λ (d : DraftView). spawns d.setup (drafted draft) id place) is ∙ ap (λ (T : State). spawns setup T id place) (drafted_is setup S held user at draft is)) has) by none within sound moment legal
+pub unasked_spawn : (setup : Setup) (S : State) (event : Event) (held : List AccountView) (user : UserId) (at : Moment) (draft more : DraftView) (added : AddedView) (id occurrence : ℕ) (kept reported : List ℕ) → draft ≡ started setup S held user at → event ≡ Spawn id occurrence → HasAdded draft more (spawns draft.setup (drafted draft) id occurrence) → IsAddedBy more added → reported ≡ [] → IsWithinLimits setup → IsSoundState setup S → IsMoment at.0 → IsLegal setup S at event → IsUnasked setup S event at added kept reported
+unasked_spawn setup S event held user at draft more added id occurrence kept reported is is_event has by none within sound moment legal =
+    unasked_of setup S event held user at draft more added (spawns setup (raised S at) id occurrence) kept reported is (ap (step setup S at) is_event)
+    (added_as draft more _ _ (ap (λ (d : DraftView). spawns d.setup (drafted draft) id occurrence) is ∙ ap (λ (T : State). spawns setup T id occurrence) (drafted_is setup S held user at draft is)) has) by none within sound moment legal
 
 -- letters
 
@@ -252,7 +252,7 @@ pub letter_known : (setup : Setup) (S : State) (event : Event) (held : List Acco
 letter_known setup S event held user writer at draft subject body is is_event legal =
     subst (λ (d : DraftView). user.0 < length d.setup.users) (sym is) (subst (IsLegal setup S at) is_event legal).0
 
-pub unasked_letter : (setup : Setup) (S : State) (event : Event) (held : List AccountView) (user writer : UserId) (at : Moment) (draft more : DraftView) (added : AddedView) (subject body : List ℕ) (kept told : List ℕ) → draft ≡ started setup S held writer at → event ≡ Letter user subject body → HasAdded draft more (letter_entry draft.setup (drafted draft) user draft.at subject body ∷ []) → IsAddedBy more added → told ≡ [] → IsWithinLimits setup → IsSoundState setup S → IsMoment at.0 → IsLegal setup S at event → IsUnasked setup S event at added kept told
-unasked_letter setup S event held user writer at draft more added subject body kept told is is_event has by none within sound moment legal =
-    unasked_of setup S event held writer at draft more added (letter_entry setup (raised S at) user at subject body ∷ []) kept told is (ap (step setup S at) is_event)
+pub unasked_letter : (setup : Setup) (S : State) (event : Event) (held : List AccountView) (user writer : UserId) (at : Moment) (draft more : DraftView) (added : AddedView) (subject body : List ℕ) (kept reported : List ℕ) → draft ≡ started setup S held writer at → event ≡ Letter user subject body → HasAdded draft more (letter_entry draft.setup (drafted draft) user draft.at subject body ∷ []) → IsAddedBy more added → reported ≡ [] → IsWithinLimits setup → IsSoundState setup S → IsMoment at.0 → IsLegal setup S at event → IsUnasked setup S event at added kept reported
+unasked_letter setup S event held user writer at draft more added subject body kept reported is is_event has by none within sound moment legal =
+    unasked_of setup S event held writer at draft more added (letter_entry setup (raised S at) user at subject body ∷ []) kept reported is (ap (step setup S at) is_event)
     (added_as draft more _ _ (ap (λ (d : DraftView). letter_entry d.setup (drafted draft) user d.at subject body ∷ []) is ∙ ap (λ (T : State). letter_entry setup T user at subject body ∷ []) (drafted_is setup S held writer at draft is)) has) by none within sound moment legal

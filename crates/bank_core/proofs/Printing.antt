@@ -36,16 +36,16 @@ use Rattle.bank_model.specs.Judging.{is_cancelled}
 use Rattle.bank_model.specs.Deeds.{done, code_of, first_change, deed_answer}
 use Rattle.bank_model.specs.SetupLookups.{own_account}
 use Rattle.bank_model.specs.Objects.{account_about, object_named, belongs_to, history_of, newest}
-use Rattle.bank_model.specs.Polls.{told_token, newest_if_any, poll_answer, poll_reply}
-use Rattle.bank_model.specs.Sync.{token_of, is_lost, told_as, is_above, entries_above, told_entry, standing_transfer, standing_model, standing_in, standing, history_told, refused_with, rejection, deed_answers, deeds_or_rejection, sync_on, sync_answer}
+use Rattle.bank_model.specs.Polls.{reported_token, newest_if_any, poll_answer, poll_reply}
+use Rattle.bank_model.specs.Sync.{token_of, is_lost, reply_with_change, is_above, entries_above, reply_of_entry, current_transfer, current_model, current_in, present, history_replies, refused_with, rejection, deed_answers, deeds_or_rejection, sync_on, sync_answer}
 use Rattle.bank_model.specs.Rules.{asked_list, list_of, statement_reply, ask_answer, ask_answers, reply_file}
 use Rattle.bank_model.specs.Sound.{IsSoundAsk, IsSoundDeed, IsSoundPair, IsSoundSync, IsSoundPeriod}
 use Rattle.bank_model.specs.Models.{model_of, is_model_dropped}
-use Rattle.bank_rules.specs.Standing.{IsSoundRow, HasSoundRow, MayBeTold, IsSoundState}
-use Rattle.bank_rules.proofs.NextLemmas.{not_cancelled}
-use Rattle.bank_rules.proofs.DoneLemmas.{IsDone, deed_done}
-use Rattle.bank_rules.proofs.SoundFound.{row_sound, model_sound}
-use Rattle.bank_rules.proofs.StateLemmas.{IsAllowed-from_code, IsSoundState-deed, IsSoundState-ask}
+use Rattle.bank_invariants.specs.SoundStates.{IsSoundRow, HasSoundRow, MayBeReported, IsSoundState}
+use Rattle.bank_invariants.proofs.NextLemmas.{not_cancelled}
+use Rattle.bank_invariants.proofs.DoneLemmas.{IsDone, deed_done}
+use Rattle.bank_invariants.proofs.SoundFound.{row_sound, model_sound}
+use Rattle.bank_invariants.proofs.StateLemmas.{IsAllowed-from_code, IsSoundState-deed, IsSoundState-ask}
 use Rattle.bank_model.proofs.Lists.{all_append, all_filtered}
 use Rattle.bank_model.proofs.Rejections.{rejection_coded}
 
@@ -118,7 +118,7 @@ printable_statement setup S at trnuid name period (Some account) good lawful sou
 printable_done : (setup : Setup) (S : State) (entries : List Entry) → IsDone setup S entries → HasChangeByCode 0 (first_change entries)
 printable_done setup S entries does =
     subst (λ (l : List Entry). HasChangeByCode 0 (first_change l)) (sym does.are)
-    (refl, does.next.told)
+    (refl, does.next.reported)
 
 printable_coded : (setup : Setup) (S : State) (code : ℕ) (zero : Bool) (entries : List Entry) → eqb code 0 ≡ zero → (code ≡ 0 → IsDone setup S entries) → HasChangeByCode code (first_change (cond zero entries []))
 printable_coded setup S code true entries is does =
@@ -138,63 +138,63 @@ printable_deed setup S user only at trnuid deed within good lawful sound =
 abbrev MayBePrinted : DeedReply → Type 0
 MayBePrinted reply = HasChangeByCode reply.code reply.change
 
-history_told_of : (object : ObjectId) (entries : List Entry) → AllByRecursion MayBeTold entries → AllByRecursion MayBeTold (history_of object entries)
+history_reported_of : (object : ObjectId) (entries : List Entry) → AllByRecursion MayBeReported entries → AllByRecursion MayBeReported (history_of object entries)
 unfolding history_of
-history_told_of object entries told = all_filtered MayBeTold (belongs_to object) entries told
+history_reported_of object entries reported = all_filtered MayBeReported (belongs_to object) entries reported
 
-told_entries : (family : Family) (entries : List Entry) → AllByRecursion MayBeTold entries → AllByRecursion MayBePrinted (map (told_entry family) entries)
-told_entries family [] told = tt
-told_entries family (entry ∷ entries) told = ((refl, told.0), told_entries family entries told.1)
+reported_entries : (family : Family) (entries : List Entry) → AllByRecursion MayBeReported entries → AllByRecursion MayBePrinted (map (reply_of_entry family) entries)
+reported_entries family [] reported = tt
+reported_entries family (entry ∷ entries) reported = ((refl, reported.0), reported_entries family entries reported.1)
 
-above_told : (token : Option ℕ) (entries : List Entry) → AllByRecursion MayBeTold entries → AllByRecursion MayBeTold (entries_above token entries)
-above_told None entries told = tt
-above_told (Some token) entries told = all_filtered MayBeTold (is_above token) entries told
+above_reported : (token : Option ℕ) (entries : List Entry) → AllByRecursion MayBeReported entries → AllByRecursion MayBeReported (entries_above token entries)
+above_reported None entries reported = tt
+above_reported (Some token) entries reported = all_filtered MayBeReported (is_above token) entries reported
 
--- what stands now of a change that may be told
-standing_row : (setup : Setup) (S : State) (id : ℕ) (found : Option TransferRow) → IsSoundState setup S → row_of id S.entries ≡ found → AllByRecursion IsPrintableChange (standing_transfer found)
-standing_row setup S id None sound is = tt
-standing_row setup S id (Some row) sound is = unless (is_cancelled row.code) refl
+-- what there is now of a change that may be reported
+current_row : (setup : Setup) (S : State) (id : ℕ) (found : Option TransferRow) → IsSoundState setup S → row_of id S.entries ≡ found → AllByRecursion IsPrintableChange (current_transfer found)
+current_row setup S id None sound is = tt
+current_row setup S id (Some row) sound is = unless (is_cancelled row.code) refl
   where
     good : IsSoundRow setup row
     good = row_sound setup S id row sound is
 
     unless : (cancelled : Bool) → is_cancelled row.code ≡ cancelled → AllByRecursion IsPrintableChange (cond cancelled [] (NewTransfer row ∷ []))
     unless true here = tt
-    unless false here = (record { told = not_cancelled row.code here; due = good.due; stamp = good.stamp }, tt)
+    unless false here = (record { reported = not_cancelled row.code here; due = good.due; stamp = good.stamp }, tt)
 
-standing_recurring : (setup : Setup) (S : State) (id : ℕ) (cancelled : Bool) (found : Option ModelRow) → IsSoundState setup S → model_of id S.entries ≡ found → AllByRecursion IsPrintableChange (standing_model cancelled found)
-standing_recurring setup S id cancelled None sound is = tt
-standing_recurring setup S id true (Some row) sound is = tt
-standing_recurring setup S id false (Some row) sound is = ((model_sound setup S id row sound is).first, tt)
+current_recurring : (setup : Setup) (S : State) (id : ℕ) (cancelled : Bool) (found : Option ModelRow) → IsSoundState setup S → model_of id S.entries ≡ found → AllByRecursion IsPrintableChange (current_model cancelled found)
+current_recurring setup S id cancelled None sound is = tt
+current_recurring setup S id true (Some row) sound is = tt
+current_recurring setup S id false (Some row) sound is = ((model_sound setup S id row sound is).first, tt)
 
-standing_change : (setup : Setup) (S : State) (change : Change) → IsSoundState setup S → IsPrintableChange change → AllByRecursion IsPrintableChange (standing_in S.entries change)
-standing_change setup S (NewTransfer row) sound told = standing_row setup S row.id (row_of row.id S.entries) sound refl
-standing_change setup S (SetTransfer row) sound told = tt
-standing_change setup S (DropTransfer id) sound told = tt
-standing_change setup S (NewModel row) sound told = standing_recurring setup S row.id (is_model_dropped row.id S.entries) (model_of row.id S.entries) sound refl
-standing_change setup S (SetModel row also) sound told = tt
-standing_change setup S (DropModel id also) sound told = tt
-standing_change setup S (NewMail row) sound told = (told, tt)
+current_change : (setup : Setup) (S : State) (change : Change) → IsSoundState setup S → IsPrintableChange change → AllByRecursion IsPrintableChange (current_in S.entries change)
+current_change setup S (NewTransfer row) sound reported = current_row setup S row.id (row_of row.id S.entries) sound refl
+current_change setup S (SetTransfer row) sound reported = tt
+current_change setup S (DropTransfer id) sound reported = tt
+current_change setup S (NewModel row) sound reported = current_recurring setup S row.id (is_model_dropped row.id S.entries) (model_of row.id S.entries) sound refl
+current_change setup S (SetModel row also) sound reported = tt
+current_change setup S (DropModel id also) sound reported = tt
+current_change setup S (NewMail row) sound reported = (reported, tt)
 
-standing_all : (setup : Setup) (S : State) (entries : List Entry) → IsSoundState setup S → AllByRecursion MayBeTold entries → AllByRecursion IsPrintableChange (flat_map (λ (entry : Entry). standing_in S.entries entry.change) entries)
-standing_all setup S [] sound told = tt
-standing_all setup S (entry ∷ entries) sound told =
-    all_append IsPrintableChange (standing_in S.entries entry.change) _ (standing_change setup S entry.change sound told.0) (standing_all setup S entries sound told.1)
+current_all : (setup : Setup) (S : State) (entries : List Entry) → IsSoundState setup S → AllByRecursion MayBeReported entries → AllByRecursion IsPrintableChange (flat_map (λ (entry : Entry). current_in S.entries entry.change) entries)
+current_all setup S [] sound reported = tt
+current_all setup S (entry ∷ entries) sound reported =
+    all_append IsPrintableChange (current_in S.entries entry.change) _ (current_change setup S entry.change sound reported.0) (current_all setup S entries sound reported.1)
 
-told_changes : (family : Family) (trnuid : List ℕ) (changes : List Change) → AllByRecursion IsPrintableChange changes → AllByRecursion MayBePrinted (map (told_as family trnuid) changes)
-told_changes family trnuid [] told = tt
-told_changes family trnuid (change ∷ changes) told = ((refl, told.0), told_changes family trnuid changes told.1)
+reported_changes : (family : Family) (trnuid : List ℕ) (changes : List Change) → AllByRecursion IsPrintableChange changes → AllByRecursion MayBePrinted (map (reply_with_change family trnuid) changes)
+reported_changes family trnuid [] reported = tt
+reported_changes family trnuid (change ∷ changes) reported = ((refl, reported.0), reported_changes family trnuid changes reported.1)
 
-printable_history : (setup : Setup) (S : State) (object : ObjectId) (family : Family) (kind : SyncKind) → IsSoundState setup S → AllByRecursion MayBePrinted (history_told setup.window object family S.entries kind)
-unfolding history_told standing
+printable_history : (setup : Setup) (S : State) (object : ObjectId) (family : Family) (kind : SyncKind) → IsSoundState setup S → AllByRecursion MayBePrinted (history_replies setup.window object family S.entries kind)
+unfolding history_replies present
 printable_history setup S object family (After text) sound =
-    elim (is_lost setup.window object S.entries (After text)) as (λ lost. AllByRecursion MayBePrinted (cond lost [] (map (told_entry family) (entries_above (token_of text) (history_of object S.entries))))) [
+    elim (is_lost setup.window object S.entries (After text)) as (λ lost. AllByRecursion MayBePrinted (cond lost [] (map (reply_of_entry family) (entries_above (token_of text) (history_of object S.entries))))) [
       | true ↦ tt
-      | false ↦ told_entries family _ (above_told (token_of text) (history_of object S.entries) (history_told_of object S.entries sound.told))
+      | false ↦ reported_entries family _ (above_reported (token_of text) (history_of object S.entries) (history_reported_of object S.entries sound.reported))
     ]
 printable_history setup S object family TokenOnly sound = tt
 printable_history setup S object family Refresh sound =
-    told_changes family (codes "0") _ (standing_all setup S (history_of object S.entries) sound (history_told_of object S.entries sound.told))
+    reported_changes family (codes "0") _ (current_all setup S (history_of object S.entries) sound (history_reported_of object S.entries sound.reported))
 
 printable_refused : (family : Family) (code : ℕ) (deeds : List (List ℕ × Deed)) → code ≢ 0 → AllByRecursion MayBePrinted (map (refused_with family code) deeds)
 printable_refused family code [] other = tt
@@ -212,7 +212,7 @@ printable_sync : (setup : Setup) (S : State) (user : UserId) (at : Moment) (ask 
 unfolding sync_on deeds_or_rejection
 printable_sync setup S user at ask None within good lawful sound = printable_refused (object_family ask.object) 2003 ask.deeds (λ (e : 2003 ≡ 0). omega arith)
 printable_sync setup S user at ask (Some object) within good lawful sound =
-    all_append MayBePrinted (history_told setup.window object (object_family ask.object) S.entries ask.kind) _
+    all_append MayBePrinted (history_replies setup.window object (object_family ask.object) S.entries ask.kind) _
     (printable_history setup S object (object_family ask.object) ask.kind good)
     (unless (rejection ask.reject (newest object S.entries) ask.kind) (rejection_coded ask.reject (newest object S.entries) ask.kind))
   where
@@ -247,7 +247,7 @@ IsPrintable-reply_file setup S user at file within good lawful sound = record {
 
 -- ---- polls
 
-token_printable : (ask : SyncAsk) (found : Option ℕ) → AllByRecursion MayBePrinted (told_token ask found).replies
+token_printable : (ask : SyncAsk) (found : Option ℕ) → AllByRecursion MayBePrinted (reported_token ask found).replies
 token_printable ask None = tt
 token_printable ask (Some token) = tt
 

@@ -17,9 +17,9 @@ use Rattle.bank_model.specs.declared.setup.Setup.{Setup}
 use Rattle.bank_model.specs.declared.event.State.{State}
 use Rattle.bank_model.specs.Deeds.{deed_answer}
 use Rattle.bank_model.specs.Objects.{newest}
-use Rattle.bank_model.specs.Sync.{is_lost, history_told, rejection, deed_answers, deeds_or_rejection, sync_on}
+use Rattle.bank_model.specs.Sync.{is_lost, history_replies, rejection, deed_answers, deeds_or_rejection, sync_on}
 use Rattle.bank_model.specs.Sound.{IsSoundDeed, IsSoundPair}
-use Rattle.bank_core.proofs.AskAnswers.{told_more, left_more, told_end, left_end}
+use Rattle.bank_core.proofs.AskAnswers.{reported_more, left_more, reported_end, left_end}
 use Rattle.bank_model.proofs.Lists.{all_by_index}
 
 pub sound_deeds : (family : Family) (deeds : List (List ℕ × Deed)) → AllByRecursion (IsSoundPair family) deeds → AllByRecursion (λ (deed : List ℕ × Deed). IsSoundDeed deed.1) deeds
@@ -44,7 +44,7 @@ none_after setup S user only at = refl
 
 pub deed_replies_more : (setup : Setup) (S next : State) (user : UserId) (only : Option AcctId) (at : Moment) (deeds : List (List ℕ × Deed)) (k : ℕ) (deed : List ℕ × Deed) (all replies more : List DeedReply) (reply : DeedReply) → k < length deeds → deed ≡ get_or deeds k deed → reply ≡ (deed_answer setup S user only at deed.0 deed.1).reply → next ≡ (deed_answer setup S user only at deed.0 deed.1).after → more ≡ replies ++ reply ∷ [] → all ≡ replies ++ (deed_answers setup S user only at (drop k deeds)).replies → all ≡ more ++ (deed_answers setup next user only at (drop (k + 1) deeds)).replies
 deed_replies_more setup S next user only at deeds k deed all replies more reply below is is_reply is_next is_more so_far =
-    told_more (λ (T : State) l. (deed_answers setup T user only at l).replies) S next deeds k deed all replies more reply below is (step_replies setup S next user only at deed (drop (k + 1) deeds) reply is_reply is_next) is_more so_far
+    reported_more (λ (T : State) l. (deed_answers setup T user only at l).replies) S next deeds k deed all replies more reply below is (step_replies setup S next user only at deed (drop (k + 1) deeds) reply is_reply is_next) is_more so_far
 
 pub deeds_after_more : (setup : Setup) (S next : State) (user : UserId) (only : Option AcctId) (at : Moment) (deeds : List (List ℕ × Deed)) (k : ℕ) (deed : List ℕ × Deed) (all : State) → k < length deeds → deed ≡ get_or deeds k deed → next ≡ (deed_answer setup S user only at deed.0 deed.1).after → all ≡ (deed_answers setup S user only at (drop k deeds)).after → all ≡ (deed_answers setup next user only at (drop (k + 1) deeds)).after
 deeds_after_more setup S next user only at deeds k deed all below is is_next so_far =
@@ -56,7 +56,7 @@ deed_here deeds k deed known below is =
 
 pub deed_replies_end : (setup : Setup) (S : State) (user : UserId) (only : Option AcctId) (at : Moment) (deeds : List (List ℕ × Deed)) (k : ℕ) (all replies : List DeedReply) → length deeds ≤ k → all ≡ replies ++ (deed_answers setup S user only at (drop k deeds)).replies → replies ≡ all
 deed_replies_end setup S user only at deeds k all replies past so_far =
-    told_end (λ (T : State) l. (deed_answers setup T user only at l).replies) S deeds k all replies past (none_replies setup S user only at) so_far
+    reported_end (λ (T : State) l. (deed_answers setup T user only at l).replies) S deeds k all replies past (none_replies setup S user only at) so_far
 
 pub deeds_after_end : (setup : Setup) (S : State) (user : UserId) (only : Option AcctId) (at : Moment) (deeds : List (List ℕ × Deed)) (k : ℕ) (all : State) → length deeds ≤ k → all ≡ (deed_answers setup S user only at (drop k deeds)).after → S ≡ all
 deeds_after_end setup S user only at deeds k all past so_far =
@@ -80,13 +80,13 @@ pub sync_after-is : (setup : Setup) (S next : State) (user : UserId) (at : Momen
 unfolding sync_on
 sync_after-is setup S next user at ask object code is = is.left ∙ ap (λ (c : Option ℕ). (deeds_or_rejection setup S user at ask c).after) is.judged
 
-pub sync_reply-is : (setup : Setup) (S next : State) (user : UserId) (at : Moment) (ask : SyncAsk) (object : ObjectId) (code : Option ℕ) (name : ObjectName) (token : List ℕ) (lost : Bool) (told replies all : List DeedReply) → IsAnswered setup S next user at ask object code → name ≡ ask.object → token ≡ decimal (newest object next.entries) → lost ≡ is_lost setup.window object S.entries ask.kind → told ≡ history_told setup.window object (object_family ask.object) S.entries ask.kind → replies ≡ told ++ (deeds_or_rejection setup S user at ask code).replies → all ≡ replies → reply_with name token lost all ≡ (sync_on setup S user at ask (Some object)).reply
+pub sync_reply-is : (setup : Setup) (S next : State) (user : UserId) (at : Moment) (ask : SyncAsk) (object : ObjectId) (code : Option ℕ) (name : ObjectName) (token : List ℕ) (lost : Bool) (reported replies all : List DeedReply) → IsAnswered setup S next user at ask object code → name ≡ ask.object → token ≡ decimal (newest object next.entries) → lost ≡ is_lost setup.window object S.entries ask.kind → reported ≡ history_replies setup.window object (object_family ask.object) S.entries ask.kind → replies ≡ reported ++ (deeds_or_rejection setup S user at ask code).replies → all ≡ replies → reply_with name token lost all ≡ (sync_on setup S user at ask (Some object)).reply
 unfolding sync_on
-sync_reply-is setup S next user at ask object code name token lost told replies all is is_name is_token is_lost_is is_told are same =
-    let behind = λ (c : Option ℕ). deeds_or_rejection setup S user at ask c in
+sync_reply-is setup S next user at ask object code name token lost reported replies all is is_name is_token is_lost_is is_reported are same =
+    let rest = λ (c : Option ℕ). deeds_or_rejection setup S user at ask c in
     let right : Option ℕ = rejection ask.reject (newest object S.entries) ask.kind in
-    same_reply name ask.object token (decimal (newest object (behind right).after.entries)) lost (is_lost setup.window object S.entries ask.kind) all _
+    same_reply name ask.object token (decimal (newest object (rest right).after.entries)) lost (is_lost setup.window object S.entries ask.kind) all _
     is_name
-    (is_token ∙ ap (λ (T : State). decimal (newest object T.entries)) is.left ∙ ap (λ (c : Option ℕ). decimal (newest object (behind c).after.entries)) is.judged)
+    (is_token ∙ ap (λ (T : State). decimal (newest object T.entries)) is.left ∙ ap (λ (c : Option ℕ). decimal (newest object (rest c).after.entries)) is.judged)
     is_lost_is
-    (same ∙ are ∙ ap (λ l. l ++ (behind code).replies) is_told ∙ ap (λ (c : Option ℕ). history_told setup.window object (object_family ask.object) S.entries ask.kind ++ (behind c).replies) is.judged)
+    (same ∙ are ∙ ap (λ l. l ++ (rest code).replies) is_reported ∙ ap (λ (c : Option ℕ). history_replies setup.window object (object_family ask.object) S.entries ask.kind ++ (rest c).replies) is.judged)

@@ -5,7 +5,7 @@ use Rattle.bank_model.specs.declared.event.State.{State}
 use Rattle.bank_model.specs.declared.event.Event.{Event}
 use Rattle.bank_ledger.specs.LedgerView.{Room}
 
--- A book is of a setup, and stands in a state.
+-- A book is of a setup, and is in a state.
 pub record BookView : Type 0 where
   pub setup : Setup
   pub state : State

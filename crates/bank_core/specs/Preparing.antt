@@ -5,7 +5,7 @@ use Rattle.bank_model.specs.declared.setup.Setup.{Setup}
 use Rattle.bank_model.specs.declared.event.State.{State}
 use Rattle.bank_model.specs.Once.{reply_kept}
 use Rattle.bank_model.specs.Rules.{with_kept, keep, release}
-use Rattle.bank_rules.specs.Standing.{IsSoundState}
+use Rattle.bank_invariants.specs.SoundStates.{IsSoundState}
 use Rattle.bank_ledger.specs.DraftView.{AddedView, with_added, IsAdded, AreGiven}
 
 -- The state that an event leaves: what it adds, then OLDFILEUID is released and NEWFILEUID is kept with these bytes.

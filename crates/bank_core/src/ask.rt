@@ -10,7 +10,7 @@ ghost use Rattle.bank_ledger.specs.DraftView.{drafted, IsSameFile};
 use crate::sync::sync;
 use bank_deeds::answer_deed;
 use bank_ledger::Draft;
-use bank_telling::statement_of;
+use bank_queries::statement_of;
 use ofx_types::{Ask, AskReplies, AskReply, OutOfMemory, Sequence};
 use std::alloc::Global;
 

@@ -15,7 +15,7 @@ ghost use Rattle.bank_accounts.specs.HeldAccounts.{AreHeld, HaveSameNumbers};
 ghost use Rattle.bank_ledger.specs.Balanced.{AreBalanced};
 ghost use Rattle.bank_core.specs.BookView.{HasRoom, KeepsRoom};
 ghost use Rattle.bank_core.specs.Opened.{AreOpened};
-ghost use Rattle.bank_rules.specs.Standing.{IsSoundState};
+ghost use Rattle.bank_invariants.specs.SoundStates.{IsSoundState};
 
 use crate::opening::opened_accounts;
 use crate::prepared::Prepared;
@@ -27,7 +27,7 @@ use std::alloc::Global;
 use std::hash::RandomState;
 use std::marker::Model;
 
-/// A bank's setup and the state that it stands in, with the printer of its replies.
+/// A bank's setup and the state that it is in, with the printer of its replies.
 #[derive(Drop)]
 pub struct Book<P: Printer> {
     setup: Setup,
@@ -39,7 +39,7 @@ impl<P: Printer> Model for Book<P> {
     ghost use Rattle.std.specs.Prelude.{◌≡◌};
     ghost use Rattle.bank_model.specs.SetupForm.{IsWithinLimits};
     ghost use Rattle.bank_core.specs.BookView.{ReservedBook};
-    ghost use Rattle.bank_rules.specs.Standing.{IsSoundState};
+    ghost use Rattle.bank_invariants.specs.SoundStates.{IsSoundState};
 
     ghost Value = { ReservedBook };
 
@@ -154,7 +154,13 @@ impl<P: Printer> Book<P> {
         match event {
             Event::File(user, file) => self.prepare(alloc, held, event, (*user, at), file),
             Event::Post(id) => self.prepare_post(alloc, held, event, *id, at),
-            Event::Spawn(id, place) => self.prepare_spawn(alloc, held, event, (*id, *place), at),
+            Event::Spawn(id, occurrence) => self.prepare_spawn(
+                alloc,
+                held,
+                event,
+                (*id, *occurrence),
+                at,
+            ),
             Event::Letter(user, subject, body) => {
                 self.prepare_letter(alloc, held, event, (*user, at), subject, body)
             }
@@ -174,7 +180,7 @@ impl<P: Printer> Book<P> {
         ensures balanced { AreBalanced self.new.setup self.new.state held.new }
         ensures reply { result.items ≡ prepared.reply }
     {
-        prepared.take_step(&mut self.ledger, held)
+        prepared.apply_step(&mut self.ledger, held)
     }
 }
 

@@ -16,8 +16,8 @@ pub(crate) fn opened_accounts(alloc: Global, setup: &Setup) -> Result<Vec<Accoun
 {
     let lines = setup.accounts.items();
     let mut accounts = Vec::with_capacity(alloc, lines.len())?;
-    for (place, line) in lines.iter().enumerate() {
-        accounts.push(Account::new(AcctId(place as u32), line.opening))?;
+    for (index, line) in lines.iter().enumerate() {
+        accounts.push(Account::new(AcctId(index as u32), line.opening))?;
     }
     Ok(accounts)
 }

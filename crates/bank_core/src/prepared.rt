@@ -2,7 +2,7 @@
 
 ghost use Rattle.std.specs.Prelude.{◌≡◌, ◌+◌, ◌++◌, [], length};
 ghost use Rattle.bank_accounts.specs.HeldAccounts.{HaveSameNumbers};
-ghost use Rattle.bank_rules.specs.Standing.{IsSoundState};
+ghost use Rattle.bank_invariants.specs.SoundStates.{IsSoundState};
 ghost use Rattle.bank_ledger.specs.Balanced.{AreBalanced};
 ghost use Rattle.bank_core.specs.BookView.{HasRoom};
 ghost use Rattle.bank_core.specs.Preparing.{prepared_after, IsPrepared};
@@ -21,7 +21,7 @@ pub(crate) struct ReplyBytes {
     /// What is kept where the file has a name.
     pub(crate) kept: Vec<u8>,
     /// What is handed out.
-    pub(crate) told: Vec<u8>,
+    pub(crate) reported: Vec<u8>,
 }
 
 /// What an event answers and what it adds to the state of a book, not taken yet.
@@ -34,7 +34,7 @@ pub struct Prepared {
     older: Option<FileUid>,
     newer: Option<FileUid>,
     kept: Vec<u8>,
-    told: Vec<u8>,
+    reported: Vec<u8>,
 }
 
 impl Model for Prepared {
@@ -48,7 +48,7 @@ impl Model for Prepared {
       before = p.before.value.state;
       event = p.event.value;
       after = prepared_after p.before.value.state p.added p.older p.newer p.kept.items;
-      reply = p.told.items;
+      reply = p.reported.items;
     } };
 
     ghost invariant = { λ p. IsPrepared p.setup.value p.before.value.state p.added p.older p.newer p.kept.items };
@@ -58,11 +58,11 @@ impl ReplyBytes {
     /// No reply. Takes no memory.
     pub(crate) fn none(alloc: Global) -> ReplyBytes
         ensures kept { result.kept.items ≡ [] }
-        ensures told { result.told.items ≡ [] }
+        ensures reported { result.reported.items ≡ [] }
     {
         ReplyBytes {
             kept: Vec::new(alloc),
-            told: Vec::new(alloc),
+            reported: Vec::new(alloc),
         }
     }
 }
@@ -84,7 +84,7 @@ impl Prepared {
           before = before.now.state;
           event = event.now;
           after = prepared_after before.now.state added older newer reply.kept.items;
-          reply = reply.told.items;
+          reply = reply.reported.items;
         } }
     {
         Prepared {
@@ -95,7 +95,7 @@ impl Prepared {
             older,
             newer,
             kept: reply.kept,
-            told: reply.told,
+            reported: reply.reported,
         }
     }
 
@@ -103,7 +103,7 @@ impl Prepared {
     pub fn reply(&self) -> &[u8]
         ensures { result.now ≡ self.now.reply }
     {
-        self.told.as_slice()
+        self.reported.as_slice()
     }
 
     /// The entries that the event adds. Takes no memory.
@@ -122,7 +122,7 @@ impl Prepared {
 
     /// Takes the step: the ledger takes in what is added, and the accounts have their new balances. Gives the bytes
     /// of the reply. Takes no memory.
-    pub(crate) fn take_step(self, ledger: &mut Ledger, held: &mut Held) -> Vec<u8>
+    pub(crate) fn apply_step(self, ledger: &mut Ledger, held: &mut Held) -> Vec<u8>
         requires made { self.before ≡ ledger.old.state }
         requires room { HasRoom ledger.old.room self.before self.after }
         requires balanced { AreBalanced self.setup self.before held.old }
@@ -133,11 +133,11 @@ impl Prepared {
         ensures balanced { AreBalanced self.setup self.after held.new }
         ensures reply { result.items ≡ self.reply }
     {
-        held.settle(self.added.balances());
+        held.set_balances(self.added.balances());
         let user = self.added.user();
         ledger.take(self.added);
         ledger.release(user, &self.older);
         ledger.keep(user, self.newer, self.kept);
-        self.told
+        self.reported
     }
 }

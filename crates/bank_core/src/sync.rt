@@ -16,7 +16,7 @@ ghost use Rattle.bank_ledger.specs.DraftView.{drafted, IsSameFile};
 use bank_deeds::answer_deed;
 use bank_ledger::Draft;
 use bank_model::codes::{ACCOUNT_NOT_FOUND, REJECTED_WITHOUT_TOKEN, TOKEN_OUT_OF_DATE};
-use bank_telling::{is_lost, newest, number_text, token_of, told_history};
+use bank_queries::{is_lost, newest, number_text, replies_of_history, token_of};
 use ofx_types::{
     AcctId, Deed, DeedReply, Duplicate, ObjectId, OutOfMemory, Sequence, SyncAsk, SyncKind,
     SyncReply, TrnUid,
@@ -65,12 +65,12 @@ fn sync_object(
     ensures file { OnOk result (IsSameFile draft.old draft.new) }
 {
     let lost = is_lost(draft, object, &ask.kind);
-    let told = told_history(draft, alloc, object, ask)?;
+    let reported = replies_of_history(draft, alloc, object, ask)?;
     let before = newest(draft, object);
     let code = rejection(ask.reject, before, &ask.kind);
-    let replies = deeds_or_rejection(draft, alloc, ask, code, told)?;
-    let behind = newest(draft, object);
-    let token = number_text(alloc, behind)?;
+    let replies = deeds_or_rejection(draft, alloc, ask, code, reported)?;
+    let rest = newest(draft, object);
+    let token = number_text(alloc, rest)?;
     let name = ask.object.copy()?;
     Ok(SyncReply {
         object: name,
@@ -80,30 +80,30 @@ fn sync_object(
     })
 }
 
-/// Answers the deeds of a synchronisation after what is told of the history: each by itself, or all with one code.
+/// Answers the deeds of a synchronisation after what is reported of the history: each by itself, or all with one code.
 #[tactic(auto, unfolding(bank_model::specs::Sync::deeds_or_rejection))]
 fn deeds_or_rejection(
     draft: &mut Draft<'_>,
     alloc: Global,
     ask: &SyncAsk,
     code: Option<u16>,
-    told: Vec<DeedReply>,
+    reported: Vec<DeedReply>,
 ) -> Result<Vec<DeedReply>, OutOfMemory>
     requires known { draft.old.user.0 < length draft.old.setup.users }
     requires ask { IsSoundSync ask.now }
     requires named { AreHeld draft.old.held (named_by draft.old.setup (asks.Sync ask.now)) }
-    ensures replies { IfOk result (λ replies. replies.items ≡ told.items ++ (rules.deeds_or_rejection draft.old.setup
+    ensures replies { IfOk result (λ replies. replies.items ≡ reported.items ++ (rules.deeds_or_rejection draft.old.setup
         (drafted draft.old) draft.old.user draft.old.at ask.now code).replies) }
     ensures after { OnOk result (drafted draft.new ≡ (rules.deeds_or_rejection draft.old.setup
         (drafted draft.old) draft.old.user draft.old.at ask.now code).after) }
     ensures file { OnOk result (IsSameFile draft.old draft.new) }
 {
     match code {
-        Some(code) => refused_behind(told, ask, code),
+        Some(code) => refused_after(reported, ask, code),
         None => {
             let user = draft.user();
             let only = draft.setup().account_about(user, &ask.object);
-            answer_deeds(draft, alloc, only, ask.deeds.items(), told)
+            answer_deeds(draft, alloc, only, ask.deeds.items(), reported)
         }
     }
 }
@@ -114,18 +114,18 @@ fn answer_deeds(
     alloc: Global,
     only: Option<AcctId>,
     deeds: &[(TrnUid, Deed)],
-    told: Vec<DeedReply>,
+    reported: Vec<DeedReply>,
 ) -> Result<Vec<DeedReply>, OutOfMemory>
     requires known { draft.old.user.0 < length draft.old.setup.users }
     requires deeds { AllByRecursion (λ deed. IsSoundDeed deed.1) deeds.now }
     requires named { AreHeld draft.old.held (flat_map (named_by_pair draft.old.setup) deeds.now) }
-    ensures replies { IfOk result (λ replies. replies.items ≡ told.items ++ (deed_answers draft.old.setup
+    ensures replies { IfOk result (λ replies. replies.items ≡ reported.items ++ (deed_answers draft.old.setup
         (drafted draft.old) draft.old.user only draft.old.at deeds.now).replies) }
     ensures after { OnOk result (drafted draft.new ≡ (deed_answers draft.old.setup
         (drafted draft.old) draft.old.user only draft.old.at deeds.now).after) }
     ensures file { OnOk result (IsSameFile draft.old draft.new) }
 {
-    let mut replies = told;
+    let mut replies = reported;
     for deed in deeds {
         let reply = answer_deed(draft, alloc, only, &deed.0, &deed.1)?;
         replies.push(reply)?;
@@ -143,7 +143,7 @@ fn stranger_reply(alloc: Global, ask: &SyncAsk) -> Result<SyncReply, OutOfMemory
       replies = map (rules.refused_with (forms.object_family ask.now.object) 2003) ask.now.deeds;
     }) }
 {
-    let replies = refused_behind(Vec::new(alloc), ask, ACCOUNT_NOT_FOUND)?;
+    let replies = refused_after(Vec::new(alloc), ask, ACCOUNT_NOT_FOUND)?;
     Ok(SyncReply {
         object: ask.object.copy()?,
         token: number_text(alloc, 0)?,
@@ -153,16 +153,16 @@ fn stranger_reply(alloc: Global, ask: &SyncAsk) -> Result<SyncReply, OutOfMemory
 }
 
 /// The same refusal of each deed of a synchronisation, after other replies.
-fn refused_behind(
-    told: Vec<DeedReply>,
+fn refused_after(
+    reported: Vec<DeedReply>,
     ask: &SyncAsk,
     code: u16,
 ) -> Result<Vec<DeedReply>, OutOfMemory>
-    ensures { IfOk result (λ replies. replies.items ≡ told.items
+    ensures { IfOk result (λ replies. replies.items ≡ reported.items
         ++ map (rules.refused_with (forms.object_family ask.now.object) code) ask.now.deeds) }
 {
     let family = ask.object.family();
-    let mut replies = told;
+    let mut replies = reported;
     for deed in ask.deeds.items() {
         let trnuid = deed.0.copy()?;
         replies.push(DeedReply {

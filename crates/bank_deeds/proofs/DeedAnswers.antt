@@ -40,19 +40,19 @@ use Rattle.bank_model.proofs.SetupWords.{some_is}
 use Rattle.bank_model.specs.Deeds.{source_balance, object_of, model_object_of, new_row, changed_row, new_model, next_entry, judged, done, is_full, code_of, used_up, first_change, answer_with, deed_answer}
 use Rattle.bank_accounts.specs.AccountView.{AccountView}
 use Rattle.bank_accounts.specs.HeldAccounts.{IsHeld, AreHeld}
-use Rattle.bank_rules.specs.Next.{IsNext}
+use Rattle.bank_invariants.specs.Next.{IsNext}
 use Rattle.bank_ledger.specs.declared.row_change.RowChange.TheVariants as changes
 use Rattle.bank_ledger.specs.declared.row_change.RowChange.TheVariants.{Row}
 use Rattle.bank_ledger.specs.Changes.{GivesRows}
 use Rattle.bank_ledger.specs.DraftView.{DraftView, pair_of, drafted, with_uid, IsSameFile, HasAdded, HasBothHeld}
 use Rattle.bank_ledger.proofs.StateParts.{same_state}
 use Rattle.bank_ledger.proofs.DraftStates.{drafted-added, drafted-uid}
-use Rattle.bank_deeds.specs.Entries.{told_of, entry_with}
+use Rattle.bank_deeds.specs.Entries.{reported_of, entry_with}
 use Rattle.bank_deeds.proofs.Giving.{new_gives, set_gives, drop_gives, new_model_gives}
-use Rattle.bank_rules.specs.Standing.{IsSoundState}
-use Rattle.bank_rules.proofs.Verdicts.{IsInBank-from_mail_code}
-use Rattle.bank_rules.proofs.DeedLemmas.{taken_entry, new_fields, changed_fields, transfer_next, transfer_entries, modify_row, modify_entries, modify_next, cancel_row, cancel_entries, cancel_next, model_taken, model_entry, model_entries, model_next}
-use Rattle.bank_rules.proofs.UidLaws.{used_code-is}
+use Rattle.bank_invariants.specs.SoundStates.{IsSoundState}
+use Rattle.bank_invariants.proofs.Verdicts.{IsInBank-from_mail_code}
+use Rattle.bank_invariants.proofs.DeedLemmas.{taken_entry, new_fields, changed_fields, transfer_next, transfer_entries, modify_row, modify_entries, modify_next, cancel_row, cancel_entries, cancel_next, model_taken, model_entry, model_entries, model_next}
+use Rattle.bank_invariants.proofs.UidLaws.{used_code-is}
 
 -- ---- answers
 
@@ -60,17 +60,17 @@ answer_is : (setup : Setup) (S : State) (user : UserId) (only : Option AcctId) (
 unfolding deed_answer
 answer_is setup S user only at trnuid deed code is = ap (answer_with setup S user at trnuid deed) is
 
-change_behind : (before more : List Entry) → option_map (λ (entry : Entry). entry.change) (slice_get (before ++ more) (length before)) ≡ first_change more
-change_behind [] [] = refl
-change_behind [] (entry ∷ more) = refl
-change_behind (one ∷ before) more = change_behind before more
+change_after : (before more : List Entry) → option_map (λ (entry : Entry). entry.change) (slice_get (before ++ more) (length before)) ≡ first_change more
+change_after [] [] = refl
+change_after [] (entry ∷ more) = refl
+change_after (one ∷ before) more = change_after before more
 
 -- The reply tells the change of the first entry after those that stood.
-pub done_reply-is : (setup : Setup) (S : State) (user : UserId) (only : Option AcctId) (at : Moment) (trnuid : List ℕ) (deed : Deed) (before after : List Entry) (place : ℕ) → code_of setup S user only at trnuid deed ≡ 0 → after ≡ before ++ done setup S user at trnuid deed → place ≡ length before → told_of trnuid deed (slice_get after place) ≡ (deed_answer setup S user only at trnuid deed).reply
-done_reply-is setup S user only at trnuid deed before after place is more behind =
-    ap (λ (entries : List Entry). told_of trnuid deed (slice_get entries place)) more
-    ∙ ap (λ (n : ℕ). told_of trnuid deed (slice_get (before ++ done setup S user at trnuid deed) n)) behind
-    ∙ ap reply_with (change_behind before (done setup S user at trnuid deed))
+pub done_reply-is : (setup : Setup) (S : State) (user : UserId) (only : Option AcctId) (at : Moment) (trnuid : List ℕ) (deed : Deed) (before after : List Entry) (occurrence : ℕ) → code_of setup S user only at trnuid deed ≡ 0 → after ≡ before ++ done setup S user at trnuid deed → occurrence ≡ length before → reported_of trnuid deed (slice_get after occurrence) ≡ (deed_answer setup S user only at trnuid deed).reply
+done_reply-is setup S user only at trnuid deed before after occurrence is more rest =
+    ap (λ (entries : List Entry). reported_of trnuid deed (slice_get entries occurrence)) more
+    ∙ ap (λ (n : ℕ). reported_of trnuid deed (slice_get (before ++ done setup S user at trnuid deed) n)) rest
+    ∙ ap reply_with (change_after before (done setup S user at trnuid deed))
     ∙ sym (ap (λ a. a.reply) (answer_is setup S user only at trnuid deed 0 is))
   where
     reply_with : Option Change → DeedReply
@@ -184,23 +184,23 @@ entry_is n m o p t u c d number object trnuid change =
     ap (λ (x : ℕ). entry_with x o t c) number ∙ ap (λ (x : ObjectId). entry_with m x t c) object ∙ ap (λ (x : List ℕ). entry_with m p x c) trnuid ∙ ap (entry_with m p u) change
 
 -- What a transfer enters, by the parts that are made of it.
-pub record IsTransferEntry (setup : Setup) (S : State) (user : UserId) (at : Moment) (trnuid : List ℕ) (info : XferInfo) (number : ℕ) (object : ObjectId) (uid : List ℕ) (row told : TransferRow) : Type 0 where
-  pub next : IsNext setup S (entry_with number object uid (NewTransfer told))
-  pub gives : GivesRows S.entries (NewTransfer told) (Row row)
-  pub entries : entry_with number object uid (NewTransfer told) ∷ [] ≡ done setup S user at trnuid (Transfer info)
+pub record IsTransferEntry (setup : Setup) (S : State) (user : UserId) (at : Moment) (trnuid : List ℕ) (info : XferInfo) (number : ℕ) (object : ObjectId) (uid : List ℕ) (row reported : TransferRow) : Type 0 where
+  pub next : IsNext setup S (entry_with number object uid (NewTransfer reported))
+  pub gives : GivesRows S.entries (NewTransfer reported) (Row row)
+  pub entries : entry_with number object uid (NewTransfer reported) ∷ [] ≡ done setup S user at trnuid (Transfer info)
   pub held : (accounts : List AccountView) → AreHeld accounts (named_by_deed setup (Transfer info)) → HasBothHeld setup accounts row
 
-pub IsTransferEntry-of : (setup : Setup) (S : State) (user : UserId) (only : Option AcctId) (at : Moment) (trnuid : List ℕ) (info : XferInfo) (number : ℕ) (object : ObjectId) (uid : List ℕ) (row told : TransferRow) → IsWithinLimits setup → IsSoundState setup S → IsMoment at.0 → IsSoundDeed (Transfer info) → judged setup S user only (Transfer info) ≡ 0 → number ≡ length S.entries + 1 → object ≡ object_of setup info.from → uid ≡ trnuid → row ≡ new_row number at S.day info → told ≡ row → IsTransferEntry setup S user at trnuid info number object uid row told
-IsTransferEntry-of setup S user only at trnuid info number object uid row told within sound moment deed none is_number is_object is_uid is_row is_told =
+pub IsTransferEntry-of : (setup : Setup) (S : State) (user : UserId) (only : Option AcctId) (at : Moment) (trnuid : List ℕ) (info : XferInfo) (number : ℕ) (object : ObjectId) (uid : List ℕ) (row reported : TransferRow) → IsWithinLimits setup → IsSoundState setup S → IsMoment at.0 → IsSoundDeed (Transfer info) → judged setup S user only (Transfer info) ≡ 0 → number ≡ length S.entries + 1 → object ≡ object_of setup info.from → uid ≡ trnuid → row ≡ new_row number at S.day info → reported ≡ row → IsTransferEntry setup S user at trnuid info number object uid row reported
+IsTransferEntry-of setup S user only at trnuid info number object uid row reported within sound moment deed none is_number is_object is_uid is_row is_reported =
     let row_is : row ≡ new_row (length S.entries + 1) at S.day info = is_row ∙ ap (λ (n : ℕ). new_row n at S.day info) is_number in
-    let entry : entry_with number object uid (NewTransfer told) ≡ taken_entry setup S at trnuid info =
-    entry_is _ _ _ _ _ _ _ _ is_number is_object is_uid (ap (λ (r : TransferRow). NewTransfer r) (is_told ∙ row_is)) in
-    let entries : entry_with number object uid (NewTransfer told) ∷ [] ≡ done setup S user at trnuid (Transfer info) =
+    let entry : entry_with number object uid (NewTransfer reported) ≡ taken_entry setup S at trnuid info =
+    entry_is _ _ _ _ _ _ _ _ is_number is_object is_uid (ap (λ (r : TransferRow). NewTransfer r) (is_reported ∙ row_is)) in
+    let entries : entry_with number object uid (NewTransfer reported) ∷ [] ≡ done setup S user at trnuid (Transfer info) =
     ap (λ (e : Entry). e ∷ []) entry ∙ sym (transfer_entries setup S user at trnuid info) in
-    let next : IsNext setup S (entry_with number object uid (NewTransfer told)) = subst (IsNext setup S) (sym entry) (transfer_next setup S user only at trnuid info within sound moment deed none) in
+    let next : IsNext setup S (entry_with number object uid (NewTransfer reported)) = subst (IsNext setup S) (sym entry) (transfer_next setup S user only at trnuid info within sound moment deed none) in
     record {
       next = next;
-      gives = new_gives setup S told row sound next.lawful next.told is_told (ap (λ (r : TransferRow). r.model) (is_told ∙ row_is) ∙ (new_fields (length S.entries + 1) at S.day info).4);
+      gives = new_gives setup S reported row sound next.lawful next.reported is_reported (ap (λ (r : TransferRow). r.model) (is_reported ∙ row_is) ∙ (new_fields (length S.entries + 1) at S.day info).4);
       entries = entries;
       held = λ accounts held.
           (let both = both_held setup accounts info held in
@@ -214,11 +214,11 @@ IsTransferEntry-of setup S user only at trnuid info number object uid row told w
         (subst (λ (name : AcctName). IfSome (account_of setup name) (IsHeld accounts)) (sym from) both.0, subst (λ (name : AcctName). IfSome (account_of setup name) (IsHeld accounts)) (sym to) both.1)
 
 -- What a change of a transfer enters.
-pub record IsModifyEntry (setup : Setup) (S : State) (user : UserId) (at : Moment) (trnuid : List ℕ) (id : ℕ) (info : XferInfo) (number : ℕ) (object : ObjectId) (uid : List ℕ) (row told : TransferRow) : Type 0 where
-  pub next : IsNext setup S (entry_with number object uid (SetTransfer told))
-  pub gives : GivesRows S.entries (SetTransfer told) (Row row)
-  pub entries : entry_with number object uid (SetTransfer told) ∷ [] ≡ done setup S user at trnuid (ModifyTransfer id info)
-  pub nothing : posting_of number (Some told) ≡ []
+pub record IsModifyEntry (setup : Setup) (S : State) (user : UserId) (at : Moment) (trnuid : List ℕ) (id : ℕ) (info : XferInfo) (number : ℕ) (object : ObjectId) (uid : List ℕ) (row reported : TransferRow) : Type 0 where
+  pub next : IsNext setup S (entry_with number object uid (SetTransfer reported))
+  pub gives : GivesRows S.entries (SetTransfer reported) (Row row)
+  pub entries : entry_with number object uid (SetTransfer reported) ∷ [] ≡ done setup S user at trnuid (ModifyTransfer id info)
+  pub nothing : posting_of number (Some reported) ≡ []
 
 pub modify_there : (setup : Setup) (S : State) (user : UserId) (only : Option AcctId) (id : ℕ) (info : XferInfo) → judged setup S user only (ModifyTransfer id info) ≡ 0 → is_some (row_of id S.entries) ≡ true
 modify_there setup S user only id info none = ap is_some (modify_row setup S user only id info none).1
@@ -232,22 +232,22 @@ modify_from setup S user only id info row none is =
     let row_is : row ≡ changed_row S.day info found.0 = some_row (row_of id S.entries) (changed_row S.day info) found.0 row found.1 is in
     ap (λ (r : TransferRow). is_some (account_of setup r.from)) row_is ∙ ap (λ (name : AcctName). is_some (account_of setup name)) (changed_fields S.day info found.0).2 ∙ found.2.is_open.from
 
-pub IsModifyEntry-of : (setup : Setup) (S : State) (user : UserId) (only : Option AcctId) (at : Moment) (trnuid : List ℕ) (id : ℕ) (info : XferInfo) (number : ℕ) (object : ObjectId) (uid : List ℕ) (row told : TransferRow) → IsSoundState setup S → IsSoundDeed (ModifyTransfer id info) → judged setup S user only (ModifyTransfer id info) ≡ 0 → number ≡ length S.entries + 1 → object ≡ object_of setup row.from → uid ≡ trnuid → option_map (changed_row S.day info) (row_of id S.entries) ≡ Some row → told ≡ row → IsModifyEntry setup S user at trnuid id info number object uid row told
-IsModifyEntry-of setup S user only at trnuid id info number object uid row told sound deed none is_number is_object is_uid is_row is_told =
+pub IsModifyEntry-of : (setup : Setup) (S : State) (user : UserId) (only : Option AcctId) (at : Moment) (trnuid : List ℕ) (id : ℕ) (info : XferInfo) (number : ℕ) (object : ObjectId) (uid : List ℕ) (row reported : TransferRow) → IsSoundState setup S → IsSoundDeed (ModifyTransfer id info) → judged setup S user only (ModifyTransfer id info) ≡ 0 → number ≡ length S.entries + 1 → object ≡ object_of setup row.from → uid ≡ trnuid → option_map (changed_row S.day info) (row_of id S.entries) ≡ Some row → reported ≡ row → IsModifyEntry setup S user at trnuid id info number object uid row reported
+IsModifyEntry-of setup S user only at trnuid id info number object uid row reported sound deed none is_number is_object is_uid is_row is_reported =
     let found = modify_row setup S user only id info none in
     let fields = changed_fields S.day info found.0 in
     let row_is : row ≡ changed_row S.day info found.0 = some_row (row_of id S.entries) (changed_row S.day info) found.0 row found.1 is_row in
     let from : row.from ≡ found.0.from = ap (λ (r : TransferRow). r.from) row_is ∙ fields.2 in
-    let entry : entry_with number object uid (SetTransfer told) ≡ next_entry S (object_of setup found.0.from) trnuid (SetTransfer (changed_row S.day info found.0)) =
-    entry_is _ _ _ _ _ _ _ _ is_number (is_object ∙ ap (object_of setup) from) is_uid (ap (λ (r : TransferRow). SetTransfer r) (is_told ∙ row_is)) in
-    let entries : entry_with number object uid (SetTransfer told) ∷ [] ≡ done setup S user at trnuid (ModifyTransfer id info) =
+    let entry : entry_with number object uid (SetTransfer reported) ≡ next_entry S (object_of setup found.0.from) trnuid (SetTransfer (changed_row S.day info found.0)) =
+    entry_is _ _ _ _ _ _ _ _ is_number (is_object ∙ ap (object_of setup) from) is_uid (ap (λ (r : TransferRow). SetTransfer r) (is_reported ∙ row_is)) in
+    let entries : entry_with number object uid (SetTransfer reported) ∷ [] ≡ done setup S user at trnuid (ModifyTransfer id info) =
     ap (λ (e : Entry). e ∷ []) entry ∙ sym (modify_entries setup S user at trnuid id info found.0 found.1) in
-    let next : IsNext setup S (entry_with number object uid (SetTransfer told)) = subst (IsNext setup S) (sym entry) (modify_next setup S trnuid id info found.0 sound deed found.1 found.2) in
+    let next : IsNext setup S (entry_with number object uid (SetTransfer reported)) = subst (IsNext setup S) (sym entry) (modify_next setup S trnuid id info found.0 sound deed found.1 found.2) in
     record {
       next = next;
-      gives = set_gives setup S told row next.lawful next.told is_told;
+      gives = set_gives setup S reported row next.lawful next.reported is_reported;
       entries = entries;
-      nothing = ap (λ (r : TransferRow). posting_of number (Some r)) (is_told ∙ row_is) ∙ ap (λ (c : XferCode). cond (is_posted c) (record { number = number; row = changed_row S.day info found.0 } ∷ []) []) fields.1;
+      nothing = ap (λ (r : TransferRow). posting_of number (Some r)) (is_reported ∙ row_is) ∙ ap (λ (c : XferCode). cond (is_posted c) (record { number = number; row = changed_row S.day info found.0 } ∷ []) []) fields.1;
     }
 
 -- What a cancellation enters.
@@ -282,25 +282,25 @@ IsCancelEntry-of setup S user only at trnuid id number object uid row sound none
     }
 
 -- What a new recurring transfer enters.
-pub record IsModelEntry (setup : Setup) (S : State) (user : UserId) (at : Moment) (trnuid : List ℕ) (recur : Recur) (info : XferInfo) (number : ℕ) (object : ObjectId) (uid : List ℕ) (row told : ModelRow) : Type 0 where
-  pub next : IsNext setup S (entry_with number object uid (NewModel told))
-  pub gives : GivesRows S.entries (NewModel told) (changes.Model row)
-  pub entries : entry_with number object uid (NewModel told) ∷ [] ≡ done setup S user at trnuid (Model recur info)
+pub record IsModelEntry (setup : Setup) (S : State) (user : UserId) (at : Moment) (trnuid : List ℕ) (recur : Recur) (info : XferInfo) (number : ℕ) (object : ObjectId) (uid : List ℕ) (row reported : ModelRow) : Type 0 where
+  pub next : IsNext setup S (entry_with number object uid (NewModel reported))
+  pub gives : GivesRows S.entries (NewModel reported) (changes.Model row)
+  pub entries : entry_with number object uid (NewModel reported) ∷ [] ≡ done setup S user at trnuid (Model recur info)
 
 pub model_from : (setup : Setup) (S : State) (user : UserId) (only : Option AcctId) (recur : Recur) (info : XferInfo) → judged setup S user only (Model recur info) ≡ 0 → is_some (account_of setup info.from) ≡ true
 model_from setup S user only recur info none = (model_taken setup S user only recur info none).from
 
-pub IsModelEntry-of : (setup : Setup) (S : State) (user : UserId) (only : Option AcctId) (at : Moment) (trnuid : List ℕ) (recur : Recur) (info : XferInfo) (number : ℕ) (object : ObjectId) (uid : List ℕ) (row told : ModelRow) → IsSoundState setup S → IsSoundDeed (Model recur info) → judged setup S user only (Model recur info) ≡ 0 → number ≡ length S.entries + 1 → object ≡ model_object_of setup info.from → uid ≡ trnuid → row ≡ new_model number S.day recur info → told ≡ row → IsModelEntry setup S user at trnuid recur info number object uid row told
-IsModelEntry-of setup S user only at trnuid recur info number object uid row told sound deed none is_number is_object is_uid is_row is_told =
+pub IsModelEntry-of : (setup : Setup) (S : State) (user : UserId) (only : Option AcctId) (at : Moment) (trnuid : List ℕ) (recur : Recur) (info : XferInfo) (number : ℕ) (object : ObjectId) (uid : List ℕ) (row reported : ModelRow) → IsSoundState setup S → IsSoundDeed (Model recur info) → judged setup S user only (Model recur info) ≡ 0 → number ≡ length S.entries + 1 → object ≡ model_object_of setup info.from → uid ≡ trnuid → row ≡ new_model number S.day recur info → reported ≡ row → IsModelEntry setup S user at trnuid recur info number object uid row reported
+IsModelEntry-of setup S user only at trnuid recur info number object uid row reported sound deed none is_number is_object is_uid is_row is_reported =
     let row_is : row ≡ new_model (length S.entries + 1) S.day recur info = is_row ∙ ap (λ (n : ℕ). new_model n S.day recur info) is_number in
-    let entry : entry_with number object uid (NewModel told) ≡ model_entry setup S trnuid recur info =
-    entry_is _ _ _ _ _ _ _ _ is_number is_object is_uid (ap (λ (r : ModelRow). NewModel r) (is_told ∙ row_is)) in
-    let entries : entry_with number object uid (NewModel told) ∷ [] ≡ done setup S user at trnuid (Model recur info) =
+    let entry : entry_with number object uid (NewModel reported) ≡ model_entry setup S trnuid recur info =
+    entry_is _ _ _ _ _ _ _ _ is_number is_object is_uid (ap (λ (r : ModelRow). NewModel r) (is_reported ∙ row_is)) in
+    let entries : entry_with number object uid (NewModel reported) ∷ [] ≡ done setup S user at trnuid (Model recur info) =
     ap (λ (e : Entry). e ∷ []) entry ∙ sym (model_entries setup S user at trnuid recur info) in
-    let next : IsNext setup S (entry_with number object uid (NewModel told)) = subst (IsNext setup S) (sym entry) (model_next setup S user only trnuid recur info sound deed none) in
+    let next : IsNext setup S (entry_with number object uid (NewModel reported)) = subst (IsNext setup S) (sym entry) (model_next setup S user only trnuid recur info sound deed none) in
     record {
       next = next;
-      gives = new_model_gives setup S told row sound next.lawful is_told;
+      gives = new_model_gives setup S reported row sound next.lawful is_reported;
       entries = entries;
     }
 

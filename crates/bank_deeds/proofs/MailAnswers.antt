@@ -14,10 +14,10 @@ use Rattle.bank_model.specs.declared.setup.Setup.{Setup}
 use Rattle.bank_model.specs.declared.event.State.{State}
 use Rattle.bank_model.specs.Deeds.{letter_object_of, mail_object, mail_row, next_entry, done}
 use Rattle.bank_model.specs.Rules.{letter, letter_entry}
-use Rattle.bank_rules.specs.Standing.{IsSoundState}
-use Rattle.bank_rules.specs.Next.{IsNext}
-use Rattle.bank_rules.proofs.NextLemmas.{mail_next}
-use Rattle.bank_rules.proofs.DoneLemmas.{bank_mail_entries, mail_entries}
+use Rattle.bank_invariants.specs.SoundStates.{IsSoundState}
+use Rattle.bank_invariants.specs.Next.{IsNext}
+use Rattle.bank_invariants.proofs.NextLemmas.{mail_next}
+use Rattle.bank_invariants.proofs.DoneLemmas.{bank_mail_entries, mail_entries}
 use Rattle.bank_deeds.proofs.DeedAnswers.{entry_is}
 use Rattle.bank_deeds.specs.Entries.{entry_with}
 

@@ -22,10 +22,10 @@ use Rattle.bank_model.proofs.SetupWords.{some_is}
 use Rattle.bank_ledger.specs.declared.row_change.RowChange.TheVariants.{NoModel}
 use Rattle.bank_ledger.specs.declared.row_change.RowChange.TheVariants as changes
 use Rattle.bank_ledger.specs.Changes.{GivesRows}
-use Rattle.bank_rules.specs.Standing.{IsSoundState}
-use Rattle.bank_rules.specs.Pending.{own_entries}
-use Rattle.bank_rules.specs.Next.{IsNext}
-use Rattle.bank_rules.proofs.DeedLemmas.{changed_model_fields, to_change, to_drop, set_entry, drop_entry, set_model, drop_model}
+use Rattle.bank_invariants.specs.SoundStates.{IsSoundState}
+use Rattle.bank_invariants.specs.Pending.{own_entries}
+use Rattle.bank_invariants.specs.Next.{IsNext}
+use Rattle.bank_invariants.proofs.DeedLemmas.{changed_model_fields, to_change, to_drop, set_entry, drop_entry, set_model, drop_model}
 use Rattle.bank_deeds.proofs.DeedAnswers.{entry_is}
 use Rattle.bank_deeds.proofs.Giving.{set_model_gives, drop_model_gives}
 use Rattle.bank_deeds.specs.Entries.{entry_with}
@@ -43,25 +43,25 @@ change_from setup S user only id recur info also row none is =
     ap (λ (r : ModelRow). is_some (account_of setup r.from)) row_is ∙ ap (λ (name : AcctName). is_some (account_of setup name)) (changed_model_fields S.day recur info to.row).1 ∙ to.change.own
 
 -- What a change of a recurring transfer enters for itself.
-pub record IsSetModelEntry (setup : Setup) (S : State) (trnuid : List ℕ) (id : ℕ) (recur : Recur) (info : XferInfo) (also : Bool) (number : ℕ) (object : ObjectId) (uid : List ℕ) (row told : ModelRow) : Type 0 where
-  pub next : IsNext setup S (entry_with number object uid (SetModel told also))
-  pub gives : GivesRows S.entries (SetModel told also) (changes.Model row)
-  pub entries : entry_with number object uid (SetModel told also) ∷ [] ≡ own_entries setup S trnuid (ModifyModel id recur info also)
+pub record IsSetModelEntry (setup : Setup) (S : State) (trnuid : List ℕ) (id : ℕ) (recur : Recur) (info : XferInfo) (also : Bool) (number : ℕ) (object : ObjectId) (uid : List ℕ) (row reported : ModelRow) : Type 0 where
+  pub next : IsNext setup S (entry_with number object uid (SetModel reported also))
+  pub gives : GivesRows S.entries (SetModel reported also) (changes.Model row)
+  pub entries : entry_with number object uid (SetModel reported also) ∷ [] ≡ own_entries setup S trnuid (ModifyModel id recur info also)
 
-pub IsSetModelEntry-of : (setup : Setup) (S : State) (user : UserId) (only : Option AcctId) (trnuid : List ℕ) (id : ℕ) (recur : Recur) (info : XferInfo) (also : Bool) (number : ℕ) (object : ObjectId) (uid : List ℕ) (row told : ModelRow) → IsSoundState setup S → IsSoundDeed (ModifyModel id recur info also) → judged setup S user only (ModifyModel id recur info also) ≡ 0 → number ≡ length S.entries + 1 → object ≡ model_object_of setup row.from → uid ≡ trnuid → option_map (changed_model S.day recur info) (model_of id S.entries) ≡ Some row → told ≡ row → IsSetModelEntry setup S trnuid id recur info also number object uid row told
-IsSetModelEntry-of setup S user only trnuid id recur info also number object uid row told sound deed none is_number is_object is_uid is_row is_told =
+pub IsSetModelEntry-of : (setup : Setup) (S : State) (user : UserId) (only : Option AcctId) (trnuid : List ℕ) (id : ℕ) (recur : Recur) (info : XferInfo) (also : Bool) (number : ℕ) (object : ObjectId) (uid : List ℕ) (row reported : ModelRow) → IsSoundState setup S → IsSoundDeed (ModifyModel id recur info also) → judged setup S user only (ModifyModel id recur info also) ≡ 0 → number ≡ length S.entries + 1 → object ≡ model_object_of setup row.from → uid ≡ trnuid → option_map (changed_model S.day recur info) (model_of id S.entries) ≡ Some row → reported ≡ row → IsSetModelEntry setup S trnuid id recur info also number object uid row reported
+IsSetModelEntry-of setup S user only trnuid id recur info also number object uid row reported sound deed none is_number is_object is_uid is_row is_reported =
     let to = to_change setup S user only id recur info also none in
     let row_is : row ≡ changed_model S.day recur info to.row = some_model (model_of id S.entries) (changed_model S.day recur info) to.row row to.found is_row in
     let from : row.from ≡ to.row.from = ap (λ (r : ModelRow). r.from) row_is ∙ (changed_model_fields S.day recur info to.row).1 in
-    let entry : entry_with number object uid (SetModel told also) ≡ set_entry setup S trnuid recur info also to.row =
-    entry_is _ _ _ _ _ _ _ _ is_number (is_object ∙ ap (model_object_of setup) from) is_uid (ap (λ (r : ModelRow). SetModel r also) (is_told ∙ row_is)) in
+    let entry : entry_with number object uid (SetModel reported also) ≡ set_entry setup S trnuid recur info also to.row =
+    entry_is _ _ _ _ _ _ _ _ is_number (is_object ∙ ap (model_object_of setup) from) is_uid (ap (λ (r : ModelRow). SetModel r also) (is_reported ∙ row_is)) in
     let own : own_entries setup S trnuid (ModifyModel id recur info also) ≡ set_entry setup S trnuid recur info also to.row ∷ [] =
     ap (λ (r : Option ModelRow). model_entries_on setup S trnuid r (λ held. SetModel (changed_model S.day recur info held) also) []) to.found in
-    let entries : entry_with number object uid (SetModel told also) ∷ [] ≡ own_entries setup S trnuid (ModifyModel id recur info also) = ap (λ (e : Entry). e ∷ []) entry ∙ sym own in
-    let next : IsNext setup S (entry_with number object uid (SetModel told also)) = subst (IsNext setup S) (sym entry) (set_model setup S trnuid id recur info also sound deed.2 to) in
+    let entries : entry_with number object uid (SetModel reported also) ∷ [] ≡ own_entries setup S trnuid (ModifyModel id recur info also) = ap (λ (e : Entry). e ∷ []) entry ∙ sym own in
+    let next : IsNext setup S (entry_with number object uid (SetModel reported also)) = subst (IsNext setup S) (sym entry) (set_model setup S trnuid id recur info also sound deed.2 to) in
     record {
       next = next;
-      gives = set_model_gives S told row also next.lawful is_told;
+      gives = set_model_gives S reported row also next.lawful is_reported;
       entries = entries;
     }
 

@@ -11,5 +11,5 @@ use Rattle.bank_model.specs.declared.entry.Entry.{Entry}
 abbrev pub entry_with : ℕ → ObjectId → List ℕ → Change → Entry
 entry_with number object trnuid change = record { number = number; object = object; trnuid = trnuid; change = change }
 
-abbrev pub told_of : List ℕ → Deed → Option Entry → DeedReply
-told_of trnuid deed entry = record { trnuid = trnuid; family = family_of deed; code = 0; change = option_map Entry.change entry }
+abbrev pub reported_of : List ℕ → Deed → Option Entry → DeedReply
+reported_of trnuid deed entry = record { trnuid = trnuid; family = family_of deed; code = 0; change = option_map Entry.change entry }

@@ -11,13 +11,13 @@ ghost use Rattle.bank_model.specs.Deeds.{code_of, done, deed_answer};
 ghost use Rattle.bank_model.specs.Rules.{named_by_deed};
 ghost use Rattle.bank_model.specs.Sound.{IsSoundDeed};
 ghost use Rattle.bank_accounts.specs.HeldAccounts.{AreHeld, IsHeld};
-ghost use Rattle.bank_rules.specs.Pending.{pending_of, ids_of};
+ghost use Rattle.bank_invariants.specs.Pending.{pending_of, ids_of};
 ghost use Rattle.bank_ledger.specs.DraftView.{drafted, HasAdded, IsSameFile};
-ghost use Rattle.bank_deeds.specs.Entries.{told_of};
+ghost use Rattle.bank_deeds.specs.Entries.{reported_of};
 ghost use Rattle.bank_deeds.specs.Unrefused.{IsUnrefused};
 
-use crate::mail::{take_mail, take_mail_about};
-use crate::models::{cancel_model, modify_model, take_model};
+use crate::mail::{add_bank_mail, add_mail};
+use crate::models::{add_model, cancel_model, modify_model};
 use crate::pending::pending_ids;
 use crate::transfers::{cancel, modify, transfer};
 use bank_ledger::Draft;
@@ -30,7 +30,7 @@ use std::alloc::Global;
 
 /// Answers a deed under a uid, and adds what it does. A uid is used up whatever comes of the deed.
 ///
-/// Where the deed stands in the synchronisation of one account, `only` is that account.
+/// Where the deed is in the synchronisation of one account, `only` is that account.
 pub fn answer_deed(
     draft: &mut Draft<'_>,
     alloc: Global,
@@ -83,25 +83,25 @@ fn done_reply(
         (drafted draft.old) draft.old.user only draft.old.at trnuid.now deed.now).after) }
     ensures file { OnOk result (IsSameFile draft.old draft.new) }
 {
-    let place = draft.entries().len();
+    let index = draft.entries().len();
     perform(draft, trnuid, deed, pending)?;
     let uid = trnuid.copy()?;
     draft.use_up(uid)?;
-    told(draft, place, trnuid, deed)
+    reported(draft, index, trnuid, deed)
 }
 
-/// The reply to a deed that is done: it tells what the entry at this place of those that are added says.
-fn told(
+/// The reply to a deed that is done: it says what the entry at this occurrence of those that are added says.
+fn reported(
     draft: &Draft<'_>,
-    place: usize,
+    index: usize,
     trnuid: &TrnUid,
     deed: &Deed,
 ) -> Result<DeedReply, OutOfMemory>
-    requires { place < length draft.now.entries }
-    ensures { IfOk result (λ reply. reply ≡ told_of trnuid.now deed.now (slice_get draft.now.entries place)) }
+    requires { index < length draft.now.entries }
+    ensures { IfOk result (λ reply. reply ≡ reported_of trnuid.now deed.now (slice_get draft.now.entries index)) }
 {
     let trnuid = trnuid.copy()?;
-    let change = match draft.entries().get(place) {
+    let change = match draft.entries().get(index) {
         Some(entry) => entry.change.copy()?,
         None => unreachable!(),
     };
@@ -217,13 +217,13 @@ fn perform(
         Deed::Transfer(info) => transfer(draft, trnuid, info),
         Deed::ModifyTransfer(id, info) => modify(draft, trnuid, *id, info),
         Deed::CancelTransfer(id) => cancel(draft, trnuid, *id),
-        Deed::Model(recur, info) => take_model(draft, trnuid, *recur, info),
+        Deed::Model(recur, info) => add_model(draft, trnuid, *recur, info),
         Deed::ModifyModel(id, recur, info, also) => {
             modify_model(draft, trnuid, (*id, *recur, *also), info, pending)
         }
         Deed::CancelModel(id, also) => { cancel_model(draft, trnuid, (*id, *also), pending) }
-        Deed::BankMail(account, mail) => { take_mail_about(draft, trnuid, account, mail) }
-        Deed::Mail(mail) => take_mail(draft, trnuid, mail),
+        Deed::BankMail(account, mail) => { add_bank_mail(draft, trnuid, account, mail) }
+        Deed::Mail(mail) => add_mail(draft, trnuid, mail),
     }
 }
 

@@ -9,14 +9,14 @@ ghost use Rattle.bank_model.specs.Ledger as ledgers;
 ghost use Rattle.bank_model.specs.Ledger.{row_of};
 ghost use Rattle.bank_model.specs.Models.{model_of};
 ghost use Rattle.bank_model.specs.Due as rules;
-ghost use Rattle.bank_model.specs.Due.{may_post, posts, may_spawn, spawns, place_date};
+ghost use Rattle.bank_model.specs.Due.{may_post, posts, may_spawn, spawns, occurrence_date};
 ghost use Rattle.bank_model.specs.Rules.{named_by_row};
 ghost use Rattle.bank_accounts.specs.HeldAccounts.{AreHeld, IsHeld};
 ghost use Rattle.bank_deeds.specs.Made.{made_row};
 ghost use Rattle.bank_ledger.specs.DraftView.{drafted, HasAdded};
 
 use crate::entries::{own_new_entry, own_set_entry};
-use crate::rows::{settled_row, spawned_row};
+use crate::rows::{processed_row, spawned_row};
 use bank_ledger::{Draft, RowChange};
 use bank_recur::date_of;
 use ofx_types::{Cents, ModelRow, OutOfMemory, TransferRow};
@@ -31,21 +31,21 @@ pub fn post(draft: &mut Draft<'_>, id: u64) -> Result<(), OutOfMemory>
         (drafted draft.old) draft.old.at (row_of id (drafted draft.old).entries))) }
 {
     let number = draft.count() + 1;
-    let row = settled(draft, id)?;
+    let row = processed(draft, id)?;
     let object = draft.object_of(&row.from);
     let entry = own_set_entry(number, object, &row)?;
-    draft.settle(entry, row)?;
+    draft.enter_processed(entry, row)?;
     Ok(())
 }
 
-/// Makes the transfer of a recurring transfer that has this place in its series.
-pub fn spawn(draft: &mut Draft<'_>, id: u64, place: u32) -> Result<(), OutOfMemory>
-    requires may { may_spawn draft.old.setup (drafted draft.old) id place ≡ true }
+/// Makes the transfer of a recurring transfer that has this occurrence number in its series.
+pub fn spawn(draft: &mut Draft<'_>, id: u64, occurrence: u32) -> Result<(), OutOfMemory>
+    requires may { may_spawn draft.old.setup (drafted draft.old) id occurrence ≡ true }
     ensures { OnOk result (HasAdded draft.old draft.new (spawns draft.old.setup
-        (drafted draft.old) id place)) }
+        (drafted draft.old) id occurrence)) }
 {
     let number = draft.count() + 1;
-    let row = spawned(draft, number, id, place)?;
+    let row = spawned(draft, number, id, occurrence)?;
     let object = draft.object_of(&row.from);
     let entry = own_new_entry(number, object, &row)?;
     draft.enter(entry, RowChange::Made(row))?;
@@ -53,20 +53,20 @@ pub fn spawn(draft: &mut Draft<'_>, id: u64, place: u32) -> Result<(), OutOfMemo
 }
 
 /// The row of the transfer with this id, posted or closed.
-fn settled(draft: &Draft<'_>, id: u64) -> Result<TransferRow, OutOfMemory>
+fn processed(draft: &Draft<'_>, id: u64) -> Result<TransferRow, OutOfMemory>
     requires there { is_some (row_of id (drafted draft.now).entries) ≡ true }
     requires own { IfSome (row_of id (drafted draft.now).entries)
         (λ row. is_some (account_of draft.now.setup row.from) ≡ true) }
     requires held { IfSome (row_of id (drafted draft.now).entries)
         (λ row. IfSome (account_of draft.now.setup row.from) (IsHeld draft.now.held)) }
-    ensures { IfOk result (λ settled. option_map (λ (row : TransferRow).
-        rules.settled_row (rules.has_cover draft.now.setup (drafted draft.now) row) draft.now.at row)
-        (row_of id (drafted draft.now).entries) ≡ Some settled) }
+    ensures { IfOk result (λ processed. option_map (λ (row : TransferRow).
+        rules.processed_row (rules.has_cover draft.now.setup (drafted draft.now) row) draft.now.at row)
+        (row_of id (drafted draft.now).entries) ≡ Some processed) }
 {
     match draft.row(id) {
         Some(row) => {
             let covered = covers(draft, row);
-            settled_row(covered, draft.at(), row)
+            processed_row(covered, draft.at(), row)
         }
         None => unreachable!(),
     }
@@ -83,15 +83,20 @@ fn covers(draft: &Draft<'_>, row: &TransferRow) -> bool
 }
 
 /// The row of the transfer that a recurring transfer makes at a place.
-fn spawned(draft: &Draft<'_>, number: u64, id: u64, place: u32) -> Result<TransferRow, OutOfMemory>
-    requires there { is_some (place_date (model_of id (drafted draft.now).entries) place) ≡ true }
+fn spawned(
+    draft: &Draft<'_>,
+    number: u64,
+    id: u64,
+    occurrence: u32,
+) -> Result<TransferRow, OutOfMemory>
+    requires there { is_some (occurrence_date (model_of id (drafted draft.now).entries) occurrence) ≡ true }
     requires first { IfSome (model_of id (drafted draft.now).entries) (λ row. IsDay row.first.0) }
-    requires day { IfSome (place_date (model_of id (drafted draft.now).entries) place) (λ day. IsDay day.0) }
+    requires day { IfSome (occurrence_date (model_of id (drafted draft.now).entries) occurrence) (λ day. IsDay day.0) }
     ensures { IfOk result (λ spawned. made_row number (model_of id (drafted draft.now).entries)
-        (place_date (model_of id (drafted draft.now).entries) place) ≡ Some spawned) }
+        (occurrence_date (model_of id (drafted draft.now).entries) occurrence) ≡ Some spawned) }
 {
     match draft.model(id) {
-        Some(row) => next_row(number, row, place),
+        Some(row) => next_row(number, row, occurrence),
         None => unreachable!(),
     }
 }
@@ -103,13 +108,13 @@ fn is_covered(amount: Cents, balance: Cents) -> bool
 }
 
 /// The row of the transfer with this id that a recurring transfer makes at a place.
-fn next_row(id: u64, model: &ModelRow, place: u32) -> Result<TransferRow, OutOfMemory>
+fn next_row(id: u64, model: &ModelRow, occurrence: u32) -> Result<TransferRow, OutOfMemory>
     requires first { IsDay model.now.first.0 }
-    requires there { is_some (place_date (Some model.now) place) ≡ true }
-    requires day { IfSome (place_date (Some model.now) place) (λ day. IsDay day.0) }
-    ensures { IfOk result (λ made. made_row id (Some model.now) (place_date (Some model.now) place) ≡ Some made) }
+    requires there { is_some (occurrence_date (Some model.now) occurrence) ≡ true }
+    requires day { IfSome (occurrence_date (Some model.now) occurrence) (λ day. IsDay day.0) }
+    ensures { IfOk result (λ made. made_row id (Some model.now) (occurrence_date (Some model.now) occurrence) ≡ Some made) }
 {
-    match date_of(model.first, model.recur.freq, place) {
+    match date_of(model.first, model.recur.freq, occurrence) {
         Some(date) => spawned_row(id, date, model),
         None => unreachable!(),
     }

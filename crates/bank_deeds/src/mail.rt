@@ -21,7 +21,7 @@ use ofx_types::{
 use std::alloc::Global;
 
 /// Takes a mail about an account.
-pub(crate) fn take_mail_about(
+pub(crate) fn add_bank_mail(
     draft: &mut Draft<'_>,
     trnuid: &TrnUid,
     about: &AcctName,
@@ -45,7 +45,7 @@ pub(crate) fn take_mail_about(
 }
 
 /// Takes a mail about nothing in particular.
-pub(crate) fn take_mail(
+pub(crate) fn add_mail(
     draft: &mut Draft<'_>,
     trnuid: &TrnUid,
     mail: &MailText,

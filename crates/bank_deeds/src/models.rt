@@ -9,8 +9,8 @@ ghost use Rattle.bank_model.specs.Models.{model_of};
 ghost use Rattle.bank_model.specs.Deeds as rules;
 ghost use Rattle.bank_model.specs.Deeds.{done};
 ghost use Rattle.bank_model.specs.Sound.{IsSoundDeed};
-ghost use Rattle.bank_rules.specs.Standing.{IsSoundState};
-ghost use Rattle.bank_rules.specs.Pending.{pending_of, ids_of, own_entries};
+ghost use Rattle.bank_invariants.specs.SoundStates.{IsSoundState};
+ghost use Rattle.bank_invariants.specs.Pending.{pending_of, ids_of, own_entries};
 ghost use Rattle.bank_ledger.specs.DraftView.{drafted, HasAdded};
 ghost use Rattle.bank_deeds.specs.Unrefused.{IsUnrefused};
 
@@ -22,7 +22,7 @@ use bank_model::Entry;
 use ofx_types::{Change, Duplicate, ModelRow, ObjectId, OutOfMemory, Recur, TrnUid, XferInfo};
 
 /// Takes a recurring transfer.
-pub(crate) fn take_model(
+pub(crate) fn add_model(
     draft: &mut Draft<'_>,
     trnuid: &TrnUid,
     recur: Recur,

@@ -11,7 +11,7 @@ pub(crate) fn own_name(setup: &Setup, name: &AcctName) -> Result<AcctName, OutOf
     ensures { IfOk result (λ own. own ≡ name.now) }
 {
     match setup.accounts.find(name) {
-        Some(place) => setup.accounts.items()[place].name.copy(),
+        Some(index) => setup.accounts.items()[index].name.copy(),
         None => name.copy(),
     }
 }

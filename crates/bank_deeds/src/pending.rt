@@ -5,11 +5,11 @@ ghost use Rattle.std.specs.Option.{option_map};
 ghost use Rattle.bank_model.specs.Ledger.{row_of};
 ghost use Rattle.bank_model.specs.Models.{waiting_of};
 ghost use Rattle.bank_model.specs.Deeds as rules;
-ghost use Rattle.bank_model.specs.Deeds.{entries_behind};
+ghost use Rattle.bank_model.specs.Deeds.{entries_after};
 ghost use Rattle.bank_model.specs.Sound.{IsSoundInfo};
 ghost use Rattle.ofx_types.specs.declared.transfer.Change.TheVariants as changes;
 ghost use Rattle.bank_transfers.specs.TransfersView.{waits};
-ghost use Rattle.bank_rules.specs.Pending.{pending_of, waiting_if, ids_of, rows_at, waits_for, AreWaiting, AreTerms};
+ghost use Rattle.bank_invariants.specs.Pending.{pending_of, waiting_if, ids_of, rows_at, waits_for, AreWaiting, AreTerms};
 ghost use Rattle.bank_ledger.specs.DraftView.{drafted, HasAdded};
 
 use crate::entries::{own_entry, own_set_entry};
@@ -92,7 +92,7 @@ pub(crate) fn change_pending(
     requires waiting { AreWaiting (drafted draft.old).entries ids.now }
     requires info { IsSoundInfo info.now }
     requires terms { AreTerms draft.old.setup (drafted draft.old).entries ids.now info.now }
-    ensures { OnOk result (HasAdded draft.old draft.new (entries_behind draft.old.setup
+    ensures { OnOk result (HasAdded draft.old draft.new (entries_after draft.old.setup
         (length (drafted draft.old).entries) (λ row. changes.SetTransfer (rules.with_terms info.now row))
         (rows_at (drafted draft.old).entries ids.now))) }
 {
@@ -106,7 +106,7 @@ pub(crate) fn change_pending(
 pub(crate) fn drop_pending(draft: &mut Draft<'_>, ids: &[u64]) -> Result<(), OutOfMemory>
     requires few { length (drafted draft.old).entries + length ids.now ≤ draft.old.setup.entries }
     requires waiting { AreWaiting (drafted draft.old).entries ids.now }
-    ensures { OnOk result (HasAdded draft.old draft.new (entries_behind draft.old.setup
+    ensures { OnOk result (HasAdded draft.old draft.new (entries_after draft.old.setup
         (length (drafted draft.old).entries) (λ row. changes.DropTransfer row.id)
         (rows_at (drafted draft.old).entries ids.now))) }
 {
@@ -122,7 +122,7 @@ fn change_waiting(draft: &mut Draft<'_>, info: &XferInfo, id: u64) -> Result<(),
     requires waits { waits (row_of id (drafted draft.old).entries) ≡ true }
     requires info { IsSoundInfo info.now }
     requires terms { AreTerms draft.old.setup (drafted draft.old).entries (id ∷ []) info.now }
-    ensures { OnOk result (HasAdded draft.old draft.new (entries_behind draft.old.setup
+    ensures { OnOk result (HasAdded draft.old draft.new (entries_after draft.old.setup
         (length (drafted draft.old).entries) (λ row. changes.SetTransfer (rules.with_terms info.now row))
         (rows_at (drafted draft.old).entries (id ∷ [])))) }
 {
@@ -138,7 +138,7 @@ fn change_waiting(draft: &mut Draft<'_>, info: &XferInfo, id: u64) -> Result<(),
 fn drop_waiting(draft: &mut Draft<'_>, id: u64) -> Result<(), OutOfMemory>
     requires few { length (drafted draft.old).entries + 1 ≤ draft.old.setup.entries }
     requires waits { waits (row_of id (drafted draft.old).entries) ≡ true }
-    ensures { OnOk result (HasAdded draft.old draft.new (entries_behind draft.old.setup
+    ensures { OnOk result (HasAdded draft.old draft.new (entries_after draft.old.setup
         (length (drafted draft.old).entries) (λ row. changes.DropTransfer row.id)
         (rows_at (drafted draft.old).entries (id ∷ [])))) }
 {

@@ -157,13 +157,13 @@ pub(crate) fn with_terms(
 }
 
 /// The row of a transfer that is posted at a moment where there is cover, and closed otherwise.
-#[tactic(auto, unfolding(bank_model::specs::Due::settled_row))]
-pub(crate) fn settled_row(
+#[tactic(auto, unfolding(bank_model::specs::Due::processed_row))]
+pub(crate) fn processed_row(
     covered: bool,
     at: Moment,
     row: &TransferRow,
 ) -> Result<TransferRow, OutOfMemory>
-    ensures { IfOk result (λ settled. settled ≡ due_work.settled_row covered at row.now) }
+    ensures { IfOk result (λ processed. processed ≡ due_work.processed_row covered at row.now) }
 {
     Ok(TransferRow {
         id: row.id,

@@ -39,7 +39,7 @@ pub(crate) fn transfer(
     let row = new_row(draft.setup(), number, draft.at(), draft.day(), info)?;
     let object = draft.object_of(&info.from);
     let entry = new_entry(number, object, trnuid, &row)?;
-    draft.settle(entry, row)?;
+    draft.enter_processed(entry, row)?;
     Ok(())
 }
 

@@ -9,7 +9,7 @@ use Rattle.bank_model.specs.declared.event.State.{State}
 use Rattle.bank_model.specs.declared.event.Event.TheVariants.{File}
 use Rattle.bank_model.specs.Rules.{answer_to, state_after, denial}
 use Rattle.bank_model.specs.Polls.{is_poll, poll_reply}
-use Rattle.ofx_ports.specs.Told.{Stays, Grows}
+use Rattle.ofx_ports.specs.Known.{Stays, Grows}
 use Rattle.ofx_ports.specs.Kept.{MayGrow}
 use Rattle.event_codec.specs.Records.{Codes}
 use Rattle.bank_signon.specs.Signon.{IsSignedOn, IsDenied, IsRefused}
@@ -51,20 +51,20 @@ Sends sent setup at before bytes line records after =
     Replies sent setup at before bytes line records after
     ⊎ (Polls sent setup at before bytes line records after ⊎ Denies sent setup at before bytes line records after)
 
--- Something is sent for a file, and its records are kept; or its bytes are refused at a place, and nothing changes.
+-- Something is sent for a file, and its records are kept; or its bytes are refused at an offset, and nothing changes.
 abbrev pub Answers : (List ℕ → List ℕ) → Setup → Moment → State → List ℕ → State → Option (List (List ℕ)) → Option (List (List ℕ)) → Answered → Type 0
-Answers sent setup at before bytes after told told' (Sent line) =
-    (records : List (List ℕ)) × Sends sent setup at before bytes line.items records after × Grows told told' records
-Answers sent setup at before bytes after told told' (Bad place) = IsRefused bytes place × Stays told told' × (after ≡ before)
+Answers sent setup at before bytes after reported reported' (Sent line) =
+    (records : List (List ℕ)) × Sends sent setup at before bytes line.items records after × Grows reported reported' records
+Answers sent setup at before bytes after reported reported' (Bad offset) = IsRefused bytes offset × Stays reported reported' × (after ≡ before)
 
 -- ---- what is kept of a file whose append failed
 
 -- It is an event of a user, and its record is kept if it has landed.
-pub record FileUnkept (setup : Setup) (at : Moment) (bytes : List ℕ) (told told' : Option (List (List ℕ))) (landed : Option Bool) : Type 0 where
+pub record FileUnkept (setup : Setup) (at : Moment) (bytes : List ℕ) (reported reported' : Option (List (List ℕ))) (landed : Option Bool) : Type 0 where
   pub file : RequestFile
   pub user : UserId
   pub is_signed_on : IsSignedOn setup bytes file user
   pub is_event : is_poll file ≡ false
   pub rec : List ℕ
   pub codes : Codes rec at (File user file)
-  pub lands : MayGrow told told' landed rec
+  pub lands : MayGrow reported reported' landed rec

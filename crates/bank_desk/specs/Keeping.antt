@@ -1,6 +1,6 @@
 -- The records of events.
 use Rattle.std.specs.Prelude.{◌≡◌, ℕ, Bool, List, [], ◌∷◌, Option, Result, Ok, Err}
-use Rattle.ofx_ports.specs.Told.{Stays, Grows}
+use Rattle.ofx_ports.specs.Known.{Stays, Grows}
 use Rattle.ofx_ports.specs.Kept.{MayGrow}
 use Rattle.ofx_types.specs.declared.number.Moment.{Moment}
 use Rattle.bank_model.specs.declared.event.Event.{Event}
@@ -17,6 +17,6 @@ AreRecordsOf at (event ∷ events) (rec ∷ records) = Codes rec at event × Are
 -- What is kept of one event: its record; nothing, where memory was refused; and where the append failed, the record if it has
 -- landed, of which the keeper's own word is what it tells when this is settled.
 abbrev pub Keeps : {A : Type 0} → Moment → Event → Option (List (List ℕ)) → Option (List (List ℕ)) → Option Bool → Result A DeskFault → Type 0
-Keeps at event told told' landed (Ok done) = (rec : List ℕ) × Codes rec at event × Grows told told' (rec ∷ [])
-Keeps at event told told' landed (Err NoMemory) = Stays told told'
-Keeps at event told told' landed (Err AppendFailed) = (rec : List ℕ) × Codes rec at event × MayGrow told told' landed rec
+Keeps at event reported reported' landed (Ok done) = (rec : List ℕ) × Codes rec at event × Grows reported reported' (rec ∷ [])
+Keeps at event reported reported' landed (Err NoMemory) = Stays reported reported'
+Keeps at event reported reported' landed (Err AppendFailed) = (rec : List ℕ) × Codes rec at event × MayGrow reported reported' landed rec

@@ -1,17 +1,17 @@
-//! A bank on one thread: its book, its accounts at home, and what it answers to the bytes of a file.
+//! A bank on one thread: its book, its accounts in the pool, and what it answers to the bytes of a file.
 
 mod committing;
 mod due;
 
 ghost use Rattle.std.specs.Prelude.{◌≡◌, ◌≢◌, ◌+◌, ◌<◌, ◌≤◌, true, false, length, Err, IfOk, IfErr, IfSome, IfNone, OnErr, IsErrOf};
 ghost use Rattle.ofx_ports.specs.Faults.{CountsFaults};
-ghost use Rattle.ofx_ports.specs.Told.{Stays};
+ghost use Rattle.ofx_ports.specs.Known.{Stays};
 ghost use Rattle.ofx_types.specs.Calendar.{IsMoment};
 ghost use Rattle.ofx_types.specs.ReplyForm.{reply_text};
 ghost use Rattle.bank_model.specs.SetupForm.{IsWithinLimits};
 ghost use Rattle.bank_model.specs.Polls as polls;
 ghost use Rattle.bank_model.specs.Rules as rules;
-ghost use Rattle.bank_replay.specs.Opening.{Stands, HasCause};
+ghost use Rattle.bank_replay.specs.Opening.{RecordsGive, HasCause};
 ghost use Rattle.bank_desk.specs.Answering.{Answers, FileUnkept};
 
 use crate::fault::DeskFault;
@@ -48,7 +48,7 @@ impl Model for Desk {
 pub enum Answered {
     /// The bytes that are to be sent: a reply in its envelope.
     Sent(Vec<u8>),
-    /// The file isn't answered: its fault is at this place, in bytes from its first.
+    /// The file isn't answered: its fault is at this offset, in bytes from its first.
     Bad(u64),
 }
 
@@ -63,7 +63,7 @@ impl Desk {
         requires within { IsWithinLimits setup }
         requires settled { K.unsettled keeper.old ≡ false }
         ensures setup { IfOk result (λ desk. desk.setup ≡ setup) }
-        ensures stands { IfOk result (λ desk. Stands setup (K.records keeper.old) desk.state) }
+        ensures holds { IfOk result (λ desk. RecordsGive setup (K.records keeper.old) desk.state) }
         ensures cause { IfErr result (HasCause setup (K.records keeper.old)) }
         ensures list { Stays (K.records keeper.old) (K.records keeper.new) }
         ensures settled { K.unsettled keeper.new ≡ false }
@@ -94,7 +94,7 @@ impl Desk {
 
     /// What is to be sent for the bytes of a file, at most 262,144 of them, at that moment, in that envelope. Where they are a
     /// user's and no poll the event has happened. Otherwise nothing has, nor where memory is refused or the append of its
-    /// record failed; but where the append failed the record may stand.
+    /// record failed; but where the append failed the record may be stored.
     pub fn answer<K: Keeper, E: Envelope>(
         &mut self,
         alloc: Global,
@@ -118,7 +118,7 @@ impl Desk {
         ensures faults { CountsFaults (K.faults keeper.old) (K.faults keeper.new) (IsErrOf result DeskFault.AppendFailed) }
     {
         match judge(alloc, self.setup(), bytes)? {
-            Judgement::Refused(place) => Ok(Answered::Bad(place)),
+            Judgement::Refused(offset) => Ok(Answered::Bad(offset)),
             Judgement::Denied(file) => Ok(Answered::Sent(denied(alloc, at, file, envelope)?)),
             Judgement::Poll(user, file) => {
                 Ok(Answered::Sent(self.polled(alloc, at, user, &file, envelope)?))

@@ -40,7 +40,7 @@ done at n event a b c p q = through (HasDone at n) (λ old new. Advances old new
   does = each-more u v w at had.events event had.does due;
 }) p q
 
--- where the journal is told, no event that was due is gone
+-- where the journal is known, no event that was due is gone
 pub gone : (at : Moment) (n : ℕ) (event : Event) (a b c : Option JournalView) → Knows a b (HasDone at n) → Knows b c (λ old new. Advances old new at (Gone event)) → Knows a c (HasDone at n)
 gone at n event a b c p q = through (HasDone at n) (λ old new. Advances old new at (Gone event)) (HasDone at n) a b c (λ u v w had no. absurd no) p q
 

@@ -10,7 +10,7 @@ use Rattle.bank_engine.specs.Views.{JournalView}
 use Rattle.bank_due.specs.declared.fault.DueFault.{DueFault}
 use Rattle.bank_due.specs.declared.fault.DueFault.TheVariants as faults
 
--- Where the journal is told, it is told again, and the two are related so. One that isn't told never is.
+-- Where the journal is known, it is told again, and the two are related so. One that isn't told never is.
 abbrev pub Knows : Option JournalView → Option JournalView → (JournalView → JournalView → Type 0) → Type 0
 Knows None None P = ⊤
 Knows None (Some w) P = ⊥

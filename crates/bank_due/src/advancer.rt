@@ -7,7 +7,7 @@ ghost use Rattle.bank_engine.specs.Views.{JournalView};
 ghost use Rattle.bank_due.specs.DueRuns.{Knows};
 
 use bank_model::{Printer, SubmitFault};
-use bank_shared::{Advance, BankName, Teller};
+use bank_shared::{Advance, BankName, LockedBank};
 use ofx_ports::Keeper;
 use ofx_types::Moment;
 
@@ -26,11 +26,11 @@ pub trait Advancer {
         ensures fails { IfErr result (λ fault. Knows (knows self.old) (knows self.new) (λ old new. FailsToAdvance old new at fault)) };
 }
 
-/// The teller tells its journal.
-impl<N: BankName, K: Keeper, P: Printer> Advancer for Teller<N, K, P> {
-    ghost knows = { λ teller. Some teller };
+/// The locked bank tells its journal.
+impl<N: BankName, K: Keeper, P: Printer> Advancer for LockedBank<N, K, P> {
+    ghost knows = { λ locked. Some locked };
 
     fn advance(&mut self, at: Moment) -> Result<Advance, SubmitFault> {
-        Teller::advance(self, at)
+        LockedBank::advance(self, at)
     }
 }

@@ -12,7 +12,7 @@ use std::sync::Wait;
 /// The call of a gate before due work is looked for.
 const DUE_WORK: u64 = 1 << 32;
 
-/// A caller of a bank with its pass. It tells nothing of the bank's journal, since other callers may come between.
+/// A caller of a bank with its pass. It says nothing of the bank's journal, since other callers may come between.
 #[derive(Drop)]
 pub struct Caller<'a, R: Wait, N: BankName, K: Keeper, P: Printer, G: Gate> {
     pub rt: &'a R,

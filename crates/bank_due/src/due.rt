@@ -14,7 +14,7 @@ use ofx_types::Moment;
 use std::sync::Wait;
 
 /// The most events of a run.
-const MOST_EVENTS: u32 = 100_000;
+const MAX_EVENTS: u32 = 100_000;
 
 /// Makes what is due at a moment happen, one event after another, until nothing is due, and answers how many they were: fewer
 /// than 100,000.
@@ -23,7 +23,7 @@ const MOST_EVENTS: u32 = 100_000;
 /// - `Keeper(n)`: the keeper's count of faults rose to n in the last look of this call.
 /// - `OutOfMemory`.
 ///
-/// Which events those are is said where the journal is told, as over a teller (`run_due`). Over a bank other callers come between,
+/// Which events those are is said where the journal is known, as over a locked bank (`run_due`). Over a bank other callers come between,
 /// and nothing but the number is said.
 pub fn due_run<R: Wait, N: BankName, K: Keeper, P: Printer, G: Gate>(
     bank: &Bank<N, K, P>,
@@ -57,7 +57,7 @@ pub fn run_due<R: Wait, A: Advancer>(rt: &R, advancer: &mut A, at: Moment) -> Re
         match advancer.advance(at)? {
             Advance::Done(event) => {
                 count += 1;
-                if count == MOST_EVENTS {
+                if count == MAX_EVENTS {
                     return Err(DueFault::Left(id_of(&event)));
                 }
             }

@@ -1,6 +1,6 @@
 pub mod LogLemmas
 pub mod KeptLemmas
 pub mod EngineLemmas
-pub mod LentAccounts
+pub mod CheckedOutAccounts
 pub mod Truth
 pub mod Reopening

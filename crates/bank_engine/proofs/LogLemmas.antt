@@ -24,8 +24,8 @@ use Rattle.bank_model.proofs.Logs.{endings_of_effects}
 
 -- ---- endings
 
-endings_behind : (entries : List LogItem) (item : LogItem) → endings entries ≡ [] → is_ending item ≡ true → endings (entries ++ item ∷ []) ≡ item ∷ []
-endings_behind entries item none is =
+endings_after : (entries : List LogItem) (item : LogItem) → endings entries ≡ [] → is_ending item ≡ true → endings (entries ++ item ∷ []) ≡ item ∷ []
+endings_after entries item none is =
     filter-append is_ending entries (item ∷ []) ∙ ap (λ (l : List LogItem). l ++ endings (item ∷ [])) none ∙ one item is
   where
     one : (item : LogItem) → is_ending item ≡ true → endings (item ∷ []) ≡ item ∷ []
@@ -36,8 +36,8 @@ endings_behind entries item none is =
 
 endings_of_group : (setup : Setup) (S : State) (item : LogItem) → is_ending item ≡ true → endings (group setup S item) ≡ item ∷ []
 endings_of_group setup S (Effect entry) is = absurd (false≢true is)
-endings_of_group setup S (Answer event at reply) is = endings_behind (effects_of setup S at event) (Answer event at reply) (endings_of_effects (drop (length S.entries) (state_after setup S at event).entries)) is
-endings_of_group setup S (Adopted fault event at) is = endings_behind (effects_of setup S at event) (Adopted fault event at) (endings_of_effects (drop (length S.entries) (state_after setup S at event).entries)) is
+endings_of_group setup S (Answer event at reply) is = endings_after (effects_of setup S at event) (Answer event at reply) (endings_of_effects (drop (length S.entries) (state_after setup S at event).entries)) is
+endings_of_group setup S (Adopted fault event at) is = endings_after (effects_of setup S at event) (Adopted fault event at) (endings_of_effects (drop (length S.entries) (state_after setup S at event).entries)) is
 endings_of_group setup S (Fault count pending) is = refl
 
 pub endings_more : (setup : Setup) (S : State) (log : List LogItem) (item : LogItem) → is_ending item ≡ true → endings (log ++ group setup S item) ≡ endings log ++ item ∷ []

@@ -2,7 +2,7 @@
 use Rattle.std.specs.Prelude.{◌≡◌, ℕ, ◌+◌, ◌%◌, ◌^◌, ◌≤◌, ◌⊎◌, List, [], ◌∷◌, ◌++◌, length, Bool, true, false, Option, None, Some, Result, Ok, Err}
 use Rattle.std.specs.Option.{IfSome}
 use Rattle.ofx_ports.specs.Faults.{Rose}
-use Rattle.ofx_ports.specs.Told.{Stays, Grows}
+use Rattle.ofx_ports.specs.Known.{Stays, Grows}
 use Rattle.ofx_ports.specs.Kept.{MayGrow}
 use Rattle.ofx_ports.specs.declared.fault.PutFault.{PutFault}
 use Rattle.ofx_ports.specs.declared.fault.PutFault.TheVariants as puts
@@ -57,7 +57,7 @@ pub record Answers (old new : JournalView) (event : Event) (at : Moment) (reply 
 abbrev pub pending_after : JournalView → Event → Moment → PendingView
 pending_after old event at = record { event = event; at = at; number = (length (endings old.log) + 1) % 2 ^ 64 }
 
--- The append of its record failed: the log has grown by this fault, and the event is pending. The record may stand.
+-- The append of its record failed: the log has grown by this fault, and the event is pending. The record may be stored.
 pub record FailsToKeep (old new : JournalView) (event : Event) (at : Moment) (count : ℕ) : Type 0 where
   pub may_happen : MayHappen old.setup old.state at event
   pub adds : AddsEntries old.setup old.state at event
@@ -118,7 +118,7 @@ abbrev pub FailsToSettle : JournalView → JournalView → SubmitFault → Type 
 FailsToSettle old new (Keeper count) = StaysPending old new count
 FailsToSettle old new OutOfMemory = ⊥
 
--- what the keeper answered in a settling that ended so: whether the record stands, or nothing where it failed
+-- what the keeper answered in a settling that ended so: whether the record is stored, or nothing where it failed
 abbrev pub settling_of : Result Bool SubmitFault → Option Bool
 settling_of (Ok adopted) = Some adopted
 settling_of (Err fault) = None

@@ -21,20 +21,20 @@ CodeEndings (Adopted fault event at ∷ more) (rec ∷ records) = Codes rec at e
 
 -- the record of the pending event has landed
 pub record HasLanded (landed : Option Bool) (pending : PendingView) (records : List (List ℕ)) : Type 0 where
-  pub is_told : landed ≡ Some true
+  pub is_reported : landed ≡ Some true
   pub rec : List ℕ
   pub codes : Codes rec pending.at pending.event
   pub is_it : records ≡ rec ∷ []
 
 -- it hasn't
 pub record IsLost (landed : Option Bool) (records : List (List ℕ)) : Type 0 where
-  pub is_told : landed ≡ Some false
+  pub is_reported : landed ≡ Some false
   pub none : records ≡ []
 
 -- Where an append failed and isn't settled, the record of its event stands where it has landed. Otherwise nothing stands.
-abbrev pub MayStand : Option Bool → Option PendingView → List (List ℕ) → Type 0
-MayStand landed None records = records ≡ []
-MayStand landed (Some pending) records = HasLanded landed pending records ⊎ IsLost landed records
+abbrev pub MayRemain : Option Bool → Option PendingView → List (List ℕ) → Type 0
+MayRemain landed None records = records ≡ []
+MayRemain landed (Some pending) records = HasLanded landed pending records ⊎ IsLost landed records
 
 -- The records are those with which the bank opened, then those of the events that the log answered and adopted, and then what
 -- may stand of the pending event. From the first ones comes the state that the bank opened in.
@@ -44,4 +44,4 @@ pub record AreKept (setup : Setup) (opening : State) (first : List (List ℕ)) (
   pub besides : List (List ℕ)
   pub parts : records ≡ first ++ coded ++ besides
   pub code : CodeEndings (endings log) coded
-  pub may_stand : MayStand landed pending besides
+  pub may_remain : MayRemain landed pending besides

@@ -1,4 +1,4 @@
-pub mod Past
+pub mod LogTrace
 pub mod Views
 pub mod Pending
 pub mod Steps

@@ -30,7 +30,7 @@ Awaits log unsettled (Some pending) =
 pub record IsTrue (setup : Setup) (opening : State) (first : Option (List (List ℕ))) (journal : JournalView) : Type 0 where
   pub own : journal.setup ≡ setup
   pub legal : IsWholeLog setup opening journal.log
-  pub stands : journal.state ≡ ends setup opening journal.log
+  pub holds : journal.state ≡ ends setup opening journal.log
   pub entries : journal.state.entries ≡ entries_in opening journal.log
   pub kept : IfSome first (λ rs. IsSomeAnd journal.records (AreKept setup opening rs journal.log journal.landed journal.pending))
   pub counts : All (IsUpTo journal.faults) (endings journal.log)

@@ -8,7 +8,7 @@ use Rattle.bank_model.specs.declared.setup.Setup.{Setup}
 use Rattle.bank_core.specs.BookView.{PreparedView}
 use Rattle.bank_ledger.specs.LedgerView.{Room}
 
--- An event whose append failed at its moment, until it is settled whether its record stands.
+-- An event whose append failed at its moment, until it is settled whether its record is stored.
 pub record PendingView : Type 0 where
   pub event : Event
   pub at : Moment
@@ -33,7 +33,7 @@ pub record ReadyView : Type 0 where
 pub record KeeperView : Type 0 where
   -- the records, where they are told
   pub records : Option (List (List ℕ))
-  -- whether the record of the append that failed stands, where this is told
+  -- whether the record of the append that failed is stored, where this is told
   pub landed : Option Bool
   -- whether an append failed and isn't settled
   pub unsettled : Bool

@@ -8,17 +8,17 @@ ghost use Rattle.bank_model.specs.Rules.{IsLegal, named};
 ghost use Rattle.bank_model.specs.SetupForm.{IsWithinLimits};
 ghost use Rattle.bank_accounts.specs.HeldAccounts.{AreHeld, HaveSameNumbers};
 ghost use Rattle.bank_ledger.specs.Balanced.{AreBalanced};
-ghost use Rattle.bank_rules.specs.Standing.{IsSoundState};
+ghost use Rattle.bank_invariants.specs.SoundStates.{IsSoundState};
 ghost use Rattle.bank_engine.specs.Calls.{Answers, FailsToCommit, Settles, FailsToSettle, append_of, settling_of};
 ghost use Rattle.bank_engine.specs.Solo.{Sends, AppendsOne};
 ghost use Rattle.bank_engine.specs.Steps.{IsReady};
 ghost use Rattle.bank_engine.specs.Views.{journal_of};
 
+use crate::applying::{adopt, answer};
 use crate::envelope::Envelope;
 use crate::pending::{Pending, put_off};
 use crate::publisher::Publisher;
 use crate::ready::Ready;
-use crate::taking::{adopt, answer};
 use bank_accounts::Held;
 use bank_core::Book;
 use bank_model::{Event, Printer, SubmitFault};
@@ -28,7 +28,7 @@ use ofx_types::{Moment, OutOfMemory, Sequence};
 use std::alloc::Global;
 use std::marker::Model;
 
-/// The book of a bank, and the event whose append failed until it is settled whether its record stands.
+/// The book of a bank, and the event whose append failed until it is settled whether its record is stored.
 ///
 /// The keeper of the records, the accounts that an event names and who publishes the log are borrowed by its calls. A clause
 /// speaks of the journal that they make together.
@@ -77,7 +77,7 @@ impl<P: Printer> Engine<P> {
         &self.book
     }
 
-    /// The event whose append failed, until it is settled whether its record stands. Takes no memory.
+    /// The event whose append failed, until it is settled whether its record is stored. Takes no memory.
     pub fn pending(&self) -> Option<&Event>
         ensures { option_copied result ≡ option_map (λ pending. pending.event) self.now.pending }
     {

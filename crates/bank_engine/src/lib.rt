@@ -6,21 +6,21 @@
 //! these: the desk of a run, the journal of a bank that many callers share, and the server of a rehearsal.
 #![tactic(auto)]
 
+mod applying;
+mod checkout;
 mod engine;
 mod envelope;
 pub mod laws;
-mod lending;
 mod log;
-mod past;
+mod log_trace;
 mod pending;
 mod publisher;
 mod ready;
 mod solo;
-mod taking;
 
+pub use checkout::check_out;
 pub use engine::Engine;
 pub use envelope::{Bare, Envelope, Unsent};
-pub use lending::lend;
 pub use log::Log;
 pub use publisher::Publisher;
 pub use ready::Ready;

@@ -2,7 +2,7 @@
 
 ghost use Rattle.std.specs.Prelude.{◌≡◌, []};
 
-use crate::past::Past;
+use crate::log_trace::LogTrace;
 use crate::publisher::Publisher;
 use bank_model::{Entry, Event};
 use ofx_types::Moment;
@@ -14,7 +14,7 @@ use std::snapshot::Snapshot;
 #[derive(Drop)]
 pub struct Log {
     // the items, for contracts alone
-    past: Past,
+    past: LogTrace,
     ended: u64,
 }
 
@@ -22,7 +22,7 @@ impl Model for Log {
     ghost use Rattle.std.specs.Prelude.{◌≡◌, ◌%◌, ◌^◌, List, length};
     ghost use Rattle.bank_model.specs.declared.log.LogItem.{LogItem};
     ghost use Rattle.bank_model.specs.Log.{endings};
-    ghost use Rattle.bank_engine.specs.Past.{items_of};
+    ghost use Rattle.bank_engine.specs.LogTrace.{items_of};
 
     ghost Value = { List LogItem };
 
@@ -37,7 +37,7 @@ impl Log {
         ensures { result ≡ [] }
     {
         Log {
-            past: Past::Start,
+            past: LogTrace::Start,
             ended: 0,
         }
     }
@@ -51,11 +51,11 @@ impl Publisher for Log {
     }
 
     fn effect(&mut self, entry: &Entry) {
-        self.past = Past::Effect(Snapshot::of(&self.past), Snapshot::of(entry));
+        self.past = LogTrace::Effect(Snapshot::of(&self.past), Snapshot::of(entry));
     }
 
     fn answer(&mut self, event: &Event, at: Moment, reply: &Vec<u8>) {
-        self.past = Past::Answer(
+        self.past = LogTrace::Answer(
             Snapshot::of(&self.past),
             Snapshot::of(event),
             Snapshot::of(&at),
@@ -65,7 +65,7 @@ impl Publisher for Log {
     }
 
     fn adopted(&mut self, fault: u64, event: &Event, at: Moment) {
-        self.past = Past::Adopted(
+        self.past = LogTrace::Adopted(
             Snapshot::of(&self.past),
             Snapshot::of(&fault),
             Snapshot::of(event),
@@ -75,7 +75,7 @@ impl Publisher for Log {
     }
 
     fn failed(&mut self, count: u64, event: &Event, at: Moment) {
-        self.past = Past::Failed(
+        self.past = LogTrace::Failed(
             Snapshot::of(&self.past),
             Snapshot::of(&count),
             Snapshot::of(event),
@@ -85,7 +85,7 @@ impl Publisher for Log {
     }
 
     fn unsettled(&mut self, count: u64) {
-        self.past = Past::Unsettled(Snapshot::of(&self.past), Snapshot::of(&count));
+        self.past = LogTrace::Unsettled(Snapshot::of(&self.past), Snapshot::of(&count));
         self.ended = self.ended.wrapping_add(1);
     }
 }

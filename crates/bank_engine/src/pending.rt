@@ -10,7 +10,7 @@ use bank_core::Prepared;
 use bank_model::Event;
 use ofx_types::Moment;
 
-/// An event with its prepared step, which waits until it is settled whether its record stands.
+/// An event with its prepared step, which waits until it is settled whether its record is stored.
 pub(crate) struct Pending {
     /// The event.
     pub(crate) event: Event,

@@ -5,17 +5,17 @@ ghost use Rattle.ofx_types.specs.Calendar.{IsMoment};
 ghost use Rattle.ofx_ports.specs.Kept.{counted};
 ghost use Rattle.bank_model.specs.Rules.{IsLegal};
 ghost use Rattle.bank_model.specs.SetupForm.{IsWithinLimits};
-ghost use Rattle.bank_rules.specs.Standing.{IsSoundState};
+ghost use Rattle.bank_invariants.specs.SoundStates.{IsSoundState};
 ghost use Rattle.bank_solo.specs.Solo.{AreAccountsIn};
 ghost use Rattle.bank_engine.specs.Calls.{FailsToCommit, Settles, FailsToSettle, settling_of};
 ghost use Rattle.bank_engine.specs.Solo.{Sends, AppendsOne};
 ghost use Rattle.bank_engine.specs.Views.{journal_of};
 
+use crate::checkout::check_out;
 use crate::engine::Engine;
 use crate::envelope::Envelope;
-use crate::lending::lend;
 use crate::publisher::Publisher;
-use bank_accounts::{Account, Held, Home};
+use bank_accounts::{Account, AccountPool, Held};
 use bank_core::Book;
 use bank_model::{Event, Printer, SubmitFault};
 use bank_solo::laws::unnamed_accounts_stay;
@@ -28,12 +28,12 @@ use std::marker::Model;
 /// while the event is pending, so that settling takes no memory.
 pub struct SoloEngine<P: Printer> {
     engine: Engine<P>,
-    home: Home,
+    pool: AccountPool,
     held: Held,
 }
 
 impl<P: Printer> Model for SoloEngine<P> {
-    ghost use Rattle.bank_accounts.specs.AtHome.{AreLent};
+    ghost use Rattle.bank_accounts.specs.Pool.{AreCheckedOut};
     ghost use Rattle.bank_engine.specs.Solo.{AreLentFor};
     ghost use Rattle.bank_engine.specs.Views.{EngineView};
     ghost use Rattle.bank_solo.specs.Solo.{accounts_in};
@@ -42,7 +42,7 @@ impl<P: Printer> Model for SoloEngine<P> {
 
     ghost view = { λ e. e.engine };
 
-    ghost invariant = { λ e. AreLent (accounts_in e.engine.setup e.engine.state) e.home e.held
+    ghost invariant = { λ e. AreCheckedOut (accounts_in e.engine.setup e.engine.state) e.pool e.held
         × AreLentFor e.engine.setup e.engine.state e.held e.engine.pending };
 }
 
@@ -58,10 +58,10 @@ impl<P: Printer> SoloEngine<P> {
         ensures state { IfOk result (λ engine. engine.state ≡ book.state) }
         ensures pending { IfOk result (λ engine. engine.pending ≡ None) }
     {
-        let home = Home::from_vec(alloc, accounts)?;
+        let pool = AccountPool::from_vec(alloc, accounts)?;
         Ok(SoloEngine {
             engine: Engine::new(book),
-            home,
+            pool,
             held: Held::new(alloc),
         })
     }
@@ -106,10 +106,10 @@ impl<P: Printer> SoloEngine<P> {
         ensures appends { AppendsOne K.appends keeper.old keeper.new at event result }
     {
         unnamed_accounts_stay();
-        lend(
+        check_out(
             alloc,
             self.engine.book(),
-            &mut self.home,
+            &mut self.pool,
             &mut self.held,
             &event,
         )?;
@@ -117,7 +117,7 @@ impl<P: Printer> SoloEngine<P> {
             .engine
             .send(alloc, keeper, log, &mut self.held, event, at, envelope);
         match self.engine.pending() {
-            None => self.home.receive(&mut self.held),
+            None => self.pool.check_in(&mut self.held),
             Some(_) => {}
         }
         sent
@@ -146,7 +146,7 @@ impl<P: Printer> SoloEngine<P> {
         // For the proof alone: its contract says that the setup is within its limits.
         let _book = self.engine.book();
         let adopted = self.engine.settle(keeper, log, &mut self.held)?;
-        self.home.receive(&mut self.held);
+        self.pool.check_in(&mut self.held);
         Ok(adopted)
     }
 
@@ -158,7 +158,7 @@ impl<P: Printer> SoloEngine<P> {
         ensures pending { self.new.pending ≡ None }
     {
         self.engine.give_up();
-        self.home.receive(&mut self.held);
+        self.pool.check_in(&mut self.held);
     }
 
     /// The book, and all accounts in the order of their numbers. What is pending is given up.
@@ -170,10 +170,10 @@ impl<P: Printer> SoloEngine<P> {
         self.give_up();
         let SoloEngine {
             engine,
-            home,
+            pool,
             held: _,
         } = self;
-        let accounts = home.into_vec(alloc)?;
+        let accounts = pool.into_vec(alloc)?;
         Ok((engine.into_book(), accounts))
     }
 }
@@ -182,7 +182,7 @@ impl<P: Printer> Drop for SoloEngine<P> {
     fn drop(self) {
         let SoloEngine {
             engine: _,
-            home: _,
+            pool: _,
             held: _,
         } = self;
     }

@@ -1,4 +1,4 @@
--- Two frames in front of the same bytes are one.
+-- Two frames before the same bytes are one.
 use Rattle.std.proofs.Common.{◌≡◌, ◌≢◌, ℕ, ◌<◌, ◌≤◌, ◌-◌, List, [], ◌∷◌, ◌++◌, length, take, drop, get_or, arith, refl, sym, ap, ◌∙◌, append_assoc, append-nil, length-append, length-drop}
 use Rattle.std.specs.Fmt.{decimal}
 use Rattle.std.proofs.lemmas.List.{take_at, drop_at, length-take-le, take-append-drop}
@@ -8,7 +8,7 @@ use Rattle.bank_frames.specs.FrameHead.{BeginsFrame, BeginsDue}
 use Rattle.bank_frames.specs.declared.frame_head.FrameSize.{FrameSize}
 use Rattle.bank_frames.proofs.HeadLines.{head_ends_line, one_end, line_is_short, head_regrouped}
 
--- the lengths of two first lines in front of the same bytes
+-- the lengths of two first lines before the same bytes
 same_line : (m n : ℕ) (x y : List ℕ) → IsLength m → IsLength n → frame_head m ++ x ≡ frame_head n ++ y → length_line m ≡ length_line n
 same_line m n x y small_m small_n e =
     let same_end : length (length_line m) ≡ length (length_line n) = one_end (frame_head m ++ x) _ _ (head_ends_line m x small_m) (rw e (head_ends_line n y small_n)) in

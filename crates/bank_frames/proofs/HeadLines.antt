@@ -1,4 +1,4 @@
--- The first line of a frame is found where it stands.
+-- The first line of a frame is found where it is.
 use Rattle.std.proofs.Common.{◌≡◌, ◌≢◌, ℕ, zero, suc, ◌<◌, ◌≤◌, ◌+◌, List, [], ◌∷◌, ◌++◌, length, take, get_or, codes, arith, refl, sym, ap, ◌∙◌, append_assoc, length-append}
 use Rattle.std.specs.Fmt.{decimal}
 use Rattle.std.proofs.lemmas.List.{get_or_at, get_or_append_left, take_at, take-append-le, take_more, length-take-le}
@@ -9,7 +9,7 @@ use Rattle.bank_frames.specs.FirstLine.{EndsLine, HasNoLineEnd}
 use Rattle.bank_frames.specs.FrameHead.{BeginsFrame, BeginsDue, IsNoFirstLine}
 use Rattle.bank_frames.proofs.Lengths.{own}
 
--- no LF stands in the line of a length
+-- no LF is in the line of a length
 no_line_feed : (n k : ℕ) → IsLength n → k < length (length_line n) → get_or (length_line n) k 0 ≢ 10
 no_line_feed n zero small h e = absurd (omega (arith, e))
 no_line_feed n (suc zero) small h e = absurd (omega (arith, e))
@@ -40,7 +40,7 @@ pub head_ends_line : (n : ℕ) (rest : List ℕ) → IsLength n → EndsLine (fr
 head_ends_line n rest small =
     rw (head_regrouped n rest) (line_ended (length_line n) rest (line_is_short n small) (λ k h. no_line_feed n k small h))
 
--- the first line of a frame without its LF, and what stands after it
+-- the first line of a frame without its LF, and what follows it
 abbrev pub line_of : Content → List ℕ
 line_of (request file) = length_line (length file)
 line_of due_work = codes "DUE"
@@ -91,7 +91,7 @@ no_frame_without_end bytes none content rest fits e =
     let ends = ends_line bytes content rest fits e in
     none _ ends.near ends.there ends.is_end
 
--- nor with whatever follows, once the places of an LF are all there
+-- nor with whatever follows, once the offsets of an LF are all there
 pub no_frame_later : (bytes : List ℕ) → HasNoLineEnd bytes → 12 ≤ length bytes → (more : List ℕ) → BeginsNoFrame (bytes ++ more)
 no_frame_later bytes none long more content rest fits e =
     let ends = ends_line (bytes ++ more) content rest fits e in
@@ -103,14 +103,14 @@ no_content (request file) line fits none e = none.no_file (length file) fits e
 no_content due_work line fits none e = none.no_due e
 
 -- where the line is no frame's first one no frame begins, whatever follows
-pub no_frame_behind : (bytes : List ℕ) (end : ℕ) → EndsLine bytes end → IsNoFirstLine (take end bytes) → (more : List ℕ) → BeginsNoFrame (bytes ++ more)
-no_frame_behind bytes end ends none more content rest fits e =
+pub no_frame_after : (bytes : List ℕ) (end : ℕ) → EndsLine bytes end → IsNoFirstLine (take end bytes) → (more : List ℕ) → BeginsNoFrame (bytes ++ more)
+no_frame_after bytes end ends none more content rest fits e =
     let here = ends_line (bytes ++ more) content rest fits e in
     let same : end ≡ length (line_of content) = one_end (bytes ++ more) _ _ (extended bytes more end ends) here in
-    let front : take end (bytes ++ more) ≡ take end bytes = take-append-le end bytes more (omega (arith, ends.there)) in
+    let prefix : take end (bytes ++ more) ≡ take end bytes = take-append-le end bytes more (omega (arith, ends.there)) in
     let line : take end (bytes ++ more) ≡ line_of content =
     ap (take end) (e ∙ regrouped content rest) ∙ take_at (line_of content) (10 ∷ (body_of content ++ rest)) end (sym same) in
-    no_content content (take end bytes) fits none (sym front ∙ line)
+    no_content content (take end bytes) fits none (sym prefix ∙ line)
 
 -- a line of a length and its LF are the first line of a frame
 pub begins_frame : (bytes : List ℕ) (end n : ℕ) → EndsLine bytes end → IsLength n → take end bytes ≡ length_line n → BeginsFrame bytes (record { head = end + 1; file = n })

@@ -1,4 +1,4 @@
--- Which frame the front of an input begins.
+-- Which frame the prefix of an input begins.
 use Rattle.std.specs.Prelude.{◌≡◌, ◌≢◌, ℕ, ◌<◌, ◌≤◌, List, ◌++◌, length, take, codes}
 use Rattle.bank_frames.specs.Frames.{due_work, IsLength, length_line, frame_head, frame_of, BeginsNoFrame}
 use Rattle.bank_frames.specs.declared.frame_head.FrameSize.{FrameSize}
@@ -17,13 +17,13 @@ pub record IsNoFirstLine (line : List ℕ) : Type 0 where
   pub no_file : (n : ℕ) → IsLength n → line ≡ length_line n → ⊥
   pub no_due : line ≢ codes "DUE"
 
--- The first line of a file's frame stands in front.
+-- The first line of a file's frame comes first.
 pub record BeginsFrame (bytes : List ℕ) (size : FrameSize) : Type 0 where
   pub length_fits : IsLength size.file
   pub head_there : size.head ≤ length bytes
   pub head : take size.head bytes ≡ frame_head size.file
 
--- The call for due work stands in front.
+-- The call for due work comes first.
 abbrev pub BeginsDue : List ℕ → Type 0
 BeginsDue bytes = take 4 bytes ≡ frame_of due_work
 

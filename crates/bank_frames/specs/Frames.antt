@@ -10,7 +10,7 @@ IsLength n = n ≤ 262144
 abbrev pub length_line : ℕ → List ℕ
 length_line n = codes "FILE " ++ decimal n
 
--- The line in front of a file ends in LF alone.
+-- The line before a file ends in LF alone.
 unfoldable pub frame_head : ℕ → List ℕ
 frame_head n = length_line n ++ 10 ∷ []
 

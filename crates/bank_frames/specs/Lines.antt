@@ -2,9 +2,9 @@
 use Rattle.std.specs.Prelude.{ℕ, List, [], ◌∷◌, ◌++◌, codes}
 use Rattle.std.specs.Fmt.{decimal}
 
--- `BAD`, a space and the place of a fault
+-- `BAD`, a space and the offset of a fault
 abbrev pub bad_line : ℕ → List ℕ
-bad_line place = codes "BAD " ++ decimal place ++ 10 ∷ []
+bad_line offset = codes "BAD " ++ decimal offset ++ 10 ∷ []
 
 -- `DUE`, a space and a number of events
 abbrev pub due_line : ℕ → List ℕ

@@ -7,17 +7,17 @@ use Rattle.bank_frames.specs.FrameHead.{BeginsFrame, BeginsDue}
 use Rattle.bank_frames.specs.declared.frame_head.FrameSize.{FrameSize}
 use Rattle.bank_frames.specs.declared.frames.Frame.{Frame}
 use Rattle.bank_frames.specs.declared.frames.Frame.TheVariants.{File, Due}
-use Rattle.bank_frames.specs.declared.frames.Front.{Front}
-use Rattle.bank_frames.specs.declared.frames.Front.TheVariants as fronts
+use Rattle.bank_frames.specs.declared.frames.Prefix.{Prefix}
+use Rattle.bank_frames.specs.declared.frames.Prefix.TheVariants as prefixes
 use Rattle.bank_frames.specs.declared.frames.Next.{Next}
 use Rattle.bank_frames.specs.declared.frames.Next.TheVariants as nexts
 
--- All bytes of a file's frame are in front.
+-- All bytes of a file's frame come first.
 pub record HoldsFile (bytes : List ℕ) (size : FrameSize) : Type 0 where
   pub begins : BeginsFrame bytes size
   pub whole : size.head + size.file ≤ length bytes
 
--- All bytes of the frame are in front.
+-- All bytes of the frame come first.
 abbrev pub HoldsFrame : List ℕ → Frame → Type 0
 HoldsFrame bytes (File size) = HoldsFile bytes size
 HoldsFrame bytes Due = BeginsDue bytes
@@ -37,10 +37,10 @@ content_in bytes Due = due_work
 
 -- A frame as a whole; too few bytes to fill the room, of which no frame is made if none follow; or no frame, whatever
 -- follows.
-abbrev pub ShowsFront : List ℕ → Front → Type 0
-ShowsFront bytes (fronts.Whole frame) = HoldsFrame bytes frame
-ShowsFront bytes fronts.Unfinished = (length bytes < 524288) × BeginsNoFrame bytes
-ShowsFront bytes fronts.NoFrame = (bytes ≢ []) × ((more : List ℕ) → BeginsNoFrame (bytes ++ more))
+abbrev pub ShowsPrefix : List ℕ → Prefix → Type 0
+ShowsPrefix bytes (prefixes.Whole frame) = HoldsFrame bytes frame
+ShowsPrefix bytes prefixes.Unfinished = (length bytes < 524288) × BeginsNoFrame bytes
+ShowsPrefix bytes prefixes.NoFrame = (bytes ≢ []) × ((more : List ℕ) → BeginsNoFrame (bytes ++ more))
 
 -- The last bytes of an input are none, or some.
 abbrev pub IsLast : List ℕ → Next → Type 0

@@ -45,7 +45,7 @@ fn zeros(alloc: Global) -> Result<Vec<u8>, OutOfMemory>
     Ok(vec![in alloc; 0u8; ROOM]?)
 }
 
-/// Moves the bytes between two places to the front.
+/// Moves the bytes between two offsets to the start.
 fn shift(buffer: &mut [u8], start: usize, end: usize)
     requires ordered { start ≤ end }
     requires within { end ≤ length buffer.old }
@@ -54,7 +54,7 @@ fn shift(buffer: &mut [u8], start: usize, end: usize)
     buffer.copy_within(start..end, 0);
 }
 
-/// Makes room after the bytes between two places, and answers the places where they are then.
+/// Makes room after the bytes between two offsets, and answers the offsets where they are then.
 fn make_room(buffer: &mut [u8], start: usize, end: usize) -> (usize, usize)
     requires ordered { start ≤ end }
     requires within { end ≤ length buffer.old }
@@ -71,7 +71,7 @@ fn make_room(buffer: &mut [u8], start: usize, end: usize) -> (usize, usize)
 }
 
 /// Reads after what is in use, and leaves that as it is.
-fn read_behind<S: Source>(source: &mut S, buffer: &mut [u8], end: usize) -> Result<usize, Failed>
+fn read_after<S: Source>(source: &mut S, buffer: &mut [u8], end: usize) -> Result<usize, Failed>
     requires { end < length buffer.old }
     ensures kept { take end buffer.new ≡ take end buffer.old }
     ensures count { IfOk result (λ n. end + n ≤ length buffer.new) }
@@ -81,7 +81,7 @@ fn read_behind<S: Source>(source: &mut S, buffer: &mut [u8], end: usize) -> Resu
     source.read(&mut buffer[end..])
 }
 
-/// Reads after the part that is in use. Where none is after it, that part moves to the front first.
+/// Reads after the part that is in use. Where none is after it, that part moves to the start first.
 fn read_window<S: Source>(
     source: &mut S,
     buffer: &mut [u8],
@@ -97,7 +97,7 @@ fn read_window<S: Source>(
     let (start, end) = make_room(buffer, window.start, window.end);
     window.start = start;
     window.end = end;
-    let count = read_behind(source, buffer, end)?;
+    let count = read_after(source, buffer, end)?;
     window.end += count;
     Ok(count)
 }

@@ -8,13 +8,13 @@ ghost use Rattle.bank_frames.specs.FirstLine.{number_from, MayBeLength, EndsLine
 ghost use Rattle.bank_frames.specs.FrameHead.{IsHeadOf, IsFirstLine, IsNoFirstLine};
 
 /// The most bytes of a request file.
-pub const MOST_FILE: usize = 262_144;
+pub const MAX_FILE: usize = 262_144;
 
 /// The most bytes of the first line of a frame, with its LF.
-const MOST_HEAD: usize = 12;
+const MAX_HEAD: usize = 12;
 
 /// The most digits of the number of a file's bytes.
-const MOST_DIGITS: usize = 6;
+const MAX_DIGITS: usize = 6;
 
 /// The number that digits stand for. None where a byte is no digit.
 fn number(digits: &[u8]) -> Option<usize>
@@ -39,7 +39,7 @@ fn may_be_length(digits: &[u8]) -> bool
         [] => false,
         [_] => true,
         [b'0', ..] => false,
-        _ => digits.len() <= MOST_DIGITS,
+        _ => digits.len() <= MAX_DIGITS,
     }
 }
 
@@ -54,11 +54,11 @@ fn length_of(digits: &[u8]) -> Option<usize>
     }
     match number(digits) {
         None => None,
-        Some(n) => { if n <= MOST_FILE { Some(n) } else { None } }
+        Some(n) => { if n <= MAX_FILE { Some(n) } else { None } }
     }
 }
 
-/// The length that a line in front of a file gives, the line without its LF.
+/// The length that a line before a file gives, the line without its LF.
 fn length_in(line: &[u8]) -> Option<usize>
     ensures some { IfSome result (λ n. IsLength n × (line.now ≡ length_line n)) }
     ensures none { IfNone result ((n : ℕ) → IsLength n → line.now ≡ length_line n → ⊥) }
@@ -79,7 +79,7 @@ pub struct FrameSize {
 /// What a first line calls for.
 #[derive(Clone, Copy, Debug, PartialEq, Eq)]
 enum FirstLine {
-    /// A request file of this many bytes, which stands after the line.
+    /// A request file of this many bytes, which comes after the line.
     File(usize),
     /// Due work.
     Due,
@@ -99,7 +99,7 @@ fn first_line(line: &[u8]) -> Option<FirstLine>
     }
 }
 
-/// What stands at the front of the bytes that are ahead.
+/// What is at the prefix of the bytes that are ahead.
 #[derive(Clone, Copy, Debug, PartialEq, Eq)]
 pub enum FrameHead {
     /// The first line of a file's frame.
@@ -112,21 +112,21 @@ pub enum FrameHead {
     NoHead,
 }
 
-/// The place of the first LF among the bytes in which a first line ends.
+/// The offset of the first LF among the bytes in which a first line ends.
 fn line_end(ahead: &[u8]) -> Option<usize>
     ensures some { IfSome result (λ end. EndsLine ahead.now end) }
     ensures none { IfNone result (HasNoLineEnd ahead.now) }
 {
-    ahead.iter().take(MOST_HEAD).position(|byte| *byte == b'\n')
+    ahead.iter().take(MAX_HEAD).position(|byte| *byte == b'\n')
 }
 
-/// What stands at the front of the bytes.
+/// What is at the prefix of the bytes.
 pub fn frame_head_of(ahead: &[u8]) -> FrameHead
     ensures { IsHeadOf ahead.now result }
 {
     match line_end(ahead) {
         None => {
-            if ahead.len() < MOST_HEAD {
+            if ahead.len() < MAX_HEAD {
                 FrameHead::Partial
             } else {
                 FrameHead::NoHead

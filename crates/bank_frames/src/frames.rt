@@ -3,7 +3,7 @@
 ghost use Rattle.std.specs.Prelude.{◌≡◌, ◌<◌, ◌^◌, IfOk, OnErr, IsErr};
 ghost use Rattle.std.specs.Io.KnownBytes.{Keeps, prepend_known};
 ghost use Rattle.ofx_ports.specs.Faults.{CountsFaults};
-ghost use Rattle.bank_frames.specs.NextFrame.{ShowsFront, IsLast, IsNext, size_of};
+ghost use Rattle.bank_frames.specs.NextFrame.{ShowsPrefix, IsLast, IsNext, size_of};
 ghost use Rattle.bank_frames.specs.Frames.{BeginsNoFrame};
 
 use crate::ahead::Ahead;
@@ -37,7 +37,7 @@ impl Frame {
 
 /// What the bytes that are ahead show of the next frame.
 #[derive(Clone, Copy, Debug, PartialEq, Eq)]
-enum Front {
+enum Prefix {
     /// The whole frame is there.
     Whole(Frame),
     /// More bytes are needed.
@@ -57,18 +57,18 @@ pub enum Next {
     NoFrame,
 }
 
-fn front_of(ahead: &[u8]) -> Front
-    ensures { ShowsFront ahead.now result }
+fn prefix_of(ahead: &[u8]) -> Prefix
+    ensures { ShowsPrefix ahead.now result }
 {
     match frame_head_of(ahead) {
-        FrameHead::NoHead => Front::NoFrame,
-        FrameHead::Partial => Front::Unfinished,
-        FrameHead::Due => Front::Whole(Frame::Due),
+        FrameHead::NoHead => Prefix::NoFrame,
+        FrameHead::Partial => Prefix::Unfinished,
+        FrameHead::Due => Prefix::Whole(Frame::Due),
         FrameHead::File(size) => {
             if ahead.len() - size.head < size.file {
-                Front::Unfinished
+                Prefix::Unfinished
             } else {
-                Front::Whole(Frame::File(size))
+                Prefix::Whole(Frame::File(size))
             }
         }
     }
@@ -84,10 +84,10 @@ pub fn next_frame<S: Source>(source: &mut S, ahead: &mut Ahead) -> Result<Next, 
     ensures faults { CountsFaults (S.faults source.old) (S.faults source.new) (IsErr result) }
 {
     loop {
-        match front_of(ahead.bytes()) {
-            Front::Whole(frame) => return Ok(Next::Frame(frame)),
-            Front::NoFrame => return Ok(Next::NoFrame),
-            Front::Unfinished => {}
+        match prefix_of(ahead.bytes()) {
+            Prefix::Whole(frame) => return Ok(Next::Frame(frame)),
+            Prefix::NoFrame => return Ok(Next::NoFrame),
+            Prefix::Unfinished => {}
         }
         if ahead.read_more(source)? == 0 {
             return Ok(at_end(ahead.bytes()));

@@ -12,4 +12,4 @@ pub use ahead::Ahead;
 pub use frame_head::FrameSize;
 pub use frames::{Frame, Next, next_frame};
 pub use lines::{bad_file_line, due_work_line, due_work_room, framed, letter_line};
-pub use whole::{MOST_WHOLE, read_whole};
+pub use whole::{MAX_INPUT, read_whole};

@@ -9,12 +9,12 @@ use ofx_types::OutOfMemory;
 use ofx_values::print_number;
 use std::alloc::Global;
 
-/// The line for a file that isn't answered, which tells a place in it.
-pub fn bad_file_line(alloc: Global, place: u64) -> Result<Vec<u8>, OutOfMemory>
-    ensures { IfOk result (λ line. line.items ≡ bad_line place) }
+/// The line for a file that isn't answered, which tells an offset in it.
+pub fn bad_file_line(alloc: Global, offset: u64) -> Result<Vec<u8>, OutOfMemory>
+    ensures { IfOk result (λ line. line.items ≡ bad_line offset) }
 {
     let mut line = Vec::from_slice(alloc, b"BAD ")?;
-    print_number(place, &mut line)?;
+    print_number(offset, &mut line)?;
     line.push(b'\n')?;
     Ok(line)
 }
@@ -22,14 +22,14 @@ pub fn bad_file_line(alloc: Global, place: u64) -> Result<Vec<u8>, OutOfMemory>
 /// The most bytes that the line of due work has: its word, one space, a number of twenty digits, and one LF.
 const DUE_LINE: usize = 25;
 
-/// Room for the line that tells how many events a run of due work had.
+/// Room for the line that says how many events a run of due work had.
 pub fn due_work_room(alloc: Global) -> Result<Vec<u8>, OutOfMemory>
     ensures { IfOk result (λ room. (room.items ≡ []) × (25 ≤ vec_capacity room)) }
 {
     Ok(Vec::with_capacity(alloc, DUE_LINE)?)
 }
 
-/// The line that tells how many events a run of due work had, in the room that was made for it. Takes no memory.
+/// The line that says how many events a run of due work had, in the room that was made for it. Takes no memory.
 pub fn due_work_line(count: u64, room: Vec<u8>) -> Vec<u8>
     requires { (room.items ≡ []) × (25 ≤ vec_capacity room) }
     ensures { result.items ≡ due_line count }

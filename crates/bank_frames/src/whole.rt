@@ -8,7 +8,7 @@ use crate::ahead::Ahead;
 use ofx_ports::{Failed, Source};
 
 /// The most bytes of a source that is read whole: a setup, or the body of a letter.
-pub const MOST_WHOLE: usize = 262_144;
+pub const MAX_INPUT: usize = 262_144;
 
 /// Reads on until the source is at its end, or more bytes are ahead than it may have.
 pub fn read_whole<S: Source>(source: &mut S, ahead: &mut Ahead) -> Result<(), Failed>
@@ -16,7 +16,7 @@ pub fn read_whole<S: Source>(source: &mut S, ahead: &mut Ahead) -> Result<(), Fa
     ensures whole { OnOk result (length ahead.new ≤ 262144 → IsAtEnd (S.left source.new)) }
     ensures faults { CountsFaults (S.faults source.old) (S.faults source.new) (IsErr result) }
 {
-    while ahead.bytes().len() <= MOST_WHOLE {
+    while ahead.bytes().len() <= MAX_INPUT {
         if ahead.read_more(source)? == 0 {
             return Ok(());
         }

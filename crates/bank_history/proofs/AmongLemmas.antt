@@ -19,15 +19,15 @@ entries_more entries k entry below is = take_more entries k entry below ∙ ap (
 pub part_begun : {Y X : Type 0} (part : List Y → List X) (entries : List Y) (start : List X) → part [] ≡ [] → start ≡ start ++ part (take 0 entries)
 part_begun part entries start none = sym (ap (λ l. start ++ l) none ∙ append-nil start)
 
-pub part_more : {Y X : Type 0} (part : List Y → List X) (entries : List Y) (k : ℕ) (entry : Y) (start told next : List X) → ((xs ys : List Y) → part (xs ++ ys) ≡ part xs ++ part ys) → k < length entries → entry ≡ get_or entries k entry → told ≡ start ++ part (take k entries) → next ≡ told ++ part (entry ∷ []) → next ≡ start ++ part (take (k + 1) entries)
-part_more part entries k entry start told next grows below is so_far more =
+pub part_more : {Y X : Type 0} (part : List Y → List X) (entries : List Y) (k : ℕ) (entry : Y) (start reported next : List X) → ((xs ys : List Y) → part (xs ++ ys) ≡ part xs ++ part ys) → k < length entries → entry ≡ get_or entries k entry → reported ≡ start ++ part (take k entries) → next ≡ reported ++ part (entry ∷ []) → next ≡ start ++ part (take (k + 1) entries)
+part_more part entries k entry start reported next grows below is so_far more =
     more
     ∙ ap (λ l. l ++ part (entry ∷ [])) so_far
     ∙ append_assoc start (part (take k entries)) (part (entry ∷ []))
     ∙ ap (λ l. start ++ l) (sym (ap part (entries_more entries k entry below is) ∙ grows (take k entries) (entry ∷ [])))
 
-pub part_ended : {Y X : Type 0} (part : List Y → List X) (entries : List Y) (k : ℕ) (start told : List X) → length entries ≤ k → told ≡ start ++ part (take k entries) → told ≡ start ++ part entries
-part_ended part entries k start told past so_far = so_far ∙ ap (λ l. start ++ part l) (take_all k entries past)
+pub part_ended : {Y X : Type 0} (part : List Y → List X) (entries : List Y) (k : ℕ) (start reported : List X) → length entries ≤ k → reported ≡ start ++ part (take k entries) → reported ≡ start ++ part entries
+part_ended part entries k start reported past so_far = so_far ∙ ap (λ l. start ++ part l) (take_all k entries past)
 
 -- ---- numbers
 
@@ -80,28 +80,28 @@ taken_stopped object entries k most left before number none counted so_far =
 -- ---- the first entries, and those after them
 
 -- Where those after have no more entries of the object than are kept, the entry before these is among the first ones.
-pub before_front : (kept : ℕ) (object : ObjectId) (front back : List Entry) (later : ℕ) → later ≡ length (history_of object back) → later ≤ kept → last_number (take (length (history_of object front) - (kept - later)) (history_of object front)) ≡ last_number (take (length (history_of object (front ++ back)) - kept) (history_of object (front ++ back)))
-before_front kept object front back later is few =
-    let F = history_of object front in
+pub before_prefix : (kept : ℕ) (object : ObjectId) (prefix back : List Entry) (later : ℕ) → later ≡ length (history_of object back) → later ≤ kept → last_number (take (length (history_of object prefix) - (kept - later)) (history_of object prefix)) ≡ last_number (take (length (history_of object (prefix ++ back)) - kept) (history_of object (prefix ++ back)))
+before_prefix kept object prefix back later is few =
+    let F = history_of object prefix in
     let B = history_of object back in
     let size = length-append F B in
     let past : length (F ++ B) - kept ≡ length F - (kept - later) = omega (arith, size, is, few) in
     sym (
-    ap (λ l. last_number (take (length l - kept) l)) (history_of-append object front back)
+    ap (λ l. last_number (take (length l - kept) l)) (history_of-append object prefix back)
     ∙ ap (λ (n : ℕ). last_number (take n (F ++ B))) past
     ∙ ap last_number (take-append-le (length F - (kept - later)) F B (omega arith)))
 
 -- Where they have more, it is one of them.
-pub before_back : (kept : ℕ) (object : ObjectId) (front back : List Entry) (later number : ℕ) → later ≡ length (history_of object back) → kept < later → number ≡ newest object front → last_number_from number (take (later - kept) (history_of object back)) ≡ last_number (take (length (history_of object (front ++ back)) - kept) (history_of object (front ++ back)))
+pub before_back : (kept : ℕ) (object : ObjectId) (prefix back : List Entry) (later number : ℕ) → later ≡ length (history_of object back) → kept < later → number ≡ newest object prefix → last_number_from number (take (later - kept) (history_of object back)) ≡ last_number (take (length (history_of object (prefix ++ back)) - kept) (history_of object (prefix ++ back)))
 unfolding newest
-before_back kept object front back later number is_later many is =
-    let F = history_of object front in
+before_back kept object prefix back later number is_later many is =
+    let F = history_of object prefix in
     let B = history_of object back in
     let size = length-append F B in
     let past : length (F ++ B) - kept ≡ length F + (later - kept) = omega (arith, size, is_later, many) in
     ap (λ (n : ℕ). last_number_from n (take (later - kept) B)) is
     ∙ sym (
-    ap (λ l. last_number (take (length l - kept) l)) (history_of-append object front back)
+    ap (λ l. last_number (take (length l - kept) l)) (history_of-append object prefix back)
     ∙ ap (λ (n : ℕ). last_number (take n (F ++ B))) past
     ∙ ap last_number (take-append-add F B (later - kept))
     ∙ last_over 0 F (take (later - kept) B))

@@ -100,15 +100,15 @@ rising object (e ∷ l) are =
     subst (λ entries. RiseFrom 0 (history_of object entries)) all (rising_up_to object (e ∷ l) e (length (e ∷ l)) are (omega arith)).rises
 
 -- The first of the entries after some has a number above those of its object before.
-pub first_rises : (front rest entries : List Entry) (entry : Entry) → AreNumbered entries → front ++ entry ∷ rest ≡ entries → newest entry.object front < entry.number
-first_rises front rest entries entry are all =
-    let size = length-append front (entry ∷ rest) in
-    let within : length front < length entries = omega (arith, size, ap length all) in
-    let front_is : take (length front) entries ≡ front = ap (λ (es : List Entry). take (length front) es) (sym all) ∙ take-append_seam front (entry ∷ rest) in
-    let up = (rising_up_to entry.object entries entry (length front) are (omega (arith, within))).within in
-    let below : newest entry.object front ≤ length front = subst (λ (es : List Entry). newest entry.object es ≤ length front) front_is up in
-    let here : get_or entries (length front) entry ≡ entry = ap (λ (es : List Entry). get_or es (length front) entry) (sym all) ∙ get_or-append_seam front entry rest entry in
-    let number : entry.number ≡ length front + 1 = sym (ap (λ (e : Entry). e.number) here) ∙ are (length front) entry within in
+pub first_rises : (prefix rest entries : List Entry) (entry : Entry) → AreNumbered entries → prefix ++ entry ∷ rest ≡ entries → newest entry.object prefix < entry.number
+first_rises prefix rest entries entry are all =
+    let size = length-append prefix (entry ∷ rest) in
+    let within : length prefix < length entries = omega (arith, size, ap length all) in
+    let prefix_is : take (length prefix) entries ≡ prefix = ap (λ (es : List Entry). take (length prefix) es) (sym all) ∙ take-append_seam prefix (entry ∷ rest) in
+    let up = (rising_up_to entry.object entries entry (length prefix) are (omega (arith, within))).within in
+    let below : newest entry.object prefix ≤ length prefix = subst (λ (es : List Entry). newest entry.object es ≤ length prefix) prefix_is up in
+    let here : get_or entries (length prefix) entry ≡ entry = ap (λ (es : List Entry). get_or es (length prefix) entry) (sym all) ∙ get_or-append_seam prefix entry rest entry in
+    let number : entry.number ≡ length prefix + 1 = sym (ap (λ (e : Entry). e.number) here) ∙ are (length prefix) entry within in
     omega (arith, below, number)
 
 -- ---- floors rise
@@ -126,32 +126,32 @@ floor_among width F B rise =
     let j : ℕ = length X - width in
     let m : ℕ = j - i in
     let size = length-append F B in
-    let front : take i F ≡ take i X = sym (take-append-le i F B (omega arith)) in
-    let front_size : length (take i X) ≡ i = length-take-le i X (omega (arith, size)) in
-    let places : j ≡ length (take i X) + m = omega (arith, front_size, size) in
+    let prefix : take i F ≡ take i X = sym (take-append-le i F B (omega arith)) in
+    let prefix_size : length (take i X) ≡ i = length-take-le i X (omega (arith, size)) in
+    let offsets : j ≡ length (take i X) + m = omega (arith, prefix_size, size) in
     let whole : take j X ≡ take i X ++ take m (drop i X) =
-    ap (λ (n : ℕ). take n X) places
+    ap (λ (n : ℕ). take n X) offsets
     ∙ ap (λ (xs : List Entry). take (length (take i X) + m) xs) (sym (take-append-drop i X))
     ∙ take-append-add (take i X) (drop i X) m in
     let first = (rise_parts 0 (take j X) (drop j X) (subst (RiseFrom 0) (sym (take-append-drop j X)) rise)).0 in
     let grows = last_grows (take i X) (take m (drop i X)) (subst (RiseFrom 0) whole first) in
-    omega (arith, grows, ap last_number front, ap last_number whole)
+    omega (arith, grows, ap last_number prefix, ap last_number whole)
 
 -- An object's floor is no lower after more entries.
-pub floor_grows : (width : ℕ) (object : ObjectId) (front back : List Entry) → AreNumbered (front ++ back) → floor width object front ≤ floor width object (front ++ back)
+pub floor_grows : (width : ℕ) (object : ObjectId) (prefix back : List Entry) → AreNumbered (prefix ++ back) → floor width object prefix ≤ floor width object (prefix ++ back)
 unfolding floor
-floor_grows width object front back are =
-    let F = history_of object front in
+floor_grows width object prefix back are =
+    let F = history_of object prefix in
     let B = history_of object back in
-    let both : history_of object (front ++ back) ≡ F ++ B = history_of-append object front back in
-    let rise : RiseFrom 0 (F ++ B) = subst (RiseFrom 0) both (rising object (front ++ back) are) in
+    let both : history_of object (prefix ++ back) ≡ F ++ B = history_of-append object prefix back in
+    let rise : RiseFrom 0 (F ++ B) = subst (RiseFrom 0) both (rising object (prefix ++ back) are) in
     let grows = floor_among width F B rise in
     omega (arith, grows, ap (λ (xs : List Entry). last_number (take (length xs - width) xs)) both)
 
-pub floor_held : (width token : ℕ) (object : ObjectId) (front recent entries : List Entry) (found : Option ObjectHistoryView) → AreNumbered entries → front ++ recent ≡ entries → HoldsHistoryOr (history_of object front) width found → floor width object entries ≤ token → floor_in found ≤ token
+pub floor_held : (width token : ℕ) (object : ObjectId) (prefix recent entries : List Entry) (found : Option ObjectHistoryView) → AreNumbered entries → prefix ++ recent ≡ entries → HoldsHistoryOr (history_of object prefix) width found → floor width object entries ≤ token → floor_in found ≤ token
 unfolding floor
-floor_held width token object front recent entries None are all is least = omega arith
-floor_held width token object front recent entries (Some kept) are all is least =
-    let numbered : AreNumbered (front ++ recent) = subst AreNumbered (sym all) are in
-    let grows = floor_grows width object front recent numbered in
+floor_held width token object prefix recent entries None are all is least = omega arith
+floor_held width token object prefix recent entries (Some kept) are all is least =
+    let numbered : AreNumbered (prefix ++ recent) = subst AreNumbered (sym all) are in
+    let grows = floor_grows width object prefix recent numbered in
     omega (arith, grows, ap (floor width object) all, is.window.floor, least)

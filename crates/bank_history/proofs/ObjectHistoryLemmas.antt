@@ -33,7 +33,7 @@ found_none history width found is all = subst (HoldsHistoryOr history width) is 
 at_same : (table : List (ℕ × ObjectHistoryView)) (object other : ObjectId) (found : Option ObjectHistoryView) → eqb object.0 other.0 ≡ true → held_at object table ≡ found → held_at other table ≡ found
 at_same table object other found same is = subst (λ (o : ObjectId). held_at o table ≡ found) (object_is object other (eqb-true object.0 other.0 same)) is
 
--- What stands for the same history as before is held at one object.
+-- What is for the same history as before is held at one object.
 pub stays_kept : (width : ℕ) (before after : List (ℕ × ObjectHistoryView)) (object : ObjectId) (old new : ObjectHistoryView) (entries : List Entry) → held_at object before ≡ Some old → IsSetAt object.0 (Some new) before after → ((history : List Entry) → HoldsHistory history width old → HoldsHistory history width new)
     → ((o : ObjectId) → HoldsHistoryOr (history_of o entries) width (held_at o before)) → (other : ObjectId) → HoldsHistoryOr (history_of other entries) width (held_at other after)
 stays_kept width before after object old new entries found set stays all other = subst (HoldsHistoryOr (history_of other entries) width) (sym (set other.0)) (by (eqb object.0 other.0) refl)

@@ -22,6 +22,6 @@ HasLasts table entries = (object : ObjectId) → number_or_none (lookup (λ k. o
 
 -- What is laid stands for the first entries, and the others are the recent ones.
 pub record IsLaidBefore (laid : LaidView) (recent entries : List Entry) : Type 0 where
-  pub front : List Entry
-  pub stands : LaidFor front laid
-  pub all : front ++ recent ≡ entries
+  pub prefix : List Entry
+  pub holds : LaidFor prefix laid
+  pub all : prefix ++ recent ≡ entries

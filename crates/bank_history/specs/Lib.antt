@@ -1,5 +1,5 @@
 pub mod HistoryView
-pub mod Past
+pub mod EntryTrace
 pub mod Made
 pub mod ObjectHistory
 pub mod HistoryHeld

@@ -9,7 +9,7 @@ use Rattle.bank_model.specs.declared.entry.Entry.{Entry}
 use Rattle.bank_model.specs.Ledger.{row_of}
 use Rattle.bank_model.specs.Models.{model_of, is_model_dropped}
 use Rattle.bank_model.specs.Objects.{history_of}
-use Rattle.bank_model.specs.Sync.{standing_transfer, standing_model}
+use Rattle.bank_model.specs.Sync.{current_transfer, current_model}
 use Rattle.bank_history.specs.declared.made.Made.{Made}
 use Rattle.bank_history.specs.declared.made.Made.TheVariants.{Transfer, Model, Mail}
 use Rattle.bank_history.specs.declared.origins.Origin.{Origin}
@@ -29,11 +29,11 @@ made_in (NewMail row) = Mail row ∷ []
 abbrev pub made_of : ObjectId → List Entry → List Made
 made_of object entries = flat_map (λ (entry : Entry). made_in entry.change) (history_of object entries)
 
--- What stands of it now: the row of a transfer or of a recurring transfer, where there is one that isn't cancelled, or the mail.
-abbrev pub standing_of : List Entry → Made → List Change
-standing_of entries (Transfer id) = standing_transfer (row_of id entries)
-standing_of entries (Model id) = standing_model (is_model_dropped id entries) (model_of id entries)
-standing_of entries (Mail row) = NewMail row ∷ []
+-- What is left of it now: the row of a transfer or of a recurring transfer, where there is one that isn't cancelled, or the mail.
+abbrev pub current_of : List Entry → Made → List Change
+current_of entries (Transfer id) = current_transfer (row_of id entries)
+current_of entries (Model id) = current_model (is_model_dropped id entries) (model_of id entries)
+current_of entries (Mail row) = NewMail row ∷ []
 
 -- ---- how it is held: the mails by themselves
 

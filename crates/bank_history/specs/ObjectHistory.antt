@@ -5,7 +5,7 @@ use Rattle.std.specs.Map.{lookup}
 use Rattle.ofx_types.specs.declared.number.ObjectId.{ObjectId}
 use Rattle.bank_model.specs.declared.entry.Entry.{Entry}
 use Rattle.bank_model.specs.Objects.{history_of}
-use Rattle.token_window.specs.WindowView.{WindowView, StandsFor, newest_held}
+use Rattle.token_window.specs.WindowView.{WindowView, Represents, newest_held}
 use Rattle.bank_mail.specs.MailsView.{ObjectMails}
 use Rattle.bank_mail.specs.MailsView as mails
 use Rattle.bank_history.specs.Made.{origin_in}
@@ -19,7 +19,7 @@ pub record ObjectHistoryView : Type 0 where
 
 -- It stands for a history whose numbers rise.
 pub record HoldsHistory (history : List Entry) (width : ℕ) (kept : ObjectHistoryView) : Type 0 where
-  pub window : StandsFor history width kept.window
+  pub window : Represents history width kept.window
   pub origins : kept.origins ≡ flat_map (λ (entry : Entry). origin_in entry.change) history
 
 -- ---- all objects
@@ -65,4 +65,4 @@ pub record LaidView : Type 0 where
 -- It stands for entries: each object has its last ones, the origins of what its history made, and its mails.
 pub record LaidFor (entries : List Entry) (laid : LaidView) : Type 0 where
   pub objects : HoldHistories entries laid.objects
-  pub mails : mails.StandsFor laid.mails entries
+  pub mails : mails.Represents laid.mails entries

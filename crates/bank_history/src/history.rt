@@ -10,10 +10,10 @@ ghost use Rattle.bank_history.specs.HistoryHeld.{number_or_none};
 ghost use Rattle.bank_history.specs.Made.{made_of};
 
 use crate::among::{count_of, number_at, put_above};
+use crate::entry_trace::{EntryTrace, after};
 use crate::laid::Laid;
 use crate::laying::lay;
 use crate::made::{Made, put_made};
-use crate::past::{Past, after};
 use bank_model::Entry;
 use ofx_types::{ObjectId, OutOfMemory};
 use std::alloc::Global;
@@ -22,11 +22,11 @@ use std::marker::Model;
 
 /// The entries of a bank, numbered from 1. Of each object the last ones are held, and what its history made.
 ///
-/// An entry comes without taking memory. It stands among the recent ones, which have room, until room is made for more: then it
+/// An entry comes without taking memory. It is among the recent ones, which have room, until room is made for more: then it
 /// goes to its object.
 pub struct History {
     // all entries, for contracts alone
-    past: Past,
+    past: EntryTrace,
     // how many there are
     count: u64,
     // the number of each object's last entry
@@ -43,7 +43,7 @@ impl Model for History {
     ghost use Rattle.std.specs.Prelude.{◌≡◌, ◌+◌, ◌≤◌, length, vec_len, vec_capacity};
     ghost use Rattle.std.specs.HashMap.{spare};
     ghost use Rattle.bank_history.specs.HistoryView.{HistoryView};
-    ghost use Rattle.bank_history.specs.Past.{entries_of};
+    ghost use Rattle.bank_history.specs.EntryTrace.{entries_of};
     ghost use Rattle.bank_history.specs.HistoryHeld.{AreNumbered, HasLasts, IsLaidBefore};
 
     ghost Value = { HistoryView };
@@ -82,7 +82,7 @@ impl History {
         ensures recent { result.recent ≡ 0 }
     {
         History {
-            past: Past::Start,
+            past: EntryTrace::Start,
             count: 0,
             lasts: HashMap::new(alloc),
             laid: Laid::new(alloc, width),

@@ -5,7 +5,7 @@ ghost use Rattle.bank_model.specs.declared.entry.Entry.{Entry};
 ghost use Rattle.bank_model.specs.Objects as objects;
 ghost use Rattle.bank_model.specs.Objects.{history_of, last_number};
 ghost use Rattle.bank_model.specs.Sync.{is_above};
-ghost use Rattle.bank_mail.specs.MailsView as standing;
+ghost use Rattle.bank_mail.specs.MailsView as present;
 ghost use Rattle.bank_mail.specs.MailsView.{mail_in, room_found};
 ghost use Rattle.bank_history.specs.Made.{made_of};
 ghost use Rattle.bank_history.specs.ObjectHistory.{held_at, room_in, newest_in, floor_in, LaidFor};
@@ -48,7 +48,7 @@ impl Laid {
     pub(crate) fn new(alloc: Global, width: u32) -> Laid
         requires width { (0 < width) × (width < 10001) }
         ensures width { result.objects.width ≡ width }
-        ensures stands { LaidFor [] result }
+        ensures holds { LaidFor [] result }
     {
         Laid {
             objects: Objects::new(alloc, width),
@@ -115,7 +115,7 @@ impl Laid {
         mail: &Option<MailRow>,
     ) -> Result<(), OutOfMemory>
         ensures width { self.new.objects.width ≡ self.old.objects.width }
-        ensures stands { (entries : List Entry) → LaidFor entries self.old → LaidFor entries self.new }
+        ensures holds { (entries : List Entry) → LaidFor entries self.old → LaidFor entries self.new }
         ensures newest { newest_in (held_at object self.new.objects.held)
             ≡ newest_in (held_at object self.old.objects.held) }
         ensures room { OnOk result (0 < room_in (held_at object self.new.objects.held)) }
@@ -133,7 +133,7 @@ impl Laid {
         requires mail { option_to_list mail ≡ mail_in entry.change }
         requires mails { IfSome mail (λ row. 0 < room_found entry.object self.old.mails) }
         ensures width { self.new.objects.width ≡ self.old.objects.width }
-        ensures stands { (entries : List Entry) → LaidFor entries self.old → LaidFor (entries ++ entry ∷ []) self.new }
+        ensures holds { (entries : List Entry) → LaidFor entries self.old → LaidFor (entries ++ entry ∷ []) self.new }
     {
         put_mail(&mut self.mails, entry.object, mail);
         self.objects.add(entry);
@@ -146,7 +146,7 @@ fn reserve_mail(
     object: ObjectId,
     mail: &Option<MailRow>,
 ) -> Result<(), OutOfMemory>
-    ensures stands { (entries : List Entry) → standing.StandsFor mails.old entries → standing.StandsFor mails.new entries }
+    ensures holds { (entries : List Entry) → present.Represents mails.old entries → present.Represents mails.new entries }
     ensures room { OnOk result (IfSome mail.now (λ row. 0 < room_found object mails.new)) }
 {
     match mail {
@@ -158,8 +158,8 @@ fn reserve_mail(
 /// Takes in the mail of an entry of an object, where it brings one. There is room for it.
 fn put_mail(mails: &mut Mails, object: ObjectId, mail: Option<MailRow>)
     requires room { IfSome mail (λ row. 0 < room_found object mails.old) }
-    ensures { (entries : List Entry) (entry : Entry) → standing.StandsFor mails.old entries → entry.object ≡ object
-        → option_to_list mail ≡ mail_in entry.change → standing.StandsFor mails.new (entries ++ entry ∷ []) }
+    ensures { (entries : List Entry) (entry : Entry) → present.Represents mails.old entries → entry.object ≡ object
+        → option_to_list mail ≡ mail_in entry.change → present.Represents mails.new (entries ++ entry ∷ []) }
 {
     match mail {
         Some(row) => mails.put(object, row),

@@ -1,18 +1,22 @@
 //! Recent entries are laid into what is held of their objects.
 
 ghost use Rattle.std.specs.Prelude.{◌≡◌, ◌<◌, ◌≤◌, [], reverse, vec_len, vec_capacity, OnOk};
-ghost use Rattle.bank_history.specs.Past.{entries_of};
+ghost use Rattle.bank_history.specs.EntryTrace.{entries_of};
 ghost use Rattle.bank_history.specs.HistoryHeld.{AreNumbered, IsLaidBefore};
 
+use crate::entry_trace::EntryTrace;
 use crate::laid::Laid;
 use crate::origins::mail_of;
-use crate::past::Past;
 use bank_model::Entry;
 use ofx_types::OutOfMemory;
 
 /// Lays the recent of all entries into what is held of their objects, one after another, until none is recent. Where memory is
 /// refused, those that aren't laid stay.
-pub(crate) fn lay(past: &Past, laid: &mut Laid, recent: &mut Vec<Entry>) -> Result<(), OutOfMemory>
+pub(crate) fn lay(
+    past: &EntryTrace,
+    laid: &mut Laid,
+    recent: &mut Vec<Entry>,
+) -> Result<(), OutOfMemory>
     requires numbered { AreNumbered (entries_of past.now) }
     requires laid { IsLaidBefore laid.old recent.old.items (entries_of past.now) }
     ensures width { laid.new.objects.width ≡ laid.old.objects.width }
@@ -27,8 +31,12 @@ pub(crate) fn lay(past: &Past, laid: &mut Laid, recent: &mut Vec<Entry>) -> Resu
     outcome
 }
 
-/// Lays recent entries, of which the first one stands last.
-fn lay_from_end(past: &Past, laid: &mut Laid, recent: &mut Vec<Entry>) -> Result<(), OutOfMemory>
+/// Lays recent entries, of which the first one is last.
+fn lay_from_end(
+    past: &EntryTrace,
+    laid: &mut Laid,
+    recent: &mut Vec<Entry>,
+) -> Result<(), OutOfMemory>
     requires numbered { AreNumbered (entries_of past.now) }
     requires laid { IsLaidBefore laid.old (reverse recent.old.items) (entries_of past.now) }
     ensures width { laid.new.objects.width ≡ laid.old.objects.width }
@@ -44,7 +52,7 @@ fn lay_from_end(past: &Past, laid: &mut Laid, recent: &mut Vec<Entry>) -> Result
 }
 
 /// Lays the last of some entries.
-fn lay_last(past: &Past, laid: &mut Laid, recent: &mut Vec<Entry>) -> Result<(), OutOfMemory>
+fn lay_last(past: &EntryTrace, laid: &mut Laid, recent: &mut Vec<Entry>) -> Result<(), OutOfMemory>
     requires some { 0 < vec_len recent.old }
     requires numbered { AreNumbered (entries_of past.now) }
     requires laid { IsLaidBefore laid.old (reverse recent.old.items) (entries_of past.now) }

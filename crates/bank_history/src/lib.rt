@@ -6,6 +6,7 @@
 #![tactic(auto)]
 
 mod among;
+mod entry_trace;
 mod history;
 mod laid;
 mod laying;
@@ -13,7 +14,6 @@ mod made;
 mod object_history;
 mod objects;
 mod origins;
-mod past;
 
 pub use among::{count_of, last_number, number_at};
 pub use history::History;

@@ -69,7 +69,7 @@ impl ObjectHistory {
 
     /// Makes room for one more entry.
     pub(crate) fn reserve(&mut self) -> Result<(), OutOfMemory>
-        ensures stands { (history : List Entry) (width : ℕ) → HoldsHistory history width self.old → HoldsHistory history width self.new }
+        ensures holds { (history : List Entry) (width : ℕ) → HoldsHistory history width self.old → HoldsHistory history width self.new }
         ensures newest { newest_held self.new.window ≡ newest_held self.old.window }
         ensures room { OnOk result (0 < self.new.room) }
     {

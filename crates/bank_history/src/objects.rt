@@ -46,7 +46,7 @@ impl Objects {
     pub(crate) fn new(alloc: Global, width: u32) -> Objects
         requires width { (0 < width) × (width < 10001) }
         ensures width { result.width ≡ width }
-        ensures stands { HoldHistories [] result }
+        ensures holds { HoldHistories [] result }
     {
         Objects {
             alloc,
@@ -65,7 +65,7 @@ impl Objects {
     /// Makes room for an entry of an object.
     pub(crate) fn reserve(&mut self, object: ObjectId) -> Result<(), OutOfMemory>
         ensures width { self.new.width ≡ self.old.width }
-        ensures stands { (entries : List Entry) → HoldHistories entries self.old → HoldHistories entries self.new }
+        ensures holds { (entries : List Entry) → HoldHistories entries self.old → HoldHistories entries self.new }
         ensures newest { newest_in (held_at object self.new.held) ≡ newest_in (held_at object self.old.held) }
         ensures room { OnOk result (0 < room_in (held_at object self.new.held)) }
     {
@@ -79,7 +79,7 @@ impl Objects {
     fn begin(&mut self, object: ObjectId) -> Result<(), OutOfMemory>
         requires absent { held_at object self.old.held ≡ None }
         ensures width { self.new.width ≡ self.old.width }
-        ensures stands { (entries : List Entry) → HoldHistories entries self.old → HoldHistories entries self.new }
+        ensures holds { (entries : List Entry) → HoldHistories entries self.old → HoldHistories entries self.new }
         ensures newest { newest_in (held_at object self.new.held) ≡ 0 }
         ensures room { OnOk result (0 < room_in (held_at object self.new.held)) }
     {
@@ -94,7 +94,7 @@ impl Objects {
         requires room { 0 < room_in (held_at entry.object self.old.held) }
         requires rising { newest_in (held_at entry.object self.old.held) < entry.number }
         ensures width { self.new.width ≡ self.old.width }
-        ensures stands { (entries : List Entry) → HoldHistories entries self.old → HoldHistories (entries ++ entry ∷ []) self.new }
+        ensures holds { (entries : List Entry) → HoldHistories entries self.old → HoldHistories (entries ++ entry ∷ []) self.new }
     {
         let origin = origin_of(&entry.change);
         match self.held.get_mut(&entry.object.0) {

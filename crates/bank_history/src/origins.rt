@@ -1,4 +1,4 @@
-//! Where what stands of an object came from: the ids of what its history made.
+//! Where what is left of an object came from: the ids of what its history made.
 
 ghost use Rattle.std.specs.Prelude.{◌≡◌, ◌∷◌, ◌++◌, [], List, option_to_list, IfOk, OnOk};
 ghost use Rattle.bank_mail.specs.MailsView.{mail_in};

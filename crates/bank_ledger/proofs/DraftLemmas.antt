@@ -18,14 +18,14 @@ use Rattle.bank_model.specs.Ledger.{row_of, is_dropped}
 use Rattle.bank_model.specs.Models.{model_in, if_model_named, or_model_before, model_of, drops_model, is_model_dropped}
 use Rattle.bank_transfers.specs.TransfersView.{GivesRow}
 use Rattle.bank_transfers.proofs.GrowthLemmas.{row_of-push}
-use Rattle.bank_transfers.proofs.StandsLemmas.{given_row}
+use Rattle.bank_transfers.proofs.RepresentsLemmas.{given_row}
 use Rattle.bank_accounts.specs.declared.balances.Balance.{Balance}
 use Rattle.bank_ledger.specs.declared.row_change.RowChange.{RowChange}
 use Rattle.bank_ledger.specs.declared.row_change.RowChange.TheVariants.{Row, Made, Model, NoModel, Mail}
 use Rattle.bank_ledger.specs.Changes.{row_given_by, has_row, has_model, cancels, GivesRows, IsKnown, row_from, model_from, row_drafted, model_drafted, is_cancelled_in}
 use Rattle.bank_ledger.specs.DraftView.{AddedView, IsAdded}
 use Rattle.bank_recur.proofs.GrowthLemmas.{model_of-push, is_model_dropped-push}
-use Rattle.bank_rules.proofs.ModelChanges.{IsOfModel, model_change_rows}
+use Rattle.bank_invariants.proofs.ModelChanges.{IsOfModel, model_change_rows}
 use Rattle.bank_ledger.proofs.GivenLemmas.{model_given, model_dropped, model_is, no_model, no_model_dropped, no_drop, given_drop, dropped_as, or_assoc, mail_apart, mail_no_model, mail_no_drop}
 use Rattle.std.proofs.Math.Bool.{or-false}
 
@@ -61,23 +61,23 @@ given_more : (before entries : List Entry) (row_changes : List RowChange) (entry
 given_more before entries row_changes entry row_change count given next k e f below = given_at (ltb k (length entries)) refl
   where
     gives_as : (before l m : List Entry) (e d : Entry) (f g : RowChange) → l ≡ m → e ≡ d → f ≡ g → GivesRows (before ++ l) e.change f → GivesRows (before ++ m) d.change g
-    gives_as before l m e d f g front at held here =
-        subst (λ (x : RowChange). GivesRows (before ++ m) d.change x) held (subst (λ (x : Entry). GivesRows (before ++ m) x.change f) at (subst (λ (x : List Entry). GivesRows (before ++ x) e.change f) front here))
+    gives_as before l m e d f g prefix at held here =
+        subst (λ (x : RowChange). GivesRows (before ++ m) d.change x) held (subst (λ (x : Entry). GivesRows (before ++ m) x.change f) at (subst (λ (x : List Entry). GivesRows (before ++ x) e.change f) prefix here))
 
     given_at : (b : Bool) → ltb k (length entries) ≡ b → GivesAt before (entries ++ entry ∷ []) (row_changes ++ row_change ∷ []) k e f
     given_at true is =
         let less : k < length entries = ltb-true k (length entries) is in
         let here : GivesAt before entries row_changes k e f = given k e f less in
-        let front : take k (entries ++ entry ∷ []) ≡ take k entries = take-append-le k entries (entry ∷ []) (omega arith) in
+        let prefix : take k (entries ++ entry ∷ []) ≡ take k entries = take-append-le k entries (entry ∷ []) (omega arith) in
         let at : get_or (entries ++ entry ∷ []) k e ≡ get_or entries k e = get_or_append_left entries (entry ∷ []) e k less in
         let held : get_or (row_changes ++ row_change ∷ []) k f ≡ get_or row_changes k f = get_or_append_left row_changes (row_change ∷ []) f k (omega arith) in
-        gives_as before _ _ _ _ _ _ (sym front) (sym at) (sym held) here
+        gives_as before _ _ _ _ _ _ (sym prefix) (sym at) (sym held) here
     given_at false is =
         let last : length entries ≡ k = omega (arith, ltb-false k (length entries) is, length-append entries (entry ∷ [])) in
-        let front : take k (entries ++ entry ∷ []) ≡ entries = ap (λ (n : ℕ). take n (entries ++ entry ∷ [])) (sym last) ∙ take-append_seam entries (entry ∷ []) in
+        let prefix : take k (entries ++ entry ∷ []) ≡ entries = ap (λ (n : ℕ). take n (entries ++ entry ∷ [])) (sym last) ∙ take-append_seam entries (entry ∷ []) in
         let at : get_or (entries ++ entry ∷ []) k e ≡ entry = get_or_push entries entry e k last in
         let held : get_or (row_changes ++ row_change ∷ []) k f ≡ row_change = get_or_push row_changes row_change f k (count ∙ last) in
-        gives_as before _ _ _ _ _ _ (sym front) (sym at) (sym held) next
+        gives_as before _ _ _ _ _ _ (sym prefix) (sym at) (sym held) next
 
 known_more : (entries : List Entry) (row_changes : List RowChange) (entry : Entry) (row_change : RowChange) → length row_changes ≡ length entries → ((k : ℕ) (f : RowChange) → k < length entries → IsKnown (get_or row_changes k f)) → IsKnown row_change → (k : ℕ) (f : RowChange) → k < length (entries ++ entry ∷ []) → IsKnown (get_or (row_changes ++ row_change ∷ []) k f)
 known_more entries row_changes entry row_change count knows known k f below = known_at (ltb k (length entries)) refl

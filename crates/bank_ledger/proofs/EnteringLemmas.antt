@@ -23,7 +23,7 @@ use Rattle.bank_model.specs.SetupLookups.{account_of, line_at}
 use Rattle.bank_model.specs.Ledger.{row_in, if_named, or_before, last_row, is_dropped, with_code, row_of, is_posted, posting_of, balance}
 use Rattle.bank_model.proofs.SetupWords.{some_is}
 use Rattle.bank_transfers.specs.TransfersView.{GivesRow, IsWithinAmounts}
-use Rattle.bank_transfers.proofs.StandsLemmas.{given_posting}
+use Rattle.bank_transfers.proofs.RepresentsLemmas.{given_posting}
 use Rattle.bank_accounts.specs.AccountView.{AccountView}
 use Rattle.bank_accounts.specs.BalancesView.{amount_given}
 use Rattle.bank_accounts.specs.HeldAccounts.{balance_held}
@@ -37,12 +37,12 @@ use Rattle.once_records.proofs.OnceLemmas.{UsedOnce-push}
 use Rattle.ofx_types.specs.declared.number.Day.{Day}
 use Rattle.ofx_types.specs.declared.number.Moment.{Moment}
 use Rattle.ofx_types.specs.declared.number.UserId.{UserId}
-use Rattle.bank_rules.specs.Standing.{IsSoundRow, IsSoundModel, HasSoundRow, IsSoundState}
-use Rattle.bank_rules.specs.Next.{IsNext}
-use Rattle.bank_rules.proofs.AccountPlaces.{line_of-account}
-use Rattle.bank_rules.proofs.LedgerSteps.{Posts, PostsNothing, balance-kept}
-use Rattle.bank_rules.proofs.StandingLemmas.{sound_more}
-use Rattle.bank_rules.proofs.MoneyLemmas.{shift, balance-moved, balance-most}
+use Rattle.bank_invariants.specs.SoundStates.{IsSoundRow, IsSoundModel, HasSoundRow, IsSoundState}
+use Rattle.bank_invariants.specs.Next.{IsNext}
+use Rattle.bank_invariants.proofs.AccountIndices.{line_of-account}
+use Rattle.bank_invariants.proofs.LedgerSteps.{Posts, PostsNothing, balance-kept}
+use Rattle.bank_invariants.proofs.SoundStateLemmas.{sound_more}
+use Rattle.bank_invariants.proofs.MoneyLemmas.{shift, balance-moved, balance-most}
 use Rattle.bank_ledger.specs.declared.row_change.RowChange.{RowChange}
 use Rattle.bank_ledger.specs.declared.row_change.RowChange.TheVariants.{Row, Made, Model, NoModel, Mail}
 use Rattle.bank_ledger.specs.Balanced.{AreBalanced}
@@ -156,8 +156,8 @@ pub record IsPayable (amount source destination : ℤ) : Type 0 where
   pub target : pos 0 ≤ℤ destination
   pub most : (destination +ℤ amount) ≤ℤ pos 9999999999999
 
-apart_places : (setup : Setup) (row : TransferRow) (from to : AcctId) → IsSoundRow setup row → account_of setup row.from ≡ Some from → account_of setup row.to ≡ Some to → from.0 ≢ to.0
-apart_places setup row from to sound source target same =
+apart_occurrences : (setup : Setup) (row : TransferRow) (from to : AcctId) → IsSoundRow setup row → account_of setup row.from ≡ Some from → account_of setup row.to ≡ Some to → from.0 ≢ to.0
+apart_occurrences setup row from to sound source target same =
     let one : from ≡ to = ap (λ (n : ℕ). record { 0 = n }) same in
     let first = line_of-account setup row.from from source in
     let second = line_of-account setup row.to to target in
@@ -181,9 +181,9 @@ pub IsPayable-next : (setup : Setup) (S : State) (entry : Entry) (row : Transfer
 IsPayable-next setup S entry row from to within sound few next gives posted source target =
     let good = IsSoundRow-next setup S entry row next gives posted in
     let posts = posts_row S.entries entry row gives posted in
-    let apart = apart_places setup row from to good source target in
+    let apart = apart_occurrences setup row from to good source target in
     let after : IsSoundState setup (record { entries = S.entries ++ entry ∷ []; used = S.used; kept = S.kept; day = S.day }) = sound_more setup S entry S.used sound next few sound in
-    let behind_from = next.covered from in
+    let after_from = next.covered from in
     let moved_from = balance-moved setup S.entries entry row from to from within posts source target ∙ ap (λ (z : ℤ). balance setup S.entries from +ℤ z) (shift_from row.amount.0 from to apart) in
     let moved_to = balance-moved setup S.entries entry row from to to within posts source target ∙ ap (λ (z : ℤ). balance setup S.entries to +ℤ z) (shift_to row.amount.0 from to apart) in
     let most_to = balance-most setup (record { entries = S.entries ++ entry ∷ []; used = S.used; kept = S.kept; day = S.day }) to within after in
@@ -297,7 +297,7 @@ pub IsDraft-posted : (setup : Setup) (S : State) (held : List AccountView) (adde
 IsDraft-posted setup S held added entry row from to less more is few next gives posted source target is_less is_more =
     let posts = posts_row (with_added S added).entries entry row gives posted in
     let good = IsSoundRow-next setup (with_added S added) entry row next gives posted in
-    let apart = apart_places setup row from to good source target in
+    let apart = apart_occurrences setup row from to good source target in
     record {
       within = is.within;
       moment = is.moment;
@@ -319,10 +319,10 @@ IsDraft-none setup S held user at day within sound balanced moment known = recor
     rows = sound.rows;
     models = sound.models;
     made = sound.made;
-    told = sound.told;
+    reported = sound.reported;
     lawful = sound.lawful;
     sources = sound.sources;
-    places = sound.places;
+    occurrences = sound.occurrences;
     covered = sound.covered;
     used = sound.used;
     kept = sound.kept;
@@ -346,10 +346,10 @@ IsDraft-uid setup S held added uid is unused =
         rows = is.sound.rows;
         models = is.sound.models;
         made = is.sound.made;
-        told = is.sound.told;
+        reported = is.sound.reported;
         lawful = is.sound.lawful;
         sources = is.sound.sources;
-        places = is.sound.places;
+        occurrences = is.sound.occurrences;
         covered = is.sound.covered;
         used = once;
         kept = is.sound.kept;

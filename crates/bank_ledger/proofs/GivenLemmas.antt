@@ -9,7 +9,7 @@ use Rattle.bank_model.specs.Ledger.{row_in, drops}
 use Rattle.bank_model.specs.Models.{model_in, drops_model}
 use Rattle.bank_transfers.specs.TransfersView.{GivesRow}
 use Rattle.bank_recur.specs.ModelsView.{GivesModel, Cancels, LeavesModels}
-use Rattle.bank_rules.proofs.ModelChanges.{IsOfModel}
+use Rattle.bank_invariants.proofs.ModelChanges.{IsOfModel}
 use Rattle.bank_ledger.specs.Changes.{IsMail}
 
 pub or_assoc : (a b c : Bool) → ((a || b) || c) ≡ (a || (b || c))

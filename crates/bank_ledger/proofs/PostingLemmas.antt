@@ -22,44 +22,44 @@ use Rattle.bank_model.specs.Ledger.{Posting, row_in, drops, is_dropped, is_poste
 use Rattle.bank_model.specs.Models.{is_waiting}
 use Rattle.bank_model.specs.Judging.{is_cancelled}
 use Rattle.bank_model.specs.Once.{is_pair, is_used}
-use Rattle.bank_transfers.specs.TransfersView.{TransfersView, StandsFor, GivesRow}
+use Rattle.bank_transfers.specs.TransfersView.{TransfersView, Represents, GivesRow}
 use Rattle.bank_transfers.proofs.GrowthLemmas.{moved-push, is_dropped-push}
 use Rattle.bank_ledger.specs.DraftView.{pair_of}
 use Rattle.bank_ledger.specs.Postings.{HoldsPostings}
 
-pub HoldsPostings-none : (transfers : TransfersView) → StandsFor transfers [] → HoldsPostings transfers []
+pub HoldsPostings-none : (transfers : TransfersView) → Represents transfers [] → HoldsPostings transfers []
 unfolding is_dropped
-HoldsPostings-none transfers stands = record { posted = []; stands = stands; moved = refl; kept = λ id. refl }
+HoldsPostings-none transfers holds = record { posted = []; holds = holds; moved = refl; kept = λ id. refl }
 
--- what stands for the same entries, with another room
-pub HoldsPostings-room : (old new : TransfersView) (entries : List Entry) → ((posted : List Entry) → StandsFor old posted → StandsFor new posted) → HoldsPostings old entries → HoldsPostings new entries
-HoldsPostings-room old new entries same holds = record {
-  posted = holds.posted;
-  stands = same holds.posted holds.stands;
-  moved = holds.moved;
-  kept = holds.kept;
+-- what is for the same entries, with another room
+pub HoldsPostings-room : (old new : TransfersView) (entries : List Entry) → ((posted : List Entry) → Represents old posted → Represents new posted) → HoldsPostings old entries → HoldsPostings new entries
+HoldsPostings-room old new entries same held = record {
+  posted = held.posted;
+  holds = same held.posted held.holds;
+  moved = held.moved;
+  kept = held.kept;
 }
 
 -- ---- an entry that posts nothing
 
 -- an entry that gives no transfer a row
 pub HoldsPostings-nothing : (transfers : TransfersView) (entries : List Entry) (entry : Entry) → HoldsPostings transfers entries → posting_of entry.number (row_in entry.change) ≡ [] → HoldsPostings transfers (entries ++ entry ∷ [])
-HoldsPostings-nothing transfers entries entry holds nothing = record {
-  posted = holds.posted;
-  stands = holds.stands;
-  moved = holds.moved ∙ sym (moved-push entries entry ∙ ap (λ (l : List Posting). moved entries ++ l) nothing ∙ append-nil (moved entries));
-  kept = holds.kept;
+HoldsPostings-nothing transfers entries entry held nothing = record {
+  posted = held.posted;
+  holds = held.holds;
+  moved = held.moved ∙ sym (moved-push entries entry ∙ ap (λ (l : List Posting). moved entries ++ l) nothing ∙ append-nil (moved entries));
+  kept = held.kept;
 }
 
 unposted : (code : XferCode) (number : ℕ) (row : TransferRow) → row.code ≡ code → is_posted code ≡ false → posting_of number (Some row) ≡ []
 unposted code number row is none = ap (λ (c : XferCode). cond (is_posted c) (record { number = number; row = row } ∷ []) []) is ∙ ap (λ (b : Bool). cond b (record { number = number; row = row } ∷ []) []) none
 
 pub HoldsPostings-kept : (transfers : TransfersView) (entries : List Entry) (entry : Entry) (row : TransferRow) → HoldsPostings transfers entries → posting_of entry.number (row_in entry.change) ≡ posting_of entry.number (Some row) → is_posted row.code ≡ false → HoldsPostings transfers (entries ++ entry ∷ [])
-HoldsPostings-kept transfers entries entry row holds posts none = record {
-  posted = holds.posted;
-  stands = holds.stands;
-  moved = holds.moved ∙ sym (moved-push entries entry ∙ ap (λ (l : List Posting). moved entries ++ l) (posts ∙ unposted row.code entry.number row refl none) ∙ append-nil (moved entries));
-  kept = holds.kept;
+HoldsPostings-kept transfers entries entry row held posts none = record {
+  posted = held.posted;
+  holds = held.holds;
+  moved = held.moved ∙ sym (moved-push entries entry ∙ ap (λ (l : List Posting). moved entries ++ l) (posts ∙ unposted row.code entry.number row refl none) ∙ append-nil (moved entries));
+  kept = held.kept;
 }
 
 -- ---- an entry that posts a transfer
@@ -104,14 +104,14 @@ drops_nothing number id (SetModel given also) row same = refl
 drops_nothing number id (DropModel gone also) row same = refl
 drops_nothing number id (NewMail mail) row same = refl
 
-pub HoldsPostings-posted : (old new : TransfersView) (entries : List Entry) (entry : Entry) (row : TransferRow) → HoldsPostings old entries → posting_of entry.number (row_in entry.change) ≡ posting_of entry.number (Some row) → is_posted row.code ≡ true → ((posted : List Entry) → StandsFor old posted → GivesRow posted entry.change row → StandsFor new (posted ++ entry ∷ [])) → HoldsPostings new (entries ++ entry ∷ [])
-HoldsPostings-posted old new entries entry row holds posts here stands =
+pub HoldsPostings-posted : (old new : TransfersView) (entries : List Entry) (entry : Entry) (row : TransferRow) → HoldsPostings old entries → posting_of entry.number (row_in entry.change) ≡ posting_of entry.number (Some row) → is_posted row.code ≡ true → ((posted : List Entry) → Represents old posted → GivesRow posted entry.change row → Represents new (posted ++ entry ∷ [])) → HoldsPostings new (entries ++ entry ∷ [])
+HoldsPostings-posted old new entries entry row held posts here holds =
     let same = posts ∙ posting_is entry.number row here in
     record {
-      posted = holds.posted ++ entry ∷ [];
-      stands = stands holds.posted holds.stands (gives_posted holds.posted entry.number entry.change row holds.kept same here);
-      moved = moved-push holds.posted entry ∙ ap (λ (l : List Posting). l ++ posting_of entry.number (row_in entry.change)) holds.moved ∙ sym (moved-push entries entry);
-      kept = λ id. is_dropped-push id holds.posted entry ∙ or_from (is_dropped id holds.posted) (drops id entry.change) (holds.kept id) (drops_nothing entry.number id entry.change row same);
+      posted = held.posted ++ entry ∷ [];
+      holds = holds held.posted held.holds (gives_posted held.posted entry.number entry.change row held.kept same here);
+      moved = moved-push held.posted entry ∙ ap (λ (l : List Posting). l ++ posting_of entry.number (row_in entry.change)) held.moved ∙ sym (moved-push entries entry);
+      kept = λ id. is_dropped-push id held.posted entry ∙ or_from (is_dropped id held.posted) (drops id entry.change) (held.kept id) (drops_nothing entry.number id entry.change row same);
     }
 
 -- ---- lines
@@ -127,9 +127,9 @@ lines-append name start end postings more =
     ap (map (line_for name)) (filter-append listed postings more) ∙ map-append (line_for name) _ _
 
 -- The lines of a draft are the bank's, and after them those of what it moved itself.
-pub lines_drafted : (transfers : TransfersView) (name : AcctName) (start : Moment) (end : Option Moment) (entries more : List Entry) (lines : List StatementLine) → HoldsPostings transfers more → ((posted : List Entry) → StandsFor transfers posted → lines ≡ lines_of name start end (moved posted)) → lines_of name start end (moved entries) ++ lines ≡ lines_of name start end (moved (entries ++ more))
-lines_drafted transfers name start end entries more lines holds are =
-    ap (λ (l : List StatementLine). lines_of name start end (moved entries) ++ l) (are holds.posted holds.stands ∙ ap (lines_of name start end) holds.moved)
+pub lines_drafted : (transfers : TransfersView) (name : AcctName) (start : Moment) (end : Option Moment) (entries more : List Entry) (lines : List StatementLine) → HoldsPostings transfers more → ((posted : List Entry) → Represents transfers posted → lines ≡ lines_of name start end (moved posted)) → lines_of name start end (moved entries) ++ lines ≡ lines_of name start end (moved (entries ++ more))
+lines_drafted transfers name start end entries more lines held are =
+    ap (λ (l : List StatementLine). lines_of name start end (moved entries) ++ l) (are held.posted held.holds ∙ ap (lines_of name start end) held.moved)
     ∙ sym (ap (lines_of name start end) (moved-append entries more) ∙ lines-append name start end (moved entries) (moved more))
 
 -- ---- uids

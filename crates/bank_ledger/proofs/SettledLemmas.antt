@@ -8,7 +8,7 @@ use Rattle.bank_model.specs.Ledger.{balance}
 use Rattle.bank_accounts.specs.AccountView.{AccountView}
 use Rattle.bank_accounts.specs.BalancesView.{amount_given}
 use Rattle.bank_accounts.specs.declared.balances.Balance.{Balance}
-use Rattle.bank_accounts.specs.HeldAccounts.{with_amount, settled, HaveSameNumbers}
+use Rattle.bank_accounts.specs.HeldAccounts.{with_amount, with_balances, HaveSameNumbers}
 use Rattle.bank_ledger.specs.Balanced.{AreBalanced}
 use Rattle.bank_ledger.specs.DraftView.{AddedView, with_added, amount_or, AreGiven}
 
@@ -16,7 +16,7 @@ same_number : (account : AccountView) (amount : Option Cents) → (with_amount a
 same_number account None = refl
 same_number account (Some amount) = refl
 
-pub HaveSameNumbers-settled : (given : List Balance) (accounts : List AccountView) → HaveSameNumbers (map (settled given) accounts) accounts
+pub HaveSameNumbers-settled : (given : List Balance) (accounts : List AccountView) → HaveSameNumbers (map (with_balances given) accounts) accounts
 HaveSameNumbers-settled given [] = refl
 HaveSameNumbers-settled given (account ∷ accounts) =
     rw (same_number account (amount_given given account.number), HaveSameNumbers-settled given accounts) refl
@@ -28,11 +28,11 @@ settled_is setup S added account (Some amount) is given before =
     ap (λ z. record { 0 = z }) (ap (λ (c : Option Cents). amount_or c (balance setup S.entries account.number)) (sym is) ∙ given account.number)
 
 -- Where accounts have the balances of a state, those that are settled have the balances with what is added.
-pub AreBalanced-settled : (setup : Setup) (S : State) (added : AddedView) (accounts : List AccountView) → AreGiven setup S added → AreBalanced setup S accounts → AreBalanced setup (with_added S added) (map (settled added.balances) accounts)
+pub AreBalanced-settled : (setup : Setup) (S : State) (added : AddedView) (accounts : List AccountView) → AreGiven setup S added → AreBalanced setup S accounts → AreBalanced setup (with_added S added) (map (with_balances added.balances) accounts)
 AreBalanced-settled setup S added [] given all = All-nil (λ (a : AccountView). a.balance ≡ record { 0 = balance setup (S.entries ++ added.entries) a.number })
 AreBalanced-settled setup S added (account ∷ accounts) given all =
     let P : AccountView → Type 0 = λ a. a.balance ≡ record { 0 = balance setup S.entries a.number } in
     let Q : AccountView → Type 0 = λ a. a.balance ≡ record { 0 = balance setup (S.entries ++ added.entries) a.number } in
-    All-cons Q (settled added.balances account) (map (settled added.balances) accounts)
+    All-cons Q (with_balances added.balances account) (map (with_balances added.balances) accounts)
     (settled_is setup S added account (amount_given added.balances account.number) refl given (All-head P account accounts all))
     (AreBalanced-settled setup S added accounts given (All-tail P account accounts all))

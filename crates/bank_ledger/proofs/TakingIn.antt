@@ -5,7 +5,7 @@ use Rattle.ofx_types.specs.declared.number.UserId.{UserId}
 use Rattle.bank_model.specs.declared.entry.Entry.{Entry}
 use Rattle.bank_model.specs.declared.once.UsedPair.{UsedPair}
 use Rattle.bank_model.specs.Once.{is_pair, is_used}
-use Rattle.bank_model.proofs.SetupParts.{distinct_front}
+use Rattle.bank_model.proofs.SetupParts.{distinct_prefix}
 use Rattle.bank_ledger.specs.declared.row_change.RowChange.{RowChange}
 use Rattle.bank_ledger.specs.Changes.{GivesRows, IsKnown}
 use Rattle.once_records.specs.RecordsView.{UsedOnce}
@@ -18,21 +18,21 @@ unused_next user used all done rest uid once is =
     ap (λ (l : List (List ℕ)). used ++ map (pair_of user) l) (sym is)
     ∙ ap (λ (l : List UsedPair). used ++ l) (map-append (pair_of user) done (uid ∷ rest))
     ∙ sym (append_assoc used (map (pair_of user) done) (pair_of user uid ∷ map (pair_of user) rest)) in
-    distinct_front (λ (earlier later : UsedPair). is_pair later.user later.trnuid earlier) (used ++ map (pair_of user) done) (pair_of user uid) (map (pair_of user) rest) (subst UsedOnce parts once)
+    distinct_prefix (λ (earlier later : UsedPair). is_pair later.user later.trnuid earlier) (used ++ map (pair_of user) done) (pair_of user uid) (map (pair_of user) rest) (subst UsedOnce parts once)
 
 pub record IsHeadAt {X : Type 0} (xs : List X) (k : ℕ) (x : X) (rest : List X) : Type 0 where
   pub below : k < length xs
   pub here : get_or xs k x ≡ x
-  pub behind : drop (k + 1) xs ≡ rest
+  pub suffix : drop (k + 1) xs ≡ rest
 
--- what a list has left from a place on begins with what stands there
+-- what a list has left from a place on begins with what is there
 pub head_at : {X : Type 0} (xs : List X) (k : ℕ) (x : X) (rest : List X) → drop k xs ≡ x ∷ rest → IsHeadAt xs k x rest
 head_at [] zero x rest is = absurd cc
 head_at [] (suc k) x rest is = absurd cc
-head_at (y ∷ xs) zero x rest is = record { below = omega arith; here = let e : y ≡ x = cc in e; behind = let e : xs ≡ rest = cc in e }
+head_at (y ∷ xs) zero x rest is = record { below = omega arith; here = let e : y ≡ x = cc in e; suffix = let e : xs ≡ rest = cc in e }
 head_at (y ∷ xs) (suc k) x rest is =
     let more = head_at xs k x rest is in
-    record { below = let less = more.below in omega arith; here = more.here; behind = let same : suc k + 1 ≡ suc (k + 1) = omega arith in ap (λ (n : ℕ). drop n (y ∷ xs)) same ∙ more.behind }
+    record { below = let less = more.below in omega arith; here = more.here; suffix = let same : suc k + 1 ≡ suc (k + 1) = omega arith in ap (λ (n : ℕ). drop n (y ∷ xs)) same ∙ more.suffix }
 
 -- The next row_change is given by the next entry.
 pub gives_next : (before entries all : List Entry) (row_changes done rest_effects : List RowChange) (entry : Entry) (row_change : RowChange) (rest : List Entry) → ((k : ℕ) (e : Entry) (f : RowChange) → k < length entries → GivesRows (before ++ take k entries) (get_or entries k e).change (get_or row_changes k f)) → done ++ row_change ∷ rest_effects ≡ row_changes → drop (length done) entries ≡ entry ∷ rest → all ≡ before ++ take (length done) entries → GivesRows all entry.change row_change
@@ -72,12 +72,12 @@ known_next entries row_changes done rest_effects entry row_change rest known is_
 pub taken_more : (before entries : List Entry) (done : List RowChange) (entry : Entry) (row_change : RowChange) (rest : List Entry) → drop (length done) entries ≡ entry ∷ rest → (before ++ take (length done) entries) ++ entry ∷ [] ≡ before ++ take (length (done ++ row_change ∷ [])) entries
 taken_more before entries done entry row_change rest is =
     let head = head_at entries (length done) entry rest is in
-    let front : take (length done + 1) entries ≡ take (length done) entries ++ entry ∷ [] =
+    let prefix : take (length done + 1) entries ≡ take (length done) entries ++ entry ∷ [] =
     take_more entries (length done) entry head.below ∙ ap (λ (e : Entry). take (length done) entries ++ e ∷ []) head.here in
     append_assoc before (take (length done) entries) (entry ∷ [])
-    ∙ ap (λ (l : List Entry). before ++ l) (sym front)
+    ∙ ap (λ (l : List Entry). before ++ l) (sym prefix)
     ∙ ap (λ (n : ℕ). before ++ take n entries) (sym (length-append done (row_change ∷ [])))
 
 pub rest_more : (entries : List Entry) (done : List RowChange) (entry : Entry) (row_change : RowChange) (rest : List Entry) → drop (length done) entries ≡ entry ∷ rest → rest ≡ drop (length (done ++ row_change ∷ [])) entries
 rest_more entries done entry row_change rest is =
-    sym ((head_at entries (length done) entry rest is).behind) ∙ ap (λ (n : ℕ). drop n entries) (sym (length-append done (row_change ∷ [])))
+    sym ((head_at entries (length done) entry rest is).suffix) ∙ ap (λ (n : ℕ). drop n entries) (sym (length-append done (row_change ∷ [])))

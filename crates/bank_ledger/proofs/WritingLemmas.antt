@@ -5,27 +5,27 @@ use Rattle.ofx_types.specs.declared.recurring.ModelRow.{ModelRow}
 use Rattle.ofx_types.specs.declared.transfer.Change.{Change}
 use Rattle.ofx_types.specs.declared.transfer.Change.TheVariants.{NewTransfer, SetTransfer, DropTransfer, NewModel, SetModel, DropModel, NewMail}
 use Rattle.bank_model.specs.declared.entry.Entry.{Entry}
-use Rattle.bank_model.specs.Models.{model_of, next_place}
-use Rattle.bank_transfers.specs.TransfersView.{TransfersView, StandsFor}
-use Rattle.bank_transfers.proofs.StandsLemmas.{stands_still}
+use Rattle.bank_model.specs.Models.{model_of, next_occurrence}
+use Rattle.bank_transfers.specs.TransfersView.{TransfersView, Represents}
+use Rattle.bank_transfers.proofs.RepresentsLemmas.{holds_still}
 use Rattle.bank_recur.specs.ModelsView as recurring
-use Rattle.bank_recur.specs.ModelsView.{ModelsView, GivesModel, Cancels, IsMadeBy, row_found, place_found}
-use Rattle.bank_rules.proofs.ModelChanges.{IsOfModel}
+use Rattle.bank_recur.specs.ModelsView.{ModelsView, GivesModel, Cancels, IsMadeBy, row_found, occurrence_found}
+use Rattle.bank_invariants.proofs.ModelChanges.{IsOfModel}
 use Rattle.bank_ledger.proofs.GivenLemmas.{model_given, model_dropped, no_row, no_transfer_drop, mail_apart}
 use Rattle.bank_ledger.specs.Changes.{IsMail}
 
 -- an entry of a recurring transfer leaves what transfers stand for
-still_of : (transfers : TransfersView) (entries : List Entry) (entry : Entry) → StandsFor transfers entries → IsOfModel entry.change → StandsFor transfers (entries ++ entry ∷ [])
-still_of transfers entries entry stands of = stands_still transfers entries entry stands (no_row entry.change of) (λ id. no_transfer_drop entry.change id of)
+still_of : (transfers : TransfersView) (entries : List Entry) (entry : Entry) → Represents transfers entries → IsOfModel entry.change → Represents transfers (entries ++ entry ∷ [])
+still_of transfers entries entry holds of = holds_still transfers entries entry holds (no_row entry.change of) (λ id. no_transfer_drop entry.change id of)
 
-pub still_given : (transfers : TransfersView) (entries : List Entry) (entry : Entry) (row : ModelRow) → StandsFor transfers entries → GivesModel entries entry.change row → StandsFor transfers (entries ++ entry ∷ [])
-still_given transfers entries entry row stands gives = still_of transfers entries entry stands (model_given entries entry.change row gives)
+pub still_given : (transfers : TransfersView) (entries : List Entry) (entry : Entry) (row : ModelRow) → Represents transfers entries → GivesModel entries entry.change row → Represents transfers (entries ++ entry ∷ [])
+still_given transfers entries entry row holds gives = still_of transfers entries entry holds (model_given entries entry.change row gives)
 
-pub still_dropped : (transfers : TransfersView) (entries : List Entry) (entry : Entry) (id : ℕ) → StandsFor transfers entries → Cancels entries entry.change id → StandsFor transfers (entries ++ entry ∷ [])
-still_dropped transfers entries entry id stands drops = still_of transfers entries entry stands (model_dropped entries entry.change id drops)
+pub still_dropped : (transfers : TransfersView) (entries : List Entry) (entry : Entry) (id : ℕ) → Represents transfers entries → Cancels entries entry.change id → Represents transfers (entries ++ entry ∷ [])
+still_dropped transfers entries entry id holds drops = still_of transfers entries entry holds (model_dropped entries entry.change id drops)
 
-pub still_mail : (transfers : TransfersView) (entries : List Entry) (entry : Entry) → StandsFor transfers entries → IsMail entry.change → StandsFor transfers (entries ++ entry ∷ [])
-still_mail transfers entries entry stands is = still_of transfers entries entry stands (mail_apart entry.change is)
+pub still_mail : (transfers : TransfersView) (entries : List Entry) (entry : Entry) → Represents transfers entries → IsMail entry.change → Represents transfers (entries ++ entry ∷ [])
+still_mail transfers entries entry holds is = still_of transfers entries entry holds (mail_apart entry.change is)
 
 made_model : (entries : List Entry) (change : Change) (id : ℕ) → IsMadeBy entries change id → is_some (model_of id entries) ≡ true
 made_model entries (NewTransfer row) id made = made.1
@@ -37,11 +37,11 @@ made_model entries (DropModel gone also) id made = absurd made
 made_model entries (NewMail mail) id made = absurd made
 
 -- the recurring transfer that made a transfer is there
-pub made_there : (models : ModelsView) (entries : List Entry) (change : Change) (id : ℕ) → recurring.StandsFor models entries → IsMadeBy entries change id → is_some (row_found id models.series) ≡ true
-made_there models entries change id stands made = ap is_some (stands.rows id) ∙ made_model entries change id made
+pub made_there : (models : ModelsView) (entries : List Entry) (change : Change) (id : ℕ) → recurring.Represents models entries → IsMadeBy entries change id → is_some (row_found id models.series) ≡ true
+made_there models entries change id holds made = ap is_some (holds.rows id) ∙ made_model entries change id made
 
 -- and its place has room for one more
-pub made_below : (models : ModelsView) (entries : List Entry) (change : Change) (id : ℕ) → recurring.StandsFor models entries → IsMadeBy entries change id → next_place id entries ≤ 2958463 → place_found id models.series < 4294967295
-made_below models entries change id stands made most =
-    let is : place_found id models.series ≡ next_place id entries = stands.places id (made_there models entries change id stands made) in
+pub made_below : (models : ModelsView) (entries : List Entry) (change : Change) (id : ℕ) → recurring.Represents models entries → IsMadeBy entries change id → next_occurrence id entries ≤ 2958463 → occurrence_found id models.series < 4294967295
+made_below models entries change id holds made most =
+    let is : occurrence_found id models.series ≡ next_occurrence id entries = holds.occurrences id (made_there models entries change id holds made) in
     omega arith

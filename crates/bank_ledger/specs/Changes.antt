@@ -7,7 +7,7 @@ use Rattle.ofx_types.specs.declared.recurring.ModelRow.{ModelRow}
 use Rattle.ofx_types.specs.declared.transfer.Change.{Change}
 use Rattle.ofx_types.specs.declared.transfer.Change.TheVariants.{NewTransfer, SetTransfer, DropTransfer, NewModel, SetModel, DropModel, NewMail}
 use Rattle.bank_model.specs.declared.entry.Entry.{Entry}
-use Rattle.bank_model.specs.Models.{next_place}
+use Rattle.bank_model.specs.Models.{next_occurrence}
 use Rattle.bank_transfers.specs.TransfersView.{GivesRow, IsWithinAmounts}
 use Rattle.bank_recur.specs.ModelsView.{GivesModel, Cancels, IsMadeBy, LeavesModels}
 use Rattle.bank_ledger.specs.declared.row_change.RowChange.{RowChange}
@@ -64,7 +64,7 @@ IsMail (NewMail row) = IsMoment row.mail.created.0
 -- a recurring transfer makes, the row of a recurring transfer, or its end. A mail gives none.
 abbrev pub GivesRows : List Entry → Change → RowChange → Type 0
 GivesRows entries change (Row row) = GivesRow entries change row × LeavesModels entries change
-GivesRows entries change (Made row) = GivesRow entries change row × IsMadeBy entries change row.model × (next_place row.model entries ≤ 2958463)
+GivesRows entries change (Made row) = GivesRow entries change row × IsMadeBy entries change row.model × (next_occurrence row.model entries ≤ 2958463)
 GivesRows entries change (Model row) = GivesModel entries change row
 GivesRows entries change (NoModel id) = Cancels entries change id
 GivesRows entries change Mail = IsMail change

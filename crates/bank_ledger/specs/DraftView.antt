@@ -20,7 +20,7 @@ use Rattle.bank_accounts.specs.AccountView.{AccountView}
 use Rattle.bank_accounts.specs.BalancesView.{amount_given}
 use Rattle.bank_accounts.specs.declared.balances.Balance.{Balance}
 use Rattle.bank_accounts.specs.HeldAccounts.{IsHeld}
-use Rattle.bank_rules.specs.Standing.{IsSoundState}
+use Rattle.bank_invariants.specs.SoundStates.{IsSoundState}
 use Rattle.bank_ledger.specs.Balanced.{AreBalanced}
 use Rattle.bank_ledger.specs.declared.row_change.RowChange.{RowChange}
 use Rattle.bank_ledger.specs.Changes.{GivesRows, IsKnown, row_drafted, model_drafted, is_cancelled_in}

@@ -3,12 +3,12 @@ use Rattle.std.specs.Prelude.{◌≡◌, ◌∷◌, ◌++◌, [], ℕ, false, Li
 use Rattle.ofx_types.specs.declared.transfer.TransferRow.{TransferRow}
 use Rattle.bank_model.specs.declared.entry.Entry.{Entry}
 use Rattle.bank_model.specs.Ledger.{is_dropped, moved, posting_of, row_in}
-use Rattle.bank_transfers.specs.TransfersView.{TransfersView, StandsFor}
+use Rattle.bank_transfers.specs.TransfersView.{TransfersView, Represents}
 
 -- The transfers stand for the entries among these that post a transfer. None of them drops one.
 pub record HoldsPostings (transfers : TransfersView) (entries : List Entry) : Type 0 where
   pub posted : List Entry
-  pub stands : StandsFor transfers posted
+  pub holds : Represents transfers posted
   pub moved : moved posted ≡ moved entries
   pub kept : (id : ℕ) → is_dropped id posted ≡ false
 

@@ -11,7 +11,7 @@ ghost use Rattle.bank_model.specs.Ledger.{row_of, moved, lines_of, balance};
 ghost use Rattle.bank_model.specs.Models.{model_of, is_model_dropped};
 ghost use Rattle.bank_model.specs.Once.{is_used};
 ghost use Rattle.bank_accounts.specs.HeldAccounts.{IsHeld, balance_held};
-ghost use Rattle.bank_rules.specs.Standing.{IsSoundState};
+ghost use Rattle.bank_invariants.specs.SoundStates.{IsSoundState};
 ghost use Rattle.bank_ledger.specs.Balanced.{AreBalanced};
 ghost use Rattle.bank_ledger.specs.DraftView.{drafted, with_uid, IsAdded, AreGiven};
 

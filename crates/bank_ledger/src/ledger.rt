@@ -16,9 +16,9 @@ ghost use Rattle.bank_ledger.specs.DraftView.{pair_of, with_added, IsAdded};
 ghost use Rattle.bank_model.specs.Ledger.{row_of, moved, lines_of};
 ghost use Rattle.bank_model.specs.Once.{is_used, reply_kept};
 ghost use Rattle.bank_model.specs.Rules.{opening_state};
-ghost use Rattle.bank_model.specs.Models.{model_of, is_model_dropped, next_place, waiting_of};
+ghost use Rattle.bank_model.specs.Models.{model_of, is_model_dropped, next_occurrence, waiting_of};
 ghost use Rattle.bank_model.specs.Due.{first_task, to_make, to_post};
-ghost use Rattle.bank_rules.specs.Pending.{ids_of};
+ghost use Rattle.bank_invariants.specs.Pending.{ids_of};
 ghost use Rattle.bank_ledger.specs.declared.row_change.RowChange.{RowChange};
 ghost use Rattle.bank_ledger.specs.Changes.{GivesRows, IsKnown};
 
@@ -51,7 +51,7 @@ pub struct Ledger {
 }
 
 impl Model for Ledger {
-    ghost use Rattle.bank_transfers.specs.TransfersView.{StandsFor};
+    ghost use Rattle.bank_transfers.specs.TransfersView.{Represents};
     ghost use Rattle.bank_recur.specs.ModelsView as recurring;
     ghost use Rattle.bank_ledger.specs.LedgerView.{LedgerView};
 
@@ -74,7 +74,7 @@ impl Model for Ledger {
       };
     } };
 
-    ghost invariant = { λ l. StandsFor l.transfers l.history.entries × recurring.StandsFor l.models l.history.entries };
+    ghost invariant = { λ l. Represents l.transfers l.history.entries × recurring.Represents l.models l.history.entries };
 }
 
 impl Ledger {
@@ -198,7 +198,7 @@ impl Ledger {
     /// The recurring transfer that is to make its next transfer first, with its place, of those that make it by a last
     /// day.
     pub fn next_spawn(&self, last: Day) -> Option<(u64, u32)>
-        ensures { result ≡ option_map (λ task. (task.id, next_place task.id self.now.state.entries))
+        ensures { result ≡ option_map (λ task. (task.id, next_occurrence task.id self.now.state.entries))
             (first_task (to_make last self.now.state.entries)) }
     {
         self.models.next_spawn(last)

@@ -15,7 +15,7 @@ use Rattle.ofx_types.specs.declared.transfer.Change.{Change}
 use Rattle.ofx_types.specs.declared.transfer.Change.TheVariants.{NewMail}
 use Rattle.bank_model.specs.declared.entry.Entry.{Entry}
 use Rattle.bank_model.specs.Objects.{belongs_to, history_of}
-use Rattle.bank_mail.specs.MailsView.{ObjectMails, is_of, mails_found, rows_in, room_in, rows_found, room_found, mail_in, mails_of, StandsFor}
+use Rattle.bank_mail.specs.MailsView.{ObjectMails, is_of, mails_found, rows_in, room_in, rows_found, room_found, mail_in, mails_of, Represents}
 
 -- ---- the mails of an object in the stead of those before, or after all others
 
@@ -32,20 +32,20 @@ found_of object one (m ∷ mails) found = (elim (eqb m.object.0 object.0) as (λ
 
 -- where the mails of an object stand
 pub record IsAt (object : ObjectId) (at : ℕ) (one : ObjectMails) (mails : List ObjectMails) : Type 0 where
-  pub place : at ≡ position_or_len (is_of object) mails
+  pub index : at ≡ position_or_len (is_of object) mails
   pub within : at < length mails
   pub found : mails_found object mails ≡ Some one
   pub element : get_or mails at one ≡ one
 
 pub is_at : (object : ObjectId) (at : ℕ) (one : ObjectMails) (mails seen : List ObjectMails) (where_is : Option ℕ) → where_is ≡ position (is_of object) seen → seen ≡ mails → where_is ≡ Some at → one ≡ get_or mails at one → IsAt object at one mails
 is_at object at one mails seen where_is looked same is element =
-    let placed : position (is_of object) mails ≡ Some at = sym (looked ∙ ap (position (is_of object)) same) ∙ is in
-    let facts = position-Some (is_of object) mails at one placed in
-    let place : at ≡ position_or_len (is_of object) mails = first (nat_lt (position_or_len (is_of object) mails) (length mails)) (position_or_len (is_of object) mails) placed in
+    let located : position (is_of object) mails ≡ Some at = sym (looked ∙ ap (position (is_of object)) same) ∙ is in
+    let facts = position-Some (is_of object) mails at one located in
+    let index : at ≡ position_or_len (is_of object) mails = first (nat_lt (position_or_len (is_of object) mails) (length mails)) (position_or_len (is_of object) mails) located in
     record {
-      place = place;
+      index = index;
       within = facts.0;
-      found = find_at (is_of object) mails ∙ ap (slice_get mails) (sym place) ∙ slice_get-get_or mails at one facts.0 ∙ ap (λ (o : ObjectMails). Some o) (sym element);
+      found = find_at (is_of object) mails ∙ ap (slice_get mails) (sym index) ∙ slice_get-get_or mails at one facts.0 ∙ ap (λ (o : ObjectMails). Some o) (sym element);
       element = sym element;
     }
   where
@@ -65,7 +65,7 @@ now_set object at one new mails there same other = named (eqb object.0 other.0) 
     named : (b : Bool) → eqb object.0 other.0 ≡ b → mails_found other (set mails at new) ≡ cond b (Some new) (mails_found other mails)
     named true e =
         let here : object ≡ other = ap (λ (n : ℕ). let o : ObjectId = record { 0 = n } in o) (eqb-true object.0 other.0 e) in
-        subst (λ (o : ObjectId). mails_found o (set mails at new) ≡ Some new) here (find-set (is_of object) mails at new there.place there.within (eq-eqb new.object.0 object.0 new_own))
+        subst (λ (o : ObjectId). mails_found o (set mails at new) ≡ Some new) here (find-set (is_of object) mails at new there.index there.within (eq-eqb new.object.0 object.0 new_own))
     named false e = find_past (is_of other) mails at new one (ap (λ (o : ObjectMails). eqb o.object.0 other.0) there.element ∙ ap (λ n. eqb n other.0) own ∙ e) (ap (λ n. eqb n other.0) new_own ∙ e)
 
 pub none_found : (object : ObjectId) (mails seen : List ObjectMails) (where_is : Option ℕ) → where_is ≡ position (is_of object) seen → seen ≡ mails → where_is ≡ None → mails_found object mails ≡ None
@@ -95,7 +95,7 @@ now_pushed object new mails none same other =
 
 -- ---- rows and room
 
--- What the mails of one object have now tells what each object has.
+-- What the mails of one object have now says what each object has.
 rows_now : (object : ObjectId) (one : ObjectMails) (old new : List ObjectMails) → IsNow object one old new → (other : ObjectId) → rows_found other new ≡ cond (eqb object.0 other.0) one.rows (rows_found other old)
 rows_now object one old new now other = ap rows_in (now other) ∙ elim (eqb object.0 other.0) as (λ b. rows_in (cond b (Some one) (mails_found other old)) ≡ cond b one.rows (rows_found other old)) [
   | true ↦ refl
@@ -184,11 +184,11 @@ mails_of-push object entries entry =
       | false ↦ append-nil (flat_map (λ (e : Entry). mail_in e.change) (filter (belongs_to object) entries))
     ]
 
-pub stands_with : (object : ObjectId) (row : MailRow) (old new : List ObjectMails) (entries : List Entry) (entry : Entry) → HasMailMore object row old new → StandsFor old entries → entry.object ≡ object → entry.change ≡ NewMail row → StandsFor new (entries ++ entry ∷ [])
-stands_with object row old new entries entry more stands is_object is_mail other =
+pub holds_with : (object : ObjectId) (row : MailRow) (old new : List ObjectMails) (entries : List Entry) (entry : Entry) → HasMailMore object row old new → Represents old entries → entry.object ≡ object → entry.change ≡ NewMail row → Represents new (entries ++ entry ∷ [])
+holds_with object row old new entries entry more holds is_object is_mail other =
     more.rows other
-    ∙ ap (λ (held : List MailRow). cond (eqb object.0 other.0) (held ++ row ∷ []) (rows_found other old)) (stands object)
-    ∙ ap (λ (held : List MailRow). cond (eqb object.0 other.0) (mails_of object entries ++ row ∷ []) held) (stands other)
+    ∙ ap (λ (held : List MailRow). cond (eqb object.0 other.0) (held ++ row ∷ []) (rows_found other old)) (holds object)
+    ∙ ap (λ (held : List MailRow). cond (eqb object.0 other.0) (mails_of object entries ++ row ∷ []) held) (holds other)
     ∙ named (eqb object.0 other.0) refl
     ∙ sym (mails_of-push other entries entry ∙ ap (λ (o : ObjectId). cond (eqb o.0 other.0) (mails_of other entries ++ mail_in entry.change) (mails_of other entries)) is_object)
   where
@@ -198,9 +198,9 @@ stands_with object row old new entries entry more stands is_object is_mail other
         ap (λ (o : ObjectId). mails_of o entries ++ row ∷ []) here ∙ ap (λ (change : Change). mails_of other entries ++ mail_in change) (sym is_mail)
     named false e = refl
 
-pub stands_still : (mails : List ObjectMails) (entries : List Entry) (entry : Entry) → StandsFor mails entries → mail_in entry.change ≡ [] → StandsFor mails (entries ++ entry ∷ [])
-stands_still mails entries entry stands none other =
-    stands other
+pub holds_still : (mails : List ObjectMails) (entries : List Entry) (entry : Entry) → Represents mails entries → mail_in entry.change ≡ [] → Represents mails (entries ++ entry ∷ [])
+holds_still mails entries entry holds none other =
+    holds other
     ∙ sym (mails_of-push other entries entry
     ∙ ap (λ more. cond (eqb entry.object.0 other.0) (mails_of other entries ++ more) (mails_of other entries)) none
     ∙ ap (λ held. cond (eqb entry.object.0 other.0) held (mails_of other entries)) (append-nil (mails_of other entries))

@@ -51,5 +51,5 @@ unfoldable pub mails_of : ObjectId → List Entry → List MailRow
 mails_of object entries = flat_map (λ (entry : Entry). mail_in entry.change) (history_of object entries)
 
 -- The mails stand for a list of entries: each object has the mails that the entries brought it.
-abbrev pub StandsFor : List ObjectMails → List Entry → Type 0
-StandsFor mails entries = (object : ObjectId) → rows_found object mails ≡ mails_of object entries
+abbrev pub Represents : List ObjectMails → List Entry → Type 0
+Represents mails entries = (object : ObjectId) → rows_found object mails ≡ mails_of object entries

@@ -11,7 +11,7 @@ use ofx_types::{AcctId, AcctName, MailText, UserId};
 
 /// The code of a mail about an account.
 ///
-/// Where the deed stands in the synchronisation of one account, `only` is that account. Takes no memory.
+/// Where the deed is in the synchronisation of one account, `only` is that account. Takes no memory.
 #[tactic(auto, unfolding(bank_model::specs::Judging::bank_mail_code))]
 pub fn judge_bank_mail(
     setup: &Setup,

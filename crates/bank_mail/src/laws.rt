@@ -2,10 +2,10 @@
 
 ghost use Rattle.std.specs.Prelude.{◌≡◌, ◌∷◌, ◌++◌, [], List};
 ghost use Rattle.bank_model.specs.declared.entry.Entry.{Entry};
-ghost use Rattle.bank_mail.specs.MailsView.{ObjectMails, mail_in, StandsFor};
+ghost use Rattle.bank_mail.specs.MailsView.{ObjectMails, mail_in, Represents};
 
 /// An entry that brings no mail leaves the mails as they are.
 pub fn others_leave_mails()
-    ensures { (mails : List ObjectMails) (entries : List Entry) (entry : Entry) → StandsFor mails entries
-        → mail_in entry.change ≡ [] → StandsFor mails (entries ++ entry ∷ []) }
+    ensures { (mails : List ObjectMails) (entries : List Entry) (entry : Entry) → Represents mails entries
+        → mail_in entry.change ≡ [] → Represents mails (entries ++ entry ∷ []) }
 {}

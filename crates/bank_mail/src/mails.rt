@@ -6,7 +6,7 @@ ghost use Rattle.std.specs.List.{position};
 ghost use Rattle.ofx_types.specs.declared.number.ObjectId.{ObjectId};
 ghost use Rattle.ofx_types.specs.declared.transfer.Change.TheVariants.{NewMail};
 ghost use Rattle.bank_model.specs.declared.entry.Entry.{Entry};
-ghost use Rattle.bank_mail.specs.MailsView.{is_of, mails_found, rows_found, room_found, mails_of, StandsFor};
+ghost use Rattle.bank_mail.specs.MailsView.{is_of, mails_found, rows_found, room_found, mails_of, Represents};
 
 use crate::held::HeldMails;
 use ofx_types::{MailRow, ObjectId, OutOfMemory};
@@ -38,7 +38,7 @@ impl Mails {
     /// No mail. Takes no memory.
     pub fn new(alloc: Global) -> Mails
         ensures empty { result ≡ [] }
-        ensures stands { StandsFor result [] }
+        ensures holds { Represents result [] }
     {
         Mails {
             alloc,
@@ -49,7 +49,7 @@ impl Mails {
     /// The mails of an object in order, lent. Takes no memory.
     pub fn rows(&self, object: ObjectId) -> &[MailRow]
         ensures held { result.now ≡ rows_found object self.now }
-        ensures stood_for { (entries : List Entry) → StandsFor self.now entries → result.now ≡ mails_of object entries }
+        ensures represented { (entries : List Entry) → Represents self.now entries → result.now ≡ mails_of object entries }
     {
         match own(&self.mails, object) {
             Some(one) => one.rows(),
@@ -62,11 +62,11 @@ impl Mails {
     /// Where memory is refused, all mails are as before, and so is the room that there was.
     pub fn reserve(&mut self, object: ObjectId, mails: u32) -> Result<(), OutOfMemory>
         ensures rows { (other : ObjectId) → rows_found other self.new ≡ rows_found other self.old }
-        ensures stands { (entries : List Entry) → StandsFor self.old entries → StandsFor self.new entries }
+        ensures holds { (entries : List Entry) → Represents self.old entries → Represents self.new entries }
         ensures room { OnOk result (mails ≤ room_found object self.new) }
         ensures room_stays { (other : ObjectId) → room_found other self.old ≤ room_found other self.new }
     {
-        match place_of(&self.mails, object) {
+        match index_of(&self.mails, object) {
             Some(at) => self.mails[at].reserve(mails),
             None => {
                 let held = HeldMails::new(self.alloc, object, mails)?;
@@ -81,13 +81,13 @@ impl Mails {
         requires room { 0 < room_found object self.old }
         ensures rows { (other : ObjectId) → rows_found other self.new
             ≡ (if object.0 == other.0 then rows_found object self.old ++ row ∷ [] else rows_found other self.old) }
-        ensures stands { (entries : List Entry) (entry : Entry) → StandsFor self.old entries
+        ensures holds { (entries : List Entry) (entry : Entry) → Represents self.old entries
             → entry.object ≡ object → entry.change ≡ NewMail row
-            → StandsFor self.new (entries ++ entry ∷ []) }
+            → Represents self.new (entries ++ entry ∷ []) }
         ensures room { (other : ObjectId) → room_found other self.old
             ≤ room_found other self.new + (if object.0 == other.0 then 1 else 0) }
     {
-        match place_of(&self.mails, object) {
+        match index_of(&self.mails, object) {
             Some(at) => self.mails[at].put(row),
             None => unreachable!(),
         }
@@ -102,7 +102,7 @@ fn own(mails: &[HeldMails], object: ObjectId) -> Option<&HeldMails>
 }
 
 /// Where the mails of an object stand.
-fn place_of(mails: &[HeldMails], object: ObjectId) -> Option<usize>
+fn index_of(mails: &[HeldMails], object: ObjectId) -> Option<usize>
     ensures { result ≡ position (is_of object) mails.now }
 {
     mails.iter().position(|one| one.object().0 == object.0)

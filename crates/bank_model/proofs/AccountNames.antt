@@ -33,11 +33,11 @@ name_with bank number kind = record { bank = bank; number = number; kind = kind 
 -- names that are the same account's are equal
 pub same_account-is : (a b : AcctName) → same_account a b ≡ true → a ≡ b
 same_account-is a b same =
-    let front = and_parts (bytes_eq a.bank b.bank && bytes_eq a.number b.number) (bytes_eq (kind_word a.kind) (kind_word b.kind)) same in
-    let words = and_parts (bytes_eq a.bank b.bank) (bytes_eq a.number b.number) front.0 in
+    let prefix = and_parts (bytes_eq a.bank b.bank && bytes_eq a.number b.number) (bytes_eq (kind_word a.kind) (kind_word b.kind)) same in
+    let words = and_parts (bytes_eq a.bank b.bank) (bytes_eq a.number b.number) prefix.0 in
     let bank : a.bank ≡ b.bank = bytes_eq_is a.bank b.bank words.0 in
     let number : a.number ≡ b.number = bytes_eq_is a.number b.number words.1 in
-    let kind : a.kind ≡ b.kind = kind_is a.kind b.kind front.1 in
+    let kind : a.kind ≡ b.kind = kind_is a.kind b.kind prefix.1 in
     ap (λ (x : List ℕ). name_with x a.number a.kind) bank ∙ ap (λ (x : List ℕ). name_with b.bank x a.kind) number ∙ ap (name_with b.bank b.number) kind
 
 pub same_account-self : (a : AcctName) → same_account a a ≡ true

@@ -18,12 +18,12 @@ use Rattle.std.proofs.lemmas.Option.{slice_get-get_or, slice_get_cases}
 use Rattle.bank_model.specs.Directory.{IsOrderOf, IsFound, IsGap, compared}
 
 -- an answer that is less wherever another is less or equal stands no higher
-stands_lower : (p q : Ordering) → (q ≡ Less → p ≡ Less) → (q ≡ Equal → p ≡ Less) → ordering_index p ≤ ordering_index q
-stands_lower p Less less equal = rw (less refl) (omega arith)
-stands_lower p Equal less equal = rw (equal refl) (omega arith)
-stands_lower Less Greater less equal = omega arith
-stands_lower Equal Greater less equal = omega arith
-stands_lower Greater Greater less equal = omega arith
+holds_lower : (p q : Ordering) → (q ≡ Less → p ≡ Less) → (q ≡ Equal → p ≡ Less) → ordering_index p ≤ ordering_index q
+holds_lower p Less less equal = rw (less refl) (omega arith)
+holds_lower p Equal less equal = rw (equal refl) (omega arith)
+holds_lower Less Greater less equal = omega arith
+holds_lower Equal Greater less equal = omega arith
+holds_lower Greater Greater less equal = omega arith
 
 pub position_at : {X : Type 0} (p : X → Bool) (xs : List X) (i : ℕ) → i < length xs → position_or_len p xs ≡ i → position p xs ≡ Some i
 position_at p xs i lt is = grind (arith, nat_tests)
@@ -43,20 +43,20 @@ some_item xs i lt = elim ((slice_get_cases xs i).1) [ inl w ↦ w.0 | inr w ↦ 
 module _ {X K : Type 0} (key : X → K) (R : K → K → Ordering) (o : IsTotalOrder R) where
   -- what is less than a key is so of what equals it too, and the comparisons with one key rise along rising keys
   rises_to : (a b k : K) → R a b ≡ Less → ordering_index (R a k) ≤ ordering_index (R b k)
-  rises_to a b k less = stands_lower (R a k) (R b k) (λ e. o.trans a b k less e) (λ e. sym (alike_right o b k a e) ∙ less)
+  rises_to a b k less = holds_lower (R a k) (R b k) (λ e. o.trans a b k less e) (λ e. sym (alike_right o b k a e) ∙ less)
 
-  module _ (items : List X) (places : List ℕ) (order : IsOrderOf key R items places) (k : K) where
+  module _ (items : List X) (indices : List ℕ) (order : IsOrderOf key R items indices) (k : K) where
     -- a place that the order has is that of an item
-    seen : (place : ℕ) (d : X) → place < length items → compared key R k (slice_get items place) ≡ R (key (get_or items place d)) k
-    seen place d lt = ap (compared key R k) (slice_get-get_or items place d lt)
+    seen : (index : ℕ) (d : X) → index < length items → compared key R k (slice_get items index) ≡ R (key (get_or items index d)) k
+    seen index d lt = ap (compared key R k) (slice_get-get_or items index d lt)
 
-    rising : IsNonDecreasingBy (λ place. ordering_index (compared key R k (slice_get items place))) places
+    rising : IsNonDecreasingBy (λ index. ordering_index (compared key R k (slice_get items index))) indices
     rising i j d le lt = elim (cases_lt i j) [
       | inl below ↦
           let x = some_item items _ (order.known i (omega arith)) in
           rw (
-            get_or_default places i d 0 (omega arith),
-            get_or_default places j d 0 lt,
+            get_or_default indices i d 0 (omega arith),
+            get_or_default indices j d 0 lt,
             seen _ x (order.known i (omega arith)),
             seen _ x (order.known j lt),
           ) (rises_to _ _ k (order.rising i j x below lt))
@@ -64,31 +64,31 @@ module _ {X K : Type 0} (key : X → K) (R : K → K → Ordering) (o : IsTotalO
     ]
 
     -- a search ends at the place of the item under the key, or where it would go
-    pub searched_found : (at : ℕ) → at < length places → ((d : ℕ) → compared key R k (slice_get items (get_or places at d)) ≡ Equal)
-        → IsFound key R items places k at
+    pub searched_found : (at : ℕ) → at < length indices → ((d : ℕ) → compared key R k (slice_get items (get_or indices at d)) ≡ Equal)
+        → IsFound key R items indices k at
     searched_found at lt same = record { within = lt; same = λ d. sym (seen _ d (order.known at lt)) ∙ same 0 }
 
-    pub searched_gap : (at : ℕ) → at ≤ length places
-        → IsPartitionPoint (λ place. compared key R k (slice_get items place) ≡ Less) (λ place. compared key R k (slice_get items place) ≡ Greater) places at
-        → IsGap key R items places k at
+    pub searched_gap : (at : ℕ) → at ≤ length indices
+        → IsPartitionPoint (λ index. compared key R k (slice_get items index) ≡ Less) (λ index. compared key R k (slice_get items index) ≡ Greater) indices at
+        → IsGap key R items indices k at
     searched_gap at le parted = record {
       within = le;
       before = λ j d lt. sym (seen _ d (order.known j (omega arith))) ∙ parted.0 j 0 (omega arith) lt;
-      behind = λ j d from lt. sym (seen _ d (order.known j lt)) ∙ parted.1 j 0 from lt;
+      suffix = λ j d from lt. sym (seen _ d (order.known j lt)) ∙ parted.1 j 0 from lt;
     }
 
-    pub searched : (r : Result ℕ ℕ) → IsSearchInRange r (length places) → IsBinarySearchResult (λ place. compared key R k (slice_get items place)) places r
-        → IfOk r (IsFound key R items places k) × IfErr r (IsGap key R items places k)
+    pub searched : (r : Result ℕ ℕ) → IsSearchInRange r (length indices) → IsBinarySearchResult (λ index. compared key R k (slice_get items index)) indices r
+        → IfOk r (IsFound key R items indices k) × IfErr r (IsGap key R items indices k)
     searched (Ok at) lt same = (searched_found at lt same, tt)
     searched (Err at) le parted = (tt, searched_gap at le (parted rising))
 
     -- at the other places the keys are others
-    other_place : (at : ℕ) → IsFound key R items places k at → (place : ℕ) (d : X) → place < length items → place ≢ get_or places at 0
-        → is_eq (R (key (get_or items place d)) k) ≡ false
-    other_place at found place d lt other =
-        let there = order.whole place lt in
-        let is : get_or places there.0 0 ≡ place = get_or_default places there.0 0 place there.1 ∙ there.2 in
-        let item = λ (j : ℕ). key (get_or items (get_or places j 0) d) in
+    other_offset : (at : ℕ) → IsFound key R items indices k at → (index : ℕ) (d : X) → index < length items → index ≢ get_or indices at 0
+        → is_eq (R (key (get_or items index d)) k) ≡ false
+    other_offset at found index d lt other =
+        let there = order.whole index lt in
+        let is : get_or indices there.0 0 ≡ index = get_or_default indices there.0 0 index there.1 ∙ there.2 in
+        let item = λ (j : ℕ). key (get_or items (get_or indices j 0) d) in
         let near = alike_right o (item at) k (item there.0) (found.same d) in
         elim (cases_lt there.0 at) [
           | inl below ↦ subst (λ q. is_eq (R (key (get_or items q d)) k) ≡ false) is
@@ -96,99 +96,99 @@ module _ {X K : Type 0} (key : X → K) (R : K → K → Ordering) (o : IsTotalO
           | inr from ↦ elim (cases_lt at there.0) [
             | inl above ↦ subst (λ q. is_eq (R (key (get_or items q d)) k) ≡ false) is
                 (ap is_eq (sym near ∙ o.antisymm (item there.0) (item at) ∙ ap ordering_reverse (order.rising at there.0 d above there.1)))
-            | inr to ↦ let same : there.0 ≡ at = omega arith in absurd (other (sym is ∙ ap (λ j. get_or places j 0) same))
+            | inr to ↦ let same : there.0 ≡ at = omega arith in absurd (other (sym is ∙ ap (λ j. get_or indices j 0) same))
           ]
         ]
 
-    no_place : (at : ℕ) → IsGap key R items places k at → (place : ℕ) (d : X) → place < length items → is_eq (R (key (get_or items place d)) k) ≡ false
-    no_place at gap place d lt =
-        let there = order.whole place lt in
-        let is : get_or places there.0 0 ≡ place = get_or_default places there.0 0 place there.1 ∙ there.2 in
+    no_index : (at : ℕ) → IsGap key R items indices k at → (index : ℕ) (d : X) → index < length items → is_eq (R (key (get_or items index d)) k) ≡ false
+    no_index at gap index d lt =
+        let there = order.whole index lt in
+        let is : get_or indices there.0 0 ≡ index = get_or_default indices there.0 0 index there.1 ∙ there.2 in
         elim (cases_lt there.0 at) [
           | inl below ↦ subst (λ q. is_eq (R (key (get_or items q d)) k) ≡ false) is (ap is_eq (gap.before there.0 d below))
-          | inr from ↦ subst (λ q. is_eq (R (key (get_or items q d)) k) ≡ false) is (ap is_eq (gap.behind there.0 d from there.1))
+          | inr from ↦ subst (λ q. is_eq (R (key (get_or items q d)) k) ≡ false) is (ap is_eq (gap.suffix there.0 d from there.1))
         ]
 
     module _ (has_key : X → K → Bool) (ties : (x : X) (k : K) → has_key x k ≡ is_eq (R (key x) k)) where
-      pub position_found : (at : ℕ) → IsFound key R items places k at → position (λ x. has_key x k) items ≡ Some (get_or places at 0)
+      pub position_found : (at : ℕ) → IsFound key R items indices k at → position (λ x. has_key x k) items ≡ Some (get_or indices at 0)
       position_found at found =
-          let place = get_or places at 0 in
+          let index = get_or indices at 0 in
           let lt = order.known at found.within in
-          let d = some_item items place lt in
-          position_at _ items place lt (position_or_len_is _ items place d (omega (arith, lt))
-          (λ j below. ties _ k ∙ other_place at found j d (omega (arith, below, lt)) (λ same. omega (arith, below, same)))
+          let d = some_item items index lt in
+          position_at _ items index lt (position_or_len_is _ items index d (omega (arith, lt))
+          (λ j below. ties _ k ∙ other_offset at found j d (omega (arith, below, lt)) (λ same. omega (arith, below, same)))
           (λ _. ties _ k ∙ ap is_eq (found.same d)))
 
-      pub position_gap : (at : ℕ) → IsGap key R items places k at → position (λ x. has_key x k) items ≡ None
-      position_gap at gap = position_nowhere _ items (position_or_len_none _ items (λ place d lt. ties _ k ∙ no_place at gap place d lt))
+      pub position_gap : (at : ℕ) → IsGap key R items indices k at → position (λ x. has_key x k) items ≡ None
+      position_gap at gap = position_nowhere _ items (position_or_len_none _ items (λ index d lt. ties _ k ∙ no_index at gap index d lt))
 
-      pub any_found : (at : ℕ) → IsFound key R items places k at → list_any (λ x. has_key x k) items ≡ true
+      pub any_found : (at : ℕ) → IsFound key R items indices k at → list_any (λ x. has_key x k) items ≡ true
       any_found at found =
           let lt = order.known at found.within in
-          let d = some_item items (get_or places at 0) lt in
-          list_any_at _ items (get_or places at 0) d lt (ties _ k ∙ ap is_eq (found.same d))
+          let d = some_item items (get_or indices at 0) lt in
+          list_any_at _ items (get_or indices at 0) d lt (ties _ k ∙ ap is_eq (found.same d))
 
-      pub any_gap : (at : ℕ) → IsGap key R items places k at → list_any (λ x. has_key x k) items ≡ false
-      any_gap at gap = list_any_none _ items (λ place d lt. ties _ k ∙ no_place at gap place d lt)
+      pub any_gap : (at : ℕ) → IsGap key R items indices k at → list_any (λ x. has_key x k) items ≡ false
+      any_gap at gap = list_any_none _ items (λ index d lt. ties _ k ∙ no_index at gap index d lt)
 
-      pub any_searched : (r : Result ℕ ℕ) → IfOk r (IsFound key R items places k) → IfErr r (IsGap key R items places k)
+      pub any_searched : (r : Result ℕ ℕ) → IfOk r (IsFound key R items indices k) → IfErr r (IsGap key R items indices k)
           → is_ok r ≡ list_any (λ x. has_key x k) items
       any_searched (Ok at) found gap = sym (any_found at found)
       any_searched (Err at) found gap = sym (any_gap at gap)
 
   -- one item more under a key of its own, with its place where it goes
-  pub inserted : (items : List X) (places : List ℕ) → IsOrderOf key R items places → (x : X) (at : ℕ) → IsGap key R items places (key x) at
-      → IsOrderOf key R (items ++ x ∷ []) (insert places at (length items))
-  inserted items places order x at gap = record { known = known; whole = whole; rising = rising_with }
+  pub inserted : (items : List X) (indices : List ℕ) → IsOrderOf key R items indices → (x : X) (at : ℕ) → IsGap key R items indices (key x) at
+      → IsOrderOf key R (items ++ x ∷ []) (insert indices at (length items))
+  inserted items indices order x at gap = record { known = known; whole = whole; rising = rising_with }
     where
       n : ℕ
       n = length items
 
       new : List ℕ
-      new = insert places at n
+      new = insert indices at n
 
-      below : (j : ℕ) → j < at → get_or new j 0 ≡ get_or places j 0
-      below j lt = get_or-insert_below places at n 0 j lt gap.within
+      below : (j : ℕ) → j < at → get_or new j 0 ≡ get_or indices j 0
+      below j lt = get_or-insert_below indices at n 0 j lt gap.within
 
       here : (j : ℕ) → j ≡ at → get_or new j 0 ≡ n
-      here j is = rw is (get_or-insert_at places at n 0 gap.within)
+      here j is = rw is (get_or-insert_at indices at n 0 gap.within)
 
-      above : (j : ℕ) → at < j → get_or new j 0 ≡ get_or places (j - 1) 0
-      above j lt = subst (λ q. get_or new q 0 ≡ get_or places (j - 1) 0) {x = j - 1 + 1} (omega arith) (get_or-insert_above places at n 0 (j - 1) (omega arith) gap.within)
+      above : (j : ℕ) → at < j → get_or new j 0 ≡ get_or indices (j - 1) 0
+      above j lt = subst (λ q. get_or new q 0 ≡ get_or indices (j - 1) 0) {x = j - 1 + 1} (omega arith) (get_or-insert_above indices at n 0 (j - 1) (omega arith) gap.within)
 
-      above_by_one : (j : ℕ) → at ≤ j → get_or new (j + 1) 0 ≡ get_or places j 0
-      above_by_one j le = get_or-insert_above places at n 0 j le gap.within
+      above_by_one : (j : ℕ) → at ≤ j → get_or new (j + 1) 0 ≡ get_or indices j 0
+      above_by_one j le = get_or-insert_above indices at n 0 j le gap.within
 
-      longer : length new ≡ length places + 1
-      longer = length-insert places at n gap.within
+      longer : length new ≡ length indices + 1
+      longer = length-insert indices at n gap.within
 
       known : (j : ℕ) → j < length new → get_or new j 0 < length (items ++ x ∷ [])
       known j lt = grind (arith, below j, here j, above j, order.known j, order.known (j - 1), longer, length_push items x)
 
-      whole : (place : ℕ) → place < length (items ++ x ∷ []) → (k : ℕ) × (k < length new) × (get_or new k place ≡ place)
-      whole place lt = elim (cases_lt place n) [
+      whole : (index : ℕ) → index < length (items ++ x ∷ []) → (k : ℕ) × (k < length new) × (get_or new k index ≡ index)
+      whole index lt = elim (cases_lt index n) [
         | inl old ↦
-            let there = order.whole place old in
-            let is : get_or places there.0 0 ≡ place = get_or_default places there.0 0 place there.1 ∙ there.2 in
+            let there = order.whole index old in
+            let is : get_or indices there.0 0 ≡ index = get_or_default indices there.0 0 index there.1 ∙ there.2 in
             elim (cases_lt there.0 at) [
               | inl left ↦
                   let in_range : there.0 < length new = omega (arith, longer, there.1) in
-                  (there.0, in_range, get_or_default new there.0 place 0 in_range ∙ below there.0 left ∙ is)
+                  (there.0, in_range, get_or_default new there.0 index 0 in_range ∙ below there.0 left ∙ is)
               | inr from ↦
                   let in_range : there.0 + 1 < length new = omega (arith, longer, there.1) in
-                  (there.0 + 1, in_range, get_or_default new (there.0 + 1) place 0 in_range ∙ above_by_one there.0 from ∙ is)
+                  (there.0 + 1, in_range, get_or_default new (there.0 + 1) index 0 in_range ∙ above_by_one there.0 from ∙ is)
             ]
         | inr last ↦
-            let same : n ≡ place = omega (arith, length_push items x, lt, last) in
+            let same : n ≡ index = omega (arith, length_push items x, lt, last) in
             let in_range : at < length new = omega (arith, longer, gap.within) in
-            (at, in_range, get_or_default new at place 0 in_range ∙ here at refl ∙ same)
+            (at, in_range, get_or_default new at index 0 in_range ∙ here at refl ∙ same)
       ]
 
       new_key : ℕ → X → K
       new_key m d = key (get_or (items ++ x ∷ []) (get_or new m 0) d)
 
       old_key : ℕ → X → K
-      old_key m d = key (get_or items (get_or places m 0) d)
+      old_key m d = key (get_or items (get_or indices m 0) d)
 
       left_key : (m : ℕ) (d : X) → m < at → new_key m d ≡ old_key m d
       left_key m d lt = rw (below m lt) (ap key (get_or_append_left items (x ∷ []) d _ (order.known m (omega (arith, gap.within, lt)))))
@@ -200,8 +200,8 @@ module _ {X K : Type 0} (key : X → K) (R : K → K → Ordering) (o : IsTotalO
       right_key m d lt in_range =
           rw (above m lt) (ap key (get_or_append_left items (x ∷ []) d _ (order.known (m - 1) (omega (arith, lt, in_range, longer)))))
 
-      flipped : (m : ℕ) (d : X) → at ≤ m → m < length places → R (key x) (old_key m d) ≡ Less
-      flipped m d from lt = o.antisymm (key x) (old_key m d) ∙ ap ordering_reverse (gap.behind m d from lt)
+      flipped : (m : ℕ) (d : X) → at ≤ m → m < length indices → R (key x) (old_key m d) ≡ Less
+      flipped m d from lt = o.antisymm (key x) (old_key m d) ∙ ap ordering_reverse (gap.suffix m d from lt)
 
       rising_with : (i j : ℕ) (d : X) → i < j → j < length new → R (new_key i d) (new_key j d) ≡ Less
       rising_with i j d lt in_range = elim (cases_lt j at) [

@@ -1,5 +1,5 @@
 pub mod Lists
-pub mod Ink
+pub mod Visible
 pub mod Logs
 pub mod Histories
 pub mod Rejections

@@ -51,7 +51,7 @@ rest_is xs k x below is = rw (add-one, drop-cons xs k x, ← is) refl
 
 -- ---- what passes a test
 
--- what passes stands last
+-- what passes is last
 abbrev pub IsLast : {X : Type 0} → (X → Bool) → List X → Type 0
 IsLast p xs = xs ≡ filter (λ x. not (p x)) xs ++ filter p xs
 

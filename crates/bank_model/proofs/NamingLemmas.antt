@@ -37,11 +37,11 @@ rises_by_index : (xs : List AcctId) → Rises xs → IsStrictlyIncreasing (map r
 rises_by_index [] rises k below = absurd (omega arith)
 rises_by_index (x ∷ xs) rises k below = rises_at x.0 (map rank xs) (above_at x.0 xs rises.0) (rises_by_index xs rises.1) k below
 
--- An account is put after the first of others, is the first, or stands before it.
+-- An account is put after the first of others, is the first, or comes before it.
 abbrev put : Bool → Bool → AcctId → AcctId → List AcctId → List AcctId → List AcctId
-put behind is account x xs more = cond behind (x ∷ more) (cond is (x ∷ xs) (account ∷ x ∷ xs))
+put suffix is account x xs more = cond suffix (x ∷ more) (cond is (x ∷ xs) (account ∷ x ∷ xs))
 
-all_put : (P : AcctId → Type 0) (behind is : Bool) (account x : AcctId) (xs more : List AcctId) → P account → P x → AllByRecursion P xs → AllByRecursion P more → AllByRecursion P (put behind is account x xs more)
+all_put : (P : AcctId → Type 0) (suffix is : Bool) (account x : AcctId) (xs more : List AcctId) → P account → P x → AllByRecursion P xs → AllByRecursion P more → AllByRecursion P (put suffix is account x xs more)
 all_put P true is account x xs more here first all all_more = (first, all_more)
 all_put P false true account x xs more here first all all_more = (first, all)
 all_put P false false account x xs more here first all all_more = (here, (first, all))
@@ -55,7 +55,7 @@ all_above : (a b : ℕ) (xs : List AcctId) → a < b → AllByRecursion (λ (oth
 all_above a b [] less all = tt
 all_above a b (x ∷ xs) less all = (omega (arith, less, all.0), all_above a b xs less all.1)
 
-rises_put : (behind is : Bool) (account x : AcctId) (xs : List AcctId) → nat_lt x.0 account.0 ≡ behind → eqb x.0 account.0 ≡ is → Rises (x ∷ xs) → Rises (inserted account xs) → Rises (put behind is account x xs (inserted account xs))
+rises_put : (suffix is : Bool) (account x : AcctId) (xs : List AcctId) → nat_lt x.0 account.0 ≡ suffix → eqb x.0 account.0 ≡ is → Rises (x ∷ xs) → Rises (inserted account xs) → Rises (put suffix is account x xs (inserted account xs))
 rises_put true is account x xs low same rises more = (all_inserted (λ (other : AcctId). x.0 < other.0) account xs (ltb-true x.0 account.0 low) rises.0, more)
 rises_put false true account x xs low same rises more = rises
 rises_put false false account x xs low same rises more =
@@ -99,7 +99,7 @@ cons_cases x xs y has = by has.0 has.1 has.2
 nil_has_none : {X : Type 0} (y : X) → Contains [] y → ⊥
 nil_has_none y has = omega (arith, has.1)
 
-put_here : (behind is : Bool) (account x : AcctId) (xs more : List AcctId) → eqb x.0 account.0 ≡ is → Contains more account → Contains (put behind is account x xs more) account
+put_here : (suffix is : Bool) (account x : AcctId) (xs more : List AcctId) → eqb x.0 account.0 ≡ is → Contains more account → Contains (put suffix is account x xs more) account
 put_here true is account x xs more same has = cons_there x more account has
 put_here false true account x xs more same has = subst (Contains (x ∷ xs)) (same_number x account (eqb-true x.0 account.0 same)) (cons_here x xs)
 put_here false false account x xs more same has = cons_here account (x ∷ xs)
@@ -108,7 +108,7 @@ inserted_here : (account : AcctId) (xs : List AcctId) → Contains (inserted acc
 inserted_here account [] = cons_here account []
 inserted_here account (x ∷ xs) = put_here (nat_lt x.0 account.0) (eqb x.0 account.0) account x xs (inserted account xs) refl (inserted_here account xs)
 
-put_there : (behind is : Bool) (account x y : AcctId) (xs more : List AcctId) → (Contains xs y → Contains more y) → Contains (x ∷ xs) y → Contains (put behind is account x xs more) y
+put_there : (suffix is : Bool) (account x y : AcctId) (xs more : List AcctId) → (Contains xs y → Contains more y) → Contains (x ∷ xs) y → Contains (put suffix is account x xs more) y
 put_there true is account x y xs more keeps has = past (cons_cases x xs y has)
   where
     past : (x ≡ y) ⊎ Contains xs y → Contains (x ∷ more) y
@@ -121,16 +121,16 @@ inserted_there : (account y : AcctId) (xs : List AcctId) → Contains xs y → C
 inserted_there account y [] has = absurd (nil_has_none y has)
 inserted_there account y (x ∷ xs) has = put_there (nat_lt x.0 account.0) (eqb x.0 account.0) account x y xs (inserted account xs) (inserted_there account y xs) has
 
-put_only : (behind is : Bool) (account x y : AcctId) (xs more : List AcctId) → (Contains more y → (account ≡ y) ⊎ Contains xs y) → Contains (put behind is account x xs more) y → (account ≡ y) ⊎ Contains (x ∷ xs) y
+put_only : (suffix is : Bool) (account x y : AcctId) (xs more : List AcctId) → (Contains more y → (account ≡ y) ⊎ Contains xs y) → Contains (put suffix is account x xs more) y → (account ≡ y) ⊎ Contains (x ∷ xs) y
 put_only true is account x y xs more only has = past (cons_cases x more y has)
   where
-    behind : (account ≡ y) ⊎ Contains xs y → (account ≡ y) ⊎ Contains (x ∷ xs) y
-    behind (inl here) = inl here
-    behind (inr there) = inr (cons_there x xs y there)
+    suffix : (account ≡ y) ⊎ Contains xs y → (account ≡ y) ⊎ Contains (x ∷ xs) y
+    suffix (inl here) = inl here
+    suffix (inr there) = inr (cons_there x xs y there)
 
     past : (x ≡ y) ⊎ Contains more y → (account ≡ y) ⊎ Contains (x ∷ xs) y
     past (inl here) = inr (subst (Contains (x ∷ xs)) here (cons_here x xs))
-    past (inr there) = behind (only there)
+    past (inr there) = suffix (only there)
 put_only false true account x y xs more only has = inr has
 put_only false false account x y xs more only has = cons_cases account (x ∷ xs) y has
 
@@ -146,9 +146,9 @@ all_there : (y : AcctId) (xs : List AcctId) (named : List (Option AcctId)) → C
 all_there y xs [] has = has
 all_there y xs (entry ∷ named) has = all_there y (with_any xs entry) named (any_there y xs entry has)
 
-pub named_stands : (y : AcctId) (xs : List AcctId) (named : List (Option AcctId)) → Contains named (Some y) → Contains (with_all xs named) y
-named_stands y xs [] has = absurd (nil_has_none (Some y) has)
-named_stands y xs (entry ∷ named) has = by (named_stands y (with_any xs entry) named) (cons_cases entry named (Some y) has)
+pub named_holds : (y : AcctId) (xs : List AcctId) (named : List (Option AcctId)) → Contains named (Some y) → Contains (with_all xs named) y
+named_holds y xs [] has = absurd (nil_has_none (Some y) has)
+named_holds y xs (entry ∷ named) has = by (named_holds y (with_any xs entry) named) (cons_cases entry named (Some y) has)
   where
     by : (Contains named (Some y) → Contains (with_all (with_any xs entry) named) y) → (entry ≡ Some y) ⊎ Contains named (Some y) → Contains (with_all (with_any xs entry) named) y
     by later (inl is) = all_there y (with_any xs entry) named (subst (λ (e : Option AcctId). Contains (with_any xs e) y) (sym is) (inserted_here y xs))
@@ -190,7 +190,7 @@ pub members_of : (accounts : List AcctId) (named : List (Option AcctId)) → acc
     → (Contains accounts account → Contains named (Some account)) × (Contains named (Some account) → Contains accounts account)
 members_of accounts named is account = (
   (λ has. only_named account named (subst (λ (l : List AcctId). Contains l account) is has)),
-  (λ has. subst (λ (l : List AcctId). Contains l account) (sym is) (named_stands account [] named has)),
+  (λ has. subst (λ (l : List AcctId). Contains l account) (sym is) (named_holds account [] named has)),
 )
 
 -- ---- where it is put
@@ -213,29 +213,29 @@ inserted_before : (account x : AcctId) (more : List AcctId) → account.0 ≤ x.
 inserted_before account x more low = rw (le-ltb x.0 account.0 low) refl
 
 pub inserted_at : (account x : AcctId) (xs : List AcctId) (at : ℕ) → position (is_not_below account) xs ≡ Some at → x ≡ get_or xs at x → inserted account xs ≡ take at xs ++ beside account x (drop (at + 1) xs)
-inserted_at account x xs at placed is =
-    let facts = position-Some (is_not_below account) xs at x placed in
+inserted_at account x xs at located is =
+    let facts = position-Some (is_not_below account) xs at x located in
     let low = leb-true account.0 x.0 (ap (is_not_below account) is ∙ facts.1) in
-    inserted_past account xs at (λ k d small. leb-false account.0 (get_or xs k d).0 ((position-Some (is_not_below account) xs at d placed).2 k small)) (omega (arith, facts.0))
+    inserted_past account xs at (λ k d small. leb-false account.0 (get_or xs k d).0 ((position-Some (is_not_below account) xs at d located).2 k small)) (omega (arith, facts.0))
     ∙ ap (λ (l : List AcctId). take at xs ++ inserted account l) (rest_is xs at x facts.0 is)
     ∙ ap (λ (l : List AcctId). take at xs ++ l) (inserted_before account x (drop (at + 1) xs) low)
 
--- where it stands already, all stays
+-- where it is already, all stays
 pub inserted_same : (account x : AcctId) (xs seen : List AcctId) (found : Option ℕ) (at : ℕ) → found ≡ position (is_not_below account) seen → seen ≡ xs → found ≡ Some at → x ≡ get_or xs at x → x.0 ≡ account.0 → xs ≡ inserted account xs
 inserted_same account x xs seen found at looked same is element equal =
-    let placed : position (is_not_below account) xs ≡ Some at = sym (looked ∙ ap (position (is_not_below account)) same) ∙ is in
+    let located : position (is_not_below account) xs ≡ Some at = sym (looked ∙ ap (position (is_not_below account)) same) ∙ is in
     sym (take-append-drop at xs)
-    ∙ ap (λ (l : List AcctId). take at xs ++ l) (rest_is xs at x (position-Some (is_not_below account) xs at x placed).0 element)
+    ∙ ap (λ (l : List AcctId). take at xs ++ l) (rest_is xs at x (position-Some (is_not_below account) xs at x located).0 element)
     ∙ ap (λ (b : Bool). take at xs ++ cond b (x ∷ drop (at + 1) xs) (account ∷ x ∷ drop (at + 1) xs)) (sym (eq-eqb x.0 account.0 equal))
-    ∙ sym (inserted_at account x xs at placed element)
+    ∙ sym (inserted_at account x xs at located element)
 
 -- where it doesn't, it is put there
 pub inserted_new : (account x : AcctId) (xs seen : List AcctId) (found : Option ℕ) (at : ℕ) → found ≡ position (is_not_below account) seen → seen ≡ xs → found ≡ Some at → x ≡ get_or xs at x → (x.0 ≡ account.0 → ⊥) → insert xs at account ≡ inserted account xs
 inserted_new account x xs seen found at looked same is element apart =
-    let placed : position (is_not_below account) xs ≡ Some at = sym (looked ∙ ap (position (is_not_below account)) same) ∙ is in
-    ap (λ (l : List AcctId). take at xs ++ account ∷ l) (rest_is xs at x (position-Some (is_not_below account) xs at x placed).0 element)
+    let located : position (is_not_below account) xs ≡ Some at = sym (looked ∙ ap (position (is_not_below account)) same) ∙ is in
+    ap (λ (l : List AcctId). take at xs ++ account ∷ l) (rest_is xs at x (position-Some (is_not_below account) xs at x located).0 element)
     ∙ ap (λ (b : Bool). take at xs ++ cond b (x ∷ drop (at + 1) xs) (account ∷ x ∷ drop (at + 1) xs)) (sym (ne_eqb x.0 account.0 apart))
-    ∙ sym (inserted_at account x xs at placed element)
+    ∙ sym (inserted_at account x xs at located element)
 
 -- where all are below it, it comes last
 pub inserted_last : (account : AcctId) (xs seen : List AcctId) (found : Option ℕ) → found ≡ position (is_not_below account) seen → seen ≡ xs → found ≡ None → xs ++ account ∷ [] ≡ inserted account xs

@@ -14,11 +14,11 @@ use Rattle.ofx_types.specs.AccountForm.{same_account}
 use Rattle.bank_model.specs.declared.setup.User.{User}
 use Rattle.bank_model.specs.declared.setup.AccountLine.{AccountLine}
 use Rattle.bank_model.specs.declared.setup.Setup.{Setup}
-use Rattle.bank_model.specs.declared.setup.draft.Draft.{Draft}
+use Rattle.bank_model.specs.declared.setup.draft.SetupDraft.{SetupDraft}
 use Rattle.bank_model.specs.SetupForm.{IsWord, line_of, user_line, account_line, lines_of, openings, IsAccountOf, IsUser, KeepsLineLimits}
 use Rattle.bank_model.specs.SetupFault.{BeginSetup}
-use Rattle.bank_model.specs.SetupReading.{◌>>=◌, unless, behind_key, user_at, account_at, is_taken, is_repeated, openings_with, with_user, with_account, with_user_or_account, with_body_line, with_line, with_lines}
-use Rattle.bank_model.proofs.SetupWords.{bind_some, unless_some, chosen_some, some_is, behind_back}
+use Rattle.bank_model.specs.SetupReading.{◌>>=◌, unless, after_key, user_at, account_at, is_taken, is_repeated, openings_with, with_user, with_account, with_user_or_account, with_body_line, with_line, with_lines}
+use Rattle.bank_model.proofs.SetupWords.{bind_some, unless_some, chosen_some, some_is, after_back}
 use Rattle.bank_model.proofs.SetupLines.{ok_is, taken_some}
 use Rattle.bank_model.proofs.SetupParts.{distinct_push, all_push, user_back, account_back}
 
@@ -42,7 +42,7 @@ abbrev pub body_of : List User → List AccountLine → List (List ℕ)
 body_of users accounts = map user_line users ++ map (account_line users) accounts
 
 -- the limits, as far as the lines are read
-pub record Grown (d : Draft) : Type 0 where
+pub record Grown (d : SetupDraft) : Type 0 where
   pub bank : IsWord d.setup.bank
   pub lead : d.setup.lead ≤ 30
   pub window_low : 1 ≤ d.setup.window
@@ -59,10 +59,10 @@ pub record Grown (d : Draft) : Type 0 where
   pub most : d.openings.0 ≤ℤ pos 9999999999999
   pub owned : 0 < length d.setup.accounts → 0 < length d.setup.users
 
-abbrev pub more_user : Draft → User → Draft
+abbrev pub more_user : SetupDraft → User → SetupDraft
 more_user d u = record d { setup = record d.setup { users = d.setup.users ++ u ∷ [] } }
 
-abbrev pub more_account : Draft → AccountLine → Draft
+abbrev pub more_account : SetupDraft → AccountLine → SetupDraft
 more_account d a = record { setup = record d.setup { accounts = d.setup.accounts ++ a ∷ [] }; openings = record { 0 = d.openings.0 +ℤ a.opening.0 } }
 
 body_user : (users : List User) (accounts : List AccountLine) (u : User) → accounts ≡ [] → body_of (users ++ u ∷ []) accounts ≡ body_of users accounts ++ user_line u ∷ []
@@ -73,11 +73,11 @@ body_user users accounts u none =
     ∙ ap (λ (l : List (List ℕ)). l ++ user_line u ∷ []) (sym (append-nil (map user_line users)))
     ∙ ap (λ (l : List AccountLine). body_of users l ++ user_line u ∷ []) (sym none)
 
-lines_user : (d : Draft) (u : User) → d.setup.accounts ≡ [] → lines_of (more_user d u).setup ≡ lines_of d.setup ++ user_line u ∷ []
+lines_user : (d : SetupDraft) (u : User) → d.setup.accounts ≡ [] → lines_of (more_user d u).setup ≡ lines_of d.setup ++ user_line u ∷ []
 unfolding lines_of
 lines_user d u none = ap (under_head d.setup) (body_user d.setup.users d.setup.accounts u none)
 
-grown_user : (d : Draft) (u : User) → Grown d → d.setup.accounts ≡ [] → length d.setup.users < 1000 → IsUser u → is_taken u.name d.setup.users ≡ false → Grown (more_user d u)
+grown_user : (d : SetupDraft) (u : User) → Grown d → d.setup.accounts ≡ [] → length d.setup.users < 1000 → IsUser u → is_taken u.name d.setup.users ≡ false → Grown (more_user d u)
 grown_user d u g none few is new = record {
   bank = g.bank;
   lead = g.lead;
@@ -102,11 +102,11 @@ body_account users accounts a = ap (λ (l : List (List ℕ)). map user_line user
 pub sum_push : (accounts : List AccountLine) (a : AccountLine) → openings (accounts ++ a ∷ []) ≡ openings accounts +ℤ a.opening.0
 sum_push accounts a = fold-append (λ (sum : ℤ) (line : AccountLine). sum +ℤ line.opening.0) (pos 0) accounts (a ∷ [])
 
-lines_account : (d : Draft) (a : AccountLine) → lines_of (more_account d a).setup ≡ lines_of d.setup ++ account_line d.setup.users a ∷ []
+lines_account : (d : SetupDraft) (a : AccountLine) → lines_of (more_account d a).setup ≡ lines_of d.setup ++ account_line d.setup.users a ∷ []
 unfolding lines_of
 lines_account d a = ap (under_head d.setup) (body_account d.setup.users d.setup.accounts a)
 
-grown_account : (d : Draft) (a : AccountLine) → Grown d → 0 < length d.setup.users → length d.setup.accounts < 1000 → IsAccountOf d.setup.bank d.setup.users a → is_repeated a.name d.setup.accounts ≡ false → (d.openings.0 +ℤ a.opening.0) ≤ℤ pos 9999999999999
+grown_account : (d : SetupDraft) (a : AccountLine) → Grown d → 0 < length d.setup.users → length d.setup.accounts < 1000 → IsAccountOf d.setup.bank d.setup.users a → is_repeated a.name d.setup.accounts ≡ false → (d.openings.0 +ℤ a.opening.0) ≤ℤ pos 9999999999999
     → Grown (more_account d a)
 grown_account d a g some few is new most = record {
   bank = g.bank;
@@ -129,7 +129,7 @@ grown_account d a g some few is new most = record {
 -- ---- a line more
 
 -- a line more, and the limits
-pub record Adds (d : Draft) (line : List ℕ) (e : Draft) : Type 0 where
+pub record Adds (d : SetupDraft) (line : List ℕ) (e : SetupDraft) : Type 0 where
   pub lines : lines_of e.setup ≡ lines_of d.setup ++ line ∷ []
   pub grown : Grown e
 
@@ -137,7 +137,7 @@ pub some_there : {A : Type 0} (xs : List A) → eqb (length xs) 0 ≡ false → 
 some_there [] h = absurd cc
 some_there (x ∷ xs) h = omega arith
 
-with_user_adds : (d e : Draft) (fields : List ℕ) → Grown d → with_user d fields ≡ Some e → Adds d (codes "USER" ++ 32 ∷ fields) e
+with_user_adds : (d e : SetupDraft) (fields : List ℕ) → Grown d → with_user d fields ≡ Some e → Adds d (codes "USER" ++ 32 ∷ fields) e
 unfolding with_user
 with_user_adds d e fields g h =
     let first = unless_some (ltb 0 (length d.setup.accounts)) (unless (leb 1000 (length d.setup.users)) (user_at fields >>= λ u. unless (is_taken u.name d.setup.users) (Some (more_user d u)))) e h in
@@ -155,13 +155,13 @@ with_user_adds d e fields g h =
 most_passed : (z : ℤ) → int_le z (pos 9999999999999) ≡ true → z ≤ℤ pos 9999999999999
 most_passed z h = grind (arith, ints)
 
-with_account_adds : (d e : Draft) (fields : List ℕ) → Grown d → with_account d fields ≡ Some e → Adds d (codes "ACCT" ++ 32 ∷ fields) e
+with_account_adds : (d e : SetupDraft) (fields : List ℕ) → Grown d → with_account d fields ≡ Some e → Adds d (codes "ACCT" ++ 32 ∷ fields) e
 unfolding with_account
 with_account_adds d e fields g h =
-    let more : AccountLine → Cents → Draft = λ a sum. record { setup = record d.setup { accounts = d.setup.accounts ++ a ∷ [] }; openings = sum } in
-    let summed : AccountLine → Option Draft = λ a. openings_with d.openings a.opening >>= λ sum. Some (more a sum) in
-    let fresh : AccountLine → Option Draft = λ a. unless (is_repeated a.name d.setup.accounts) (summed a) in
-    let read : Option Draft = account_at d.setup.bank d.setup.users fields >>= fresh in
+    let more : AccountLine → Cents → SetupDraft = λ a sum. record { setup = record d.setup { accounts = d.setup.accounts ++ a ∷ [] }; openings = sum } in
+    let summed : AccountLine → Option SetupDraft = λ a. openings_with d.openings a.opening >>= λ sum. Some (more a sum) in
+    let fresh : AccountLine → Option SetupDraft = λ a. unless (is_repeated a.name d.setup.accounts) (summed a) in
+    let read : Option SetupDraft = account_at d.setup.bank d.setup.users fields >>= fresh in
     let some = unless_some (eqb (length d.setup.users) 0) (unless (ltb 1000 (length d.setup.users)) (unless (leb 1000 (length d.setup.accounts)) read)) e h in
     let few = unless_some (ltb 1000 (length d.setup.users)) (unless (leb 1000 (length d.setup.accounts)) read) e some.1 in
     let room = unless_some (leb 1000 (length d.setup.accounts)) read e few.1 in
@@ -176,50 +176,50 @@ with_account_adds d e fields g h =
       grown = grown_account d account.0 g (some_there d.setup.users some.0) (leb-false 1000 (length d.setup.accounts) room.0) found.1 new.0 (most_passed _ most.0);
     })
 
-with_body_line_adds : (d e : Draft) (line : List ℕ) → Grown d → with_body_line d line ≡ Some e → Adds d line e
+with_body_line_adds : (d e : SetupDraft) (line : List ℕ) → Grown d → with_body_line d line ≡ Some e → Adds d line e
 unfolding with_body_line
-with_body_line_adds d e line g h = by_key (behind_key (codes "USER") line) refl h
+with_body_line_adds d e line g h = by_key (after_key (codes "USER") line) refl h
   where
-    by_key : (found : Option (List ℕ)) → behind_key (codes "USER") line ≡ found → with_user_or_account d (behind_key (codes "USER") line) line ≡ Some e → Adds d line e
+    by_key : (found : Option (List ℕ)) → after_key (codes "USER") line ≡ found → with_user_or_account d (after_key (codes "USER") line) line ≡ Some e → Adds d line e
     by_key (Some fields) is k =
         let adds = with_user_adds d e fields g (rw is at k) in
-        subst (λ (l : List ℕ). Adds d l e) (sym (behind_back (codes "USER") line fields is)) adds
+        subst (λ (l : List ℕ). Adds d l e) (sym (after_back (codes "USER") line fields is)) adds
     by_key None is k =
-        let account = bind_some (behind_key (codes "ACCT") line) (with_account d) e (rw is at k) in
+        let account = bind_some (after_key (codes "ACCT") line) (with_account d) e (rw is at k) in
         let adds = with_account_adds d e account.0 g account.2 in
-        subst (λ (l : List ℕ). Adds d l e) (sym (behind_back (codes "ACCT") line account.0 account.1)) adds
+        subst (λ (l : List ℕ). Adds d l e) (sym (after_back (codes "ACCT") line account.0 account.1)) adds
 
 -- after the head each line is one of the body
-pub body_line : (n : ℕ) (d : Draft) (line : List ℕ) → 6 ≤ n → with_line n d line ≡ with_body_line d line
+pub body_line : (n : ℕ) (d : SetupDraft) (line : List ℕ) → 6 ≤ n → with_line n d line ≡ with_body_line d line
 unfolding with_line
-body_line n d line behind =
-    let one : eqb n 1 ≡ false = ne_eqb n 1 (λ e. omega (arith, behind, e)) in
-    let two : eqb n 2 ≡ false = ne_eqb n 2 (λ e. omega (arith, behind, e)) in
-    let three : eqb n 3 ≡ false = ne_eqb n 3 (λ e. omega (arith, behind, e)) in
-    let four : eqb n 4 ≡ false = ne_eqb n 4 (λ e. omega (arith, behind, e)) in
-    let five : eqb n 5 ≡ false = ne_eqb n 5 (λ e. omega (arith, behind, e)) in
+body_line n d line suffix =
+    let one : eqb n 1 ≡ false = ne_eqb n 1 (λ e. omega (arith, suffix, e)) in
+    let two : eqb n 2 ≡ false = ne_eqb n 2 (λ e. omega (arith, suffix, e)) in
+    let three : eqb n 3 ≡ false = ne_eqb n 3 (λ e. omega (arith, suffix, e)) in
+    let four : eqb n 4 ≡ false = ne_eqb n 4 (λ e. omega (arith, suffix, e)) in
+    let five : eqb n 5 ≡ false = ne_eqb n 5 (λ e. omega (arith, suffix, e)) in
     rw (one, two, three, four, five) refl
 
 -- some lines more, and the limits
-pub record AddsAll (d : Draft) (more : List (List ℕ)) (e : Draft) : Type 0 where
+pub record AddsAll (d : SetupDraft) (more : List (List ℕ)) (e : SetupDraft) : Type 0 where
   pub lines : lines_of e.setup ≡ lines_of d.setup ++ more
   pub grown : Grown e
 
-pub with_lines_adds : (n : ℕ) (d e : Draft) (lines : List (List ℕ)) → 6 ≤ n → Grown d → with_lines n d lines ≡ Ok e → AddsAll d lines e
+pub with_lines_adds : (n : ℕ) (d e : SetupDraft) (lines : List (List ℕ)) → 6 ≤ n → Grown d → with_lines n d lines ≡ Ok e → AddsAll d lines e
 unfolding with_lines
-with_lines_adds n d e [] behind g h = subst (AddsAll d []) (ok_is d e h) (record { lines = sym (append-nil (lines_of d.setup)); grown = g })
-with_lines_adds n d e (line ∷ lines) behind g h =
+with_lines_adds n d e [] suffix g h = subst (AddsAll d []) (ok_is d e h) (record { lines = sym (append-nil (lines_of d.setup)); grown = g })
+with_lines_adds n d e (line ∷ lines) suffix g h =
     let one = taken_some n (with_line n d line) (λ next. with_lines (n + 1) next lines) e h in
-    let first = with_body_line_adds d one.0 line g (sym (body_line n d line behind) ∙ one.1) in
-    let rest = with_lines_adds (n + 1) one.0 e lines (omega (arith, behind)) first.grown one.2 in
+    let first = with_body_line_adds d one.0 line g (sym (body_line n d line suffix) ∙ one.1) in
+    let rest = with_lines_adds (n + 1) one.0 e lines (omega (arith, suffix)) first.grown one.2 in
     record { lines = rest.lines ∙ ap (λ (l : List (List ℕ)). l ++ lines) first.lines ∙ append_assoc (lines_of d.setup) (line ∷ []) lines; grown = rest.grown }
 
 -- ---- what is read begins a setup
 
-pub begun_front : (front more : List (List ℕ)) → BeginSetup (front ++ more) → BeginSetup front
-begun_front front more b = record { setup = b.setup; limits = b.limits; more = more ++ b.more; begin = b.begin ∙ append_assoc front more b.more }
+pub begun_prefix : (prefix more : List (List ℕ)) → BeginSetup (prefix ++ more) → BeginSetup prefix
+begun_prefix prefix more b = record { setup = b.setup; limits = b.limits; more = more ++ b.more; begin = b.begin ∙ append_assoc prefix more b.more }
 
-pub line_limits : (d : Draft) → Grown d → 0 < length d.setup.accounts → KeepsLineLimits d.setup
+pub line_limits : (d : SetupDraft) → Grown d → 0 < length d.setup.accounts → KeepsLineLimits d.setup
 line_limits d g some = record {
   bank = g.bank;
   lead = g.lead;
@@ -239,7 +239,7 @@ line_limits d g some = record {
 }
 
 -- a setup of some accounts is whole
-begun_whole : (d : Draft) → Grown d → 0 < length d.setup.accounts → BeginSetup (lines_of d.setup)
+begun_whole : (d : SetupDraft) → Grown d → 0 < length d.setup.accounts → BeginSetup (lines_of d.setup)
 begun_whole d g some = record { setup = d.setup; limits = line_limits d g some; more = []; begin = sym (append-nil (lines_of d.setup)) }
 
 pub zero_word : IsWord (codes "0")
@@ -253,7 +253,7 @@ spare_is : (bank : List ℕ) (users : List User) → 0 < length users → IsAcco
 unfolding spare_account IsDistinct
 spare_is bank users some = record { bank = refl; number = zero_word; opening = omega (arith, ints); owned = omega arith; owners = (some, tt); once = (tt, tt) }
 
-begun_users : (d : Draft) → Grown d → 0 < length d.setup.users → d.setup.accounts ≡ [] → BeginSetup (lines_of d.setup)
+begun_users : (d : SetupDraft) → Grown d → 0 < length d.setup.users → d.setup.accounts ≡ [] → BeginSetup (lines_of d.setup)
 unfolding spare_account
 begun_users d g some none =
     let a : AccountLine = spare_account d.setup.bank in
@@ -262,7 +262,7 @@ begun_users d g some none =
     let most : (d.openings.0 +ℤ pos 0) ≤ℤ pos 9999999999999 = omega (arith, ints, g.most) in
     let grown = grown_account d a g some few (spare_is d.setup.bank d.setup.users some) new most in
     let there : 0 < length (d.setup.accounts ++ a ∷ []) = omega (arith, length-append d.setup.accounts (a ∷ [])) in
-    begun_front (lines_of d.setup) (account_line d.setup.users a ∷ []) (subst BeginSetup (lines_account d a) (begun_whole (more_account d a) grown there))
+    begun_prefix (lines_of d.setup) (account_line d.setup.users a ∷ []) (subst BeginSetup (lines_account d a) (begun_whole (more_account d a) grown there))
 
 spare_user : User
 spare_user = record { name = codes "0"; pass = codes "0" }
@@ -271,15 +271,15 @@ spare_user_is : IsUser spare_user
 unfolding spare_user
 spare_user_is = record { name = zero_word; pass = zero_word }
 
-begun_head : (d : Draft) → Grown d → d.setup.users ≡ [] → d.setup.accounts ≡ [] → BeginSetup (lines_of d.setup)
+begun_head : (d : SetupDraft) → Grown d → d.setup.users ≡ [] → d.setup.accounts ≡ [] → BeginSetup (lines_of d.setup)
 begun_head d g alone none =
     let few : length d.setup.users < 1000 = omega (arith, ap length alone) in
     let new : is_taken spare_user.name d.setup.users ≡ false = ap (is_taken spare_user.name) alone in
     let grown = grown_user d spare_user g none few spare_user_is new in
     let there : 0 < length (d.setup.users ++ spare_user ∷ []) = omega (arith, length-append d.setup.users (spare_user ∷ [])) in
-    begun_front (lines_of d.setup) (user_line spare_user ∷ []) (subst BeginSetup (lines_user d spare_user none) (begun_users (more_user d spare_user) grown there none))
+    begun_prefix (lines_of d.setup) (user_line spare_user ∷ []) (subst BeginSetup (lines_user d spare_user none) (begun_users (more_user d spare_user) grown there none))
 
-pub begun_grown : (d : Draft) → Grown d → BeginSetup (lines_of d.setup)
+pub begun_grown : (d : SetupDraft) → Grown d → BeginSetup (lines_of d.setup)
 begun_grown d g = by_accounts d.setup.accounts refl
   where
     by_users : (users : List User) → d.setup.users ≡ users → d.setup.accounts ≡ [] → BeginSetup (lines_of d.setup)

@@ -5,7 +5,7 @@ use Rattle.std.specs.Str.Lines.{strip_carriage_return}
 use Rattle.std.proofs.lemmas.List.Splits.{join_with_byte-slice_split, length-slice_split}
 use Rattle.ofx_types.specs.declared.number.UserId.{UserId}
 use Rattle.bank_model.specs.declared.setup.User.{User}
-use Rattle.bank_model.specs.declared.setup.draft.Draft.{Draft}
+use Rattle.bank_model.specs.declared.setup.draft.SetupDraft.{SetupDraft}
 use Rattle.bank_model.specs.SetupForm.{AreLines}
 use Rattle.bank_model.specs.SetupFault.{ended_lines, lines_in}
 use Rattle.bank_model.specs.SetupReading.{◌>>=◌, cut, line_at, last_part, left_in, words_of, owner_more, owners_from, or_fault_at, with_line, with_lines}
@@ -37,7 +37,7 @@ owners_last users owners names h = rw (words_last names h) (alone (owner_more us
 
 -- ---- lines
 
--- a part before an LF is a line, and what is left stands after it
+-- a part before an LF is a line, and what is left comes after it
 ended_more : (part : List ℕ) (parts : List (List ℕ)) → 0 < length parts → (ended_lines (part ∷ parts) ≡ strip_carriage_return part ∷ ended_lines parts) × (last_part (part ∷ parts) ≡ last_part parts)
 ended_more part [] some = absurd (omega (arith, some))
 ended_more part (next ∷ parts) some = (refl, refl)
@@ -86,11 +86,11 @@ pub lines_back : (bytes : List ℕ) → left_in bytes ≡ [] → AreLines bytes 
 unfolding lines_in left_in
 lines_back bytes h = subst (λ (l : List ℕ). AreLines l (ended_lines (parts_of 10 bytes))) (join_with_byte-slice_split 10 bytes) (parts_lines (parts_of 10 bytes) h)
 
--- a line and its end, in front of the rest
+-- a line and its end, before the rest
 abbrev pub IsEnded : List ℕ → List ℕ → List ℕ → Type 0
 IsEnded bytes line rest = (bytes ≡ line ++ 10 ∷ rest) ⊎ (bytes ≡ line ++ 13 ∷ 10 ∷ rest)
 
--- no LF or CR stands in the line
+-- no LF or CR is in the line
 abbrev pub IsClean : List ℕ → Type 0
 IsClean line = (is_free 10 line ≡ true) × (is_free 13 line ≡ true)
 
@@ -112,22 +112,22 @@ lines_there bytes (line ∷ lines) clean are =
 
 -- ---- lines taken into a draft
 
-pub taken_next : (n : ℕ) (d next : Draft) (bytes line rest : List ℕ) → line_at bytes ≡ Some (line, rest) → with_line n d line ≡ Some next → with_lines n d (lines_in bytes) ≡ with_lines (n + 1) next (lines_in rest)
+pub taken_next : (n : ℕ) (d next : SetupDraft) (bytes line rest : List ℕ) → line_at bytes ≡ Some (line, rest) → with_line n d line ≡ Some next → with_lines n d (lines_in bytes) ≡ with_lines (n + 1) next (lines_in rest)
 unfolding with_lines
 taken_next n d next bytes line rest h k = rw ((lines_next bytes line rest h).0, k) refl
 
-pub taken_refused : (n : ℕ) (d : Draft) (bytes line rest : List ℕ) → line_at bytes ≡ Some (line, rest) → with_line n d line ≡ None → with_lines n d (lines_in bytes) ≡ Err n
+pub taken_refused : (n : ℕ) (d : SetupDraft) (bytes line rest : List ℕ) → line_at bytes ≡ Some (line, rest) → with_line n d line ≡ None → with_lines n d (lines_in bytes) ≡ Err n
 unfolding with_lines
 taken_refused n d bytes line rest h k = rw ((lines_next bytes line rest h).0, k) refl
 
-pub taken_last : (n : ℕ) (d : Draft) (bytes : List ℕ) → line_at bytes ≡ None → with_lines n d (lines_in bytes) ≡ Ok d
+pub taken_last : (n : ℕ) (d : SetupDraft) (bytes : List ℕ) → line_at bytes ≡ None → with_lines n d (lines_in bytes) ≡ Ok d
 unfolding with_lines
 taken_last n d bytes h = rw (lines_last bytes h).0 refl
 
 -- what goes on with a draft had one
-pub taken_some : (n : ℕ) (found : Option Draft) (further : Draft → Result Draft ℕ) (d : Draft) → or_fault_at n found further ≡ Ok d → (next : Draft) × (found ≡ Some next) × (further next ≡ Ok d)
+pub taken_some : (n : ℕ) (found : Option SetupDraft) (further : SetupDraft → Result SetupDraft ℕ) (d : SetupDraft) → or_fault_at n found further ≡ Ok d → (next : SetupDraft) × (found ≡ Some next) × (further next ≡ Ok d)
 taken_some n None further d h = absurd cc
 taken_some n (Some next) further d h = (next, refl, h)
 
-pub ok_is : (d e : Draft) → (let r : Result Draft ℕ = Ok d in r) ≡ Ok e → d ≡ e
+pub ok_is : (d e : SetupDraft) → (let r : Result SetupDraft ℕ = Ok d in r) ≡ Ok e → d ≡ e
 ok_is d e h = cc

@@ -133,7 +133,7 @@ within_there lowest highest n low high small =
     let below : ltb highest n ≡ false = le-ltb _ _ high in
     rw (number_there n small, above, below) refl
 
--- no space, LF or CR stands in a number
+-- no space, LF or CR is in a number
 pub digits_free : (mark : ℕ) (ds : List ℕ) → mark < 48 → AreDigits ds → is_free mark ds ≡ true
 digits_free mark [] low h = refl
 digits_free mark (d ∷ ds) low h =

@@ -16,7 +16,7 @@ use Rattle.ofx_types.proofs.Bytes.{bytes_eq_is, bytes_eq_self}
 use Rattle.bank_model.specs.declared.setup.User.{User}
 use Rattle.bank_model.specs.declared.setup.AccountLine.{AccountLine}
 use Rattle.bank_model.specs.SetupForm.{is_word_byte, IsWord, line_of, user_line, name_of, account_line, IsAccountOf, IsUser}
-use Rattle.bank_model.specs.SetupReading.{◌>>=◌, unless, cut, is_word_form, user_at, kind_at, user_at_place, user_named, is_listed, owner_more, owners_from, words_of, owners_at, number_of, account_at}
+use Rattle.bank_model.specs.SetupReading.{◌>>=◌, unless, cut, is_word_form, user_at, kind_at, user_at_index, user_named, is_listed, owner_more, owners_from, words_of, owners_at, number_of, account_at}
 use Rattle.bank_model.proofs.SetupWords.{bind_some, unless_some, chosen_some, some_is, is_free, cut_there, cut_nowhere, cut_back, word_parts, word_passes, word_free, free_append, plain_free, words_next, words_last}
 use Rattle.bank_model.proofs.SetupNumbers.{number_back, number_there, decimal_free}
 
@@ -39,10 +39,10 @@ all_at P [] y ys all = all.0
 all_at P (x ∷ xs) y ys all = all_at P xs y ys all.1
 
 -- no item before one of different items equals it
-pub distinct_front : {K : Type 0} (e : K → K → Bool) (xs : List K) (y : K) (ys : List K) → IsDistinct e (xs ++ y ∷ ys) → list_any (λ x. e x y) xs ≡ false
+pub distinct_prefix : {K : Type 0} (e : K → K → Bool) (xs : List K) (y : K) (ys : List K) → IsDistinct e (xs ++ y ∷ ys) → list_any (λ x. e x y) xs ≡ false
 unfolding IsDistinct
-distinct_front e [] y ys d = refl
-distinct_front e (x ∷ xs) y ys d = or_from _ _ (all_at (λ z. e x z ≡ false) xs y ys d.0) (distinct_front e xs y ys d.1)
+distinct_prefix e [] y ys d = refl
+distinct_prefix e (x ∷ xs) y ys d = or_from _ _ (all_at (λ z. e x z ≡ false) xs y ys d.0) (distinct_prefix e xs y ys d.1)
 
 -- ---- the line of a user
 
@@ -111,7 +111,7 @@ words_joined : (word : List ℕ) (words : List (List ℕ)) → AllByRecursion (�
 words_joined w [] all = words_last w (sym (cut_nowhere 32 w all.0))
 words_joined w (v ∷ ws) all = words_next (w ++ 32 ∷ line_of (v ∷ ws)) w (line_of (v ∷ ws)) (sym (cut_there 32 w (line_of (v ∷ ws)) all.0)) ∙ ap (λ (l : List (List ℕ)). w ∷ l) (words_joined v ws all.1)
 
--- a word in front of some words
+-- a word before some words
 line_more : (word : List ℕ) (words : List (List ℕ)) → 0 < length words → line_of (word ∷ words) ≡ word ++ 32 ∷ line_of words
 line_more w [] some = absurd (omega (arith, some))
 line_more w (v ∷ ws) some = refl
@@ -124,14 +124,14 @@ nobody = record { name = []; pass = [] }
 name_is : (users : List User) (i : ℕ) → i < length users → get_or (map (λ (user : User). user.name) users) i [] ≡ (get_or users i nobody).name
 name_is users i lt = get_or-map (λ (user : User). user.name) users i nobody [] lt
 
-at_place : (found : Option ℕ) (o : UserId) → user_at_place found ≡ Some o → found ≡ Some o.0
-at_place None o h = absurd cc
-at_place (Some n) o h = ap (λ (u : UserId). Some u.0) (some_is (record { 0 = n }) o h)
+at_offset : (found : Option ℕ) (o : UserId) → user_at_index found ≡ Some o → found ≡ Some o.0
+at_offset None o h = absurd cc
+at_offset (Some n) o h = ap (λ (u : UserId). Some u.0) (some_is (record { 0 = n }) o h)
 
 pub named_back : (users : List User) (name : List ℕ) (o : UserId) → user_named users name ≡ Some o → (o.0 < length users) × (name_of users o ≡ name)
 named_back users name o h =
-    let found = unless_some (not (is_word_form name)) (user_at_place (position (λ (user : User). bytes_eq user.name name) users)) o h in
-    let at = position-Some (λ (user : User). bytes_eq user.name name) users o.0 nobody (at_place _ o found.1) in
+    let found = unless_some (not (is_word_form name)) (user_at_index (position (λ (user : User). bytes_eq user.name name) users)) o h in
+    let at = position-Some (λ (user : User). bytes_eq user.name name) users o.0 nobody (at_offset _ o found.1) in
     (at.0, name_is users o.0 at.0 ∙ bytes_eq_is _ _ at.1)
 
 apart : (name : List ℕ) (u : User) (us : List User) (i : ℕ) → i < length us → AllByRecursion (λ (v : User). bytes_eq u.name v.name ≡ false) us → bytes_eq u.name (get_or (map (λ (user : User). user.name) us) i []) ≡ false
@@ -140,13 +140,13 @@ apart name u (v ∷ vs) zero lt all = all.0
 apart name u (v ∷ vs) (suc i) lt all = apart name u vs i (omega (arith, lt)) all.1
 
 -- among users of different names, the first of a name is the user
-place_there : (users : List User) (i : ℕ) → IsDistinct (λ (a b : User). bytes_eq a.name b.name) users → i < length users → position_or_len (λ (user : User). bytes_eq user.name (get_or (map (λ (u : User). u.name) users) i [])) users ≡ i
+index_there : (users : List User) (i : ℕ) → IsDistinct (λ (a b : User). bytes_eq a.name b.name) users → i < length users → position_or_len (λ (user : User). bytes_eq user.name (get_or (map (λ (u : User). u.name) users) i [])) users ≡ i
 unfolding IsDistinct
-place_there [] i d lt = absurd (omega (arith, lt))
-place_there (u ∷ us) zero d lt = rw (bytes_eq_self u.name) refl
-place_there (u ∷ us) (suc i) d lt =
+index_there [] i d lt = absurd (omega (arith, lt))
+index_there (u ∷ us) zero d lt = rw (bytes_eq_self u.name) refl
+index_there (u ∷ us) (suc i) d lt =
     let below : i < length us = omega (arith, lt) in
-    rw (apart [] u us i below d.0, place_there us i d.1 below) (omega arith)
+    rw (apart [] u us i below d.0, index_there us i d.1 below) (omega arith)
 
 name_word : (users : List User) (i : ℕ) → AllByRecursion IsUser users → i < length users → IsWord (get_or (map (λ (user : User). user.name) users) i [])
 name_word [] i all lt = absurd (omega (arith, lt))
@@ -155,7 +155,7 @@ name_word (u ∷ us) (suc i) all lt = name_word us i all.1 (omega (arith, lt))
 
 pub named_there : (users : List User) (o : UserId) → AllByRecursion IsUser users → IsDistinct (λ (a b : User). bytes_eq a.name b.name) users → o.0 < length users → user_named users (name_of users o) ≡ Some o
 named_there users o all d lt =
-    rw (not_from_true _ (word_passes (name_of users o) (name_word users o.0 all lt)), place_there users o.0 d lt, lt-ltb _ _ lt) refl
+    rw (not_from_true _ (word_passes (name_of users o) (name_word users o.0 all lt)), index_there users o.0 d lt, lt-ltb _ _ lt) refl
 
 -- owners are users, each once
 pub record AreOwners (users : List User) (owners : List UserId) : Type 0 where
@@ -175,15 +175,15 @@ owners_back users owners (name ∷ names) all good h =
     let named = named_back users name b.0 b.1 in
     let longer : AreOwners users (owners ++ b.0 ∷ []) = record { named = all_push (λ (u : UserId). u.0 < length users) owners b.0 good.named named.0; once = distinct_push (λ (u v : UserId). u.0 == v.0) owners b.0 good.once d.0 } in
     let rest = owners_back users a.0 names all (subst (λ (l : List UserId). AreOwners users l) more longer) a.2 in
-    let front : map (name_of users) a.0 ≡ map (name_of users) owners ++ name ∷ [] = ap (map (name_of users)) (sym more) ∙ map-append (name_of users) owners (b.0 ∷ []) ∙ ap (λ (n : List ℕ). map (name_of users) owners ++ n ∷ []) named.1 in
-    (rest.0 ∙ ap (λ (l : List (List ℕ)). l ++ names) front ∙ append_assoc (map (name_of users) owners) (name ∷ []) names, rest.1)
+    let prefix : map (name_of users) a.0 ≡ map (name_of users) owners ++ name ∷ [] = ap (map (name_of users)) (sym more) ∙ map-append (name_of users) owners (b.0 ∷ []) ∙ ap (λ (n : List ℕ). map (name_of users) owners ++ n ∷ []) named.1 in
+    (rest.0 ∙ ap (λ (l : List (List ℕ)). l ++ names) prefix ∙ append_assoc (map (name_of users) owners) (name ∷ []) names, rest.1)
 
 pub owners_there : (users : List User) (owners more : List UserId) → AllByRecursion IsUser users → IsDistinct (λ (a b : User). bytes_eq a.name b.name) users → AreOwners users (owners ++ more) → owners_from users owners (map (name_of users) more) ≡ Some (owners ++ more)
 unfolding owners_from
 owners_there users owners [] all names good = ap (λ (l : List UserId). Some l) (sym (append-nil owners))
 owners_there users owners (o ∷ os) all names good =
     let user : o.0 < length users = all_at (λ (u : UserId). u.0 < length users) owners o os good.named in
-    let new : is_listed o owners ≡ false = distinct_front (λ (u v : UserId). u.0 == v.0) owners o os good.once in
+    let new : is_listed o owners ≡ false = distinct_prefix (λ (u v : UserId). u.0 == v.0) owners o os good.once in
     let one : owner_more users owners (name_of users o) ≡ Some (owners ++ o ∷ []) = rw (named_there users o all names user, new) refl in
     let grouped : (owners ++ o ∷ []) ++ os ≡ owners ++ o ∷ os = append_assoc owners (o ∷ []) os in
     rw one (owners_there users (owners ++ o ∷ []) os all names (subst (λ (l : List UserId). AreOwners users l) (sym grouped) good) ∙ ap (λ (l : List UserId). Some l) grouped)
@@ -210,7 +210,7 @@ by_opening bank users number kind opening_word names = number_of opening_word >>
 abbrev by_kind : List ℕ → List User → List ℕ → List ℕ → List ℕ → List ℕ → Option AccountLine
 by_kind bank users number kind_text opening_word names = unless (not (is_word_form number)) (kind_at kind_text) >>= λ kind. by_opening bank users number kind opening_word names
 
--- what stands after `ACCT`
+-- what follows `ACCT`
 abbrev pub account_fields : List User → AccountLine → List ℕ
 account_fields users a = a.name.number ++ 32 ∷ (kind_word a.name.kind ++ 32 ∷ (signed_decimal a.opening.0 ++ 32 ∷ line_of (map (name_of users) a.owners)))
 
@@ -283,7 +283,7 @@ account_there bank users a is most all names =
     let at_opening : account_at bank users (account_fields users a) ≡ Some (made bank a.name.number a.name.kind a.opening.0 a.owners) = subst (λ (z : ℤ). account_at bank users (account_fields users (made bank a.name.number a.name.kind z a.owners)) ≡ Some (made bank a.name.number a.name.kind z a.owners)) (sym n_is) at_cents in
     at_opening ∙ ap (λ (b : List ℕ). Some (made b a.name.number a.name.kind a.opening.0 a.owners)) (sym is.bank)
 
--- no LF or CR stands in a line
+-- no LF or CR is in a line
 pub account_free : (mark : ℕ) (bank : List ℕ) (users : List User) (a : AccountLine) → mark < 32 → is_free mark (codes "ACCT") ≡ true → IsAccountOf bank users a → a.opening.0 ≤ℤ pos 9999999999999 → AllByRecursion IsUser users → is_free mark (account_line users a) ≡ true
 account_free mark bank users a low key is most all =
     let n_is : a.opening.0 ≡ pos (cents a.opening.0) = cents_is a.opening.0 is.opening in

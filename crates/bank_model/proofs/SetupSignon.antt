@@ -55,38 +55,38 @@ module _ (name pass : List ℕ) (users : List User) where
       let all = none_pass named users 0 (sym (position_from-zero named users) ∙ none) in
       position_nowhere signs users (position_or_len_none signs users (λ k d lt. refused _ (all k d lt)))
 
-  module _ (distinct : IsDistinct (λ (a b : User). bytes_eq a.name b.name) users) (place : ℕ)
-      (found : position (λ (user : User). bytes_eq user.name name) users ≡ Some place) where
-    others : (k : ℕ) (d : User) → k < length users → (k ≡ place → ⊥) → named (get_or users k d) ≡ false
+  module _ (distinct : IsDistinct (λ (a b : User). bytes_eq a.name b.name) users) (index : ℕ)
+      (found : position (λ (user : User). bytes_eq user.name name) users ≡ Some index) where
+    others : (k : ℕ) (d : User) → k < length users → (k ≡ index → ⊥) → named (get_or users k d) ≡ false
     others k d lt other =
-        let at = position-Some named users place d found in
-        elim (cases_lt k place) [
+        let at = position-Some named users index d found in
+        elim (cases_lt k index) [
           | inl below ↦ at.2 k below
-          | inr from ↦ elim (cases_lt place k) [
-            | inl above ↦ not_true _ (λ same. true_is_false (sym (bytes_eq_self (get_or users place d).name)
-                ∙ ap (bytes_eq (get_or users place d).name) (bytes_eq_is _ _ at.1 ∙ sym (bytes_eq_is _ _ same))
-                ∙ differ (λ (a b : User). bytes_eq a.name b.name) users place k d above lt distinct))
+          | inr from ↦ elim (cases_lt index k) [
+            | inl above ↦ not_true _ (λ same. true_is_false (sym (bytes_eq_self (get_or users index d).name)
+                ∙ ap (bytes_eq (get_or users index d).name) (bytes_eq_is _ _ at.1 ∙ sym (bytes_eq_is _ _ same))
+                ∙ differ (λ (a b : User). bytes_eq a.name b.name) users index k d above lt distinct))
             | inr to ↦ absurd (other (omega arith))
           ]
         ]
 
-    pub one_signs : (d : User) → bytes_eq (get_or users place d).pass pass ≡ true
-        → position (λ (user : User). bytes_eq user.name name && bytes_eq user.pass pass) users ≡ Some place
+    pub one_signs : (d : User) → bytes_eq (get_or users index d).pass pass ≡ true
+        → position (λ (user : User). bytes_eq user.name name && bytes_eq user.pass pass) users ≡ Some index
     one_signs d right =
-        let at = position-Some named users place d found in
-        position_at signs users place at.0 (position_or_len_is signs users place d (omega (arith, at.0))
+        let at = position-Some named users index d found in
+        position_at signs users index at.0 (position_or_len_is signs users index d (omega (arith, at.0))
         (λ k lt. refused _ (at.2 k lt)) (λ _. rw (at.1, right) refl))
 
-    pub none_signs : (d : User) → bytes_eq (get_or users place d).pass pass ≡ false
+    pub none_signs : (d : User) → bytes_eq (get_or users index d).pass pass ≡ false
         → position (λ (user : User). bytes_eq user.name name && bytes_eq user.pass pass) users ≡ None
     none_signs d wrong =
-        let at = position-Some named users place d found in
-        position_nowhere signs users (position_or_len_none signs users (λ k e lt. elim (cases_lt k place) [
+        let at = position-Some named users index d found in
+        position_nowhere signs users (position_or_len_none signs users (λ k e lt. elim (cases_lt k index) [
           | inl below ↦ refused _ (others k e lt (λ same. omega (arith, same, below)))
-          | inr from ↦ elim (cases_lt place k) [
+          | inr from ↦ elim (cases_lt index k) [
             | inl above ↦ refused _ (others k e lt (λ same. omega (arith, same, above)))
             | inr to ↦
-                let same : k ≡ place = omega arith in
-                rw (same, get_or_default users place e d at.0, wrong) (and-false _)
+                let same : k ≡ index = omega arith in
+                rw (same, get_or_default users index e d at.0, wrong) (and-false _)
           ]
         ]))

@@ -10,7 +10,7 @@ use Rattle.ofx_types.proofs.Bytes.{bytes_eq_self, bytes_eq_is}
 use Rattle.std.proofs.lemmas.List.{reverse-append, reverse-reverse, length-append, take_at, take_more, take_all, get_or_at}
 use Rattle.std.proofs.lemmas.List.Recursion.{and_at}
 use Rattle.bank_model.specs.SetupForm.{is_word_byte, IsWord}
-use Rattle.bank_model.specs.SetupReading.{◌>>=◌, unless, cut, behind_key, is_word_form, line_at, words_of}
+use Rattle.bank_model.specs.SetupReading.{◌>>=◌, unless, cut, after_key, is_word_form, line_at, words_of}
 
 eqb_self : (n : ℕ) → eqb n n ≡ true
 eqb_self n = eq-eqb n n refl
@@ -43,15 +43,15 @@ some_is x y e = cc
 -- ---- cutting at a mark
 
 -- the place of the first mark, or the length
-abbrev place : ℕ → List ℕ → ℕ
-place mark bytes = position_or_len (λ (b : ℕ). eqb b mark) bytes
+abbrev index : ℕ → List ℕ → ℕ
+index mark bytes = position_or_len (λ (b : ℕ). eqb b mark) bytes
 
 -- the parts round that place
 abbrev parts_at : ℕ → List ℕ → Option (List ℕ × List ℕ)
 parts_at n bytes = cond (ltb n (length bytes)) (Some (take n bytes, drop (n + 1) bytes)) None
 
-parts_behind : (b : ℕ) (bs : List ℕ) (n : ℕ) → (parts_at n bs >>= λ parts. Some (b ∷ parts.0, parts.1)) ≡ parts_at (1 + n) (b ∷ bs)
-parts_behind b bs n = by_cases (ltb n (length bs)) refl
+parts_after : (b : ℕ) (bs : List ℕ) (n : ℕ) → (parts_at n bs >>= λ parts. Some (b ∷ parts.0, parts.1)) ≡ parts_at (1 + n) (b ∷ bs)
+parts_after b bs n = by_cases (ltb n (length bs)) refl
   where
     next : 1 + n ≡ suc n
     next = omega arith
@@ -66,20 +66,20 @@ parts_behind b bs n = by_cases (ltb n (length bs)) refl
         rw (next, h, less) refl
 
 -- the bytes are cut where the first mark stands
-pub cut_at_place : (mark : ℕ) (bytes : List ℕ) → cut mark bytes ≡ parts_at (place mark bytes) bytes
+pub cut_at_offset : (mark : ℕ) (bytes : List ℕ) → cut mark bytes ≡ parts_at (index mark bytes) bytes
 unfolding cut
-cut_at_place mark [] = refl
-cut_at_place mark (b ∷ bs) =
-    elim (eqb b mark) as (λ t. cond t (Some ([], bs)) (cut mark bs >>= λ parts. Some (b ∷ parts.0, parts.1)) ≡ parts_at (cond (not t) (1 + place mark bs) 0) (b ∷ bs)) [
+cut_at_offset mark [] = refl
+cut_at_offset mark (b ∷ bs) =
+    elim (eqb b mark) as (λ t. cond t (Some ([], bs)) (cut mark bs >>= λ parts. Some (b ∷ parts.0, parts.1)) ≡ parts_at (cond (not t) (1 + index mark bs) 0) (b ∷ bs)) [
       | true ↦ let first : ltb 0 (length (b ∷ bs)) ≡ true = lt-ltb _ _ (omega arith) in rw first refl
-      | false ↦ ap (λ (found : Option (List ℕ × List ℕ)). found >>= λ parts. Some (b ∷ parts.0, parts.1)) (cut_at_place mark bs) ∙ parts_behind b bs (place mark bs)
+      | false ↦ ap (λ (found : Option (List ℕ × List ℕ)). found >>= λ parts. Some (b ∷ parts.0, parts.1)) (cut_at_offset mark bs) ∙ parts_after b bs (index mark bs)
     ]
 
 -- no byte is the mark
 abbrev pub is_free : ℕ → List ℕ → Bool
 is_free mark bytes = list_all (λ b. not (eqb b mark)) bytes
 
-pub cut_there : (mark : ℕ) (front rest : List ℕ) → is_free mark front ≡ true → cut mark (front ++ mark ∷ rest) ≡ Some (front, rest)
+pub cut_there : (mark : ℕ) (prefix rest : List ℕ) → is_free mark prefix ≡ true → cut mark (prefix ++ mark ∷ rest) ≡ Some (prefix, rest)
 unfolding cut
 cut_there mark [] rest h = rw (eqb_self mark) refl
 cut_there mark (b ∷ bs) rest h =
@@ -100,9 +100,9 @@ abbrev Joined : ℕ → List ℕ → Option (List ℕ × List ℕ) → Type 0
 Joined mark bytes None = Unit {0}
 Joined mark bytes (Some parts) = bytes ≡ parts.0 ++ mark ∷ parts.1
 
-joined_behind : (mark b : ℕ) (bs : List ℕ) (found : Option (List ℕ × List ℕ)) → Joined mark bs found → Joined mark (b ∷ bs) (found >>= λ parts. Some (b ∷ parts.0, parts.1))
-joined_behind mark b bs None h = tt
-joined_behind mark b bs (Some parts) h = ap (λ (l : List ℕ). b ∷ l) h
+joined_after : (mark b : ℕ) (bs : List ℕ) (found : Option (List ℕ × List ℕ)) → Joined mark bs found → Joined mark (b ∷ bs) (found >>= λ parts. Some (b ∷ parts.0, parts.1))
+joined_after mark b bs None h = tt
+joined_after mark b bs (Some parts) h = ap (λ (l : List ℕ). b ∷ l) h
 
 cut_joined : (mark : ℕ) (bytes : List ℕ) → Joined mark bytes (cut mark bytes)
 unfolding cut
@@ -110,8 +110,8 @@ cut_joined mark [] = tt
 cut_joined mark (b ∷ bs) = by_cases (eqb b mark) refl (cut_joined mark bs)
   where
     by_cases : (t : Bool) → eqb b mark ≡ t → Joined mark bs (cut mark bs) → Joined mark (b ∷ bs) (cond (eqb b mark) (Some ([], bs)) (cut mark bs >>= λ parts. Some (b ∷ parts.0, parts.1)))
-    by_cases true h behind = rw h (ap (λ (n : ℕ). n ∷ bs) (eqb-true b mark h))
-    by_cases false h behind = rw h (joined_behind mark b bs (cut mark bs) behind)
+    by_cases true h suffix = rw h (ap (λ (n : ℕ). n ∷ bs) (eqb-true b mark h))
+    by_cases false h suffix = rw h (joined_after mark b bs (cut mark bs) suffix)
 
 pub cut_back : (mark : ℕ) (bytes : List ℕ) (parts : List ℕ × List ℕ) → cut mark bytes ≡ Some parts → bytes ≡ parts.0 ++ mark ∷ parts.1
 cut_back mark bytes parts h = let all = cut_joined mark bytes in rw h at all
@@ -126,9 +126,9 @@ abbrev AreParts : ℕ → List (List ℕ) → List ℕ → Option (List ℕ × L
 AreParts mark all bytes None = all ≡ bytes ∷ []
 AreParts mark all bytes (Some parts) = all ≡ parts.0 ∷ parts_of mark parts.1
 
-parts_behind_byte : (mark b : ℕ) (bs : List ℕ) (all : List (List ℕ)) (found : Option (List ℕ × List ℕ)) → AreParts mark all bs found → AreParts mark (onto_first b all) (b ∷ bs) (found >>= λ parts. Some (b ∷ parts.0, parts.1))
-parts_behind_byte mark b bs all None h = ap (onto_first b) h
-parts_behind_byte mark b bs all (Some parts) h = ap (onto_first b) h
+parts_after_byte : (mark b : ℕ) (bs : List ℕ) (all : List (List ℕ)) (found : Option (List ℕ × List ℕ)) → AreParts mark all bs found → AreParts mark (onto_first b all) (b ∷ bs) (found >>= λ parts. Some (b ∷ parts.0, parts.1))
+parts_after_byte mark b bs all None h = ap (onto_first b) h
+parts_after_byte mark b bs all (Some parts) h = ap (onto_first b) h
 
 parts_cut : (mark : ℕ) (bytes : List ℕ) → AreParts mark (parts_of mark bytes) bytes (cut mark bytes)
 unfolding cut
@@ -136,39 +136,39 @@ parts_cut mark [] = refl
 parts_cut mark (b ∷ bs) =
     elim (eqb b mark) as (λ t. AreParts mark (cond t ([] ∷ parts_of mark bs) (onto_first b (parts_of mark bs))) (b ∷ bs) (cond t (Some ([], bs)) (cut mark bs >>= λ parts. Some (b ∷ parts.0, parts.1)))) [
       | true ↦ refl
-      | false ↦ parts_behind_byte mark b bs (parts_of mark bs) (cut mark bs) (parts_cut mark bs)
+      | false ↦ parts_after_byte mark b bs (parts_of mark bs) (cut mark bs) (parts_cut mark bs)
     ]
 
-pub parts_next : (mark : ℕ) (bytes front rest : List ℕ) → Some (front, rest) ≡ cut mark bytes → parts_of mark bytes ≡ front ∷ parts_of mark rest
-parts_next mark bytes front rest h = let all = parts_cut mark bytes in rw (← h) at all
+pub parts_next : (mark : ℕ) (bytes prefix rest : List ℕ) → Some (prefix, rest) ≡ cut mark bytes → parts_of mark bytes ≡ prefix ∷ parts_of mark rest
+parts_next mark bytes prefix rest h = let all = parts_cut mark bytes in rw (← h) at all
 
 pub parts_last : (mark : ℕ) (bytes : List ℕ) → None ≡ cut mark bytes → parts_of mark bytes ≡ bytes ∷ []
 parts_last mark bytes h = let all = parts_cut mark bytes in rw (← h) at all
 
-pub words_next : (bytes front rest : List ℕ) → Some (front, rest) ≡ cut 32 bytes → words_of bytes ≡ front ∷ words_of rest
-words_next bytes front rest h = parts_next 32 bytes front rest h
+pub words_next : (bytes prefix rest : List ℕ) → Some (prefix, rest) ≡ cut 32 bytes → words_of bytes ≡ prefix ∷ words_of rest
+words_next bytes prefix rest h = parts_next 32 bytes prefix rest h
 
 pub words_last : (bytes : List ℕ) → None ≡ cut 32 bytes → words_of bytes ≡ bytes ∷ []
 words_last bytes h = parts_last 32 bytes h
 
--- ---- a key, and what stands after it
+-- ---- a key, and what follows it
 
-pub behind_there : (key rest : List ℕ) → is_free 32 key ≡ true → behind_key key (key ++ 32 ∷ rest) ≡ Some rest
-unfolding behind_key
-behind_there key rest h = rw (cut_there 32 key rest h, bytes_eq_self key) refl
+pub after_there : (key rest : List ℕ) → is_free 32 key ≡ true → after_key key (key ++ 32 ∷ rest) ≡ Some rest
+unfolding after_key
+after_there key rest h = rw (cut_there 32 key rest h, bytes_eq_self key) refl
 
-pub behind_back : (key line rest : List ℕ) → behind_key key line ≡ Some rest → line ≡ key ++ 32 ∷ rest
-unfolding behind_key
-behind_back key line rest h =
+pub after_back : (key line rest : List ℕ) → after_key key line ≡ Some rest → line ≡ key ++ 32 ∷ rest
+unfolding after_key
+after_back key line rest h =
     let a = bind_some (cut 32 line) (λ parts. cond (bytes_eq parts.0 key) (Some parts.1) None) rest h in
     let b = chosen_some (bytes_eq a.0.0 key) a.0.1 rest a.2 in
     let same : a.0.0 ≡ key = bytes_eq_is _ _ b.0 in
     cut_back 32 line a.0 a.1 ∙ ap (λ (l : List ℕ). l ++ 32 ∷ a.0.1) same ∙ ap (λ (l : List ℕ). key ++ 32 ∷ l) b.1
 
 -- a line of another key
-pub behind_other : (key other rest : List ℕ) → is_free 32 other ≡ true → bytes_eq other key ≡ false → behind_key key (other ++ 32 ∷ rest) ≡ None
-unfolding behind_key
-behind_other key other rest h differs = rw (cut_there 32 other rest h, differs) refl
+pub after_other : (key other rest : List ℕ) → is_free 32 other ≡ true → bytes_eq other key ≡ false → after_key key (other ++ 32 ∷ rest) ≡ None
+unfolding after_key
+after_other key other rest h differs = rw (cut_there 32 other rest h, differs) refl
 
 -- ---- lines and their ends
 
@@ -261,7 +261,7 @@ plain_free mark (b ∷ bs) low h =
     let parts = and_parts (is_word_byte b) (list_all is_word_byte bs) h in
     and_from _ _ (byte_free mark b low parts.0) (plain_free mark bs low parts.1)
 
--- no space, LF or CR stands in a word
+-- no space, LF or CR is in a word
 pub word_free : (mark : ℕ) (word : List ℕ) → mark < 33 → IsWord word → is_free mark word ≡ true
 word_free mark word low w = plain_free mark word low w.is_plain
 

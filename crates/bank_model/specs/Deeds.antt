@@ -56,7 +56,7 @@ judged setup S user only (Mail mail) = mail_code mail
 -- ---- what is done
 
 -- Account a has its transfers at 3a, its recurring transfers at 3a + 1 and the mail about it at 3a + 2. For an account that the
--- bank lacks 0 stands in; no entry is made for one.
+-- bank lacks 0 is in; no entry is made for one.
 abbrev pub intra_of : Option AcctId → ObjectId
 intra_of None = record { 0 = 0 }
 intra_of (Some account) = record { 0 = 3 * account.0 }
@@ -156,11 +156,11 @@ with_terms info row = record {
 }
 
 -- What the bank does by itself has the uid `0`. The entries follow in the order of the transfers' ids.
-unfoldable pub entries_behind : Setup → ℕ → (TransferRow → Change) → List TransferRow → List Entry
-entries_behind setup count change [] = []
-entries_behind setup count change (row ∷ more) =
+unfoldable pub entries_after : Setup → ℕ → (TransferRow → Change) → List TransferRow → List Entry
+entries_after setup count change [] = []
+entries_after setup count change (row ∷ more) =
     record { number = count + 1; object = object_of setup row.from; trnuid = codes "0"; change = change row }
-    ∷ entries_behind setup (count + 1) change more
+    ∷ entries_after setup (count + 1) change more
 
 -- Where the client asks so, the transfers that wait are changed or cancelled too.
 abbrev pub if_pending : Bool → List Entry → List Entry
@@ -188,11 +188,11 @@ done setup S user at trnuid (Model recur info) =
     next_entry S (model_object_of setup info.from) trnuid (NewModel (new_model (length S.entries + 1) S.day recur info)) ∷ []
 done setup S user at trnuid (ModifyModel id recur info pending) =
     model_entries_on setup S trnuid (model_of id S.entries) (λ row. SetModel (changed_model S.day recur info row) pending)
-    (if_pending pending (entries_behind setup (length S.entries + 1) (λ row. SetTransfer (with_terms info row))
+    (if_pending pending (entries_after setup (length S.entries + 1) (λ row. SetTransfer (with_terms info row))
     (waiting_of id S.entries)))
 done setup S user at trnuid (CancelModel id pending) =
     model_entries_on setup S trnuid (model_of id S.entries) (λ row. DropModel id pending)
-    (if_pending pending (entries_behind setup (length S.entries + 1) (λ row. DropTransfer row.id) (waiting_of id S.entries)))
+    (if_pending pending (entries_after setup (length S.entries + 1) (λ row. DropTransfer row.id) (waiting_of id S.entries)))
 done setup S user at trnuid (BankMail account mail) =
     next_entry S (letter_object_of setup account) trnuid (NewMail (mail_row setup user (Some account) mail)) ∷ []
 done setup S user at trnuid (Mail mail) = next_entry S (mail_object setup user) trnuid (NewMail (mail_row setup user None mail)) ∷ []

@@ -15,7 +15,7 @@ use Rattle.bank_model.specs.declared.entry.Entry.{Entry}
 use Rattle.bank_model.specs.declared.event.State.{State}
 use Rattle.bank_model.specs.SetupLookups.{account_of}
 use Rattle.bank_model.specs.Ledger.{is_covered}
-use Rattle.bank_model.specs.Models.{model_of, is_model_dropped, next_place, is_waiting, all_waiting}
+use Rattle.bank_model.specs.Models.{model_of, is_model_dropped, next_occurrence, is_waiting, all_waiting}
 use Rattle.bank_model.specs.Recurrence.{kth_date}
 use Rattle.bank_model.specs.Deeds.{balance_if_any, object_of, next_entry, is_full}
 
@@ -34,8 +34,8 @@ may_post setup S None = false
 may_post setup S (Some row) = is_to_post S.day row && has_number setup S
 
 -- With cover it is posted, otherwise closed without funds. Its stamp is the moment.
-unfoldable pub settled_row : Bool → Moment → TransferRow → TransferRow
-settled_row covered at row = record {
+unfoldable pub processed_row : Bool → Moment → TransferRow → TransferRow
+processed_row covered at row = record {
   id = row.id;
   model = row.model;
   from = row.from;
@@ -52,19 +52,19 @@ has_cover setup S row = is_covered row.amount.0 (balance_if_any setup S.entries 
 abbrev pub posts : Setup → State → Moment → Option TransferRow → List Entry
 posts setup S at None = []
 posts setup S at (Some row) =
-    next_entry S (object_of setup row.from) (codes "0") (SetTransfer (settled_row (has_cover setup S row) at row)) ∷ []
+    next_entry S (object_of setup row.from) (codes "0") (SetTransfer (processed_row (has_cover setup S row) at row)) ∷ []
 
 -- ---- making the next transfer
 
 -- A series without a count goes on.
 abbrev pub is_below_count : ℕ → Option ℕ → Bool
-is_below_count place None = true
-is_below_count place (Some count) = nat_lt place count
+is_below_count occurrence None = true
+is_below_count occurrence (Some count) = nat_lt occurrence count
 
--- the date of a place in its series, where the series has that place
+-- the date of a occurrence number in its series, where the series has that place
 abbrev pub date_in_series : ModelRow → ℕ → Option Day
-date_in_series row place =
-    if is_below_count place row.recur.count then kth_date row.first row.recur.freq place else None
+date_in_series row occurrence =
+    if is_below_count occurrence row.recur.count then kth_date row.first row.recur.freq occurrence else None
 
 -- Transfers are made ready for dates up to LEAD days after the business day.
 abbrev pub last_day : Setup → Day → Day
@@ -78,7 +78,7 @@ if_by last (Some date) = if int_le date.0 last.0 then Some date else None
 abbrev pub date_if_any : Day → ℕ → List Entry → Option ModelRow → Option Day
 date_if_any last id entries None = None
 date_if_any last id entries (Some row) =
-    if is_model_dropped id entries then None else if_by last (date_in_series row (next_place id entries))
+    if is_model_dropped id entries then None else if_by last (date_in_series row (next_occurrence id entries))
 
 -- The date of the next transfer that a recurring one makes by a last day: it isn't cancelled, its series has one more, and
 -- the date is no later.
@@ -86,8 +86,8 @@ unfoldable pub date_to_make : Day → ℕ → List Entry → Option Day
 date_to_make last id entries = date_if_any last id entries (model_of id entries)
 
 abbrev pub may_spawn : Setup → State → ℕ → ℕ → Bool
-may_spawn setup S id place =
-    is_some (date_to_make (last_day setup S.day) id S.entries) && (place == next_place id S.entries) && has_number setup S
+may_spawn setup S id occurrence =
+    is_some (date_to_make (last_day setup S.day) id S.entries) && (occurrence == next_occurrence id S.entries) && has_number setup S
 
 -- It waits for its date, and has the accounts and the amount of the recurring transfer.
 unfoldable pub spawned_row : ℕ → Day → ModelRow → TransferRow
@@ -110,14 +110,14 @@ spawns_on setup S (Some row) (Some date) =
     next_entry S (object_of setup row.from) (codes "0") (NewTransfer (spawned_row (length S.entries + 1) date row)) ∷ []
 
 -- the date at a place, whether the series has that place or not
-abbrev pub place_date : Option ModelRow → ℕ → Option Day
-place_date None place = None
-place_date (Some row) place = kth_date row.first row.recur.freq place
+abbrev pub occurrence_date : Option ModelRow → ℕ → Option Day
+occurrence_date None occurrence = None
+occurrence_date (Some row) occurrence = kth_date row.first row.recur.freq occurrence
 
--- The transfer that the recurring transfer of this id makes at this place of its series. It is said of a place at which one may
+-- The transfer that the recurring transfer of this id makes at this occurrence of its series. It is said of an occurrence at which one may
 -- be made; whether it may is `may_spawn`.
 unfoldable pub spawns : Setup → State → ℕ → ℕ → List Entry
-spawns setup S id place = spawns_on setup S (model_of id S.entries) (place_date (model_of id S.entries) place)
+spawns setup S id occurrence = spawns_on setup S (model_of id S.entries) (occurrence_date (model_of id S.entries) occurrence)
 
 -- ---- which comes next
 

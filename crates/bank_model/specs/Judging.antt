@@ -32,7 +32,7 @@ first_of (refusal ∷ more) = if refusal.holds then refusal.code else first_of m
 
 -- ---- accounts
 
--- Where a deed stands in the synchronisation of an account, that account is the user's only one.
+-- Where a deed is in the synchronisation of an account, that account is the user's only one.
 abbrev pub is_only : Option AcctId → AcctId → Bool
 is_only None account = true
 is_only (Some only) account = only.0 == account.0

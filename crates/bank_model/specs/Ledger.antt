@@ -129,7 +129,7 @@ is_before_end (Some end) at = int_lt at end.0
 abbrev pub is_within_period : Moment → Option Moment → Posting → Bool
 is_within_period start end posting = int_le start.0 posting.row.stamp.0 && is_before_end end posting.row.stamp.0
 
--- A line tells what the transfer brought to the account: less than 0 at its source.
+-- A line says what the transfer brought to the account: less than 0 at its source.
 abbrev pub line_for : AcctName → Posting → StatementLine
 line_for name posting = record { number = posting.number; posted = posting.row.stamp; amount = record { 0 = part name posting.row } }
 

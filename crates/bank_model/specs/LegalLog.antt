@@ -20,7 +20,7 @@ use Rattle.bank_model.specs.Log.{endings}
 abbrev pub effects_of : Setup → State → Moment → Event → List LogItem
 effects_of setup S at event = map Effect (drop (length S.entries) (state_after setup S at event).entries)
 
--- An answered or an adopted event has its effects before its ending. A fault stands alone.
+-- An answered or an adopted event has its effects before its ending. A fault is alone.
 abbrev pub group : Setup → State → LogItem → List LogItem
 group setup S (Effect entry) = []
 group setup S (Answer event at reply) = effects_of setup S at event ++ Answer event at reply ∷ []
@@ -77,7 +77,7 @@ IsAbove count (Fault earlier pending) = (earlier < count) ⊎ ((earlier ≡ 2 ^ 
 
 -- What may come to its end in a state after these endings:
 -- - an event that may happen is answered, by just its reply;
--- - an event that may happen is adopted, whose record may stand since the fault of this number;
+-- - an event that may happen is adopted, whose record may be stored since the fault of this number;
 -- - the keeper fails, and its count of faults is above those of all earlier faults.
 abbrev pub MayEnd : Setup → State → List LogItem → LogItem → Type 0
 MayEnd setup S before (Effect entry) = ⊥

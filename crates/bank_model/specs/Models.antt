@@ -75,8 +75,8 @@ since_anew id entries = take_while (λ (entry : Entry). not (begins_anew id entr
 
 -- Its next transfer has as its place in the series, from 0, the number of transfers that it has made since it last began
 -- anew.
-unfoldable pub next_place : ℕ → List Entry → ℕ
-next_place id entries = length (filter (λ (entry : Entry). is_made_by id entry.change) (since_anew id entries))
+unfoldable pub next_occurrence : ℕ → List Entry → ℕ
+next_occurrence id entries = length (filter (λ (entry : Entry). is_made_by id entry.change) (since_anew id entries))
 
 -- ---- the transfers that wait
 

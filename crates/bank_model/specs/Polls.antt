@@ -43,9 +43,9 @@ unfoldable pub is_poll : RequestFile → Bool
 is_poll file = is_unnamed file && are_polls file.asks
 
 -- It is told the newest token of each object, or that the account isn't the user's.
-abbrev pub told_token : SyncAsk → Option ℕ → SyncReply
-told_token ask None = record { object = ask.object; token = codes "0"; lost = true; replies = [] }
-told_token ask (Some token) = record { object = ask.object; token = decimal token; lost = false; replies = [] }
+abbrev pub reported_token : SyncAsk → Option ℕ → SyncReply
+reported_token ask None = record { object = ask.object; token = codes "0"; lost = true; replies = [] }
+reported_token ask (Some token) = record { object = ask.object; token = decimal token; lost = false; replies = [] }
 
 abbrev pub newest_if_any : State → Option ObjectId → Option ℕ
 newest_if_any S None = None
@@ -55,7 +55,7 @@ abbrev pub poll_answer : Setup → State → UserId → Ask → List AskReply
 poll_answer setup S user (asks.Statement trnuid account period) = []
 poll_answer setup S user (asks.One trnuid deed) = []
 poll_answer setup S user (asks.Sync ask) =
-    replies.Sync (told_token ask (newest_if_any S (object_named setup user ask.object))) ∷ []
+    replies.Sync (reported_token ask (newest_if_any S (object_named setup user ask.object))) ∷ []
 
 -- A poll is no event: it is answered at a moment, and nothing changes.
 unfoldable pub poll_reply : Setup → State → UserId → Moment → RequestFile → ReplyFile

@@ -33,7 +33,7 @@ use Rattle.bank_model.specs.declared.event.Event.{Event}
 use Rattle.bank_model.specs.declared.event.Event.TheVariants.{File, Post, Spawn, Letter}
 use Rattle.bank_model.specs.SetupLookups.{account_of, own_account, user_name}
 use Rattle.bank_model.specs.Ledger.{balance, moved, lines_of, row_of}
-use Rattle.bank_model.specs.Models.{next_place}
+use Rattle.bank_model.specs.Models.{next_occurrence}
 use Rattle.bank_model.specs.Once.{reply_kept, released}
 use Rattle.bank_model.specs.Deeds.{deed_answer, next_entry, mail_object}
 use Rattle.bank_model.specs.Sync.{sync_answer}
@@ -64,7 +64,7 @@ list_of S at name period = record {
   lines = lines_of name (unwrap_or period.start first_moment) period.end (moved S.entries);
 }
 
--- The list stands in the reply exactly where the request has INCTRAN with INCLUDE Y.
+-- The list is in the reply exactly where the request has INCTRAN with INCLUDE Y.
 abbrev pub asked_list : State → Moment → AcctName → Option Period → Option StatementList
 asked_list S at name None = None
 asked_list S at name (Some period) = if period.include then Some (list_of S at name period) else None
@@ -119,12 +119,12 @@ ask_answers setup S user at (ask ∷ more) =
 unfoldable pub reply_file : Moment → RequestFile → List AskReply → ReplyFile
 reply_file at file answers = record { version = file.version; newer = file.newer; signon = 0; moment = at; replies = answers }
 
--- OLDFILEUID, where it stands, is released.
+-- OLDFILEUID, where it is, is released.
 abbrev pub release : UserId → Option (List ℕ) → List KeptReply → List KeptReply
 release user None kept = kept
 release user (Some older) kept = released user older kept
 
--- Then NEWFILEUID, where it stands, is kept with the reply.
+-- Then NEWFILEUID, where it is, is kept with the reply.
 abbrev pub keep : UserId → Option (List ℕ) → List ℕ → List KeptReply → List KeptReply
 keep user None reply kept = kept
 keep user (Some newer) reply kept = kept ++ record { user = user; file = newer; reply = reply } ∷ []
@@ -200,7 +200,7 @@ letter_entry setup S user at subject body =
 abbrev pub step : Setup → State → Moment → Event → Outcome
 step setup S at (File user file) = file_outcome setup (raised S at) user at file
 step setup S at (Post id) = unasked (raised S at) (posts setup (raised S at) at (row_of id S.entries))
-step setup S at (Spawn id place) = unasked (raised S at) (spawns setup (raised S at) id place)
+step setup S at (Spawn id occurrence) = unasked (raised S at) (spawns setup (raised S at) id occurrence)
 step setup S at (Letter user subject body) =
     unasked (raised S at) (letter_entry setup (raised S at) user at subject body ∷ [])
 
@@ -211,13 +211,13 @@ abbrev pub answer_to : Setup → State → Moment → Event → List ℕ
 answer_to setup S at event = (step setup S at event).reply
 
 -- A file is legal for a user of the setup where it is sound and no poll. A transfer may be posted where it waits and is due,
--- and a recurring transfer may make the transfer at the next place of its series, where it isn't cancelled, the series has that
+-- and a recurring transfer may make the transfer at the next occurrence of its series, where it isn't cancelled, the series has that
 -- place and its date is at most LEAD days after the business day. A letter has a subject of 1 to 64 bytes and a body of 1 to
 -- 10,000. All but a file need a number that is left for their entry.
 abbrev pub IsLegal : Setup → State → Moment → Event → Type 0
 IsLegal setup S at (File user file) = (user.0 < length setup.users) × IsSound file × (is_poll file ≡ false)
 IsLegal setup S at (Post id) = may_post setup (raised S at) (row_of id S.entries) ≡ true
-IsLegal setup S at (Spawn id place) = may_spawn setup (raised S at) id place ≡ true
+IsLegal setup S at (Spawn id occurrence) = may_spawn setup (raised S at) id occurrence ≡ true
 IsLegal setup S at (Letter user subject body) =
     (user.0 < length setup.users) × IsTextWithin 64 subject × IsTextWithin 10000 body × (has_number setup (raised S at) ≡ true)
 
@@ -230,7 +230,7 @@ post_event task = Post task.id
 -- the earliest due day first.
 abbrev pub spawn_or_post : State → Option Task → Option Event
 spawn_or_post S None = option_map post_event (first_task (to_post S.day S.entries))
-spawn_or_post S (Some task) = Some (Spawn task.id (next_place task.id S.entries))
+spawn_or_post S (Some task) = Some (Spawn task.id (next_occurrence task.id S.entries))
 
 abbrev pub due_in : Setup → State → Option Event
 due_in setup S = if has_number setup S then spawn_or_post S (first_task (to_make (last_day setup S.day) S.entries)) else None
@@ -273,5 +273,5 @@ named_by_row setup (Some row) = account_of setup row.from ∷ account_of setup r
 abbrev pub named : Setup → State → Event → List (Option AcctId)
 named setup S (File user file) = flat_map (named_by setup) file.asks
 named setup S (Post id) = named_by_row setup (row_of id S.entries)
-named setup S (Spawn id place) = []
+named setup S (Spawn id occurrence) = []
 named setup S (Letter user subject body) = []

@@ -36,8 +36,8 @@ pub record AreLinesOf (bytes : List ℕ) (setup : Setup) : Type 0 where
 pub record IsWrongAt (lines : List (List ℕ)) (k : ℕ) : Type 0 where
   pub before : List (List ℕ)
   pub line : List ℕ
-  pub behind : List (List ℕ)
-  pub split : lines ≡ before ++ line ∷ behind
+  pub suffix : List (List ℕ)
+  pub split : lines ≡ before ++ line ∷ suffix
   pub number : k ≡ length before + 1
   pub begun : BeginSetup before
   pub wrong : BeginSetup (before ++ line ∷ []) → ⊥

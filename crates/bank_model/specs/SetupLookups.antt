@@ -14,17 +14,17 @@ use Rattle.bank_model.specs.declared.setup.Setup.{Setup}
 -- The user who has this name and this password, byte for byte.
 abbrev pub signed_on : Setup → List ℕ → List ℕ → Option UserId
 signed_on setup name pass =
-    option_map (λ (place : ℕ). record { 0 = place }) (position (λ (user : User). bytes_eq user.name name && bytes_eq user.pass pass) setup.users)
+    option_map (λ (index : ℕ). record { 0 = index }) (position (λ (user : User). bytes_eq user.name name && bytes_eq user.pass pass) setup.users)
 
 -- The user of this name, byte for byte.
 abbrev pub user_of : Setup → List ℕ → Option UserId
 user_of setup name =
-    option_map (λ (place : ℕ). record { 0 = place }) (position (λ (user : User). bytes_eq user.name name) setup.users)
+    option_map (λ (index : ℕ). record { 0 = index }) (position (λ (user : User). bytes_eq user.name name) setup.users)
 
 -- The account of this name: bank id, number and kind together.
 abbrev pub account_of : Setup → AcctName → Option AcctId
 account_of setup name =
-    option_map (λ (place : ℕ). record { 0 = place }) (position (λ (line : AccountLine). same_account line.name name) setup.accounts)
+    option_map (λ (index : ℕ). record { 0 = index }) (position (λ (line : AccountLine). same_account line.name name) setup.accounts)
 
 -- the account line of that number
 abbrev pub line_at : Setup → AcctId → Option AccountLine

@@ -17,7 +17,7 @@ use Rattle.bank_model.specs.declared.setup.AccountLine.{AccountLine}
 use Rattle.bank_model.specs.declared.setup.Setup.{Setup}
 use Rattle.bank_model.specs.declared.setup.SetupFault.{SetupFault}
 use Rattle.bank_model.specs.declared.setup.SetupFault.TheVariants as faults
-use Rattle.bank_model.specs.declared.setup.draft.Draft.{Draft}
+use Rattle.bank_model.specs.declared.setup.draft.SetupDraft.{SetupDraft}
 use Rattle.bank_model.specs.SetupForm.{is_word_byte, kept}
 use Rattle.bank_model.specs.SetupFault.{lines_within}
 pub use Rattle.ofx_types.specs.ValueReading.{◌>>=◌}
@@ -41,9 +41,9 @@ unfoldable pub cut : ℕ → List ℕ → Option (List ℕ × List ℕ)
 cut mark [] = None
 cut mark (b ∷ bs) = if b == mark then Some ([], bs) else (cut mark bs >>= λ parts. Some (b ∷ parts.0, parts.1))
 
--- what stands after the key and a space
-unfoldable pub behind_key : List ℕ → List ℕ → Option (List ℕ)
-behind_key key line = do
+-- what follows the key and a space
+unfoldable pub after_key : List ℕ → List ℕ → Option (List ℕ)
+after_key key line = do
   parts ← cut 32 line
   if bytes_eq parts.0 key then Some parts.1 else None
 
@@ -67,7 +67,7 @@ number_within lowest highest word = do
   n ← number_of word
   unless (nat_lt n lowest) (unless (nat_lt highest n) (Some n))
 
--- the first line without its end, and what stands after it
+-- the first line without its end, and what follows it
 unfoldable pub line_at : List ℕ → Option (List ℕ × List ℕ)
 line_at bytes = do
   parts ← cut 10 bytes
@@ -75,7 +75,7 @@ line_at bytes = do
 
 unfoldable pub bank_at : List ℕ → Option (List ℕ)
 bank_at line = do
-  bank ← behind_key (codes "BANK") line
+  bank ← after_key (codes "BANK") line
   unless (not (is_word_form bank)) (Some bank)
 
 unfoldable pub user_at : List ℕ → Option User
@@ -90,13 +90,13 @@ kind_at word =
     else (if bytes_eq word (codes "MONEYMRKT") then Some MoneyMarket
     else (if bytes_eq word (codes "CREDITLINE") then Some CreditLine else None)))
 
-abbrev pub user_at_place : Option ℕ → Option UserId
-user_at_place None = None
-user_at_place (Some place) = Some (record { 0 = place })
+abbrev pub user_at_index : Option ℕ → Option UserId
+user_at_index None = None
+user_at_index (Some occurrence) = Some (record { 0 = occurrence })
 
 -- the user of that name, which is a word
 abbrev pub user_named : List User → List ℕ → Option UserId
-user_named users name = unless (not (is_word_form name)) (user_at_place (position (λ (user : User). bytes_eq user.name name) users))
+user_named users name = unless (not (is_word_form name)) (user_at_index (position (λ (user : User). bytes_eq user.name name) users))
 
 abbrev pub is_listed : UserId → List UserId → Bool
 is_listed owner owners = list_any (λ (other : UserId). other.0 == owner.0) owners
@@ -139,51 +139,51 @@ abbrev pub openings_with : Cents → Cents → Option Cents
 openings_with openings opening =
     if int_le (openings.0 +ℤ opening.0) (pos 9999999999999) then Some (record { 0 = openings.0 +ℤ opening.0 }) else None
 
--- a user more: before the first account, no more than 1,000, none with a name that stands already
-unfoldable pub with_user : Draft → List ℕ → Option Draft
+-- a user more: before the first account, no more than 1,000, none with a name that is there already
+unfoldable pub with_user : SetupDraft → List ℕ → Option SetupDraft
 with_user draft fields =
     unless (nat_lt 0 (length draft.setup.accounts)) (unless (nat_le 1000 (length draft.setup.users)) (user_at fields >>= λ user.
     unless (is_taken user.name draft.setup.users) (Some (record draft { setup = record draft.setup { users = draft.setup.users ++ user ∷ [] } }))))
 
--- an account more: after the first user, no more than 1,000, none with a name that stands already
-unfoldable pub with_account : Draft → List ℕ → Option Draft
+-- an account more: after the first user, no more than 1,000, none with a name that is there already
+unfoldable pub with_account : SetupDraft → List ℕ → Option SetupDraft
 with_account draft fields =
     unless (length draft.setup.users == 0) (unless (nat_lt 1000 (length draft.setup.users)) (unless (nat_le 1000 (length draft.setup.accounts))
     (account_at draft.setup.bank draft.setup.users fields >>= λ account.
     unless (is_repeated account.name draft.setup.accounts) (openings_with draft.openings account.opening >>= λ openings.
     Some (record { setup = record draft.setup { accounts = draft.setup.accounts ++ account ∷ [] }; openings = openings })))))
 
--- what stands after `USER`, and otherwise the line
-abbrev pub with_user_or_account : Draft → Option (List ℕ) → List ℕ → Option Draft
+-- what follows `USER`, and otherwise the line
+abbrev pub with_user_or_account : SetupDraft → Option (List ℕ) → List ℕ → Option SetupDraft
 with_user_or_account draft (Some fields) line = with_user draft fields
-with_user_or_account draft None line = behind_key (codes "ACCT") line >>= with_account draft
+with_user_or_account draft None line = after_key (codes "ACCT") line >>= with_account draft
 
 -- a line after the first five, which is a user or an account
-unfoldable pub with_body_line : Draft → List ℕ → Option Draft
-with_body_line draft line = with_user_or_account draft (behind_key (codes "USER") line) line
+unfoldable pub with_body_line : SetupDraft → List ℕ → Option SetupDraft
+with_body_line draft line = with_user_or_account draft (after_key (codes "USER") line) line
 
 -- the line of the format
-abbrev pub with_format : Draft → List ℕ → Option Draft
+abbrev pub with_format : SetupDraft → List ℕ → Option SetupDraft
 with_format draft line = if bytes_eq line (codes "OFXBANK 1") then Some draft else None
 
-unfoldable pub with_bank : Draft → List ℕ → Option Draft
+unfoldable pub with_bank : SetupDraft → List ℕ → Option SetupDraft
 with_bank draft line = bank_at line >>= λ bank. Some (record draft { setup = record draft.setup { bank = bank } })
 
 -- the number after the key, from the lowest to the highest
 unfoldable pub limit_at : List ℕ → ℕ → ℕ → List ℕ → Option ℕ
-limit_at key lowest highest line = behind_key key line >>= number_within lowest highest
+limit_at key lowest highest line = after_key key line >>= number_within lowest highest
 
-unfoldable pub with_lead : Draft → List ℕ → Option Draft
+unfoldable pub with_lead : SetupDraft → List ℕ → Option SetupDraft
 with_lead draft line = limit_at (codes "LEAD") 0 30 line >>= λ lead. Some (record draft { setup = record draft.setup { lead = lead } })
 
-unfoldable pub with_window : Draft → List ℕ → Option Draft
+unfoldable pub with_window : SetupDraft → List ℕ → Option SetupDraft
 with_window draft line = limit_at (codes "WINDOW") 1 10000 line >>= λ window. Some (record draft { setup = record draft.setup { window = window } })
 
-unfoldable pub with_entries : Draft → List ℕ → Option Draft
+unfoldable pub with_entries : SetupDraft → List ℕ → Option SetupDraft
 with_entries draft line = limit_at (codes "ENTRIES") 1 9999999999 line >>= λ entries. Some (record draft { setup = record draft.setup { entries = entries } })
 
 -- the line of that number more, from 1
-unfoldable pub with_line : ℕ → Draft → List ℕ → Option Draft
+unfoldable pub with_line : ℕ → SetupDraft → List ℕ → Option SetupDraft
 with_line number draft line =
     if number == 1 then with_format draft line
     else (if number == 2 then with_bank draft line
@@ -192,16 +192,16 @@ with_line number draft line =
     else (if number == 5 then with_entries draft line else with_body_line draft line))))
 
 -- no line is read
-abbrev pub unread : Draft
+abbrev pub unread : SetupDraft
 unread = record { setup = record { bank = []; users = []; accounts = []; lead = 0; window = 0; entries = 0 }; openings = record { 0 = pos 0 } }
 
 -- on with the draft, and otherwise a fault at the line of that number
-abbrev pub or_fault_at : ℕ → Option Draft → (Draft → Result Draft ℕ) → Result Draft ℕ
+abbrev pub or_fault_at : ℕ → Option SetupDraft → (SetupDraft → Result SetupDraft ℕ) → Result SetupDraft ℕ
 or_fault_at number None further = Err number
 or_fault_at number (Some draft) further = further draft
 
 -- the draft with the lines, of which the first has that number
-unfoldable pub with_lines : ℕ → Draft → List (List ℕ) → Result Draft ℕ
+unfoldable pub with_lines : ℕ → SetupDraft → List (List ℕ) → Result SetupDraft ℕ
 with_lines number draft [] = Ok draft
 with_lines number draft (line ∷ lines) = or_fault_at number (with_line number draft line) (λ next. with_lines (number + 1) next lines)
 
@@ -210,7 +210,7 @@ last_part [] = []
 last_part (part ∷ []) = part
 last_part (part ∷ next ∷ parts) = last_part (next ∷ parts)
 
--- what stands after the last LF
+-- what follows the last LF
 unfoldable pub left_in : List ℕ → List ℕ
 left_in bytes = last_part (slice_split (λ b. b == 10) bytes)
 
@@ -224,11 +224,11 @@ abbrev pub objects_fit : Setup → Bool
 objects_fit setup = nat_le (kept setup) 1000000
 
 -- whether a line is missing after those of the draft, isn't ended, or goes on after the most bytes
-abbrev pub lacks_line : List ℕ → List ℕ → Draft → Bool
+abbrev pub lacks_line : List ℕ → List ℕ → SetupDraft → Bool
 lacks_line bytes left draft = nat_lt 262144 (length bytes) || nat_lt 0 (length left) || (length draft.setup.accounts == 0)
 
 -- the setup of a draft of all lines, or a fault after the last line or at it
-abbrev pub judged : List ℕ → Result Draft ℕ → Result Setup ℕ
+abbrev pub judged : List ℕ → Result SetupDraft ℕ → Result Setup ℕ
 judged bytes (Err k) = Err k
 judged bytes (Ok draft) =
     if lacks_line bytes (left_in (take 262144 bytes)) draft then Err (length (lines_within bytes) + 1)

@@ -87,7 +87,7 @@ abbrev pub IsVersion : ℕ → Type 0
 IsVersion version = (version ≡ 102) ⊎ ((version ≡ 103) ⊎ ((version ≡ 151) ⊎ (version ≡ 160)))
 
 -- A file is sound where its texts and uids are such as `Text::new`, `TrnUid::new` and `FileUid::new` give, all its values are
--- within their bounds, and what the bank is asked stands before mail. The user's name and password aren't looked at, since a
+-- within their bounds, and what the bank is asked comes before mail. The user's name and password aren't looked at, since a
 -- file that has become an event doesn't need them.
 pub record IsSound (file : RequestFile) : Type 0 where
   pub version : IsVersion file.version

@@ -49,15 +49,15 @@ is_less id (Some own) = nat_lt own id
 abbrev pub is_below : ℕ → Row → Bool
 is_below id row = is_less id (id_of row)
 
--- A row takes the place of the one that has its id, or stands in rising id among the others.
+-- A row takes the place of the one that has its id, or is in rising id among the others.
 unfoldable pub put : ℕ → Row → List Row → List Row
 put id row [] = row ∷ []
 put id row (first ∷ more) =
     if has_id id first then row ∷ more
     else (if is_below id first then first ∷ put id row more else row ∷ first ∷ more)
 
-abbrev pub take_out : ℕ → List Row → List Row
-take_out id rows = filter (λ (row : Row). not (has_id id row)) rows
+abbrev pub remove_row : ℕ → List Row → List Row
+remove_row id rows = filter (λ (row : Row). not (has_id id row)) rows
 
 -- A changed transfer keeps the recurring transfer that made it, which its reply doesn't tell.
 abbrev pub with_model : ℕ → TransferRow → TransferRow
@@ -83,15 +83,15 @@ model_among id rows = fold (model_if_named id) 0 rows
 
 -- ---- the rows that entries make
 
--- What an entry does to the rows of its object. What is new or changed has its row as it stands in the entry, what is cancelled
+-- What an entry does to the rows of its object. What is new or changed has its row as it is in the entry, what is cancelled
 -- has none, and a mail comes last.
 unfoldable pub entered : List Row → Change → List Row
 entered rows (NewTransfer row) = put row.id (transfer_row row) rows
 entered rows (SetTransfer row) = put row.id (transfer_row row) rows
-entered rows (DropTransfer id) = take_out id rows
+entered rows (DropTransfer id) = remove_row id rows
 entered rows (NewModel row) = put row.id (model_row row) rows
 entered rows (SetModel row pending) = put row.id (model_row row) rows
-entered rows (DropModel id pending) = take_out id rows
+entered rows (DropModel id pending) = remove_row id rows
 entered rows (NewMail row) = rows ++ mail_row row ∷ []
 
 abbrev pub is_up_to : ℕ → Entry → Bool
@@ -118,10 +118,10 @@ rows_under (Some object) token entries = rows_entered object token entries
 unfoldable pub changed : Family → List Row → Change → List Row
 changed families.Intra rows (NewTransfer row) = put row.id (transfer_row row) rows
 changed families.Intra rows (SetTransfer row) = put row.id (transfer_row (with_model (model_among row.id rows) row)) rows
-changed families.Intra rows (DropTransfer id) = take_out id rows
+changed families.Intra rows (DropTransfer id) = remove_row id rows
 changed families.RecIntra rows (NewModel row) = put row.id (model_row row) rows
 changed families.RecIntra rows (SetModel row pending) = put row.id (model_row row) rows
-changed families.RecIntra rows (DropModel id pending) = take_out id rows
+changed families.RecIntra rows (DropModel id pending) = remove_row id rows
 changed families.BankMail rows (NewMail row) = if is_some row.about then rows ++ mail_row row ∷ [] else rows
 changed families.Mail rows (NewMail row) = if is_some row.about then rows else rows ++ mail_row row ∷ []
 changed family rows change = rows

@@ -46,11 +46,11 @@ is_lost window object entries (After text) = is_lost_at window object entries (t
 is_lost window object entries TokenOnly = false
 is_lost window object entries Refresh = false
 
--- ---- the history that is told
+-- ---- the history that is reported
 
--- what is told of a change with its uid
-abbrev pub told_as : Family → List ℕ → Change → DeedReply
-told_as family trnuid change = record { trnuid = trnuid; family = family; code = 0; change = Some change }
+-- what is reported of a change with its uid
+abbrev pub reply_with_change : Family → List ℕ → Change → DeedReply
+reply_with_change family trnuid change = record { trnuid = trnuid; family = family; code = 0; change = Some change }
 
 abbrev pub is_above : ℕ → Entry → Bool
 is_above token entry = nat_lt token entry.number
@@ -60,40 +60,40 @@ abbrev pub entries_above : Option ℕ → List Entry → List Entry
 entries_above None entries = []
 entries_above (Some token) entries = filter (is_above token) entries
 
-abbrev pub told_entry : Family → Entry → DeedReply
-told_entry family entry = told_as family entry.trnuid entry.change
+abbrev pub reply_of_entry : Family → Entry → DeedReply
+reply_of_entry family entry = reply_with_change family entry.trnuid entry.change
 
 -- A row is told as if it were new, and one that is cancelled isn't told.
-abbrev pub standing_transfer : Option TransferRow → List Change
-standing_transfer None = []
-standing_transfer (Some row) = if is_cancelled row.code then [] else NewTransfer row ∷ []
+abbrev pub current_transfer : Option TransferRow → List Change
+current_transfer None = []
+current_transfer (Some row) = if is_cancelled row.code then [] else NewTransfer row ∷ []
 
-abbrev pub standing_model : Bool → Option ModelRow → List Change
-standing_model cancelled None = []
-standing_model cancelled (Some row) = if cancelled then [] else NewModel row ∷ []
+abbrev pub current_model : Bool → Option ModelRow → List Change
+current_model cancelled None = []
+current_model cancelled (Some row) = if cancelled then [] else NewModel row ∷ []
 
-abbrev pub standing_in : List Entry → Change → List Change
-standing_in entries (NewTransfer row) = standing_transfer (row_of row.id entries)
-standing_in entries (SetTransfer row) = []
-standing_in entries (DropTransfer id) = []
-standing_in entries (NewModel row) = standing_model (is_model_dropped row.id entries) (model_of row.id entries)
-standing_in entries (SetModel row pending) = []
-standing_in entries (DropModel id pending) = []
-standing_in entries (NewMail row) = NewMail row ∷ []
+abbrev pub current_in : List Entry → Change → List Change
+current_in entries (NewTransfer row) = current_transfer (row_of row.id entries)
+current_in entries (SetTransfer row) = []
+current_in entries (DropTransfer id) = []
+current_in entries (NewModel row) = current_model (is_model_dropped row.id entries) (model_of row.id entries)
+current_in entries (SetModel row pending) = []
+current_in entries (DropModel id pending) = []
+current_in entries (NewMail row) = NewMail row ∷ []
 
--- What stands now: the row of each transfer, recurring transfer and mail that the object's history made, in the order in
+-- What there is now: the row of each transfer, recurring transfer and mail that the object's history made, in the order in
 -- which it made them. Those that are cancelled are left out.
-unfoldable pub standing : ObjectId → List Entry → List Change
-standing object entries = flat_map (λ (entry : Entry). standing_in entries entry.change) (history_of object entries)
+unfoldable pub present : ObjectId → List Entry → List Change
+present object entries = flat_map (λ (entry : Entry). current_in entries entry.change) (history_of object entries)
 
 -- A client that names a token and hasn't lost its place is told what came after it, and one that asks for all is told what
 -- stands, as if it were new. Any other is told nothing.
-unfoldable pub history_told : ℕ → ObjectId → Family → List Entry → SyncKind → List DeedReply
-history_told window object family entries (After text) =
+unfoldable pub history_replies : ℕ → ObjectId → Family → List Entry → SyncKind → List DeedReply
+history_replies window object family entries (After text) =
     if is_lost window object entries (After text) then []
-    else map (told_entry family) (entries_above (token_of text) (history_of object entries))
-history_told window object family entries TokenOnly = []
-history_told window object family entries Refresh = map (told_as family (codes "0")) (standing object entries)
+    else map (reply_of_entry family) (entries_above (token_of text) (history_of object entries))
+history_replies window object family entries TokenOnly = []
+history_replies window object family entries Refresh = map (reply_with_change family (codes "0")) (present object entries)
 
 -- ---- the deeds
 
@@ -142,7 +142,7 @@ pub record SyncAnswer : Type 0 where
   pub after : State
 
 -- Whether the client has lost its place, the history that it is told and whether its deeds are refused are judged on the state
--- before the deeds. The token that is told is the newest one after them.
+-- before the deeds. The token that is reported is the newest one after them.
 unfoldable pub sync_on : Setup → State → UserId → Moment → SyncAsk → Option ObjectId → SyncAnswer
 sync_on setup S user at ask None = record {
   reply = record {
@@ -160,7 +160,7 @@ sync_on setup S user at ask (Some object) =
         object = ask.object;
         token = decimal (newest object answers.after.entries);
         lost = is_lost setup.window object S.entries ask.kind;
-        replies = history_told setup.window object (object_family ask.object) S.entries ask.kind ++ answers.replies;
+        replies = history_replies setup.window object (object_family ask.object) S.entries ask.kind ++ answers.replies;
       };
       after = answers.after;
     }

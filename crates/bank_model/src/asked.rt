@@ -10,7 +10,7 @@ use ofx_types::{AcctId, AcctName, Day, UserId, XferInfo};
 impl Setup {
     /// Whether the account of this name is the user's.
     ///
-    /// Where a deed stands in the synchronisation of one account, `only` is that account, and no other counts as the
+    /// Where a deed is in the synchronisation of one account, `only` is that account, and no other counts as the
     /// user's. Takes no memory.
     pub fn is_own(&self, user: UserId, only: Option<AcctId>, name: &AcctName) -> bool
         requires { IsWithinLimits self.now }

@@ -12,7 +12,7 @@ use std::alloc::Global;
 use std::cmp::Ordering;
 use std::marker::Model;
 
-/// What stands in a list under a key of its own.
+/// What is in a list under a key of its own.
 pub trait Keyed {
     /// What an item is found by.
     type Key;
@@ -40,7 +40,7 @@ pub trait Keyed {
 #[derive(Debug, Drop)]
 pub struct Directory<T: Keyed> {
     items: Vec<T>,
-    places: Vec<usize>,
+    indices: Vec<usize>,
 }
 
 impl<T: Keyed> Model for Directory<T> {
@@ -51,7 +51,7 @@ impl<T: Keyed> Model for Directory<T> {
 
     ghost view = { λ d. d.items.items };
 
-    ghost invariant = { λ d. IsOrderOf T.key_of T.order d.items.items d.places.items };
+    ghost invariant = { λ d. IsOrderOf T.key_of T.order d.items.items d.indices.items };
 }
 
 impl<T: Keyed> Directory<T> {
@@ -61,7 +61,7 @@ impl<T: Keyed> Directory<T> {
     {
         Directory {
             items: Vec::new(alloc),
-            places: Vec::new(alloc),
+            indices: Vec::new(alloc),
         }
     }
 
@@ -76,33 +76,33 @@ impl<T: Keyed> Directory<T> {
     pub fn find(&self, key: &T::Key) -> Option<usize>
         ensures { result ≡ position (λ item. T.has_key item key.now) self.now }
     {
-        match search(&self.items, &self.places, key) {
-            Ok(at) => Some(self.places[at]),
+        match search(&self.items, &self.indices, key) {
+            Ok(at) => Some(self.indices[at]),
             Err(_) => None,
         }
     }
 
-    /// Whether an item stands under that key. Takes no memory.
+    /// Whether an item is under that key. Takes no memory.
     pub fn contains(&self, key: &T::Key) -> bool
         ensures { result ≡ list_any (λ item. T.has_key item key.now) self.now }
     {
-        search(&self.items, &self.places, key).is_ok()
+        search(&self.items, &self.indices, key).is_ok()
     }
 }
 
 impl<T: Keyed + Drop> Directory<T> {
-    /// Puts an item at the end. False where one stands under its key already, and then, and where memory is refused, the
+    /// Puts an item at the end. False where one is under its key already, and then, and where memory is refused, the
     /// items are as before.
     pub fn add(&mut self, item: T) -> Result<bool, OutOfMemory>
         ensures free { IfOk result (λ added. added ≡ not (list_any (λ other. T.has_key other (T.key_of item)) self.old)) }
         ensures added { IfOk result (λ added. self.new ≡ (if added then self.old ++ item ∷ [] else self.old)) }
         ensures err { OnErr result (self.new ≡ self.old) }
     {
-        match search(&self.items, &self.places, item.key()) {
+        match search(&self.items, &self.indices, item.key()) {
             Ok(_) => Ok(false),
             Err(at) => {
                 self.items.reserve(1)?;
-                self.places.insert(at, self.items.len())?;
+                self.indices.insert(at, self.items.len())?;
                 self.items.push_reserved(item);
                 Ok(true)
             }
@@ -116,30 +116,30 @@ impl<T: Keyed + Duplicate + Drop> Duplicate for Directory<T> {
         for item in &self.items {
             items.push(item.copy()?)?;
         }
-        let places = self.places.clone()?;
-        Ok(Directory { items, places })
+        let indices = self.indices.clone()?;
+        Ok(Directory { items, indices })
     }
 }
 
 /// How the item at a place compares with a key. Where there is none it is greater than any.
-fn compare_at<T: Keyed>(items: &[T], place: usize, key: &T::Key) -> Ordering
-    ensures { result ≡ compared T.key_of T.order key.now (slice_get items.now place) }
+fn compare_at<T: Keyed>(items: &[T], index: usize, key: &T::Key) -> Ordering
+    ensures { result ≡ compared T.key_of T.order key.now (slice_get items.now index) }
 {
-    match items.get(place) {
+    match items.get(index) {
         Some(item) => item.compare(key),
         None => Ordering::Greater,
     }
 }
 
 /// Where in the order the place of the item under that key stands, or where it would go.
-fn search<T: Keyed>(items: &[T], places: &[usize], key: &T::Key) -> Result<usize, usize>
-    requires { IsOrderOf T.key_of T.order items.now places.now }
-    ensures found { IfOk result (IsFound T.key_of T.order items.now places.now key.now) }
-    ensures absent { IfErr result (IsGap T.key_of T.order items.now places.now key.now) }
+fn search<T: Keyed>(items: &[T], indices: &[usize], key: &T::Key) -> Result<usize, usize>
+    requires { IsOrderOf T.key_of T.order items.now indices.now }
+    ensures found { IfOk result (IsFound T.key_of T.order items.now indices.now key.now) }
+    ensures absent { IfErr result (IsGap T.key_of T.order items.now indices.now key.now) }
 {
-    places.binary_search_by(
-        |place| -> Ordering
-            ensures { result ≡ compared T.key_of T.order key.entry.now (slice_get items.entry.now place.now) }
-        { compare_at(items, *place, key) },
+    indices.binary_search_by(
+        |index| -> Ordering
+            ensures { result ≡ compared T.key_of T.order key.entry.now (slice_get items.entry.now index.now) }
+        { compare_at(items, *index, key) },
     )
 }

@@ -35,7 +35,7 @@ impl Duplicate for Event {
         match self {
             Event::File(user, file) => Ok(Event::File(*user, file.copy()?)),
             Event::Post(id) => Ok(Event::Post(*id)),
-            Event::Spawn(model, place) => Ok(Event::Spawn(*model, *place)),
+            Event::Spawn(model, occurrence) => Ok(Event::Spawn(*model, *occurrence)),
             Event::Letter(user, subject, body) => {
                 Ok(Event::Letter(*user, subject.copy()?, body.copy()?))
             }

@@ -174,7 +174,7 @@ fn add(accounts: &mut Vec<AcctId>, setup: &Setup, name: &AcctName) -> Result<(),
 fn insert(accounts: &mut Vec<AcctId>, account: AcctId) -> Result<(), OutOfMemory>
     ensures { OnOk result (accounts.new.items ≡ inserted account accounts.old.items) }
 {
-    match place_of(accounts, account) {
+    match index_of(accounts, account) {
         Some(at) => {
             if accounts[at].0 == account.0 {
                 return Ok(());
@@ -190,7 +190,7 @@ fn insert(accounts: &mut Vec<AcctId>, account: AcctId) -> Result<(), OutOfMemory
 }
 
 /// Where the first account stands whose number isn't below the account's.
-fn place_of(accounts: &[AcctId], account: AcctId) -> Option<usize>
+fn index_of(accounts: &[AcctId], account: AcctId) -> Option<usize>
     ensures { result ≡ position (λ other. nat_le account.0 other.0) accounts.now }
 {
     accounts.iter().position(|other| account.0 <= other.0)

@@ -118,13 +118,13 @@ impl Setup {
 }
 
 /// The object of an account at that place among the account's three.
-fn numbered(account: Option<AcctId>, place: u32) -> Option<ObjectId>
+fn numbered(account: Option<AcctId>, index: u32) -> Option<ObjectId>
     requires account { IfSome account (λ account. account.0 < 1000) }
-    requires place { place < 3 }
-    ensures { result ≡ option_map (λ account. record { 0 = 3 * account.0 + place }) account }
+    requires index { index < 3 }
+    ensures { result ≡ option_map (λ account. record { 0 = 3 * account.0 + index }) account }
 {
     match account {
-        Some(account) => Some(ObjectId(3 * account.0 + place)),
+        Some(account) => Some(ObjectId(3 * account.0 + index)),
         None => None,
     }
 }

@@ -8,7 +8,7 @@ use Rattle.bank_recur.specs.Ahead.{IsAhead}
 use Rattle.bank_recur.specs.ModelsView.{Series, series_found, row_found}
 use Rattle.bank_recur.specs.Spawning.{date_ahead, date_ahead_of}
 use Rattle.bank_recur.specs.Upcoming.{UpcomingView, day_in, days_of}
-use Rattle.bank_recur.proofs.StandsLemmas.{IsAt, now_set, now_pushed}
+use Rattle.bank_recur.proofs.RepresentsLemmas.{IsAt, now_set, now_pushed}
 
 pub at_most_one : (date : Option Day) → days_of date ≤ 1
 at_most_one None = omega arith
@@ -34,8 +34,8 @@ made_by_one id day series upcoming ahead is = looked (series_found id series) (s
     looked None is = cc
     looked (Some one) is = refl
 
-pub room_left : (a b places many : ℕ) → 0 < min (min a b) (places - many) → many < places
-room_left a b places many room = omega arith
+pub room_left : (a b occurrences many : ℕ) → 0 < min (min a b) (occurrences - many) → many < occurrences
+room_left a b occurrences many room = omega arith
 
 -- ---- one in another's stead
 
@@ -45,22 +45,22 @@ changed_many id at one new series there =
     ∙ sum_by-set (λ (o : Series). days_of (date_ahead o)) series at new one there.within
 
 -- what the exchange asks
-pub stands_before : (id at : ℕ) (one : Series) (series : List Series) (old : UpcomingView) (before : Option Day) → IsAt id at one series → IsAhead series old → before ≡ date_ahead one → day_in id old.spawns ≡ before
-stands_before id at one series old before there ahead was = ahead.days id ∙ ap date_ahead_of there.found ∙ sym was
+pub holds_before : (id at : ℕ) (one : Series) (series : List Series) (old : UpcomingView) (before : Option Day) → IsAt id at one series → IsAhead series old → before ≡ date_ahead one → day_in id old.spawns ≡ before
+holds_before id at one series old before there ahead was = ahead.days id ∙ ap date_ahead_of there.found ∙ sym was
 
-pub place_left : (id at : ℕ) (one new : Series) (series : List Series) (old : UpcomingView) (before after : Option Day) → IsAt id at one series → IsAhead series old → before ≡ date_ahead one → after ≡ date_ahead new → length old.spawns + days_of after ≤ old.places + days_of before
-place_left id at one new series old before after there ahead was is =
-    omega (arith, changed_many id at one new series there, few (set series at new), length-set series at new, ahead.many, ahead.places, ap days_of was, ap days_of is)
+pub occurrence_left : (id at : ℕ) (one new : Series) (series : List Series) (old : UpcomingView) (before after : Option Day) → IsAt id at one series → IsAhead series old → before ≡ date_ahead one → after ≡ date_ahead new → length old.spawns + days_of after ≤ old.occurrences + days_of before
+occurrence_left id at one new series old before after there ahead was is =
+    omega (arith, changed_many id at one new series there, few (set series at new), length-set series at new, ahead.many, ahead.occurrences, ap days_of was, ap days_of is)
 
 pub ahead_set : (id at : ℕ) (one new : Series) (series : List Series) (old upcoming : UpcomingView) (before after : Option Day) → IsAt id at one series → new.row.id ≡ id → IsAhead series old → before ≡ date_ahead one → after ≡ date_ahead new
     → ((other : ℕ) → day_in other upcoming.spawns ≡ cond (eqb id other) after (day_in other old.spawns))
     → length upcoming.spawns + days_of before ≡ length old.spawns + days_of after
-    → upcoming.places ≡ old.places
+    → upcoming.occurrences ≡ old.occurrences
     → IsAhead (set series at new) upcoming
-ahead_set id at one new series old upcoming before after there same ahead was is exchanged many places = record {
+ahead_set id at one new series old upcoming before after there same ahead was is exchanged many occurrences = record {
   days = λ other. exchanged other ∙ chosen other (eqb id other) ∙ sym (ap date_ahead_of (now_set id at one new series there same other));
   many = omega (arith, changed_many id at one new series there, ahead.many, many, ap days_of was, ap days_of is);
-  places = omega (arith, length-set series at new, places, ahead.places);
+  occurrences = omega (arith, length-set series at new, occurrences, ahead.occurrences);
 }
   where
     chosen : (other : ℕ) (b : Bool) → cond b after (day_in other old.spawns) ≡ date_ahead_of (cond b (Some new) (series_found other series))
@@ -74,28 +74,28 @@ more_many new series =
     let both : sum_by (λ (o : Series). days_of (date_ahead o)) (series ++ new ∷ []) ≡ sum_by (λ (o : Series). days_of (date_ahead o)) series + (0 + days_of (date_ahead new)) = sum_by-append (λ (o : Series). days_of (date_ahead o)) series (new ∷ []) in
     omega (arith, both)
 
-pub stands_none : (id : ℕ) (series : List Series) (old : UpcomingView) → series_found id series ≡ None → IsAhead series old → day_in id old.spawns ≡ None
-stands_none id series old none ahead = ahead.days id ∙ ap date_ahead_of none
+pub holds_none : (id : ℕ) (series : List Series) (old : UpcomingView) → series_found id series ≡ None → IsAhead series old → day_in id old.spawns ≡ None
+holds_none id series old none ahead = ahead.days id ∙ ap date_ahead_of none
 
 pub ahead_pushed : (id : ℕ) (new : Series) (series : List Series) (old upcoming : UpcomingView) (day : Option Day) → series_found id series ≡ None → new.row.id ≡ id → IsAhead series old → day ≡ date_ahead new
     → ((other : ℕ) → day_in other upcoming.spawns ≡ cond (eqb id other) day (day_in other old.spawns))
     → length upcoming.spawns ≡ length old.spawns + days_of day
-    → upcoming.places ≡ old.places → length series < old.places
+    → upcoming.occurrences ≡ old.occurrences → length series < old.occurrences
     → IsAhead (series ++ new ∷ []) upcoming
-ahead_pushed id new series old upcoming day none same ahead is entered many places room = record {
+ahead_pushed id new series old upcoming day none same ahead is entered many occurrences room = record {
   days = λ other. entered other ∙ chosen other (eqb id other) ∙ ap (λ n. date_ahead_of (cond (eqb n other) (Some new) (series_found other series))) (sym same) ∙ sym (ap date_ahead_of (now_pushed new series (ap (λ n. series_found n series) same ∙ none) other));
   many = omega (arith, more_many new series, ahead.many, many, ap days_of is);
-  places = omega (arith, length-append series (new ∷ []), places, room);
+  occurrences = omega (arith, length-append series (new ∷ []), occurrences, room);
 }
   where
     chosen : (other : ℕ) (b : Bool) → cond b day (day_in other old.spawns) ≡ date_ahead_of (cond b (Some new) (series_found other series))
     chosen other true = is
     chosen other false = ahead.days other
 
--- Room for more of them changes nothing of what stands there.
-pub ahead_reserved : (series : List Series) (old new : UpcomingView) → new.spawns ≡ old.spawns → old.places ≤ new.places → IsAhead series old → IsAhead series new
+-- Room for more of them changes nothing of what is there there.
+pub ahead_reserved : (series : List Series) (old new : UpcomingView) → new.spawns ≡ old.spawns → old.occurrences ≤ new.occurrences → IsAhead series old → IsAhead series new
 ahead_reserved series old new same more ahead = record {
   days = λ id. ap (day_in id) same ∙ ahead.days id;
   many = ap length same ∙ ahead.many;
-  places = let room = ahead.places in omega (arith, room, more);
+  occurrences = let room = ahead.occurrences in omega (arith, room, more);
 }

@@ -1,4 +1,4 @@
--- One entry more: the row of a recurring transfer, whether it is dropped, and the place of its next transfer.
+-- One entry more: the row of a recurring transfer, whether it is dropped, and the occurrence of its next transfer.
 use Rattle.std.proofs.Common.{◌≡◌, ℕ, ◌+◌, add-one, Bool, true, false, not, ◌||◌, cond, List, [], ◌∷◌, ◌++◌, filter, length, reverse, None, refl, sym, ap, ◌∙◌}
 use Rattle.std.proofs.Math.Bool.{or-false}
 use Rattle.std.proofs.lemmas.Grind.{flat_map-append}
@@ -7,8 +7,8 @@ use Rattle.std.proofs.lemmas.List.Folds.{list_any-append}
 use Rattle.std.proofs.lemmas.List.Sums.{fold-append, take_while-cons}
 use Rattle.std.specs.List.{list_any, take_while}
 use Rattle.bank_model.specs.declared.entry.Entry.{Entry}
-use Rattle.bank_model.specs.Models.{model_in, if_model_named, or_model_before, model_of, drops_model, is_model_dropped, begins_anew, is_made_by, since_anew, next_place}
-use Rattle.bank_recur.specs.Growth.{place_after}
+use Rattle.bank_model.specs.Models.{model_in, if_model_named, or_model_before, model_of, drops_model, is_model_dropped, begins_anew, is_made_by, since_anew, next_occurrence}
+use Rattle.bank_recur.specs.Growth.{occurrence_after}
 use Rattle.bank_recur.specs.ModelsView.{id_made, ids_made}
 
 pub model_of-push : (id : ℕ) (entries : List Entry) (entry : Entry) → model_of id (entries ++ entry ∷ []) ≡ or_model_before (model_of id entries) (if_model_named id (model_in entry.change))
@@ -27,7 +27,7 @@ ids_made-push entries entry =
     ∙ ap (λ ids. ids_made entries ++ ids) (append-nil (id_made entry.change))
 
 -- how many transfers it made, the latest entry first
-made_more : (id : ℕ) (entry : Entry) (since : List Entry) → length (filter (λ (e : Entry). is_made_by id e.change) (cond (not (begins_anew id entry.change)) (entry ∷ since) [])) ≡ place_after id (length (filter (λ (e : Entry). is_made_by id e.change) since)) entry.change
+made_more : (id : ℕ) (entry : Entry) (since : List Entry) → length (filter (λ (e : Entry). is_made_by id e.change) (cond (not (begins_anew id entry.change)) (entry ∷ since) [])) ≡ occurrence_after id (length (filter (λ (e : Entry). is_made_by id e.change) since)) entry.change
 made_more id entry since =
     elim (begins_anew id entry.change) as (λ anew. length (filter (λ (e : Entry). is_made_by id e.change) (cond (not anew) (entry ∷ since) [])) ≡ cond anew 0 (cond (is_made_by id entry.change) (length (filter (λ (e : Entry). is_made_by id e.change) since) + 1) (length (filter (λ (e : Entry). is_made_by id e.change) since)))) [
       | true ↦ refl
@@ -38,9 +38,9 @@ made_more id entry since =
     counted true more = sym (add-one (length more))
     counted false more = refl
 
-pub next_place-push : (id : ℕ) (entries : List Entry) (entry : Entry) → next_place id (entries ++ entry ∷ []) ≡ place_after id (next_place id entries) entry.change
-unfolding next_place
-next_place-push id entries entry =
+pub next_occurrence-push : (id : ℕ) (entries : List Entry) (entry : Entry) → next_occurrence id (entries ++ entry ∷ []) ≡ occurrence_after id (next_occurrence id entries) entry.change
+unfolding next_occurrence
+next_occurrence-push id entries entry =
     ap (λ es. length (filter (λ (e : Entry). is_made_by id e.change) (take_while (λ (e : Entry). not (begins_anew id e.change)) es))) (reverse-append entries (entry ∷ []))
     ∙ ap (λ es. length (filter (λ (e : Entry). is_made_by id e.change) es)) (take_while-cons (λ (e : Entry). not (begins_anew id e.change)) entry (reverse entries))
     ∙ made_more id entry (since_anew id entries)

@@ -1,7 +1,7 @@
 pub mod InOrderLemmas
 pub mod UpcomingLemmas
 pub mod GrowthLemmas
-pub mod StandsLemmas
+pub mod RepresentsLemmas
 pub mod SpawnLemmas
 pub mod CivilDays
 pub mod SeriesDays

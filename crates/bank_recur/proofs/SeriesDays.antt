@@ -63,7 +63,7 @@ months_rise first months₁ months₂ h lt within =
 
 -- the days of a series whose first half of a month has the day `base`
 abbrev half_day : ℤ → ℕ → ℕ → ℤ
-half_day first base place = after_months first (base + 15 * (place % 2)) (place / 2)
+half_day first base occurrence = after_months first (base + 15 * (occurrence % 2)) (occurrence / 2)
 
 half_days_rise : (first : ℤ) (base i j : ℕ) → IsDay first → 1 ≤ base → base ≤ 16 → i < j → half_day first base j ≤ℤ pos 2932896 → half_day first base i <ℤ half_day first base j
 half_days_rise first base i j h low high lt within = elim (cases_lt (i / 2) (j / 2)) [
@@ -199,9 +199,9 @@ at_least first freq (suc k) h within =
     let before = at_least first freq k h (omega (arith, signed_arith, rise)) in
     omega (arith, signed_arith, rise, before)
 
-pub few_places : (first date : Day) (freq : Freq) (k : ℕ) → IsDay first.0 → kth_date first freq k ≡ Some date → (k ≤ 2958463) × IsDay date.0
+pub few_occurrences : (first date : Day) (freq : Freq) (k : ℕ) → IsDay first.0 → kth_date first freq k ≡ Some date → (k ≤ 2958463) × IsDay date.0
 unfolding kth_date
-few_places first date freq k h at_k =
+few_occurrences first date freq k h at_k =
     let is = within_some (day_in_series first.0 freq k) date at_k in
     let least = at_least first.0 freq k h is.1 in
     (omega (arith, signed_arith, is.1, least), (omega (arith, signed_arith, is.0, least), omega (arith, signed_arith, is.0, is.1)))

@@ -13,14 +13,14 @@ use Rattle.ofx_types.specs.declared.number.Day.{Day}
 use Rattle.ofx_types.specs.declared.transfer.Change.{Change}
 use Rattle.ofx_types.specs.declared.transfer.Change.TheVariants.{NewTransfer, SetTransfer, DropTransfer, NewModel, SetModel, DropModel, NewMail}
 use Rattle.bank_model.specs.declared.entry.Entry.{Entry}
-use Rattle.bank_model.specs.Models.{model_of, is_model_dropped, next_place}
+use Rattle.bank_model.specs.Models.{model_of, is_model_dropped, next_occurrence}
 use Rattle.bank_model.specs.Due.{Task, date_in_series, if_by, date_to_make, date_if_any, is_before, or_earlier, first_task, task_on, makes, to_make}
 use Rattle.bank_recur.specs.Ahead.{IsAhead}
-use Rattle.bank_recur.specs.ModelsView.{Series, ModelsView, series_found, is_cancelled_series, id_made, ids_made, StandsFor}
+use Rattle.bank_recur.specs.ModelsView.{Series, ModelsView, series_found, is_cancelled_series, id_made, ids_made, Represents}
 use Rattle.bank_recur.specs.Spawning.{date_ahead, date_ahead_of, date_by, date_found}
 use Rattle.bank_recur.specs.Upcoming.{UpcomingView, IsFirst, day_in}
 use Rattle.bank_recur.specs.declared.spawn.Spawn.{Spawn}
-use Rattle.bank_recur.proofs.StandsLemmas.{place_is}
+use Rattle.bank_recur.proofs.RepresentsLemmas.{offset_is}
 
 -- ---- what is to be made, series by series
 
@@ -43,27 +43,27 @@ makes_ids last all (entry ∷ entries) =
     ∙ ap (λ ts. flat_map (made_of last all) (id_made entry.change) ++ ts) (makes_ids last all entries)
     ∙ sym (flat_map-append (made_of last all) (id_made entry.change) (ids_made entries))
 
-to_make_series : (last : Day) (models : ModelsView) (entries : List Entry) → StandsFor models entries → to_make last entries ≡ flat_map (λ (one : Series). made_of last entries one.row.id) models.series
+to_make_series : (last : Day) (models : ModelsView) (entries : List Entry) → Represents models entries → to_make last entries ≡ flat_map (λ (one : Series). made_of last entries one.row.id) models.series
 unfolding to_make
-to_make_series last models entries stands =
+to_make_series last models entries holds =
     makes_ids last entries entries
-    ∙ ap (flat_map (made_of last entries)) (sym stands.order)
+    ∙ ap (flat_map (made_of last entries)) (sym holds.order)
     ∙ flat_map-map (made_of last entries) (λ (one : Series). one.row.id) models.series
 
 -- ---- one by its id
 
-pub date_is : (last : Day) (models : ModelsView) (entries : List Entry) (id : ℕ) → StandsFor models entries → date_found last (series_found id models.series) ≡ date_to_make last id entries
+pub date_is : (last : Day) (models : ModelsView) (entries : List Entry) (id : ℕ) → Represents models entries → date_found last (series_found id models.series) ≡ date_to_make last id entries
 unfolding date_to_make
-date_is last models entries id stands = looked (series_found id models.series) refl
+date_is last models entries id holds = looked (series_found id models.series) refl
   where
     looked : (found : Option Series) → series_found id models.series ≡ found → date_found last found ≡ date_if_any last id entries (model_of id entries)
-    looked None is = sym (ap (date_if_any last id entries) (sym (stands.rows id) ∙ ap (option_map (λ (o : Series). o.row)) is))
+    looked None is = sym (ap (date_if_any last id entries) (sym (holds.rows id) ∙ ap (option_map (λ (o : Series). o.row)) is))
     looked (Some one) is =
-        let row : model_of id entries ≡ Some one.row = sym (stands.rows id) ∙ ap (option_map (λ (o : Series). o.row)) is in
-        let dropped : is_model_dropped id entries ≡ one.cancelled = sym (stands.dropped id) ∙ ap is_cancelled_series is in
+        let row : model_of id entries ≡ Some one.row = sym (holds.rows id) ∙ ap (option_map (λ (o : Series). o.row)) is in
+        let dropped : is_model_dropped id entries ≡ one.cancelled = sym (holds.dropped id) ∙ ap is_cancelled_series is in
         sym (ap (date_if_any last id entries) row
-        ∙ ap (λ b. cond b None (if_by last (date_in_series one.row (next_place id entries)))) dropped
-        ∙ ap (λ n. cond one.cancelled None (if_by last (date_in_series one.row n))) (sym (place_is id one models entries stands is)))
+        ∙ ap (λ b. cond b None (if_by last (date_in_series one.row (next_occurrence id entries)))) dropped
+        ∙ ap (λ n. cond one.cancelled None (if_by last (date_in_series one.row n))) (sym (offset_is id one models entries holds is)))
 
 -- ---- the first of tasks
 
@@ -81,9 +81,9 @@ abbrev Has : Task → List Task → Type 0
 Has task [] = ⊥
 Has task (other ∷ tasks) = (other ≡ task) ⊎ Has task tasks
 
-has_behind : (task : Task) (front behind : List Task) → Has task behind → Has task (front ++ behind)
-has_behind task [] behind has = has
-has_behind task (other ∷ front) behind has = inr (has_behind task front behind has)
+has_after : (task : Task) (prefix rest : List Task) → Has task rest → Has task (prefix ++ rest)
+has_after task [] rest has = has
+has_after task (other ∷ prefix) rest has = inr (has_after task prefix rest has)
 
 -- No task that was met comes before it.
 abbrev IsLate : Task → Option Task → Type 0
@@ -120,13 +120,13 @@ least task met (other ∷ tasks) late all (inr has) = least task (or_earlier met
 
 -- ---- the dates ahead are those of what is to be made
 
--- What is to be made stands among the next transfers, and its day is no later than the last one.
+-- What is to be made is among the next transfers, and its day is no later than the last one.
 record IsMade (last : Day) (upcoming : UpcomingView) (task : Task) : Type 0 where
   ahead : day_in task.id upcoming.spawns ≡ Some task.day
   early : int_le task.day.0 last.0 ≡ true
 
 date_parts : (last : Day) (one : Series) (day : Day) → date_by last one ≡ Some day → (date_ahead one ≡ Some day) × (int_le day.0 last.0 ≡ true)
-date_parts last one day is = dropped one.cancelled (date_in_series one.row one.place) is
+date_parts last one day is = dropped one.cancelled (date_in_series one.row one.occurrence) is
   where
     early : (b : Bool) (date : Day) → int_le date.0 last.0 ≡ b → cond b (Some date) None ≡ Some day → (Some date ≡ Some day) × (int_le day.0 last.0 ≡ true)
     early true date e is = (is, let same : date ≡ day = cc in ap (λ (d : Day). int_le d.0 last.0) (sym same) ∙ e)
@@ -141,15 +141,15 @@ date_parts last one day is = dropped one.cancelled (date_in_series one.row one.p
     dropped false date is = dated date is
 
 date_from : (last : Day) (one : Series) (day : Day) → date_ahead one ≡ Some day → int_le day.0 last.0 ≡ true → date_by last one ≡ Some day
-date_from last one day is early = dropped one.cancelled (date_in_series one.row one.place) is
+date_from last one day is early = dropped one.cancelled (date_in_series one.row one.occurrence) is
   where
     dropped : (b : Bool) (date : Option Day) → cond b None date ≡ Some day → cond b None (if_by last date) ≡ Some day
     dropped true date is = cc
     dropped false date is = ap (if_by last) is ∙ ap (λ b. cond b (Some day) None) early
 
-module _ (last : Day) (models : ModelsView) (entries : List Entry) (upcoming : UpcomingView) (ahead : IsAhead models.series upcoming) (stands : StandsFor models entries) where
+module _ (last : Day) (models : ModelsView) (entries : List Entry) (upcoming : UpcomingView) (ahead : IsAhead models.series upcoming) (holds : Represents models entries) where
   made : (id : ℕ) (day : Day) → date_to_make last id entries ≡ Some day → IsMade last upcoming (record { day = day; id = id })
-  made id day is = looked (series_found id models.series) refl (date_is last models entries id stands ∙ is)
+  made id day is = looked (series_found id models.series) refl (date_is last models entries id holds ∙ is)
     where
       looked : (found : Option Series) → series_found id models.series ≡ found → date_found last (series_found id models.series) ≡ Some day → IsMade last upcoming (record { day = day; id = id })
       looked None same is = let none = ap (date_found last) (sym same) ∙ is in cc
@@ -168,7 +168,7 @@ module _ (last : Day) (models : ModelsView) (entries : List Entry) (upcoming : U
   has_made : (id : ℕ) (day : Day) (one : Series) (series : List Series) → series_found id series ≡ Some one → date_to_make last id entries ≡ Some day → Has (record { day = day; id = id }) (flat_map (λ (o : Series). made_of last entries o.row.id) series)
   has_made id day one [] found is = cc
   has_made id day one (s ∷ series) found is =
-      named (λ more. has_behind (record { day = day; id = id }) (made_of last entries s.row.id) (flat_map (λ (o : Series). made_of last entries o.row.id) series) (has_made id day one series more is)) (eqb s.row.id id) refl found
+      named (λ more. has_after (record { day = day; id = id }) (made_of last entries s.row.id) (flat_map (λ (o : Series). made_of last entries o.row.id) series) (has_made id day one series more is)) (eqb s.row.id id) refl found
     where
       named : (series_found id series ≡ Some one → Has (record { day = day; id = id }) (made_of last entries s.row.id ++ flat_map (λ (o : Series). made_of last entries o.row.id) series)) → (b : Bool) → eqb s.row.id id ≡ b → cond b (Some s) (series_found id series) ≡ Some one → Has (record { day = day; id = id }) (made_of last entries s.row.id ++ flat_map (λ (o : Series). made_of last entries o.row.id) series)
       named more true e found =
@@ -183,7 +183,7 @@ module _ (last : Day) (models : ModelsView) (entries : List Entry) (upcoming : U
       looked None same is = let none = ap date_ahead_of (sym same) ∙ is in cc
       looked (Some one) same is =
           let date = date_from last one first.day (ap date_ahead_of (sym same) ∙ is) early in
-          has_made first.id first.day one models.series same (sym (date_is last models entries first.id stands) ∙ ap (date_found last) same ∙ date)
+          has_made first.id first.day one models.series same (sym (date_is last models entries first.id holds) ∙ ap (date_found last) same ∙ date)
 
   late_made : (first : Spawn) → ((id : ℕ) (day : Day) → day_in id upcoming.spawns ≡ Some day → is_before (record { day = day; id = id }) (record { day = first.day; id = first.id }) ≡ false) → (tasks : List Task) → AllByRecursion (IsMade last upcoming) tasks → AllByRecursion (λ (other : Task). is_before other (record { day = first.day; id = first.id }) ≡ false) tasks
   late_made first least [] all = tt
@@ -200,15 +200,15 @@ module _ (last : Day) (models : ModelsView) (entries : List Entry) (upcoming : U
 
   pub first_made : (first : Spawn) → IsFirst (Some first) upcoming.spawns → int_le first.day.0 last.0 ≡ true → first_task (to_make last entries) ≡ Some (record { day = first.day; id = first.id })
   first_made first is early =
-      ap first_task (to_make_series last models entries stands)
+      ap first_task (to_make_series last models entries holds)
       ∙ least (record { day = first.day; id = first.id }) None (flat_map (λ (one : Series). made_of last entries one.row.id) models.series) tt (late_made first is.1 (flat_map (λ (one : Series). made_of last entries one.row.id) models.series) (all_made models.series)) (has_first first is.0 early)
 
   pub none_by : (first : Spawn) → IsFirst (Some first) upcoming.spawns → int_le first.day.0 last.0 ≡ false → first_task (to_make last entries) ≡ None
   none_by first is late =
-      ap first_task (to_make_series last models entries stands)
+      ap first_task (to_make_series last models entries holds)
       ∙ none_made first is.1 late (flat_map (λ (one : Series). made_of last entries one.row.id) models.series) (all_made models.series)
 
   pub none_ahead : IsFirst None upcoming.spawns → first_task (to_make last entries) ≡ None
   none_ahead none =
-      ap first_task (to_make_series last models entries stands)
+      ap first_task (to_make_series last models entries holds)
       ∙ nothing_made none (flat_map (λ (one : Series). made_of last entries one.row.id) models.series) (all_made models.series)

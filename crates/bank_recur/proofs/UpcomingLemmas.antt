@@ -10,7 +10,7 @@ use Rattle.std.specs.List.{AllByRecursion, AllWithin, find, slice_get}
 use Rattle.std.specs.List.Sorted.{IsPartitionedBy}
 use Rattle.ofx_types.specs.declared.number.Day.{Day}
 use Rattle.bank_recur.specs.Spawning.{is_before_spawn}
-use Rattle.bank_recur.specs.Upcoming.{Precedes, IsInOrder, IsPlace, IsFirst, day_in}
+use Rattle.bank_recur.specs.Upcoming.{Precedes, IsInOrder, IsIndex, IsFirst, day_in}
 use Rattle.bank_recur.specs.declared.spawn.Spawn.{Spawn}
 use Rattle.bank_recur.proofs.InOrderLemmas.{all_at, in_order_insert, in_order_pairs}
 
@@ -41,7 +41,7 @@ one_of_both a b late apart = other_early a.day.0 b.day.0 a.id b.id late apart
 pub before_through : (a b c : Spawn) → is_before_spawn a b ≡ true → is_before_spawn b c ≡ true → is_before_spawn a c ≡ true
 before_through a b c first second = early_through a.day.0 b.day.0 c.day.0 a.id b.id c.id first second
 
--- those in front of a transfer's place come before it
+-- those before of a transfer's place come before it
 pub parted : (x : Spawn) (xs : List Spawn) → IsInOrder xs → IsPartitionedBy (λ (s : Spawn). is_before_spawn s x) xs
 parted x xs order i j d most within early = ⊎_elim (λ same. subst (λ k. is_before_spawn (get_or xs k d) x ≡ true) (sym same) early) (λ other. before_through (get_or xs i d) (get_or xs j d) x (in_order_pairs Precedes xs i j d (omega arith) within order).before early) (cases_eq i j)
 
@@ -76,12 +76,12 @@ none_in id (y ∷ xs) none = named (none_in id xs) (eqb y.id id) refl (sym (day_
     named more false e is = (e, more is)
 
 -- Those after one aren't of its recurring transfer.
-none_behind : (y : Spawn) (xs : List Spawn) (other : ℕ) → AllByRecursion (Precedes y) xs → eqb y.id other ≡ true → day_in other xs ≡ None
-none_behind y xs other behind same = looked (day_in other xs) refl
+none_after : (y : Spawn) (xs : List Spawn) (other : ℕ) → AllByRecursion (Precedes y) xs → eqb y.id other ≡ true → day_in other xs ≡ None
+none_after y xs other rest same = looked (day_in other xs) refl
   where
     looked : (day : Option Day) → day_in other xs ≡ day → day ≡ None
     looked None is = refl
-    looked (Some day) is = absurd (both_ways (eqb y.id other) (day_holds (Precedes y) xs other day behind is).apart same)
+    looked (Some day) is = absurd (both_ways (eqb y.id other) (day_holds (Precedes y) xs other day rest is).apart same)
 
 swapped : (y x other : ℕ) (a b : Bool) (day : Day) (its rest : Option Day) → eqb y x ≡ false → eqb y other ≡ a → eqb x other ≡ b → cond a (Some day) (cond b its rest) ≡ cond b its (cond a (Some day) rest)
 swapped y x other true true day its rest apart e f = absurd (both_ways (eqb y x) apart (eq-eqb y x (eqb-true y other e ∙ sym (eqb-true x other f))))
@@ -91,15 +91,15 @@ swapped y x other false false day its rest apart e f = refl
 
 -- ---- one more
 
-pub order_insert : (x : Spawn) (xs : List Spawn) (at : ℕ) → IsInOrder xs → IsPlace x xs at → day_in x.id xs ≡ None → IsInOrder (insert xs at x)
-order_insert x xs at order place none =
+pub order_insert : (x : Spawn) (xs : List Spawn) (at : ℕ) → IsInOrder xs → IsIndex x xs at → day_in x.id xs ≡ None → IsInOrder (insert xs at x)
+order_insert x xs at order occurrence none =
     in_order_insert Precedes xs at x
-    (λ k d low high. record { before = place.parts.0 k d low high; apart = apart k d (omega (arith, place.within)) })
+    (λ k d low high. record { before = occurrence.parts.0 k d low high; apart = apart k d (omega (arith, occurrence.within)) })
     (λ k d low high. record {
-      before = one_of_both (get_or xs k d) x (place.parts.1 k d low high) (other k d high);
+      before = one_of_both (get_or xs k d) x (occurrence.parts.1 k d low high) (other k d high);
       apart = other k d high;
     })
-    place.within order
+    occurrence.within order
   where
     apart : (k : ℕ) (d : Spawn) → k < length xs → eqb (get_or xs k d).id x.id ≡ false
     apart k d high = all_at (λ (s : Spawn). eqb s.id x.id ≡ false) xs k d high (none_in x.id xs none)
@@ -123,25 +123,25 @@ day_insert x (y ∷ xs) (suc at) other none =
 
 -- ---- one less
 
--- The transfer stands at a place.
+-- The transfer is at a place.
 pub record IsThere (x : Spawn) (xs : List Spawn) (at : ℕ) : Type 0 where
   pub within : at < length xs
   pub element : get_or xs at x ≡ x
 
--- One that is there stands at its place.
+-- One that is there is at its place.
 pub there_at : (x : Spawn) (xs : List Spawn) (at : ℕ) → IsInOrder xs → AllWithin (λ (s : Spawn). is_before_spawn s x ≡ true) xs 0 at → AllWithin (λ (s : Spawn). is_before_spawn s x ≡ false) xs at (length xs) → day_in x.id xs ≡ Some x.day → IsThere x xs at
-there_at x [] at order front behind is = cc
-there_at x (y ∷ xs) zero order front behind is = named (eqb y.id x.id) refl (sym (day_step x.id y xs) ∙ is)
+there_at x [] at order prefix rest is = cc
+there_at x (y ∷ xs) zero order prefix rest is = named (eqb y.id x.id) refl (sym (day_step x.id y xs) ∙ is)
   where
     named : (b : Bool) → eqb y.id x.id ≡ b → cond b (Some y.day) (day_in x.id xs) ≡ Some x.day → IsThere x (y ∷ xs) 0
     named true e is = record { within = omega arith; element = same_spawn y x e is }
-    named false e is = absurd (both_ways (is_before_spawn y x) (behind 0 y (omega arith) (omega arith)) (day_holds (Precedes y) xs x.id x.day order.0 is).before)
-there_at x (y ∷ xs) (suc at) order front behind is =
-    let more = λ (found : day_in x.id xs ≡ Some x.day). there_at x xs at order.1 (λ k d low high. front (suc k) d (omega arith) (omega arith)) (λ k d low high. behind (suc k) d (omega arith) (omega arith)) found in
+    named false e is = absurd (both_ways (is_before_spawn y x) (rest 0 y (omega arith) (omega arith)) (day_holds (Precedes y) xs x.id x.day order.0 is).before)
+there_at x (y ∷ xs) (suc at) order prefix rest is =
+    let more = λ (found : day_in x.id xs ≡ Some x.day). there_at x xs at order.1 (λ k d low high. prefix (suc k) d (omega arith) (omega arith)) (λ k d low high. rest (suc k) d (omega arith) (omega arith)) found in
     named more (eqb y.id x.id) refl (sym (day_step x.id y xs) ∙ is)
   where
     named : (day_in x.id xs ≡ Some x.day → IsThere x xs at) → (b : Bool) → eqb y.id x.id ≡ b → cond b (Some y.day) (day_in x.id xs) ≡ Some x.day → IsThere x (y ∷ xs) (suc at)
-    named more true e is = absurd (both_ways (is_before_spawn x x) (never_before_itself x) (subst (λ (s : Spawn). is_before_spawn s x ≡ true) (same_spawn y x e is) (front 0 y (omega arith) (omega arith))))
+    named more true e is = absurd (both_ways (is_before_spawn x x) (never_before_itself x) (subst (λ (s : Spawn). is_before_spawn s x ≡ true) (same_spawn y x e is) (prefix 0 y (omega arith) (omega arith))))
     named more false e is = let there = more is in let within = there.within in record { within = omega arith; element = there.element }
 
 pub day_remove : (x : Spawn) (xs : List Spawn) (at other : ℕ) → IsInOrder xs → IsThere x xs at → day_in other (remove xs at) ≡ cond (eqb x.id other) None (day_in other xs)
@@ -149,7 +149,7 @@ day_remove x [] at other order there = let none = there.within in absurd (omega 
 day_remove x (y ∷ xs) zero other order there = gone (eqb y.id other) refl ∙ ap (λ (s : Spawn). cond (eqb s.id other) None (day_in other (y ∷ xs))) there.element
   where
     gone : (b : Bool) → eqb y.id other ≡ b → day_in other xs ≡ cond b None (day_in other (y ∷ xs))
-    gone true e = none_behind y xs other order.0 e
+    gone true e = none_after y xs other order.0 e
     gone false e = sym (day_step other y xs ∙ ap (λ b. cond b (Some y.day) (day_in other xs)) e)
 day_remove x (y ∷ xs) (suc at) other order there =
     let within : at < length xs = omega (arith, there.within) in
@@ -179,7 +179,7 @@ first_of first (y ∷ xs) now is order same =
 
 -- ---- as the calls see them
 
-pub there_in : (x : Spawn) (xs seen now : List Spawn) (at : ℕ) (day : Option Day) → IsInOrder xs → IsPlace x seen at → seen ≡ xs → xs ≡ now → day_in x.id now ≡ day → day ≡ Some x.day → IsThere x xs at
-there_in x xs seen now at day order place looked same is given =
-    let here = subst (λ l. IsPlace x l at) looked place in
+pub there_in : (x : Spawn) (xs seen now : List Spawn) (at : ℕ) (day : Option Day) → IsInOrder xs → IsIndex x seen at → seen ≡ xs → xs ≡ now → day_in x.id now ≡ day → day ≡ Some x.day → IsThere x xs at
+there_in x xs seen now at day order occurrence looked same is given =
+    let here = subst (λ l. IsIndex x l at) looked occurrence in
     there_at x xs at order here.parts.0 here.parts.1 (ap (day_in x.id) same ∙ is ∙ given)

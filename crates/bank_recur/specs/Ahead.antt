@@ -5,9 +5,9 @@ use Rattle.bank_recur.specs.ModelsView.{Series, series_found}
 use Rattle.bank_recur.specs.Spawning.{date_ahead, date_ahead_of}
 use Rattle.bank_recur.specs.Upcoming.{UpcomingView, day_in, days_of}
 
--- Each recurring transfer that isn't cancelled and has a next date stands there with it, and none else does; there is one
+-- Each recurring transfer that isn't cancelled and has a next date is there with it, and none else does; there is one
 -- for each of them, and a place for each recurring transfer.
 pub record IsAhead (series : List Series) (upcoming : UpcomingView) : Type 0 where
   pub days : (id : ℕ) → day_in id upcoming.spawns ≡ date_ahead_of (series_found id series)
   pub many : length upcoming.spawns ≡ sum_by (λ (one : Series). days_of (date_ahead one)) series
-  pub places : length series ≤ upcoming.places
+  pub occurrences : length series ≤ upcoming.occurrences

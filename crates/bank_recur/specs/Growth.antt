@@ -5,5 +5,5 @@ use Rattle.bank_model.specs.Models.{begins_anew, is_made_by}
 
 -- A change that begins the recurring transfer anew takes the place back to 0, and a transfer that it made raises the place
 -- by one.
-abbrev pub place_after : ℕ → ℕ → Change → ℕ
-place_after id place change = if begins_anew id change then 0 else (if is_made_by id change then place + 1 else place)
+abbrev pub occurrence_after : ℕ → ℕ → Change → ℕ
+occurrence_after id occurrence change = if begins_anew id change then 0 else (if is_made_by id change then occurrence + 1 else occurrence)

@@ -7,13 +7,13 @@ use Rattle.ofx_types.specs.declared.recurring.ModelRow.{ModelRow}
 use Rattle.ofx_types.specs.declared.transfer.Change.{Change}
 use Rattle.ofx_types.specs.declared.transfer.Change.TheVariants.{NewTransfer, SetTransfer, DropTransfer, NewModel, SetModel, DropModel, NewMail}
 use Rattle.bank_model.specs.declared.entry.Entry.{Entry}
-use Rattle.bank_model.specs.Models.{model_of, is_model_dropped, next_place}
+use Rattle.bank_model.specs.Models.{model_of, is_model_dropped, next_occurrence}
 
--- A recurring transfer: its row, whether it is cancelled, and the place of its next transfer in the series.
+-- A recurring transfer: its row, whether it is cancelled, and the occurrence of its next transfer in the series.
 pub record Series : Type 0 where
   pub row : ModelRow
   pub cancelled : Bool
-  pub place : ℕ
+  pub occurrence : ℕ
 
 -- The recurring transfers in the order in which they were made, and for how many more there is room.
 pub record ModelsView : Type 0 where
@@ -34,13 +34,13 @@ is_cancelled_series (Some series) = series.cancelled
 abbrev pub cancelled_found : ℕ → List Series → Bool
 cancelled_found id series = is_cancelled_series (series_found id series)
 
-abbrev pub place_in_series : Option Series → ℕ
-place_in_series None = 0
-place_in_series (Some series) = series.place
+abbrev pub occurrence_in_series : Option Series → ℕ
+occurrence_in_series None = 0
+occurrence_in_series (Some series) = series.occurrence
 
 -- the place of a recurring transfer's next one, where there is one
-abbrev pub place_found : ℕ → List Series → ℕ
-place_found id series = place_in_series (series_found id series)
+abbrev pub occurrence_found : ℕ → List Series → ℕ
+occurrence_found id series = occurrence_in_series (series_found id series)
 
 abbrev pub ids_of : List Series → List ℕ
 ids_of series = map (λ (one : Series). one.row.id) series
@@ -68,10 +68,10 @@ ids_made entries = flat_map (λ (entry : Entry). id_made entry.change) entries
 
 -- The recurring transfers stand for a list of entries: each row is the one that the entries have for its id, each is
 -- cancelled where the entries drop it, and each has the place that the entries give to its next transfer.
-pub record StandsFor (models : ModelsView) (entries : List Entry) : Type 0 where
+pub record Represents (models : ModelsView) (entries : List Entry) : Type 0 where
   pub rows : (id : ℕ) → row_found id models.series ≡ model_of id entries
   pub dropped : (id : ℕ) → cancelled_found id models.series ≡ is_model_dropped id entries
-  pub places : (id : ℕ) → is_some (row_found id models.series) ≡ true → place_found id models.series ≡ next_place id entries
+  pub occurrences : (id : ℕ) → is_some (row_found id models.series) ≡ true → occurrence_found id models.series ≡ next_occurrence id entries
   pub order : ids_of models.series ≡ ids_made entries
 
 -- The row that a change after a list of entries gives: that of a recurring transfer whose id is new, or the one that a

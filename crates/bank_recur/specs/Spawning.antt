@@ -8,13 +8,13 @@ use Rattle.bank_recur.specs.ModelsView.{Series}
 use Rattle.bank_recur.specs.declared.spawn.Spawn.{Spawn}
 
 -- The date is that of the place in the row's series, whose first date lies in the years 1900 to 9999.
-pub record IsNext (row : ModelRow) (place : ℕ) (next : Option Day) : Type 0 where
+pub record IsNext (row : ModelRow) (occurrence : ℕ) (next : Option Day) : Type 0 where
   pub first : IsDay row.first.0
-  pub date : next ≡ date_in_series row place
+  pub date : next ≡ date_in_series row occurrence
 
 -- The date of its next transfer, where it isn't cancelled and its series has one more.
 abbrev pub date_ahead : Series → Option Day
-date_ahead one = if one.cancelled then None else date_in_series one.row one.place
+date_ahead one = if one.cancelled then None else date_in_series one.row one.occurrence
 
 -- the same of a recurring transfer that is looked for
 abbrev pub date_ahead_of : Option Series → Option Day
@@ -23,7 +23,7 @@ date_ahead_of (Some one) = date_ahead one
 
 -- The date of its next transfer, where that is no later than a last day.
 abbrev pub date_by : Day → Series → Option Day
-date_by last one = if one.cancelled then None else if_by last (date_in_series one.row one.place)
+date_by last one = if one.cancelled then None else if_by last (date_in_series one.row one.occurrence)
 
 -- the same, where there is such a recurring transfer
 abbrev pub date_found : Day → Option Series → Option Day

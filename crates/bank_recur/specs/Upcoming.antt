@@ -11,7 +11,7 @@ use Rattle.bank_recur.specs.declared.spawn.Spawn.{Spawn}
 -- The next transfers, and how many there are places for.
 pub record UpcomingView : Type 0 where
   pub spawns : List Spawn
-  pub places : ℕ
+  pub occurrences : ℕ
 
 -- The first comes before the other, and they aren't of one recurring transfer.
 pub record Precedes (first other : Spawn) : Type 0 where
@@ -30,8 +30,8 @@ abbrev pub days_of : Option Day → ℕ
 days_of None = 0
 days_of (Some day) = 1
 
--- Those in front of the place come before the transfer, and those from there on don't.
-pub record IsPlace (next : Spawn) (spawns : List Spawn) (at : ℕ) : Type 0 where
+-- Those before of the place come before the transfer, and those from there on don't.
+pub record IsIndex (next : Spawn) (spawns : List Spawn) (at : ℕ) : Type 0 where
   pub within : at ≤ length spawns
   pub parts : IsPartitionPoint (λ (spawn : Spawn). is_before_spawn spawn next ≡ true) (λ (spawn : Spawn). is_before_spawn spawn next ≡ false) spawns at
 

@@ -11,8 +11,8 @@ mod laws;
 use jiff_core::civil::Date;
 use jiff_span::date::add_months;
 pub use laws::{
-    civil_of_its_day, day_of_its_civil_date, series_begins, series_ends, series_has_few_places,
-    series_rises,
+    civil_of_its_day, day_of_its_civil_date, series_begins, series_ends,
+    series_has_few_occurrences, series_rises,
 };
 use ofx_types::{Day, Freq};
 
@@ -22,24 +22,24 @@ const HALF: u8 = 15;
 /// The months of the years 1900 to 9999.
 const MONTHS: u64 = 97_200;
 
-/// The date of the transfer at that place of a series, from 0, whose first date is given (FREQ). None exactly where
+/// The date of the transfer at that occurrence of a series, from 0, whose first date is given (FREQ). None exactly where
 /// the date lies after 31 December 9999. Takes no memory.
 #[tactic(auto, unfolding(bank_model::specs::Recurrence::kth_date, bank_model::specs::Recurrence::day_in_series))]
 pub fn date_of(first: Day, freq: Freq, k: u32) -> Option<Day>
     requires { IsDay first.0 }
     ensures { result ≡ kth_date first freq k }
 {
-    let place = k as u64;
+    let occurrence = k as u64;
     match freq {
-        Freq::Weekly => days_later(first, 7 * place),
-        Freq::Biweekly => days_later(first, 14 * place),
-        Freq::TwiceMonthly => twice_monthly(first, place),
-        Freq::Monthly => months_later(first, place),
-        Freq::FourWeeks => days_later(first, 28 * place),
-        Freq::Bimonthly => months_later(first, 2 * place),
-        Freq::Quarterly => months_later(first, 3 * place),
-        Freq::Semiannually => months_later(first, 6 * place),
-        Freq::Annually => months_later(first, 12 * place),
+        Freq::Weekly => days_later(first, 7 * occurrence),
+        Freq::Biweekly => days_later(first, 14 * occurrence),
+        Freq::TwiceMonthly => twice_monthly(first, occurrence),
+        Freq::Monthly => months_later(first, occurrence),
+        Freq::FourWeeks => days_later(first, 28 * occurrence),
+        Freq::Bimonthly => months_later(first, 2 * occurrence),
+        Freq::Quarterly => months_later(first, 3 * occurrence),
+        Freq::Semiannually => months_later(first, 6 * occurrence),
+        Freq::Annually => months_later(first, 12 * occurrence),
     }
 }
 
@@ -63,18 +63,18 @@ fn months_later(first: Day, months: u64) -> Option<Day>
     day_in_month(first, civil_date(first).day, months)
 }
 
-/// The date at that place of a series with two dates a month, 15 days of the month apart.
-fn twice_monthly(first: Day, place: u64) -> Option<Day>
+/// The date at that occurrence of a series with two dates a month, 15 days of the month apart.
+fn twice_monthly(first: Day, occurrence: u64) -> Option<Day>
     requires { IsDay first.0 }
-    ensures { result ≡ if_in_calendar (recurrence.twice_monthly first.0 (civil_of first.0).day place) }
+    ensures { result ≡ if_in_calendar (recurrence.twice_monthly first.0 (civil_of first.0).day occurrence) }
 {
     let day = civil_date(first).day;
-    if place % 2 == 0 {
-        day_in_month(first, day, place / 2)
+    if occurrence % 2 == 0 {
+        day_in_month(first, day, occurrence / 2)
     } else if day <= HALF {
-        day_in_month(first, day + 15, place / 2)
+        day_in_month(first, day + 15, occurrence / 2)
     } else {
-        day_in_month(first, day - 15, place / 2 + 1)
+        day_in_month(first, day - 15, occurrence / 2 + 1)
     }
 }
 

@@ -16,7 +16,7 @@ use ofx_types::{AcctId, AcctName, Day, ModelRow, UserId, XferInfo};
 
 /// The code of a recurring transfer that a user asks for on a business day.
 ///
-/// Where the deed stands in the synchronisation of one account, `only` is that account. Takes no memory.
+/// Where the deed is in the synchronisation of one account, `only` is that account. Takes no memory.
 #[tactic(auto, unfolding(bank_model::specs::Judging::model_code))]
 pub fn judge_model(
     setup: &Setup,
@@ -68,7 +68,7 @@ pub fn judge_model_cancel(
     ensures { result ≡ model_cancel_code setup.now user only (option_map (λ r. r.now) row.entry) cancelled }
 {
     match row {
-        Some(found) => standing_code(setup, user, only, found, cancelled),
+        Some(found) => state_code(setup, user, only, found, cancelled),
         None => UNKNOWN_MODEL_ID,
     }
 }
@@ -87,7 +87,7 @@ fn change_code(
     requires { IsWithinLimits setup.now }
     ensures { result ≡ model_modify_code setup.now user only (Some found.now) cancelled info.now day }
 {
-    match standing_code(setup, user, only, found, cancelled) {
+    match state_code(setup, user, only, found, cancelled) {
         DONE => terms_code(setup, found, info, day),
         refusal => refusal,
     }
@@ -111,7 +111,7 @@ fn terms_code(setup: &Setup, found: &ModelRow, info: &XferInfo, day: Day) -> u16
 
 /// What a change and a cancellation refuse alike.
 #[tactic(auto, unfolding(bank_model::specs::Judging::model_cancel_code))]
-fn standing_code(
+fn state_code(
     setup: &Setup,
     user: UserId,
     only: Option<AcctId>,

@@ -2,9 +2,9 @@
 
 ghost use Rattle.std.specs.Prelude.{◌≡◌, ℕ, ◌||◌, ◌∷◌, ◌++◌, [], List};
 ghost use Rattle.bank_model.specs.declared.entry.Entry.{Entry};
-ghost use Rattle.bank_model.specs.Models.{model_in, if_model_named, or_model_before, model_of, drops_model, is_model_dropped, next_place};
-ghost use Rattle.bank_recur.specs.Growth.{place_after};
-ghost use Rattle.bank_recur.specs.ModelsView.{ModelsView, StandsFor, LeavesModels};
+ghost use Rattle.bank_model.specs.Models.{model_in, if_model_named, or_model_before, model_of, drops_model, is_model_dropped, next_occurrence};
+ghost use Rattle.bank_recur.specs.Growth.{occurrence_after};
+ghost use Rattle.bank_recur.specs.ModelsView.{ModelsView, Represents, LeavesModels};
 
 /// The row of a recurring transfer after one entry more is the one that the entry gives to it, or else its row before.
 pub fn model_by_one_more()
@@ -20,13 +20,13 @@ pub fn model_dropped_by_one_more()
 
 /// The place of a recurring transfer's next one after one entry more follows from its place before and what the entry
 /// says.
-pub fn place_by_one_more()
+pub fn occurrence_by_one_more()
     ensures { (id : ℕ) (entries : List Entry) (entry : Entry) →
-        next_place id (entries ++ entry ∷ []) ≡ place_after id (next_place id entries) entry.change }
+        next_occurrence id (entries ++ entry ∷ []) ≡ occurrence_after id (next_occurrence id entries) entry.change }
 {}
 
 /// A change of a transfer that no recurring transfer makes leaves the recurring transfers as they are, and so does a mail.
 pub fn others_leave_models()
-    ensures { (models : ModelsView) (entries : List Entry) (entry : Entry) → StandsFor models entries
-        → LeavesModels entries entry.change → StandsFor models (entries ++ entry ∷ []) }
+    ensures { (models : ModelsView) (entries : List Entry) (entry : Entry) → Represents models entries
+        → LeavesModels entries entry.change → Represents models (entries ++ entry ∷ []) }
 {}

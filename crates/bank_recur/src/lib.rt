@@ -15,7 +15,7 @@ mod upcoming;
 
 pub use date::{
     civil_of_its_day, date_of, day_of_its_civil_date, series_begins, series_ends,
-    series_has_few_places, series_rises,
+    series_has_few_occurrences, series_rises,
 };
 pub use judging::{judge_model, judge_model_cancel, judge_model_modify};
 pub use models::Models;

@@ -6,9 +6,9 @@ ghost use Rattle.std.specs.Option.{option_copied, option_map};
 ghost use Rattle.std.specs.List.{find, position};
 ghost use Rattle.ofx_types.specs.Calendar.{IsDay};
 ghost use Rattle.bank_model.specs.declared.entry.Entry.{Entry};
-ghost use Rattle.bank_model.specs.Models.{model_of, is_model_dropped, next_place};
+ghost use Rattle.bank_model.specs.Models.{model_of, is_model_dropped, next_occurrence};
 ghost use Rattle.bank_model.specs.Due.{first_task, to_make, date_to_make};
-ghost use Rattle.bank_recur.specs.ModelsView.{series_found, row_found, place_found, StandsFor, GivesModel, Cancels, IsMadeBy};
+ghost use Rattle.bank_recur.specs.ModelsView.{series_found, row_found, occurrence_found, Represents, GivesModel, Cancels, IsMadeBy};
 ghost use Rattle.bank_recur.specs.Spawning.{date_found};
 
 use crate::series::HeldSeries;
@@ -36,7 +36,7 @@ impl Model for Models {
 
     ghost view = { λ m. record {
       series = m.series.items;
-      room = min (min (vec_capacity m.series - vec_len m.series) (spare m.offsets)) (m.upcoming.places - length m.series.items);
+      room = min (min (vec_capacity m.series - vec_len m.series) (spare m.offsets)) (m.upcoming.occurrences - length m.series.items);
     } };
 
     ghost invariant = { λ m. IsOnce m.series.items
@@ -57,7 +57,7 @@ impl Drop for Models {
 impl Models {
     /// The recurring transfers before any entry. Takes no memory.
     pub fn new(alloc: Global) -> Models
-        ensures { StandsFor result [] }
+        ensures { Represents result [] }
     {
         Models {
             series: Vec::new(alloc),
@@ -69,7 +69,7 @@ impl Models {
     /// The row of the recurring transfer with this id (RECSRVRTID), lent, also where it is cancelled. Takes no memory.
     pub fn get(&self, id: u64) -> Option<&ModelRow>
         ensures held { option_copied result ≡ row_found id self.now.series }
-        ensures stood_for { (entries : List Entry) → StandsFor self.now entries
+        ensures represented { (entries : List Entry) → Represents self.now entries
             → option_copied result ≡ model_of id entries }
     {
         match self.own(id) {
@@ -80,7 +80,7 @@ impl Models {
 
     /// Whether the recurring transfer with this id is cancelled. Takes no memory.
     pub fn cancelled(&self, id: u64) -> bool
-        ensures { (entries : List Entry) → StandsFor self.now entries → result ≡ is_model_dropped id entries }
+        ensures { (entries : List Entry) → Represents self.now entries → result ≡ is_model_dropped id entries }
     {
         match self.own(id) {
             Some(one) => one.is_cancelled(),
@@ -92,11 +92,11 @@ impl Models {
     /// Takes no memory.
     pub fn next_k(&self, id: u64) -> u32
         requires { is_some (row_found id self.now.series) ≡ true }
-        ensures held { result ≡ place_found id self.now.series }
-        ensures stood_for { (entries : List Entry) → StandsFor self.now entries → result ≡ next_place id entries }
+        ensures held { result ≡ occurrence_found id self.now.series }
+        ensures represented { (entries : List Entry) → Represents self.now entries → result ≡ next_occurrence id entries }
     {
         match self.own(id) {
-            Some(one) => one.place(),
+            Some(one) => one.occurrence(),
             None => 0,
         }
     }
@@ -106,7 +106,7 @@ impl Models {
     /// Where memory is refused, all is as before, and so is the room that there was.
     pub fn reserve(&mut self, models: u32) -> Result<(), OutOfMemory>
         ensures series { self.new.series ≡ self.old.series }
-        ensures stands { (entries : List Entry) → StandsFor self.old entries → StandsFor self.new entries }
+        ensures holds { (entries : List Entry) → Represents self.old entries → Represents self.new entries }
         ensures room { OnOk result (models ≤ self.new.room) }
         ensures room_stays { self.old.room ≤ self.new.room }
     {
@@ -122,15 +122,15 @@ impl Models {
     pub fn put(&mut self, row: ModelRow)
         requires room { 0 < self.old.room }
         requires first { IsDay row.first.0 }
-        ensures stands { (entries : List Entry) (entry : Entry) → StandsFor self.old entries
+        ensures holds { (entries : List Entry) (entry : Entry) → Represents self.old entries
             → GivesModel entries entry.change row
-            → StandsFor self.new (entries ++ entry ∷ []) }
+            → Represents self.new (entries ++ entry ∷ []) }
         ensures row { row_found row.id self.new.series ≡ Some row }
-        ensures place { place_found row.id self.new.series ≡ 0 }
+        ensures occurrence { occurrence_found row.id self.new.series ≡ 0 }
         ensures room { self.old.room ≤ self.new.room + 1 }
     {
         let id = row.id;
-        match self.place_of(id) {
+        match self.occurrence_of(id) {
             Some(at) => {
                 let one = &mut self.series[at];
                 let before = one.date_ahead();
@@ -152,12 +152,12 @@ impl Models {
 
     /// The recurring transfer with this id is cancelled. Takes no memory.
     pub fn cancel(&mut self, id: u64)
-        ensures stands { (entries : List Entry) (entry : Entry) → StandsFor self.old entries
+        ensures holds { (entries : List Entry) (entry : Entry) → Represents self.old entries
             → Cancels entries entry.change id
-            → StandsFor self.new (entries ++ entry ∷ []) }
+            → Represents self.new (entries ++ entry ∷ []) }
         ensures room { self.new.room ≡ self.old.room }
     {
-        if let Some(at) = self.place_of(id) {
+        if let Some(at) = self.occurrence_of(id) {
             let one = &mut self.series[at];
             let before = one.date_ahead();
             one.cancel();
@@ -169,13 +169,13 @@ impl Models {
     /// The recurring transfer with this id, which is there, has made its next transfer. Takes no memory.
     pub fn spawned(&mut self, id: u64)
         requires there { is_some (row_found id self.old.series) ≡ true }
-        requires below { place_found id self.old.series < 4294967295 }
-        ensures stands { (entries : List Entry) (entry : Entry) → StandsFor self.old entries
+        requires below { occurrence_found id self.old.series < 4294967295 }
+        ensures holds { (entries : List Entry) (entry : Entry) → Represents self.old entries
             → IsMadeBy entries entry.change id
-            → StandsFor self.new (entries ++ entry ∷ []) }
+            → Represents self.new (entries ++ entry ∷ []) }
         ensures room { self.new.room ≡ self.old.room }
     {
-        if let Some(at) = self.place_of(id) {
+        if let Some(at) = self.occurrence_of(id) {
             let one = &mut self.series[at];
             let before = one.date_ahead();
             one.step();
@@ -187,16 +187,16 @@ impl Models {
     /// The date of the next transfer of the recurring transfer with this id, where it makes one by a last day. Takes no
     /// memory.
     pub fn date_to_make(&self, id: u64, last: Day) -> Option<Day>
-        ensures { (entries : List Entry) → StandsFor self.now entries → result ≡ date_to_make last id entries }
+        ensures { (entries : List Entry) → Represents self.now entries → result ≡ date_to_make last id entries }
     {
         next_date(self.own(id), last)
     }
 
     /// The recurring transfer that makes its next transfer first of those that make one by a last day, with the
-    /// transfer's place in its series: that with the earliest date, and on one date the least id. Takes no memory.
+    /// transfer's occurrence number in its series: that with the earliest date, and on one date the least id. Takes no memory.
     pub fn next_spawn(&self, last: Day) -> Option<(u64, u32)>
-        ensures { (entries : List Entry) → StandsFor self.now entries → result
-            ≡ option_map (λ task. (task.id, next_place task.id entries)) (first_task (to_make last entries)) }
+        ensures { (entries : List Entry) → Represents self.now entries → result
+            ≡ option_map (λ task. (task.id, next_occurrence task.id entries)) (first_task (to_make last entries)) }
     {
         match self.upcoming.first() {
             Some(first) if first.day.0 <= last.0 => Some((first.id, self.next_k(first.id))),
@@ -205,7 +205,7 @@ impl Models {
     }
 
     /// Where the recurring transfer with this id stands.
-    fn place_of(&self, id: u64) -> Option<usize>
+    fn occurrence_of(&self, id: u64) -> Option<usize>
         ensures { result ≡ position (λ one. one.row.id == id) self.now.series }
     {
         match self.offsets.get(&id) {
@@ -218,7 +218,7 @@ impl Models {
     fn own(&self, id: u64) -> Option<&HeldSeries>
         ensures { option_copied result ≡ series_found id self.now.series }
     {
-        match self.place_of(id) {
+        match self.occurrence_of(id) {
             Some(at) => Some(&self.series[at]),
             None => None,
         }

@@ -15,7 +15,7 @@ use std::marker::Model;
 pub(crate) struct HeldSeries {
     row: ModelRow,
     cancelled: bool,
-    place: u32,
+    occurrence: u32,
     next: Option<Day>,
 }
 
@@ -25,22 +25,22 @@ impl Model for HeldSeries {
 
     ghost Value = { Series };
 
-    ghost view = { λ held. record { row = held.row; cancelled = held.cancelled; place = held.place } };
+    ghost view = { λ held. record { row = held.row; cancelled = held.cancelled; occurrence = held.occurrence } };
 
-    ghost invariant = { λ held. IsNext held.row held.place held.next };
+    ghost invariant = { λ held. IsNext held.row held.occurrence held.next };
 }
 
 impl HeldSeries {
     /// A new recurring transfer.
     pub(crate) fn new(row: ModelRow) -> HeldSeries
         requires { IsDay row.first.0 }
-        ensures { result ≡ record { row = row; cancelled = false; place = 0 } }
+        ensures { result ≡ record { row = row; cancelled = false; occurrence = 0 } }
     {
         let next = date_at(&row, 0);
         HeldSeries {
             row,
             cancelled: false,
-            place: 0,
+            occurrence: 0,
             next,
         }
     }
@@ -59,11 +59,11 @@ impl HeldSeries {
         self.cancelled
     }
 
-    /// The place of its next transfer in the series, from 0.
-    pub(crate) fn place(&self) -> u32
-        ensures { result ≡ self.now.place }
+    /// The occurrence of its next transfer in the series, from 0.
+    pub(crate) fn occurrence(&self) -> u32
+        ensures { result ≡ self.now.occurrence }
     {
-        self.place
+        self.occurrence
     }
 
     /// The date of its next transfer, where it makes one.
@@ -89,49 +89,49 @@ impl HeldSeries {
     /// Has this row from now on, and begins anew.
     pub(crate) fn begin_anew(&mut self, row: ModelRow)
         requires { IsDay row.first.0 }
-        ensures { self.new ≡ record { row = row; cancelled = self.old.cancelled; place = 0 } }
+        ensures { self.new ≡ record { row = row; cancelled = self.old.cancelled; occurrence = 0 } }
     {
         self.next = date_at(&row, 0);
-        self.place = 0;
+        self.occurrence = 0;
         self.row = row;
     }
 
     /// Is cancelled.
     pub(crate) fn cancel(&mut self)
-        ensures { self.new ≡ record { row = self.old.row; cancelled = true; place = self.old.place } }
+        ensures { self.new ≡ record { row = self.old.row; cancelled = true; occurrence = self.old.occurrence } }
     {
         self.cancelled = true;
     }
 
     /// Has made its next transfer.
     pub(crate) fn step(&mut self)
-        requires { self.old.place < 4294967295 }
+        requires { self.old.occurrence < 4294967295 }
         ensures { self.new
-            ≡ record { row = self.old.row; cancelled = self.old.cancelled; place = self.old.place + 1 } }
+            ≡ record { row = self.old.row; cancelled = self.old.cancelled; occurrence = self.old.occurrence + 1 } }
     {
-        self.place += 1;
-        self.next = date_at(&self.row, self.place);
+        self.occurrence += 1;
+        self.next = date_at(&self.row, self.occurrence);
     }
 }
 
-/// The date of the transfer at that place of a series, where it has one there.
-fn date_at(row: &ModelRow, place: u32) -> Option<Day>
+/// The date of the transfer at that occurrence of a series, where it has one there.
+fn date_at(row: &ModelRow, occurrence: u32) -> Option<Day>
     requires { IsDay row.now.first.0 }
-    ensures { result ≡ date_in_series row.now place }
+    ensures { result ≡ date_in_series row.now occurrence }
 {
-    if is_below(place, row.recur.count) {
-        date_of(row.first, row.recur.freq, place)
+    if is_below(occurrence, row.recur.count) {
+        date_of(row.first, row.recur.freq, occurrence)
     } else {
         None
     }
 }
 
 /// Whether the place is before the count, where there is one.
-fn is_below(place: u32, count: Option<u32>) -> bool
-    ensures { result ≡ is_below_count place count }
+fn is_below(occurrence: u32, count: Option<u32>) -> bool
+    ensures { result ≡ is_below_count occurrence count }
 {
     match count {
-        Some(count) => place < count,
+        Some(count) => occurrence < count,
         None => true,
     }
 }

@@ -21,7 +21,7 @@ unfolding is_poll
 legal_kept setup state at (File user file) (known, sound, no_poll) =
     (known, record { version = sound.version; older = sound.older; newer = sound.newer; few = sound.few; bank_first = sound.bank_first; asks = sound.asks }, no_poll)
 legal_kept setup state at (Post id) legal = legal
-legal_kept setup state at (Spawn model place) legal = legal
+legal_kept setup state at (Spawn model offset) legal = legal
 legal_kept setup state at (Letter user subject body) legal = legal
 
 legal_whole : (setup : Setup) (state : State) (at : Moment) (event : Event) → IsLegal setup state at (without_signon event) → IsLegal setup state at event
@@ -29,7 +29,7 @@ unfolding is_poll
 legal_whole setup state at (File user file) (known, sound, no_poll) =
     (known, record { version = sound.version; older = sound.older; newer = sound.newer; few = sound.few; bank_first = sound.bank_first; asks = sound.asks }, no_poll)
 legal_whole setup state at (Post id) legal = legal
-legal_whole setup state at (Spawn model place) legal = legal
+legal_whole setup state at (Spawn model offset) legal = legal
 legal_whole setup state at (Letter user subject body) legal = legal
 
 pub alike_legal : OneCoding → AlikeLegal

@@ -16,8 +16,8 @@ use Rattle.bank_model.specs.Ledger.{row_of}
 use Rattle.bank_model.specs.Models.{model_of}
 use Rattle.bank_model.specs.Due.{may_post, may_spawn, date_to_make, date_if_any, last_day}
 use Rattle.bank_model.specs.Rules.{IsLegal, raised}
-use Rattle.bank_rules.specs.Standing.{IsSoundState}
-use Rattle.bank_rules.proofs.RowLemmas.{AreMade, id_made, model_made}
+use Rattle.bank_invariants.specs.SoundStates.{IsSoundState}
+use Rattle.bank_invariants.proofs.RowLemmas.{AreMade, id_made, model_made}
 use Rattle.event_codec.specs.Records.{IsWithinBounds}
 
 -- a transfer that may be posted, and a recurring transfer that may make its next one, was made by an entry
@@ -29,9 +29,9 @@ date_made : (last : Day) (count id : ℕ) (entries : List Entry) (row : Option M
 date_made last count id entries None made may = absurd (false≢true may)
 date_made last count id entries (Some row) made may = made row refl
 
-spawn_made : (setup : Setup) (S : State) (count id place : ℕ) → AreMade count S.entries → may_spawn setup S id place ≡ true → id ≤ count
+spawn_made : (setup : Setup) (S : State) (count id offset : ℕ) → AreMade count S.entries → may_spawn setup S id offset ≡ true → id ≤ count
 unfolding date_to_make
-spawn_made setup S count id place made may =
+spawn_made setup S count id offset made may =
     date_made (last_day setup S.day) count id S.entries (model_of id S.entries) (λ row found. (model_made count id S.entries row made found).1) (and_parts _ _ (and_parts _ _ may).0).0
 
 -- a legal event in a state that a bank comes to
@@ -40,5 +40,5 @@ legal_bounds setup S at (File user file) limits sound legal = legal.1
 legal_bounds setup S at (Letter user subject body) limits sound legal = (legal.1, legal.2)
 legal_bounds setup S at (Post id) limits sound legal =
     omega (arith, limits.lines.entries_high, sound.few, post_made setup (raised S at) (length S.entries) id (row_of id S.entries) (λ row found. (id_made (length S.entries) id S.entries row sound.made found).1) legal)
-legal_bounds setup S at (Spawn id place) limits sound legal =
-    omega (arith, limits.lines.entries_high, sound.few, spawn_made setup (raised S at) (length S.entries) id place sound.made legal)
+legal_bounds setup S at (Spawn id offset) limits sound legal =
+    omega (arith, limits.lines.entries_high, sound.few, spawn_made setup (raised S at) (length S.entries) id offset sound.made legal)

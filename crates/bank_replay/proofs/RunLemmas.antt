@@ -3,7 +3,7 @@ use Rattle.std.proofs.Common.{◌≡◌, ℕ, List, [], ◌∷◌}
 use Rattle.bank_model.specs.Rules.{opening_state, state_after}
 use Rattle.bank_model.specs.declared.setup.Setup.{Setup}
 use Rattle.bank_model.specs.declared.event.State.{State}
-use Rattle.bank_rules.specs.Runs.{Happening, after_all, AreLegal}
+use Rattle.bank_invariants.specs.Runs.{Happening, after_all, AreLegal}
 use Rattle.event_codec.specs.Records.{Reopens}
 use Rattle.bank_replay.specs.Laws.{ReopeningsAreRuns, RunsReopen}
 use Rattle.bank_replay.specs.Runs.{CodeAll}

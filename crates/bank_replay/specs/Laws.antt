@@ -4,7 +4,7 @@ use Rattle.bank_model.specs.SetupForm.{IsWithinLimits}
 use Rattle.bank_model.specs.Rules.{opening_state}
 use Rattle.bank_model.specs.declared.setup.Setup.{Setup}
 use Rattle.bank_model.specs.declared.event.State.{State}
-use Rattle.bank_rules.specs.Books.{AreBooksRight}
+use Rattle.bank_invariants.specs.Books.{AreBooksRight}
 use Rattle.event_codec.specs.Records.{Reopens}
 use Rattle.bank_replay.specs.Opening.{HasNoForm, IsNotLegal}
 use Rattle.bank_replay.specs.Runs.{AreRunTo}
@@ -31,8 +31,8 @@ OneOpening = (setup : Setup) (records : List (List ℕ)) (state other : State) �
 
 -- One record at most is the first without a form, and it has one first fault.
 abbrev pub OneWithoutForm : Type 0
-OneWithoutForm = (setup : Setup) (records : List (List ℕ)) (number other place place' : ℕ) →
-    HasNoForm setup (Some records) number place → HasNoForm setup (Some records) other place' → (number ≡ other) × (place ≡ place')
+OneWithoutForm = (setup : Setup) (records : List (List ℕ)) (number other offset offset' : ℕ) →
+    HasNoForm setup (Some records) number offset → HasNoForm setup (Some records) other offset' → (number ≡ other) × (offset ≡ offset')
 
 -- One record at most is the first that isn't legal.
 abbrev pub OneNotLegal : Type 0
@@ -41,13 +41,13 @@ OneNotLegal = (setup : Setup) (records : List (List ℕ)) (number other : ℕ) �
 
 -- There aren't both a first record without a form and a first one that isn't legal.
 abbrev pub FormlessOrIllegal : Type 0
-FormlessOrIllegal = (setup : Setup) (records : List (List ℕ)) (number other place : ℕ) →
-    HasNoForm setup (Some records) number place → IsNotLegal setup (Some records) other → ⊥
+FormlessOrIllegal = (setup : Setup) (records : List (List ℕ)) (number other offset : ℕ) →
+    HasNoForm setup (Some records) number offset → IsNotLegal setup (Some records) other → ⊥
 
 -- No bank opens from records of which one has no form, or isn't legal.
 abbrev pub FormlessOpenNothing : Type 0
-FormlessOpenNothing = (setup : Setup) (records : List (List ℕ)) (state : State) (number place : ℕ) →
-    HasNoForm setup (Some records) number place → Reopens setup opening_state records state → ⊥
+FormlessOpenNothing = (setup : Setup) (records : List (List ℕ)) (state : State) (number offset : ℕ) →
+    HasNoForm setup (Some records) number offset → Reopens setup opening_state records state → ⊥
 
 abbrev pub IllegalOpenNothing : Type 0
 IllegalOpenNothing = (setup : Setup) (records : List (List ℕ)) (state : State) (number : ℕ) →

@@ -6,21 +6,21 @@ use Rattle.bank_model.specs.Rules.{IsLegal}
 use Rattle.bank_model.specs.declared.setup.Setup.{Setup}
 use Rattle.bank_model.specs.declared.event.State.{State}
 use Rattle.bank_model.specs.declared.event.Event.{Event}
-use Rattle.event_codec.specs.Reading.{IsRecordFault, fault_place}
+use Rattle.event_codec.specs.Reading.{IsRecordFault, fault_offset}
 use Rattle.event_codec.specs.Records.{Codes}
 use Rattle.record_fields.specs.declared.fault.RecordFault.{RecordFault}
 use Rattle.bank_replay.specs.declared.fault.OpenFault.{OpenFault}
 use Rattle.bank_replay.specs.declared.fault.OpenFault.TheVariants.{Read, Record, Illegal, OutOfMemory}
 
--- Where the records are told, this is the one of this number, from 1.
+-- Where the records are known, this is the one of this number, from 1.
 abbrev pub IsKept : Option (List (List ℕ)) → ℕ → List ℕ → Type 0
-IsKept told number rec = IfSome told (λ all. slice_get all (number - 1) ≡ Some rec)
+IsKept known number rec = IfSome known (λ all. slice_get all (number - 1) ≡ Some rec)
 
--- The record codes no event, and its first fault is at this place.
-pub record IsUnformed (rec : List ℕ) (place : ℕ) : Type 0 where
+-- The record codes no event, and its first fault is at this offset.
+pub record IsUnformed (rec : List ℕ) (offset : ℕ) : Type 0 where
   pub cause : RecordFault
   pub is_cause : IsRecordFault rec cause
-  pub place_is : place ≡ fault_place cause
+  pub offset_is : offset ≡ fault_offset cause
 
 -- The record codes an event that isn't legal in this state.
 pub record IsUnlawful (setup : Setup) (state : State) (rec : List ℕ) : Type 0 where
@@ -32,20 +32,20 @@ pub record IsUnlawful (setup : Setup) (state : State) (rec : List ℕ) : Type 0 
 -- Why no event is read from the record of a number.
 abbrev pub IsUnread : ℕ → List ℕ → OpenFault → Type 0
 IsUnread number rec Read = ⊥
-IsUnread number rec (Record told place) = (told ≡ number) × IsUnformed rec place
-IsUnread number rec (Illegal told) = ⊥
+IsUnread number rec (Record known offset) = (known ≡ number) × IsUnformed rec offset
+IsUnread number rec (Illegal known) = ⊥
 IsUnread number rec OutOfMemory = ⊤
 
 -- Why a bank in this state doesn't take the record of a number.
 abbrev pub IsNotTaken : Setup → State → ℕ → List ℕ → OpenFault → Type 0
 IsNotTaken setup state number rec Read = ⊥
-IsNotTaken setup state number rec (Record told place) = (told ≡ number) × IsUnformed rec place
-IsNotTaken setup state number rec (Illegal told) = (told ≡ number) × IsUnlawful setup state rec
+IsNotTaken setup state number rec (Record known offset) = (known ≡ number) × IsUnformed rec offset
+IsNotTaken setup state number rec (Illegal known) = (known ≡ number) × IsUnlawful setup state rec
 IsNotTaken setup state number rec OutOfMemory = ⊤
 
 -- A read failed, or memory was refused: nothing is said of the records.
 abbrev pub IsOfTheOutside : OpenFault → Type 0
 IsOfTheOutside Read = ⊤
-IsOfTheOutside (Record told place) = ⊥
-IsOfTheOutside (Illegal told) = ⊥
+IsOfTheOutside (Record known offset) = ⊥
+IsOfTheOutside (Illegal known) = ⊥
 IsOfTheOutside OutOfMemory = ⊤

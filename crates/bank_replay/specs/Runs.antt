@@ -3,7 +3,7 @@ use Rattle.std.specs.Prelude.{◌≡◌, ℕ, List, [], ◌∷◌}
 use Rattle.bank_model.specs.Rules.{opening_state}
 use Rattle.bank_model.specs.declared.setup.Setup.{Setup}
 use Rattle.bank_model.specs.declared.event.State.{State}
-use Rattle.bank_rules.specs.Runs.{Happening, after_all, AreLegal}
+use Rattle.bank_invariants.specs.Runs.{Happening, after_all, AreLegal}
 use Rattle.event_codec.specs.Records.{Codes}
 
 -- Each record codes its event and moment, in order.

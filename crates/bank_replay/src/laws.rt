@@ -2,14 +2,14 @@
 
 ghost use Rattle.bank_replay.specs.Laws.{ReopeningsAreRuns, RunsReopen, ReopenedBooksAreRight, OneOpening, OneWithoutForm, OneNotLegal, FormlessOrIllegal, FormlessOpenNothing, IllegalOpenNothing};
 
-use bank_rules::laws::files::files_are_kept_once;
-use bank_rules::laws::money::{money_stays, no_account_is_overdrawn};
-use bank_rules::laws::uids::uids_work_once;
+use bank_invariants::laws::files::files_are_kept_once;
+use bank_invariants::laws::money::{money_stays, no_account_is_overdrawn};
+use bank_invariants::laws::uids::uids_work_once;
 use event_codec::laws::{
     faults_code_nothing, one_coding, one_record_fault, one_reopening, reopening_goes_on,
 };
 
-/// Records open a bank exactly where they are those of a run of legal events from its opening on, and it stands in the state
+/// Records open a bank exactly where they are those of a run of legal events from its opening on, and it is in the state
 /// that the run leaves.
 pub fn reopenings_are_runs()
     ensures run { ReopeningsAreRuns }

@@ -2,18 +2,18 @@
 
 ghost use Rattle.std.specs.Prelude.{◌≡◌, ℕ, ◌∷◌, ◌≤◌, ◌⊎◌, [], false, IsSome, IsSomeAnd, IfOk, IfErr, OnOk, IsErrAnd, IsErrOf, MatchResult};
 ghost use Rattle.ofx_ports.specs.Faults.{CountsFaults};
-ghost use Rattle.ofx_ports.specs.Told.{Stays};
+ghost use Rattle.ofx_ports.specs.Known.{Stays};
 ghost use Rattle.bank_model.specs.declared.event.State.{State};
 ghost use Rattle.bank_model.specs.Rules.{opening_state};
 ghost use Rattle.bank_model.specs.SetupForm.{IsWithinLimits};
 ghost use Rattle.event_codec.specs.Records.{Reopens};
 ghost use Rattle.bank_solo.specs.Solo.{AreAccountsIn};
-ghost use Rattle.bank_replay.specs.Opening.{Stands, HasNoForm, IsNotLegal, HasCause};
+ghost use Rattle.bank_replay.specs.Opening.{RecordsGive, HasNoForm, IsNotLegal, HasCause};
 ghost use Rattle.bank_replay.specs.Replay.{IsKept, IsNotTaken, IsOfTheOutside};
 
 use crate::fault::OpenFault;
 use crate::laws::{causes_open_nothing, one_cause, one_opening};
-use crate::replay::take;
+use crate::replay::apply_record;
 use bank_accounts::Account;
 use bank_core::Book;
 use bank_model::{Printer, Setup};
@@ -27,7 +27,7 @@ use std::hash::RandomState;
 /// Clients' names are found by hashes with these keys.
 ///
 /// - `Read` only where the keeper's count of faults rose in this call.
-/// - `Record(n, at)`: record n, from 1, is the first that codes no event, with the place of its first fault.
+/// - `Record(n, at)`: record n, from 1, is the first that codes no event, with the offset of its first fault.
 /// - `Illegal(n)`: record n is the first whose event isn't legal after those before it.
 /// - `OutOfMemory`.
 pub fn reopen<K: Keeper, P: Printer>(
@@ -40,15 +40,15 @@ pub fn reopen<K: Keeper, P: Printer>(
     requires settled { K.unsettled keeper.old ≡ false }
     requires within { IsWithinLimits setup }
     ensures setup { IfOk result (λ opened. opened.0.setup ≡ setup) }
-    ensures stands { IfOk result (λ opened. Stands setup (K.records keeper.old) opened.0.state) }
+    ensures holds { IfOk result (λ opened. RecordsGive setup (K.records keeper.old) opened.0.state) }
     ensures accounts { IfOk result (λ opened. AreAccountsIn setup opened.0.state opened.1.items) }
     ensures cause { IfErr result (HasCause setup (K.records keeper.old)) }
 
-    // Where the records are told they decide the answer, unless a read fails or memory is refused.
+    // Where the records are known they decide the answer, unless a read fails or memory is refused.
     ensures opens { (state : State) → IsSomeAnd (K.records keeper.old) (λ all. Reopens setup opening_state all state)
         → MatchResult result (λ opened. opened.0.state ≡ state) IsOfTheOutside }
-    ensures formless { (number place : ℕ) → IsSome (K.records keeper.old) → HasNoForm setup (K.records keeper.old) number place
-        → IsErrAnd result (λ fault. (fault ≡ OpenFault.Record number place) ⊎ IsOfTheOutside fault) }
+    ensures formless { (number offset : ℕ) → IsSome (K.records keeper.old) → HasNoForm setup (K.records keeper.old) number offset
+        → IsErrAnd result (λ fault. (fault ≡ OpenFault.Record number offset) ⊎ IsOfTheOutside fault) }
     ensures illegal { (number : ℕ) → IsSome (K.records keeper.old) → IsNotLegal setup (K.records keeper.old) number
         → IsErrAnd result (λ fault. (fault ≡ OpenFault.Illegal number) ⊎ IsOfTheOutside fault) }
 
@@ -60,11 +60,11 @@ pub fn reopen<K: Keeper, P: Printer>(
     one_opening();
     one_cause();
     causes_open_nothing();
-    take_all(alloc, keys, keeper, setup, printer)
+    replay_all(alloc, keys, keeper, setup, printer)
 }
 
 /// Lets the events of all records happen, from the first one on.
-fn take_all<K: Keeper, P: Printer>(
+fn replay_all<K: Keeper, P: Printer>(
     alloc: Global,
     keys: RandomState,
     keeper: &mut K,
@@ -74,7 +74,7 @@ fn take_all<K: Keeper, P: Printer>(
     requires settled { K.unsettled keeper.old ≡ false }
     requires within { IsWithinLimits setup }
     ensures setup { IfOk result (λ opened. opened.0.setup ≡ setup) }
-    ensures stands { IfOk result (λ opened. Stands setup (K.records keeper.old) opened.0.state) }
+    ensures holds { IfOk result (λ opened. RecordsGive setup (K.records keeper.old) opened.0.state) }
     ensures accounts { IfOk result (λ opened. AreAccountsIn setup opened.0.state opened.1.items) }
     ensures cause { IfErr result (HasCause setup (K.records keeper.old)) }
     ensures list { Stays (K.records keeper.old) (K.records keeper.new) }
@@ -86,13 +86,13 @@ fn take_all<K: Keeper, P: Printer>(
     let mut bank = SoloBank::begin(alloc, keys, setup, printer)?;
     let mut rec = Vec::new(alloc);
     for before in 0..keeper.len() {
-        take_kept(alloc, keeper, &mut bank, before + 1, &mut rec)?;
+        replay_record(alloc, keeper, &mut bank, before + 1, &mut rec)?;
     }
     Ok(bank.into_parts(alloc)?)
 }
 
 /// Fetches the record of this number into `rec`, and lets its event happen.
-fn take_kept<K: Keeper, P: Printer>(
+fn replay_record<K: Keeper, P: Printer>(
     alloc: Global,
     keeper: &mut K,
     bank: &mut SoloBank<P>,
@@ -102,9 +102,9 @@ fn take_kept<K: Keeper, P: Printer>(
     requires settled { K.unsettled keeper.old ≡ false }
     requires first { 1 ≤ number }
     requires last { number ≤ K.size keeper.old }
-    requires home { bank.old.held ≡ [] }
+    requires pool { bank.old.held ≡ [] }
     ensures setup { bank.new.setup ≡ bank.old.setup }
-    ensures home { bank.new.held ≡ [] }
+    ensures pool { bank.new.held ≡ [] }
     ensures kept { OnOk result (IsKept (K.records keeper.old) number rec.new.items) }
     ensures taken { OnOk result (Reopens bank.old.setup bank.old.state (rec.new.items ∷ []) bank.new.state) }
     ensures refused { IfErr result (λ fault. IsOfTheOutside fault
@@ -115,5 +115,5 @@ fn take_kept<K: Keeper, P: Printer>(
     ensures faults { CountsFaults (K.faults keeper.old) (K.faults keeper.new) (IsErrOf result OpenFault.Read) }
 {
     keeper.fetch(number, rec)?;
-    take(alloc, bank, number, rec)
+    apply_record(alloc, bank, number, rec)
 }

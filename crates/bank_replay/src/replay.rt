@@ -12,7 +12,7 @@ use ofx_types::Moment;
 use std::alloc::Global;
 
 /// Lets the event happen that the record of this number codes.
-pub(crate) fn take<P: Printer>(
+pub(crate) fn apply_record<P: Printer>(
     alloc: Global,
     bank: &mut SoloBank<P>,
     number: u64,
@@ -20,7 +20,7 @@ pub(crate) fn take<P: Printer>(
 ) -> Result<(), OpenFault>
     requires { bank.old.held ≡ [] }
     ensures setup { bank.new.setup ≡ bank.old.setup }
-    ensures home { bank.new.held ≡ [] }
+    ensures pool { bank.new.held ≡ [] }
     ensures taken { OnOk result (Reopens bank.old.setup bank.old.state (rec.now ∷ []) bank.new.state) }
     ensures refused { IfErr result (IsNotTaken bank.old.setup bank.old.state number rec.now) }
 {

@@ -11,16 +11,16 @@ pub const NEXT_DAY: Moment = Moment(1_706_745_605);
 /// The name of a file.
 pub const NAMED: (&str, &str) = ("NEWFILEUID:NONE", "NEWFILEUID:week");
 
-/// The day of the transfer, in front of which nothing is posted: 1 February 2024.
+/// The day of the transfer, before which nothing is posted: 1 February 2024.
 pub const DUE_LATER: (&str, &str) = (
     "<TRNAMT>10.00\r\n",
     "<TRNAMT>10.00\r\n<DTDUE>20240201000000\r\n",
 );
 
-/// What stands in front of the account in the sample's request.
+/// What comes before the account in the sample's request.
 pub const STATEMENT: &str = "<STMTTRNRQ>\r\n<TRNUID>s1\r\n<STMTRQ>\r\n";
 
-/// What stands after it.
+/// What follows it.
 pub const STATEMENT_END: &str =
     "<INCTRAN>\r\n<INCLUDE>Y\r\n</INCTRAN>\r\n</STMTRQ>\r\n</STMTTRNRQ>\r\n";
 

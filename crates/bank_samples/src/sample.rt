@@ -14,7 +14,7 @@ pub const SETUP: &[u8; 158] = b"\
     ACCT 1002 SAVINGS 5000 alice bob\n";
 
 /// The request up to its transaction's name.
-const REQUEST_FRONT: &[u8; 353] = b"\
+const REQUEST_PREFIX: &[u8; 353] = b"\
     FILE 529\n\
     OFXHEADER:100\r\n\
     DATA:OFXSGML\r\n\
@@ -57,7 +57,7 @@ const REQUEST_BACK: &[u8; 183] = b"\r\n\
     </OFX>\r\n";
 
 /// The reply up to its transaction's name.
-const REPLY_FRONT: &[u8; 339] = b"\
+const REPLY_PREFIX: &[u8; 339] = b"\
     FILE 752\n\
     OFXHEADER:100\r\n\
     DATA:OFXSGML\r\n\
@@ -115,7 +115,7 @@ const REPLY_BACK: &[u8; 420] = b"\r\n\
 
 /// The sample's request in its frame, once for each transaction's name. A name has two bytes.
 pub fn requests(alloc: Global, names: &[&[u8; 2]]) -> Result<Vec<u8>, AllocError> {
-    joined(alloc, REQUEST_FRONT, names, REQUEST_BACK)
+    joined(alloc, REQUEST_PREFIX, names, REQUEST_BACK)
 }
 
 /// The sample's request with the first of each text in it turned into the other, in its frame.
@@ -145,7 +145,7 @@ fn changed(alloc: Global, file: &str, changes: &[(&str, &str)]) -> Result<String
 
 /// The sample's reply in its frame, once for each transaction's name. A name has two bytes.
 pub fn replies(alloc: Global, names: &[&[u8; 2]]) -> Result<Vec<u8>, AllocError> {
-    joined(alloc, REPLY_FRONT, names, REPLY_BACK)
+    joined(alloc, REPLY_PREFIX, names, REPLY_BACK)
 }
 
 /// The sample's reply to the transaction of that name at another moment, in 14 digits.
@@ -157,13 +157,13 @@ pub fn reply_at(alloc: Global, name: &[u8; 2], moment: &str) -> Result<String, A
 
 fn joined(
     alloc: Global,
-    front: &[u8],
+    prefix: &[u8],
     names: &[&[u8; 2]],
     back: &[u8],
 ) -> Result<Vec<u8>, AllocError> {
     let mut bytes = Vec::new(alloc);
     for name in names {
-        bytes.extend_from_slice(front)?;
+        bytes.extend_from_slice(prefix)?;
         bytes.extend_from_slice(name.as_slice())?;
         bytes.extend_from_slice(back)?;
     }

@@ -1,6 +1,6 @@
 //! A transfer beside the sample's statement request, and what replies tell of it.
 
-/// A transfer in front of the statement request: 10.00 from 1001, which has 100.00, to 1002, which has 50.00.
+/// A transfer before the statement request: 10.00 from 1001, which has 100.00, to 1002, which has 50.00.
 pub const TRANSFER: (&str, &str) = (
     "<STMTTRNRQ>",
     "\
@@ -25,7 +25,7 @@ pub const TRANSFER: (&str, &str) = (
     <STMTTRNRQ>",
 );
 
-/// The answer to the transfer, in front of the statement.
+/// The answer to the transfer, before the statement.
 pub const POSTED: (&str, &str) = (
     "<STMTTRNRS>",
     "\

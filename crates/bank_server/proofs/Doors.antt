@@ -12,7 +12,7 @@ same_some : {A B : Type 0} (f : A → B) (o : Option A) (b : B) → option_map f
 same_some f None b e = cc
 same_some f (Some a) b e = (a, refl, cc)
 
--- a job has the doorway and the clock of the worker at its place
+-- a job has the doorway and the clock of the worker at its offset
 pub record IsJobOf {D C : Type 0} (jobs : List (Job D C)) (i : ℕ) (worker : D × C) : Type 0 where
   pub job : Job D C
   pub at : slice_get jobs i ≡ Some job
@@ -42,7 +42,7 @@ as_many {D} {C} jobs workers doors =
     let first : (D × C) → D = λ w. w.0 in
     sym (length-map jobs door_of) ∙ (ap length doors ∙ length-map workers first)
 
--- the call at each place is that of the job there, and gave what stands there
+-- the call at each place is that of the job there, and gave what is there
 pub each_call : {F J R : Type 0} (g : Shared F (J × Unit {0}) R) (f : F) (js : List J) (rs : List R) → GivesJobs g f js rs
     → (i : ℕ) (j : J) (r : R) → slice_get js i ≡ Some j → slice_get rs i ≡ Some r → FnReturns g f (j, tt) r
 each_call g f js rs gives i j r at ended =

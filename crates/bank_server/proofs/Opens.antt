@@ -9,7 +9,7 @@ use Rattle.bank_replay.specs.declared.fault.OpenFault.{OpenFault}
 use Rattle.bank_replay.specs.declared.fault.OpenFault.TheVariants as opens
 use Rattle.bank_session.specs.OneBank.{OneBank}
 use Rattle.bank_session.specs.RecordsRead.{opening_stop, StopsOpening}
-use Rattle.bank_session.specs.Run.{told, told_of}
+use Rattle.bank_session.specs.Run.{reported, reported_of}
 use Rattle.bank_session.specs.SetupRead.{IsSetupOf}
 use Rattle.bank_server.specs.Opening.{OpeningPorts, HasRecords, IsInterrupted, RefusesSetup, DoesntOpen, RefusesOpening}
 use Rattle.bank_session.proofs.Unopened.{OneSetup}
@@ -19,23 +19,23 @@ found_spelled : (before after : OpeningPorts) (what : Told) (found : Setup) → 
 found_spelled before after what found is text left none =
     let P : Option (List ℕ) → Type 0 = λ all. IsSetupOf all found in absurd (none found (subst P left is))
 
--- the setup that is found is the one that is told
+-- the setup that is found is the one that is reported
 same_setup : OneSetup → (before : OpeningPorts) (setup found : Setup) (records : List (List ℕ)) → HasRecords before setup records → IsSetupOf before.setup_left found → found ≡ setup
 same_setup one before setup found records has is =
     one has.text found setup (subst (λ (left : Option (List ℕ)). IsSetupOf left found) has.setup_is is) has.spelled
 
--- a fact of the setup that is found and of the records is one of the setup and the records that are told
-of_told : OneSetup → (before : OpeningPorts) (setup found : Setup) (records : List (List ℕ)) (P : Setup → Option (List (List ℕ)) → Type 0) →
+-- a fact of the setup that is found and of the records is one of the setup and the records that are known
+of_reported : OneSetup → (before : OpeningPorts) (setup found : Setup) (records : List (List ℕ)) (P : Setup → Option (List (List ℕ)) → Type 0) →
     HasRecords before setup records → IsSetupOf before.setup_left found → P found before.records → P setup (Some records)
-of_told one before setup found records P has is fact =
+of_reported one before setup found records P has is fact =
     subst (λ (s : Setup). P s (Some records)) (same_setup one before setup found records has is) (subst (λ (all : Option (List (List ℕ))). P found all) has.records_are fact)
 
 -- why the bank doesn't open
-why : (before after : OpeningPorts) (found : Setup) (fault : OpenFault) (what : Told) → IsSetupOf before.setup_left found → what ≡ told_of (Err (opening_stop fault))
+why : (before after : OpeningPorts) (found : Setup) (fault : OpenFault) (what : Told) → IsSetupOf before.setup_left found → what ≡ reported_of (Err (opening_stop fault))
     → StopsOpening found before.records before.keeper_faults after.keeper_faults (opening_stop fault) → DoesntOpen before after what
 why before after found fault what is e cause = record {
   stop = opening_stop fault;
-  told_is = e;
+  reported_is = e;
   cause = inr (record { setup = found; found = is; cause = cause });
 }
 
@@ -44,35 +44,35 @@ outside_failed : (before after : OpeningPorts) (found : Setup) (what : Told) →
 outside_failed before after found what is ends gave = record {
   ends = ends;
   refuses_setup = found_spelled before after what found is;
-  refuses_record = λ setup records number place has unformed. inr gave;
+  refuses_record = λ setup records number offset has unformed. inr gave;
   refuses_illegal = λ setup records number has illegal. inr gave;
   opens_else = λ setup records state has reopens. gave;
 }
 
-pub not_opened : OneSetup → OneBank → (before after : OpeningPorts) (found : Setup) (fault : OpenFault) (what : Told) → IsSetupOf before.setup_left found → what ≡ told_of (Err (opening_stop fault))
+pub not_opened : OneSetup → OneBank → (before after : OpeningPorts) (found : Setup) (fault : OpenFault) (what : Told) → IsSetupOf before.setup_left found → what ≡ reported_of (Err (opening_stop fault))
     → HasCause found before.records fault → CountsFaults before.keeper_faults after.keeper_faults (fault ≡ opens.Read) → RefusesOpening before after what
 not_opened one opening before after found opens.Read what is e cause counts =
     outside_failed before after found what is (why before after found opens.Read what is e (counts.cause refl)) (inr (inl (e, counts.cause refl)))
 not_opened one opening before after found opens.OutOfMemory what is e cause counts =
     outside_failed before after found what is (why before after found opens.OutOfMemory what is e tt) (inr (inr e))
-not_opened one opening before after found (opens.Record number place) what is e cause counts = record {
-  ends = why before after found (opens.Record number place) what is e cause;
+not_opened one opening before after found (opens.Record number offset) what is e cause counts = record {
+  ends = why before after found (opens.Record number offset) what is e cause;
   refuses_setup = found_spelled before after what found is;
   refuses_record = λ setup records n p has unformed.
-      let same = opening.formless setup records number n place p (of_told one before setup found records (λ (s : Setup) (all : Option (List (List ℕ))). HasNoForm s all number place) has is cause) unformed in
-      inl (e ∙ (ap (λ (k : ℕ). told 9 (Record k place)) same.0 ∙ ap (λ (k : ℕ). told 9 (Record n k)) same.1));
+      let same = opening.formless setup records number n offset p (of_reported one before setup found records (λ (s : Setup) (all : Option (List (List ℕ))). HasNoForm s all number offset) has is cause) unformed in
+      inl (e ∙ (ap (λ (k : ℕ). reported 9 (Record k offset)) same.0 ∙ ap (λ (k : ℕ). reported 9 (Record n k)) same.1));
   refuses_illegal = λ setup records n has illegal.
-      absurd (opening.apart setup records number n place (of_told one before setup found records (λ (s : Setup) (all : Option (List (List ℕ))). HasNoForm s all number place) has is cause) illegal);
+      absurd (opening.apart setup records number n offset (of_reported one before setup found records (λ (s : Setup) (all : Option (List (List ℕ))). HasNoForm s all number offset) has is cause) illegal);
   opens_else = λ setup records state has reopens.
-      absurd (opening.formless_opens setup records state number place (of_told one before setup found records (λ (s : Setup) (all : Option (List (List ℕ))). HasNoForm s all number place) has is cause) reopens);
+      absurd (opening.formless_opens setup records state number offset (of_reported one before setup found records (λ (s : Setup) (all : Option (List (List ℕ))). HasNoForm s all number offset) has is cause) reopens);
 }
 not_opened one opening before after found (opens.Illegal number) what is e cause counts = record {
   ends = why before after found (opens.Illegal number) what is e cause;
   refuses_setup = found_spelled before after what found is;
   refuses_record = λ setup records n p has unformed.
-      absurd (opening.apart setup records n number p unformed (of_told one before setup found records (λ (s : Setup) (all : Option (List (List ℕ))). IsNotLegal s all number) has is cause));
+      absurd (opening.apart setup records n number p unformed (of_reported one before setup found records (λ (s : Setup) (all : Option (List (List ℕ))). IsNotLegal s all number) has is cause));
   refuses_illegal = λ setup records n has illegal.
-      inl (e ∙ ap (λ (k : ℕ). told 9 (Illegal k)) (opening.illegal setup records number n (of_told one before setup found records (λ (s : Setup) (all : Option (List (List ℕ))). IsNotLegal s all number) has is cause) illegal));
+      inl (e ∙ ap (λ (k : ℕ). reported 9 (Illegal k)) (opening.illegal setup records number n (of_reported one before setup found records (λ (s : Setup) (all : Option (List (List ℕ))). IsNotLegal s all number) has is cause) illegal));
   opens_else = λ setup records state has reopens.
-      absurd (opening.illegal_opens setup records state number (of_told one before setup found records (λ (s : Setup) (all : Option (List (List ℕ))). IsNotLegal s all number) has is cause) reopens);
+      absurd (opening.illegal_opens setup records state number (of_reported one before setup found records (λ (s : Setup) (all : Option (List (List ℕ))). IsNotLegal s all number) has is cause) reopens);
 }

@@ -14,7 +14,7 @@ use Rattle.ofx_types.proofs.number.Moment.TheSendSync as moment
 use Rattle.ofx_types.proofs.uid.FileUid.TheSendSync as uid
 use Rattle.bank_model.proofs.event.Event.TheSendSync as event
 use Rattle.bank_model.proofs.setup.Setup.TheSendSync as setup
-use Rattle.bank_shared.below.bank_accounts.proofs.home.Home.TheSendSync as home
+use Rattle.bank_shared.below.bank_accounts.proofs.pool.AccountPool.TheSendSync as pool
 use Rattle.bank_shared.below.bank_ledger.proofs.additions.Additions.TheSendSync as additions
 use Rattle.bank_shared.below.bank_core.specs.contracts.prepared.Prepared as prepared
 use Rattle.bank_shared.below.bank_core.specs.contracts.prepared.Prepared.TheInside as prepared_inside
@@ -23,13 +23,13 @@ use Rattle.bank_shared.specs.declared.name.BankName as named
 use Rattle.bank_shared.below.bank_engine.specs.contracts.pending.Pending as pending
 use Rattle.bank_shared.below.bank_engine.specs.contracts.engine.Engine as engine
 use Rattle.bank_shared.below.bank_engine.specs.contracts.engine.Engine.TheInside as engine_inside
-use Rattle.bank_shared.below.bank_engine.specs.contracts.past.Past as past
+use Rattle.bank_shared.below.bank_engine.specs.contracts.past.LogTrace as past
 use Rattle.bank_shared.below.bank_engine.specs.contracts.log.Log as log
 use Rattle.bank_shared.below.bank_engine.specs.contracts.log.Log.TheInside as log_inside
 use Rattle.bank_shared.specs.contracts.journal.Journal as journal
 use Rattle.bank_shared.specs.contracts.journal.Journal.TheInside as journal_inside
-use Rattle.bank_shared.specs.contracts.teller.Teller as teller
-use Rattle.bank_shared.specs.contracts.teller.Teller.TheInside as teller_inside
+use Rattle.bank_shared.specs.contracts.locked_bank.LockedBank as locked
+use Rattle.bank_shared.specs.contracts.locked_bank.LockedBank.TheInside as locked_inside
 use Rattle.bank_shared.specs.contracts.bank.Bank as bank
 use Rattle.bank_shared.specs.contracts.bank.Bank.TheInside as bank_inside
 use Rattle.bank_server.proofs.Books.{book_send}
@@ -85,12 +85,12 @@ module _ (N K P : RattleType) (n : named.Ghosts N.Denot) (k : kept.Ghosts K.Deno
       )
       )
 
-  teller_send : IsSend K → IsSend P → IsSend (teller.the_row N K P n k)
-  teller_send sk sp = view_send _ _ _ _ _ (declared_send (teller_inside.the_type N K P n k) (handle.the_send, (journal_send sk sp, (home.the_send, tt))))
+  locked_send : IsSend K → IsSend P → IsSend (locked.the_row N K P n k)
+  locked_send sk sp = view_send _ _ _ _ _ (declared_send (locked_inside.the_type N K P n k) (handle.the_send, (journal_send sk sp, (pool.the_send, tt))))
 
   pub bank_sync : IsSend K → IsSend P → IsSync (bank.the_row N K P n k)
   bank_sync sk sp =
-      let inside = teller_send sk sp in
+      let inside = locked_send sk sp in
       view_sync _ _ _ _ _ (declared_sync (bank_inside.the_type N K P n k) (setup.the_sync, (search (sendable, crosses, inside), tt)))
 
 -- a reference may be shared where what it refers to may

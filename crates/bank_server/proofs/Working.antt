@@ -1,8 +1,8 @@
 -- A worker so far, one turn more, and each of its ends.
 use Rattle.std.proofs.Common.{◌≡◌, ℕ, zero, suc, ◌+◌, ◌<◌, Bool, true, false, List, [], ◌∷◌, ◌++◌, length, map, filter, Option, None, Some, Result, refl, sym, ap, ◌∙◌, subst, arith, length-append, rules}
 use Rattle.std.proofs.lemmas.List.Elements.{filter-append}
-use Rattle.ofx_ports.specs.Told.{Grows, Stays}
-use Rattle.ofx_ports.proofs.ToldLaws.{Grows-trans, Grows-kept}
+use Rattle.ofx_ports.specs.Known.{Grows, Stays}
+use Rattle.ofx_ports.proofs.KnownLaws.{Grows-trans, Grows-kept}
 use Rattle.ofx_types.specs.declared.number.Moment.{Moment}
 use Rattle.bank_model.specs.declared.setup.Setup.{Setup}
 use Rattle.bank_due.specs.declared.fault.DueFault.{DueFault}
@@ -10,7 +10,7 @@ use Rattle.bank_server.specs.Connected.{Faces, DoorView, around_link}
 use Rattle.bank_connection.specs.Connection.{Converses}
 use Rattle.http_link.specs.declared.served.Served.{Served}
 use Rattle.http_link.specs.declared.served.ServeError.{ServeError}
-use Rattle.bank_server.specs.Turns.{Turn, DoesDueAt, TakesTurn, AreTurns, links_given, links_back, due_ends, is_missed, missed_in, HasServedAll, HasNoDoor}
+use Rattle.bank_server.specs.Turns.{Turn, DoesDueAt, RunsTurn, AreTurns, links_given, links_back, due_ends, is_missed, missed_in, HasServedAll, HasNoDoor}
 
 -- so many links were served, and so many due runs missed, and the worker goes on
 pub record SoFar {L : Type 0} (faces : Faces L) (setup : Setup) (before now : DoorView L) (shown shown' : Option (List Moment)) (served missed : ℕ) : Type 0 where
@@ -22,8 +22,8 @@ pub record SoFar {L : Type 0} (faces : Faces L) (setup : Setup) (before now : Do
   pub missed_is : missed ≡ missed_in (due_ends turns)
 
 turns-more : {L : Type 0} (faces : Faces L) (setup : Setup) (shown mid late : Option (List Moment)) (turns : List (Turn L)) (turn : Turn L)
-    → AreTurns faces setup shown mid turns → TakesTurn faces setup mid late turn → AreTurns faces setup shown late (turns ++ turn ∷ [])
-turns-more faces setup shown mid late [] turn are takes = (late, subst (λ (m : Option (List Moment)). TakesTurn faces setup m late turn) are takes, refl)
+    → AreTurns faces setup shown mid turns → RunsTurn faces setup mid late turn → AreTurns faces setup shown late (turns ++ turn ∷ [])
+turns-more faces setup shown mid late [] turn are takes = (late, subst (λ (m : Option (List Moment)). RunsTurn faces setup m late turn) are takes, refl)
 turns-more faces setup shown mid late (first ∷ turns) turn are takes = (are.0, are.1, turns-more faces setup are.0 mid late turns turn are.2 takes)
 
 map-more : {A B : Type 0} (f : A → B) (xs : List A) (x : A) → map f (xs ++ x ∷ []) ≡ map f xs ++ f x ∷ []
@@ -42,9 +42,9 @@ pub more : {L : Type 0} (faces : Faces L) (setup : Setup) (before now mid next :
     → SoFar faces setup before next shown s2 (served + 1) (missed + missed_in (due ∷ []))
 more {L} faces setup before now mid next shown s0 s1 s2 served missed at due given back answer so does converses gives keeps kept takes =
     let turn : Turn L = record { at = at; due = due; given = given; back = back; answer = answer } in
-    let takes_turn : TakesTurn faces setup s0 s2 turn = record { between = s1; does = does; serves = converses } in record {
+    let runs_turn : RunsTurn faces setup s0 s2 turn = record { between = s1; does = does; serves = converses } in record {
       turns = so.turns ++ turn ∷ [];
-      are_turns = turns-more faces setup shown s0 s2 so.turns turn so.are_turns takes_turn;
+      are_turns = turns-more faces setup shown s0 s2 so.turns turn so.are_turns runs_turn;
       given = subst (Grows before.given next.given) (sym (map-more (λ (t : Turn L). t.given) so.turns turn))
           (Grows-kept before.given mid.given next.given (links_given so.turns ++ given ∷ []) (Grows-trans before.given now.given mid.given (links_given so.turns) (given ∷ []) so.given gives) kept);
       back = subst (Grows before.back next.back) (sym (map-more (λ (t : Turn L). t.back) so.turns turn))

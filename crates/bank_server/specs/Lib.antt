@@ -1,5 +1,5 @@
 pub mod Numerals
-pub mod Words
+pub mod Arguments
 pub mod Connected
 pub mod Turns
 pub mod AllTurns

@@ -10,11 +10,11 @@ use Rattle.bank_model.specs.declared.setup.Setup.{Setup}
 use Rattle.bank_model.specs.declared.event.State.{State}
 use Rattle.event_codec.specs.Records.{Reopens}
 use Rattle.bank_replay.specs.Opening.{HasNoForm, IsNotLegal}
-use Rattle.bank_session.specs.Run.{told, told_of}
+use Rattle.bank_session.specs.Run.{reported, reported_of}
 use Rattle.bank_session.specs.SetupRead.{IsSetupOf, StopsSetup}
 use Rattle.bank_session.specs.RecordsRead.{StopsOpening}
 use Rattle.bank_session.specs.declared.stop.Stop.{Stop}
-use Rattle.bank_server.specs.Words.{IsServeUsage}
+use Rattle.bank_server.specs.Arguments.{IsServeUsage}
 
 -- What opening finds, and what it leaves: the bytes that the setup's source has left, its count of faults, the keeper's records and
 -- its count of faults.
@@ -41,10 +41,10 @@ pub record HasNoBank (before after : OpeningPorts) (stop : Stop) : Type 0 where
   pub found : IsSetupOf before.setup_left setup
   pub cause : StopsOpening setup before.records before.keeper_faults after.keeper_faults stop
 
--- The words have their form, and what is told is that of a stop without a setup or without a bank.
+-- The arguments have their form, and what is told is that of a stop without a setup or without a bank.
 pub record DoesntOpen (before after : OpeningPorts) (what : Told) : Type 0 where
   pub stop : Stop
-  pub told_is : what ≡ told_of (Err stop)
+  pub reported_is : what ≡ reported_of (Err stop)
   pub cause : HasNoSetup before after stop ⊎ HasNoBank before after stop
 
 -- ---- exactly where
@@ -52,14 +52,14 @@ pub record DoesntOpen (before after : OpeningPorts) (what : Told) : Type 0 where
 -- A read of the setup or a call of the keeper failed, or memory was refused.
 abbrev pub IsInterrupted : OpeningPorts → OpeningPorts → Told → Type 0
 IsInterrupted before after what =
-    ((what ≡ told 5 Plain) × Rose before.setup_faults after.setup_faults)
-    ⊎ (((what ≡ told 8 Plain) × Rose before.keeper_faults after.keeper_faults) ⊎ (what ≡ told 7 Plain))
+    ((what ≡ reported 5 Plain) × Rose before.setup_faults after.setup_faults)
+    ⊎ (((what ≡ reported 8 Plain) × Rose before.keeper_faults after.keeper_faults) ⊎ (what ≡ reported 7 Plain))
 
--- Bytes that spell no setup are refused with 3, and the line of their fault is told.
+-- Bytes that spell no setup are refused with 3, and the line of their fault is reported.
 abbrev pub RefusesSetup : OpeningPorts → OpeningPorts → Told → Type 0
 RefusesSetup before after what =
     (text : List ℕ) → before.setup_left ≡ Some text → ((setup : Setup) → SpellsSetup text setup → ⊥)
-    → ((line : ℕ) × IsSetupFault text line × (what ≡ told 3 (Place line))) ⊎ IsInterrupted before after what
+    → ((line : ℕ) × IsSetupFault text line × (what ≡ reported 3 (Place line))) ⊎ IsInterrupted before after what
 
 -- The setup is spelled, and these are the records.
 pub record HasRecords (before : OpeningPorts) (setup : Setup) (records : List (List ℕ)) : Type 0 where
@@ -68,17 +68,17 @@ pub record HasRecords (before : OpeningPorts) (setup : Setup) (records : List (L
   pub spelled : SpellsSetup text setup
   pub records_are : before.records ≡ Some records
 
--- The first record that codes no event is refused with 9, and its number and the place of its fault are told.
+-- The first record that codes no event is refused with 9, and its number and the offset of its fault are told.
 abbrev pub RefusesRecord : OpeningPorts → OpeningPorts → Told → Type 0
 RefusesRecord before after what =
-    (setup : Setup) (records : List (List ℕ)) (number place : ℕ) → HasRecords before setup records
-    → HasNoForm setup (Some records) number place → (what ≡ told 9 (Record number place)) ⊎ IsInterrupted before after what
+    (setup : Setup) (records : List (List ℕ)) (number offset : ℕ) → HasRecords before setup records
+    → HasNoForm setup (Some records) number offset → (what ≡ reported 9 (Record number offset)) ⊎ IsInterrupted before after what
 
--- So is the first one whose event isn't legal after those before it, and its number is told.
+-- So is the first one whose event isn't legal after those before it, and its number is reported.
 abbrev pub RefusesIllegal : OpeningPorts → OpeningPorts → Told → Type 0
 RefusesIllegal before after what =
     (setup : Setup) (records : List (List ℕ)) (number : ℕ) → HasRecords before setup records
-    → IsNotLegal setup (Some records) number → (what ≡ told 9 (Illegal number)) ⊎ IsInterrupted before after what
+    → IsNotLegal setup (Some records) number → (what ≡ reported 9 (Illegal number)) ⊎ IsInterrupted before after what
 
 -- A bank that its records bring to a state is refused only where something of the outside failed or memory was refused.
 abbrev pub OpensElse : OpeningPorts → OpeningPorts → Told → Type 0
@@ -86,7 +86,7 @@ OpensElse before after what =
     (setup : Setup) (records : List (List ℕ)) (state : State) → HasRecords before setup records
     → Reopens setup opening_state records state → IsInterrupted before after what
 
--- A refusal of words that have their form.
+-- A refusal of arguments that have their form.
 pub record RefusesOpening (before after : OpeningPorts) (what : Told) : Type 0 where
   pub ends : DoesntOpen before after what
   pub refuses_setup : RefusesSetup before after what

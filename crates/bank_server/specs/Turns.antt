@@ -1,7 +1,7 @@
 -- The turns of a worker, and why it ended.
 use Rattle.std.specs.Prelude.{◌≡◌, ℕ, ◌<◌, ◌≤◌, ◌⊎◌, ◌==◌, Bool, true, false, if◌then◌else◌, List, [], ◌∷◌, ◌++◌, length, map, filter, Option, Result, Ok, Err}
 use Rattle.ofx_ports.specs.Faults.{Rose}
-use Rattle.ofx_ports.specs.Told.{Grows}
+use Rattle.ofx_ports.specs.Known.{Grows}
 use Rattle.ofx_types.specs.declared.number.Moment.{Moment}
 use Rattle.bank_model.specs.declared.setup.Setup.{Setup}
 use Rattle.bank_connection.specs.Connection.{Converses}
@@ -32,7 +32,7 @@ pub record DoesDueAt (shown shown' : Option (List Moment)) (at : Moment) (due : 
   pub ends : IsDueEnd due
 
 -- The clock is read for the due run, and then the link is served.
-pub record TakesTurn {L : Type 0} (faces : Faces L) (setup : Setup) (shown shown' : Option (List Moment)) (turn : Turn L) : Type 0 where
+pub record RunsTurn {L : Type 0} (faces : Faces L) (setup : Setup) (shown shown' : Option (List Moment)) (turn : Turn L) : Type 0 where
   pub between : Option (List Moment)
   pub does : DoesDueAt shown between turn.at turn.due
   pub serves : Converses setup (around_link faces turn.given between) (around_link faces turn.back shown') turn.answer
@@ -41,7 +41,7 @@ pub record TakesTurn {L : Type 0} (faces : Faces L) (setup : Setup) (shown shown
 abbrev pub AreTurns : {L : Type 0} → Faces L → Setup → Option (List Moment) → Option (List Moment) → List (Turn L) → Type 0
 AreTurns faces setup shown shown' [] = shown' ≡ shown
 AreTurns faces setup shown shown' (turn ∷ turns) = (between : Option (List Moment))
-    × TakesTurn faces setup shown between turn × AreTurns faces setup between shown' turns
+    × RunsTurn faces setup shown between turn × AreTurns faces setup between shown' turns
 
 -- ---- parts of turns
 

@@ -1,4 +1,4 @@
-//! Numbers among the words of a command line.
+//! Numbers among the arguments of a command line.
 
 ghost use Rattle.std.specs.Prelude.{◌≡◌, ℕ, ◌≤◌, Some, None, length, IfSome, IfNone, IsTrue, ◌↔◌, if◌then◌else◌};
 ghost use Rattle.std.specs.Fmt.{decimal};
@@ -6,18 +6,18 @@ ghost use Rattle.std.specs.Str.{all_ascii_digits};
 ghost use Rattle.bank_server.specs.Numerals.{number_from, MayBeNumber};
 
 /// The most digits of a number.
-const MOST_DIGITS: usize = 10;
+const MAX_DIGITS: usize = 10;
 
 /// The number up to a limit of which a word is the text: decimal digits without a leading zero. The limit has at most ten digits.
-pub fn number_in(word: &[u8], most: u64) -> Option<u64>
+pub fn number_in(argument: &[u8], most: u64) -> Option<u64>
     requires { most ≤ 9999999999 }
-    ensures some { IfSome result (λ n. (n ≤ most) × (word.now ≡ decimal n)) }
-    ensures none { IfNone result ((n : ℕ) → n ≤ most → word.now ≡ decimal n → ⊥) }
+    ensures some { IfSome result (λ n. (n ≤ most) × (argument.now ≡ decimal n)) }
+    ensures none { IfNone result ((n : ℕ) → n ≤ most → argument.now ≡ decimal n → ⊥) }
 {
-    if !may_be_number(word) {
+    if !may_be_number(argument) {
         return None;
     }
-    match value_of(word) {
+    match value_of(argument) {
         None => None,
         Some(n) => { if n <= most { Some(n) } else { None } }
     }
@@ -39,13 +39,13 @@ fn value_of(digits: &[u8]) -> Option<u64>
 }
 
 /// Whether a word has as many bytes as a number may have, and no leading zero but in `0` itself.
-fn may_be_number(word: &[u8]) -> bool
-    ensures { IsTrue result ↔ MayBeNumber word.now }
+fn may_be_number(argument: &[u8]) -> bool
+    ensures { IsTrue result ↔ MayBeNumber argument.now }
 {
-    match word {
+    match argument {
         [] => false,
         [_] => true,
         [b'0', ..] => false,
-        _ => word.len() <= MOST_DIGITS,
+        _ => argument.len() <= MAX_DIGITS,
     }
 }

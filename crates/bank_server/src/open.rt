@@ -1,52 +1,52 @@
 //! How the bank opens to be served.
 
 ghost use Rattle.std.specs.Prelude.{◌≡◌, ◌≢◌, false, IfOk, IfErr, IsErrAnd, ◌↔◌};
-ghost use Rattle.ofx_ports.specs.Told.{Stays};
+ghost use Rattle.ofx_ports.specs.Known.{Stays};
 ghost use Rattle.ofx_types.specs.declared.told.Note.TheVariants.{Plain};
-ghost use Rattle.bank_replay.specs.Opening.{Stands};
+ghost use Rattle.bank_replay.specs.Opening.{RecordsGive};
 ghost use Rattle.bank_session.specs.Run as runs;
 ghost use Rattle.bank_session.specs.SetupRead.{IsSetupOf};
-ghost use Rattle.bank_server.specs.Words.{AreServeWords, IsServeUsage};
+ghost use Rattle.bank_server.specs.Arguments.{AreServeArguments, IsServeUsage};
 ghost use Rattle.bank_server.specs.Opening.{outside, RefusesOpening};
 
 use crate::plan::{Plan, plan_of};
 use bank_model::Printer;
 use bank_model::laws::one_setup;
 use bank_session::laws::one_bank;
-use bank_session::{Stop, end_told, opening_stop, read_setup};
+use bank_session::{Stop, opening_stop, read_setup, report_of_end};
 use bank_shared::Opened;
 use ofx_ports::{Keeper, Source};
 use ofx_types::{Text, Told};
 use std::alloc::Global;
 use std::hash::RandomState;
 
-/// Judges the words of `serve`, reads the setup whole, and opens the bank from the records that the keeper has. Each refusal hands the
+/// Judges the arguments of `serve`, reads the setup whole, and opens the bank from the records that the keeper has. Each refusal hands the
 /// keeper back. Clients' names are found by hashes with these keys.
 ///
 /// | Status | Note | Where |
 /// |---|---|---|
-/// | 2 | | the words have another form; nothing was read |
+/// | 2 | | the arguments have another form; nothing was read |
 /// | 3 | the line of the fault, from 1 | the setup has no form or is past a limit |
 /// | 5 | | a read of the setup failed |
 /// | 8 | | a call of the keeper failed |
-/// | 9 | the number of a record, from 1, and the place of its first fault | this record is the first that codes no event |
+/// | 9 | the number of a record, from 1, and the offset of its first fault | this record is the first that codes no event |
 /// | 9 | the number of a record, from 1 | this record is the first whose event isn't legal after those before it |
 /// | 7 | | memory was refused |
 pub fn serve_open<A: Source, K: Keeper, P: Printer>(
     alloc: Global,
     keys: RandomState,
-    words: &[Text],
+    arguments: &[Text],
     setup: &mut A,
     keeper: K,
     printer: P,
 ) -> Result<(Plan, Opened<K, P>), (Told, K)>
     requires settled { K.unsettled keeper ≡ false }
-    ensures usage { IsErrAnd result (λ refused. refused.0.status.0 ≡ 2) ↔ IsServeUsage words.now }
-    ensures plain { IfErr result (λ refused. refused.0.status.0 ≡ 2 → refused.0 ≡ runs.told 2 Plain) }
-    ensures unread { IsServeUsage words.now → setup.new ≡ setup.old }
-    ensures plan { IfOk result (λ opened. AreServeWords words.now opened.0) }
+    ensures usage { IsErrAnd result (λ refused. refused.0.status.0 ≡ 2) ↔ IsServeUsage arguments.now }
+    ensures plain { IfErr result (λ refused. refused.0.status.0 ≡ 2 → refused.0 ≡ runs.reported 2 Plain) }
+    ensures unread { IsServeUsage arguments.now → setup.new ≡ setup.old }
+    ensures plan { IfOk result (λ opened. AreServeArguments arguments.now opened.0) }
     ensures found { IfOk result (λ opened. IsSetupOf (A.left setup.old) opened.1.setup) }
-    ensures stands { IfOk result (λ opened. Stands opened.1.setup (K.records keeper) opened.1.state) }
+    ensures holds { IfOk result (λ opened. RecordsGive opened.1.setup (K.records keeper) opened.1.state) }
     ensures opened { IfOk result (λ opened. opened.1.opened ≡ K.records keeper) }
     ensures list { IfOk result (λ opened. Stays (K.records keeper) opened.1.records) }
     ensures refused { IfErr result (λ refused. refused.0.status.0 ≢ 2 → RefusesOpening
@@ -57,15 +57,15 @@ pub fn serve_open<A: Source, K: Keeper, P: Printer>(
 {
     one_setup();
     one_bank();
-    let Some(plan) = plan_of(words) else {
-        return Err((end_told(Err(Stop::Usage)), keeper));
+    let Some(plan) = plan_of(arguments) else {
+        return Err((report_of_end(Err(Stop::Usage)), keeper));
     };
     let found = match read_setup(alloc, setup) {
         Ok(found) => found,
-        Err(stop) => return Err((end_told(Err(stop)), keeper)),
+        Err(stop) => return Err((report_of_end(Err(stop)), keeper)),
     };
     match Opened::open(alloc, keys, keeper, found, printer) {
         Ok(opened) => Ok((plan, opened)),
-        Err((fault, keeper)) => Err((end_told(Err(opening_stop(fault))), keeper)),
+        Err((fault, keeper)) => Err((report_of_end(Err(opening_stop(fault))), keeper)),
     }
 }

@@ -1,21 +1,21 @@
-//! The words of the command `serve`.
+//! The arguments of the command `serve`.
 
 ghost use Rattle.std.specs.Prelude.{◌≡◌, ◌≤◌, ◌↔◌, IfSome, IfNone, IsTrue, ℕ, codes};
-ghost use Rattle.bank_server.specs.Words.{IsNumber, ReadsNumbers, ReadsPlan};
+ghost use Rattle.bank_server.specs.Arguments.{IsNumber, ReadsNumbers, ReadsPlan};
 
 use crate::numbers::number_in;
 use ofx_types::Text;
 
 /// The greatest port.
-const MOST_PORT: u64 = 65_535;
+const MAX_PORT: u64 = 65_535;
 
 /// The most workers.
-const MOST_WORKERS: u64 = 64;
+const MAX_WORKERS: u64 = 64;
 
 /// The most connections of a worker.
-const MOST_CONNECTIONS: u64 = 4_294_967_295;
+const MAX_CONNECTIONS: u64 = 4_294_967_295;
 
-/// What the words of `serve` say.
+/// What the arguments of `serve` say.
 #[derive(Clone, Copy, Debug, PartialEq, Eq)]
 pub struct Plan {
     /// Where the server listens: 1 to 65535.
@@ -26,11 +26,11 @@ pub struct Plan {
     pub most: u32,
 }
 
-/// What the words say: `serve`, the setup, the records, PORT, WORKERS and CONNECTIONS. None where they have another form.
-pub fn plan_of(words: &[Text]) -> Option<Plan>
-    ensures { ReadsPlan words.now result }
+/// What the arguments say: `serve`, the setup, the records, PORT, WORKERS and CONNECTIONS. None where they have another form.
+pub fn plan_of(arguments: &[Text]) -> Option<Plan>
+    ensures { ReadsPlan arguments.now result }
 {
-    match words {
+    match arguments {
         [command, _setup, _records, port, workers, most] => {
             if is_serve(command) {
                 numbers_of(port, workers, most)
@@ -43,19 +43,19 @@ pub fn plan_of(words: &[Text]) -> Option<Plan>
 }
 
 /// Whether a word is the name of the command.
-fn is_serve(word: &Text) -> bool
-    ensures { IsTrue result ↔ (word.now ≡ codes "serve") }
+fn is_serve(argument: &Text) -> bool
+    ensures { IsTrue result ↔ (argument.now ≡ codes "serve") }
 {
-    word.as_bytes() == b"serve".as_slice()
+    argument.as_bytes() == b"serve".as_slice()
 }
 
-/// The numbers that three words are. None where one of them is none, or not within its bounds.
+/// The numbers that three arguments are. None where one of them is none, or not within its bounds.
 fn numbers_of(port: &Text, workers: &Text, most: &Text) -> Option<Plan>
     ensures { ReadsNumbers port.now workers.now most.now result }
 {
-    let port = number_within(port, 1, MOST_PORT)?;
-    let workers = number_within(workers, 1, MOST_WORKERS)?;
-    let most = number_within(most, 0, MOST_CONNECTIONS)?;
+    let port = number_within(port, 1, MAX_PORT)?;
+    let workers = number_within(workers, 1, MAX_WORKERS)?;
+    let most = number_within(most, 0, MAX_CONNECTIONS)?;
     Some(Plan {
         port: port as u16,
         workers: workers as u32,
@@ -64,12 +64,12 @@ fn numbers_of(port: &Text, workers: &Text, most: &Text) -> Option<Plan>
 }
 
 /// The number within these bounds of which a word is the text.
-fn number_within(word: &Text, least: u64, most: u64) -> Option<u64>
+fn number_within(argument: &Text, least: u64, most: u64) -> Option<u64>
     requires { most ≤ 9999999999 }
-    ensures some { IfSome result (IsNumber least most word.now) }
-    ensures none { IfNone result ((n : ℕ) → IsNumber least most word.now n → ⊥) }
+    ensures some { IfSome result (IsNumber least most argument.now) }
+    ensures none { IfNone result ((n : ℕ) → IsNumber least most argument.now n → ⊥) }
 {
-    match number_in(word.as_bytes(), most) {
+    match number_in(argument.as_bytes(), most) {
         None => None,
         Some(n) => { if n < least { None } else { Some(n) } }
     }

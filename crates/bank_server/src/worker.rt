@@ -10,9 +10,9 @@ ghost use Rattle.http_link.specs.declared.served.ServeError.{ServeError as WhyUn
 ghost use Rattle.bank_server.specs.Connected.{faces, door_view};
 ghost use Rattle.bank_server.specs.Turns.{Works, DoesDueAt, missed_in, greatest};
 
-use bank_counter::serve_connection;
 use bank_due::{DueFault, due_run};
 use bank_model::Printer;
+use bank_offices::serve_connection;
 use bank_shared::{Bank, BankName, Pass};
 use ofx_ports::{Clock, Doorway, Failed, Gate, Keeper, Link};
 use ofx_types::Status;
@@ -57,7 +57,7 @@ pub fn serve_worker<
     ensures works { Works (faces L.left L.read_faults L.held L.write_faults) N.setup most
         (door_view (D.given door.old) (D.back door.old) (D.faults door.old) (D.closings door.old))
         (door_view (D.given door.new) (D.back door.new) (D.faults door.new) (D.closings door.new))
-        (C.told clock.old) (C.told clock.new) result }
+        (C.shown clock.old) (C.shown clock.new) result }
     ensures status { (result.status.0 ≡ 0) ⊎ (result.status.0 ≡ 5) }
     ensures full { result.status.0 ≡ 0 → (result.served ≡ greatest most) ⊎ Rose (D.closings door.old) (D.closings door.new) }
     ensures failed { result.status.0 ≡ 5 → Rose (D.faults door.old) (D.faults door.new) }
@@ -95,7 +95,7 @@ fn missed_due<R: Wait, N: BankName, K: Keeper, P: Printer, C: Clock, G: Gate>(
     clock: &mut C,
     gate: &G,
 ) -> u32
-    ensures does { (at : TheMoment) × (due : Result ℕ WhyLeft) × DoesDueAt (C.told clock.old) (C.told clock.new) at due × (result ≡ missed_in (due ∷ [])) }
+    ensures does { (at : TheMoment) × (due : Result ℕ WhyLeft) × DoesDueAt (C.shown clock.old) (C.shown clock.new) at due × (result ≡ missed_in (due ∷ [])) }
     ensures one { result ≤ 1 }
 {
     let at = clock.now();
@@ -116,8 +116,8 @@ fn served_link<R: Wait, N: BankName, K: Keeper, P: Printer, L: Link, C: Clock, G
     gate: &G,
 ) -> L
     ensures { (answer : Result Ended WhyUnserved) × Converses N.setup
-        (around (L.left link) (L.read_faults link) (L.held link) (L.write_faults link) (C.told clock.old) None)
-        (around (L.left result) (L.read_faults result) (L.held result) (L.write_faults result) (C.told clock.new) None)
+        (around (L.left link) (L.read_faults link) (L.held link) (L.write_faults link) (C.shown clock.old) None)
+        (around (L.left result) (L.read_faults result) (L.held result) (L.write_faults result) (C.shown clock.new) None)
         answer }
 {
     let mut link = link;

@@ -75,7 +75,7 @@ pub fn serve_all<
         → Works (faces L.left L.read_faults L.held L.write_faults) N.setup most
         (door_view (D.given worker.0) (D.back worker.0) (D.faults worker.0) (D.closings worker.0))
         (door_view (D.given worked.door) (D.back worked.door) (D.faults worked.door) (D.closings worked.door))
-        (C.told worker.1) (C.told worked.clock) worked.end) }
+        (C.shown worker.1) (C.shown worked.clock) worked.end) }
     ensures status { IfOk result (λ all. all.status.0 ≡ first_other (map (λ worked. worked.end.status.0) all.ends.items)) }
 {
     let (bank, mut pass) = Bank::<N, K, P>::begin(opened);
@@ -108,13 +108,13 @@ fn all_run<
         → Works (faces L.left L.read_faults L.held L.write_faults) N.setup most
         (door_view (D.given job.door) (D.back job.door) (D.faults job.door) (D.closings job.door))
         (door_view (D.given worked.door) (D.back worked.door) (D.faults worked.door) (D.closings worked.door))
-        (C.told job.clock) (C.told worked.clock) worked.end) }
+        (C.shown job.clock) (C.shown worked.clock) worked.end) }
 {
     let run = |job: Job<D, C>| -> Worked<D, C>
         ensures { Works (faces L.left L.read_faults L.held L.write_faults) N.setup most
             (door_view (D.given job.door) (D.back job.door) (D.faults job.door) (D.closings job.door))
             (door_view (D.given result.door) (D.back result.door) (D.faults result.door) (D.closings result.door))
-            (C.told job.clock) (C.told result.clock) result.end }
+            (C.shown job.clock) (C.shown result.clock) result.end }
     { run_job(bank, rt, alloc, job, gate, most) };
     let ends = map_vec(rt, jobs, &run)?;
     Ok(ends)
@@ -134,7 +134,7 @@ fn run_job<
     ensures { Works (faces L.left L.read_faults L.held L.write_faults) N.setup most
         (door_view (D.given job.door) (D.back job.door) (D.faults job.door) (D.closings job.door))
         (door_view (D.given result.door) (D.back result.door) (D.faults result.door) (D.closings result.door))
-        (C.told job.clock) (C.told result.clock) result.end }
+        (C.shown job.clock) (C.shown result.clock) result.end }
 {
     let mut job = job;
     let end = serve_worker(

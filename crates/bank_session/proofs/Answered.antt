@@ -1,7 +1,7 @@
 -- What a desk answers and does, as the lines of frames.
 use Rattle.std.proofs.Common.{◌≡◌, ℕ, Bool, List, [], ◌∷◌, ◌++◌, Option, Some, ◌⊎◌, inl, inr, arith, refl, sym, ap, ◌∙◌, length-append}
 use Rattle.std.specs.Prelude.{Result, Err}
-use Rattle.ofx_ports.specs.Told.{Stays, Grows}
+use Rattle.ofx_ports.specs.Known.{Stays, Grows}
 use Rattle.ofx_types.specs.declared.number.Moment.{Moment}
 use Rattle.bank_model.specs.Rules.{due}
 use Rattle.bank_model.specs.declared.event.Event.TheVariants.{File}
@@ -16,8 +16,8 @@ use Rattle.bank_desk.specs.Answering.{Sends, FileUnkept}
 use Rattle.bank_desk.specs.DueSteps.{MadeRun, StoppedWork}
 use Rattle.bank_desk.specs.declared.fault.DeskFault.{DeskFault}
 use Rattle.bank_desk.specs.declared.fault.DeskFault.TheVariants.{NoMemory, AppendFailed}
-use Rattle.ofx_ports.proofs.ToldLaws.{Grows-nil, Grows-trans, Grows-kept}
-use Rattle.bank_session.proofs.ToldLemmas.{grows_nothing, landed_or_not}
+use Rattle.ofx_ports.proofs.KnownLaws.{Grows-nil, Grows-trans, Grows-kept}
+use Rattle.bank_session.proofs.ReportedLemmas.{grows_nothing, landed_or_not}
 use Rattle.bank_desk.proofs.DueEvents.{due_more, records_more}
 use Rattle.bank_session.specs.Answers.{AnswersFile, DoesDue, IsPrefixKept}
 
@@ -25,19 +25,19 @@ use Rattle.bank_session.specs.Answers.{AnswersFile, DoesDue, IsPrefixKept}
 
 -- what is written for a file with the records that are kept of it
 abbrev pub AnswersKeeping : Setup → Moment → State → List ℕ → Option (List (List ℕ)) → Option (List (List ℕ)) → State → List ℕ → Type 0
-AnswersKeeping setup at before bytes told told' after line = (records : List (List ℕ)) × AnswersFile setup at before bytes line records after × Grows told told' records
+AnswersKeeping setup at before bytes reported reported' after line = (records : List (List ℕ)) × AnswersFile setup at before bytes line records after × Grows reported reported' records
 
 said : (setup : Setup) (at : Moment) (before after : State) (bytes line : List ℕ) (records : List (List ℕ)) → Sends frame setup at before bytes line records after → AnswersFile setup at before bytes line records after
 said setup at before after bytes line records (inl reply) = inl reply
 said setup at before after bytes line records (inr (inl poll)) = inr (inl poll)
 said setup at before after bytes line records (inr (inr denial)) = inr (inr (inl denial))
 
-pub file_sent : (setup : Setup) (at : Moment) (before after : State) (bytes line : List ℕ) (told told' : Option (List (List ℕ))) → ((records : List (List ℕ)) × Sends frame setup at before bytes line records after × Grows told told' records) → AnswersKeeping setup at before bytes told told' after line
-file_sent setup at before after bytes line told told' (records, sends, grows) = (records, said setup at before after bytes line records sends, grows)
+pub file_sent : (setup : Setup) (at : Moment) (before after : State) (bytes line : List ℕ) (reported reported' : Option (List (List ℕ))) → ((records : List (List ℕ)) × Sends frame setup at before bytes line records after × Grows reported reported' records) → AnswersKeeping setup at before bytes reported reported' after line
+file_sent setup at before after bytes line reported reported' (records, sends, grows) = (records, said setup at before after bytes line records sends, grows)
 
-pub file_refused : (setup : Setup) (at : Moment) (before after : State) (bytes line : List ℕ) (place : ℕ) (told told' : Option (List (List ℕ))) → IsRefused bytes place × Stays told told' × (after ≡ before) → line ≡ bad_line place → AnswersKeeping setup at before bytes told told' after line
-file_refused setup at before after bytes line place told told' (refused, stays, same) bad =
-    ([], inr (inr (inr (record { place = place; refused = refused; unkept = refl; bad = bad; state = same }))), grows_nothing told told' stays)
+pub file_refused : (setup : Setup) (at : Moment) (before after : State) (bytes line : List ℕ) (offset : ℕ) (reported reported' : Option (List (List ℕ))) → IsRefused bytes offset × Stays reported reported' × (after ≡ before) → line ≡ bad_line offset → AnswersKeeping setup at before bytes reported reported' after line
+file_refused setup at before after bytes line offset reported reported' (refused, stays, same) bad =
+    ([], inr (inr (inr (record { offset = offset; refused = refused; unkept = refl; bad = bad; state = same }))), grows_nothing reported reported' stays)
 
 abbrev failing : (A : Type 0) → DeskFault → Result A DeskFault
 failing A fault = Err fault
@@ -47,11 +47,11 @@ pub refused_alike : (A B : Type 0) (fault other : DeskFault) → failing A fault
 refused_alike A B fault other same = let is : fault ≡ other = cc in ap (failing B) is
 
 -- of a file whose append failed the record is kept, or nothing is
-pub file_prefix : (setup : Setup) (at : Moment) (before : State) (bytes : List ℕ) (told told' : Option (List (List ℕ))) (landed : Option Bool) → FileUnkept setup at bytes told told' landed → (records : List (List ℕ)) × IsPrefixKept setup at before (request bytes) records × Grows told told' records
-file_prefix setup at before bytes told told' landed h = by (landed_or_not told told' landed h.rec h.lands)
+pub file_prefix : (setup : Setup) (at : Moment) (before : State) (bytes : List ℕ) (reported reported' : Option (List (List ℕ))) (landed : Option Bool) → FileUnkept setup at bytes reported reported' landed → (records : List (List ℕ)) × IsPrefixKept setup at before (request bytes) records × Grows reported reported' records
+file_prefix setup at before bytes reported reported' landed h = by (landed_or_not reported reported' landed h.rec h.lands)
   where
-    by : Stays told told' ⊎ Grows told told' (h.rec ∷ []) → (records : List (List ℕ)) × IsPrefixKept setup at before (request bytes) records × Grows told told' records
-    by (inl stays) = ([], record { events = []; work = inl refl; kept = refl }, grows_nothing told told' stays)
+    by : Stays reported reported' ⊎ Grows reported reported' (h.rec ∷ []) → (records : List (List ℕ)) × IsPrefixKept setup at before (request bytes) records × Grows reported reported' records
+    by (inl stays) = ([], record { events = []; work = inl refl; kept = refl }, grows_nothing reported reported' stays)
     by (inr grows) = (
       h.rec ∷ [],
       record { events = File h.user h.file ∷ []; work = inr (h.file, h.user, h.is_signed_on, h.is_event, refl); kept = (h.codes, refl) },
@@ -62,19 +62,19 @@ file_prefix setup at before bytes told told' landed h = by (landed_or_not told t
 
 -- what is kept of due work that isn't done
 abbrev pub KeepsDuePrefix : Setup → Moment → State → Option (List (List ℕ)) → Option (List (List ℕ)) → Type 0
-KeepsDuePrefix setup at before told told' = (records : List (List ℕ)) × IsPrefixKept setup at before due_work records × Grows told told' records
+KeepsDuePrefix setup at before reported reported' = (records : List (List ℕ)) × IsPrefixKept setup at before due_work records × Grows reported reported' records
 
 -- the events that have happened are a prefix of what is due, and so they are with the one whose append failed, if its record landed
-pub work_prefix : (at : Moment) (before after : BookView) (told told' : Option (List (List ℕ))) (landed : Option Bool) (fault : DeskFault) → after.setup ≡ before.setup → StoppedWork at before after told told' landed fault → KeepsDuePrefix before.setup at before.state told told'
-work_prefix at before after told told' landed NoMemory own h =
+pub work_prefix : (at : Moment) (before after : BookView) (reported reported' : Option (List (List ℕ))) (landed : Option Bool) (fault : DeskFault) → after.setup ≡ before.setup → StoppedWork at before after reported reported' landed fault → KeepsDuePrefix before.setup at before.state reported reported'
+work_prefix at before after reported reported' landed NoMemory own h =
     (h.records, record { events = h.events; work = (h.begun.are_due, h.begun.few); kept = h.begun.kept }, h.grows)
-work_prefix at before after told told' landed AppendFailed own h = by (landed_or_not h.between told' landed h.rec h.lands)
+work_prefix at before after reported reported' landed AppendFailed own h = by (landed_or_not h.between reported' landed h.rec h.lands)
   where
     next : due before.setup (after_events before.setup before.state at h.events) at ≡ Some h.event
     next = ap (λ (S : State). due before.setup S at) (sym h.begun.state) ∙ (ap (λ (s : Setup). due s after.state at) (sym own) ∙ h.next)
 
-    by : Stays h.between told' ⊎ Grows h.between told' (h.rec ∷ []) → KeepsDuePrefix before.setup at before.state told told'
-    by (inl stays) = (h.records, record { events = h.events; work = (h.begun.are_due, h.begun.few); kept = h.begun.kept }, Grows-kept told h.between told' h.records h.grows stays)
+    by : Stays h.between reported' ⊎ Grows h.between reported' (h.rec ∷ []) → KeepsDuePrefix before.setup at before.state reported reported'
+    by (inl stays) = (h.records, record { events = h.events; work = (h.begun.are_due, h.begun.few); kept = h.begun.kept }, Grows-kept reported h.between reported' h.records h.grows stays)
     by (inr grows) = (
       h.records ++ h.rec ∷ [],
       record {
@@ -82,17 +82,17 @@ work_prefix at before after told told' landed AppendFailed own h = by (landed_or
         work = (due_more before.setup before.state at h.events h.event h.begun.are_due next, omega (arith, h.room, length-append h.events (h.event ∷ [])));
         kept = records_more at h.events h.records h.event h.rec h.begun.kept h.codes;
       },
-      Grows-trans told h.between told' h.records (h.rec ∷ []) h.grows grows,
+      Grows-trans reported h.between reported' h.records (h.rec ∷ []) h.grows grows,
     )
 
 -- before the first event nothing is kept
-pub no_work : (at : Moment) (before : BookView) (told : Option (List (List ℕ))) → KeepsDuePrefix before.setup at before.state told told
-no_work at before told = ([], record { events = []; work = (tt, omega arith); kept = refl }, Grows-nil told)
+pub no_work : (at : Moment) (before : BookView) (reported : Option (List (List ℕ))) → KeepsDuePrefix before.setup at before.state reported reported
+no_work at before reported = ([], record { events = []; work = (tt, omega arith); kept = refl }, Grows-nil reported)
 
 -- a whole run with its line
-pub run_told : (at : Moment) (before after : BookView) (told told' : Option (List (List ℕ))) (count : ℕ) (line : List ℕ) → MadeRun at before after told told' count → line ≡ due_line count →
-    (records : List (List ℕ)) × DoesDue before.setup at before.state line records after.state × Grows told told' records
-run_told at before after told told' count line made is = (
+pub run_reported : (at : Moment) (before after : BookView) (reported reported' : Option (List (List ℕ))) (count : ℕ) (line : List ℕ) → MadeRun at before after reported reported' count → line ≡ due_line count →
+    (records : List (List ℕ)) × DoesDue before.setup at before.state line records after.state × Grows reported reported' records
+run_reported at before after reported reported' count line made is = (
   made.records,
   record { events = made.events; is_run = made.is_run; kept = made.kept; count = is ∙ ap due_line (sym made.counted); state = made.state },
   made.grows,

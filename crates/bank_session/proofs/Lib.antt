@@ -1,8 +1,8 @@
-pub mod ToldLemmas
+pub mod ReportedLemmas
 pub mod BetweenTurns
 pub mod MomentLemmas
 pub mod SetupSource
-pub mod CommandWords
+pub mod CommandArguments
 pub mod TurnLemmas
 pub mod RunLemmas
 pub mod OpeningLemmas

@@ -20,7 +20,7 @@ use Rattle.bank_frames.specs.Frames.{Content, request, due_work, frame, frame_he
 use Rattle.event_codec.specs.Coding.{coded}
 use Rattle.bank_desk.specs.Keeping.{AreRecordsOf}
 use Rattle.bank_session.specs.Answers.{AnswersFrame, AnswersFile, AreTurns}
-use Rattle.bank_signon.specs.Signon.{IsSignedOn, IsRefused, fault_place}
+use Rattle.bank_signon.specs.Signon.{IsSignedOn, IsRefused, fault_offset}
 use Rattle.bank_frames.specs.Lines.{due_line, bad_line}
 use Rattle.bank_model.specs.DueRun.{after_events}
 use Rattle.bank_session.specs.Determined.{OneDueRun, OneLine, OneOutput, OneRefusal, RefusedIsUnanswered, RefusedIsUndenied, DeniedIsUnanswered, WhereAnswered, WherePolled, WhereDenied, WhereRefused, OnlyWhereRefused}
@@ -36,14 +36,14 @@ of_other : OneFile → (bytes : List ℕ) (a b : RequestFile) (P : RequestFile �
 of_other one bytes a b P spells spells' fact = subst P (one bytes a b spells spells') fact
 
 -- refused bytes spell nothing
-unrefused : FaultsSpellNothing → (bytes : List ℕ) (file : RequestFile) (place : ℕ) → SpellsFile bytes file → IsRefused bytes place → ⊥
-unrefused nothing bytes file place spells refused = nothing bytes file refused.fault spells refused.is_fault
+unrefused : FaultsSpellNothing → (bytes : List ℕ) (file : RequestFile) (offset : ℕ) → SpellsFile bytes file → IsRefused bytes offset → ⊥
+unrefused nothing bytes file offset spells refused = nothing bytes file refused.fault spells refused.is_fault
 
 pub unanswered : FaultsSpellNothing → RefusedIsUnanswered
-unanswered nothing setup bytes file user place answered refused = unrefused nothing bytes file place answered.spelled refused
+unanswered nothing setup bytes file user offset answered refused = unrefused nothing bytes file offset answered.spelled refused
 
 pub undenied : FaultsSpellNothing → RefusedIsUndenied
-undenied nothing setup bytes file place denied refused = unrefused nothing bytes file place denied.spelled refused
+undenied nothing setup bytes file offset denied refused = unrefused nothing bytes file offset denied.spelled refused
 
 -- a user who signs on isn't denied
 pub signed_on_once : OneFile → DeniedIsUnanswered
@@ -52,10 +52,10 @@ signed_on_once one setup bytes file file' user answered denied =
     none_or_some denied.unsigned (of_other one bytes file file' P answered.spelled denied.spelled answered.signed)
 
 -- a file that isn't answered has one place
-pub same_place : OneFault → OneRefusal
-same_place one bytes place place' a b =
+pub same_offset : OneFault → OneRefusal
+same_offset one bytes offset offset' a b =
     let fault : a.fault ≡ b.fault = one bytes a.fault b.fault a.is_fault b.is_fault in
-    same_inside (sym a.has_place ∙ (ap (λ (f : FileFault). fault_place f) fault ∙ b.has_place))
+    same_inside (sym a.has_offset ∙ (ap (λ (f : FileFault). fault_offset f) fault ∙ b.has_offset))
 
 -- two answers to one file are one event
 same_event : OneFile → (setup : Setup) (bytes : List ℕ) (file file' : RequestFile) (user user' : UserId) → IsSignedOn setup bytes file user → IsSignedOn setup bytes file' user' → File user file ≡ File user' file'
@@ -85,7 +85,7 @@ same_records at (event ∷ events) [] records' a b = absurd a
 same_records at (event ∷ events) (rec ∷ records) [] a b = absurd b
 same_records at (event ∷ events) (rec ∷ records) (other ∷ others) a b =
     let first : rec ≡ other = a.0.spelled ∙ sym b.0.spelled in
-    let behind = same_records at events records others a.1 b.1 in
+    let suffix = same_records at events records others a.1 b.1 in
     cc
 
 pub where_answered : OneFile → RefusedIsUnanswered → DeniedIsUnanswered → WhereAnswered
@@ -98,7 +98,7 @@ where_answered one apart once setup at before bytes line records after file user
 where_answered one apart once setup at before bytes line records after file user (inr (inl p)) answered event_is =
     absurd (polled_and_event one bytes p.file file p.is_signed_on.spelled answered.spelled p.is_no_event event_is)
 where_answered one apart once setup at before bytes line records after file user (inr (inr (inl d))) answered event_is = absurd (once setup bytes file d.file user answered d.is_denied)
-where_answered one apart once setup at before bytes line records after file user (inr (inr (inr b))) answered event_is = absurd (apart setup bytes file user b.place answered b.refused)
+where_answered one apart once setup at before bytes line records after file user (inr (inr (inr b))) answered event_is = absurd (apart setup bytes file user b.offset answered b.refused)
 
 -- two readings of a poll are one user's one file
 same_poll : OneFile → (setup : Setup) (bytes : List ℕ) (file file' : RequestFile) (user user' : UserId) → IsSignedOn setup bytes file user → IsSignedOn setup bytes file' user' → (file ≡ file') × (user ≡ user')
@@ -119,7 +119,7 @@ where_polled one apart once setup at before bytes line records after file user (
       p.state,
     )
 where_polled one apart once setup at before bytes line records after file user (inr (inr (inl d))) polled poll = absurd (once setup bytes file d.file user polled d.is_denied)
-where_polled one apart once setup at before bytes line records after file user (inr (inr (inr b))) polled poll = absurd (apart setup bytes file user b.place polled b.refused)
+where_polled one apart once setup at before bytes line records after file user (inr (inr (inr b))) polled poll = absurd (apart setup bytes file user b.offset polled b.refused)
 
 pub where_denied : OneFile → RefusedIsUndenied → DeniedIsUnanswered → WhereDenied
 where_denied one apart once setup at before bytes line records after file (inl a) denied = absurd (once setup bytes a.file file a.user a.is_signed_on denied)
@@ -127,28 +127,28 @@ where_denied one apart once setup at before bytes line records after file (inr (
 where_denied one apart once setup at before bytes line records after file (inr (inr (inl d))) denied =
     let same : d.file ≡ file = one bytes d.file file d.is_denied.spelled denied.spelled in
     (d.reply ∙ ap (λ (f : RequestFile). frame (reply_text (denial f at))) same, d.unkept, d.state)
-where_denied one apart once setup at before bytes line records after file (inr (inr (inr b))) denied = absurd (apart setup bytes file b.place denied b.refused)
+where_denied one apart once setup at before bytes line records after file (inr (inr (inr b))) denied = absurd (apart setup bytes file b.offset denied b.refused)
 
 pub where_refused : OneRefusal → RefusedIsUnanswered → RefusedIsUndenied → WhereRefused
-where_refused one apart apart' setup at before bytes line records after place (inl a) refused = absurd (apart setup bytes a.file a.user place a.is_signed_on refused)
-where_refused one apart apart' setup at before bytes line records after place (inr (inl p)) refused = absurd (apart setup bytes p.file p.user place p.is_signed_on refused)
-where_refused one apart apart' setup at before bytes line records after place (inr (inr (inl d))) refused = absurd (apart' setup bytes d.file place d.is_denied refused)
-where_refused one apart apart' setup at before bytes line records after place (inr (inr (inr b))) refused =
-    (b.bad ∙ ap (λ (p : ℕ). bad_line p) (one bytes b.place place b.refused refused), b.unkept, b.state)
+where_refused one apart apart' setup at before bytes line records after offset (inl a) refused = absurd (apart setup bytes a.file a.user offset a.is_signed_on refused)
+where_refused one apart apart' setup at before bytes line records after offset (inr (inl p)) refused = absurd (apart setup bytes p.file p.user offset p.is_signed_on refused)
+where_refused one apart apart' setup at before bytes line records after offset (inr (inr (inl d))) refused = absurd (apart' setup bytes d.file offset d.is_denied refused)
+where_refused one apart apart' setup at before bytes line records after offset (inr (inr (inr b))) refused =
+    (b.bad ∙ ap (λ (p : ℕ). bad_line p) (one bytes b.offset offset b.refused refused), b.unkept, b.state)
 
 -- a framed reply tells no place
-frame_tells_nothing : (file : List ℕ) (place : ℕ) → bad_line place ≡ frame file → ⊥
+frame_reports_nothing : (file : List ℕ) (offset : ℕ) → bad_line offset ≡ frame file → ⊥
 unfolding frame_head
-frame_tells_nothing file place e = let first : 66 ≡ 70 = ap (λ (l : List ℕ). get_or l 0 0) e in absurd (omega (arith, first))
+frame_reports_nothing file offset e = let first : 66 ≡ 70 = ap (λ (l : List ℕ). get_or l 0 0) e in absurd (omega (arith, first))
 
 same_digits : (a b : List ℕ) → codes "BAD " ++ a ++ 10 ∷ [] ≡ codes "BAD " ++ b ++ 10 ∷ [] → a ≡ b
 same_digits a b e = append_cancel_left (codes "BAD ") a b (append_cancel_right (codes "BAD " ++ a) (codes "BAD " ++ b) (10 ∷ []) e)
 
 pub only_where_refused : OnlyWhereRefused
-only_where_refused setup at before bytes records after printed (inl a) = absurd (frame_tells_nothing _ printed a.reply)
-only_where_refused setup at before bytes records after printed (inr (inl p)) = absurd (frame_tells_nothing _ printed p.reply)
-only_where_refused setup at before bytes records after printed (inr (inr (inl d))) = absurd (frame_tells_nothing _ printed d.reply)
-only_where_refused setup at before bytes records after printed (inr (inr (inr b))) = (b.place, b.refused, same_digits (decimal b.place) (decimal printed) (sym b.bad))
+only_where_refused setup at before bytes records after printed (inl a) = absurd (frame_reports_nothing _ printed a.reply)
+only_where_refused setup at before bytes records after printed (inr (inl p)) = absurd (frame_reports_nothing _ printed p.reply)
+only_where_refused setup at before bytes records after printed (inr (inr (inl d))) = absurd (frame_reports_nothing _ printed d.reply)
+only_where_refused setup at before bytes records after printed (inr (inr (inr b))) = (b.offset, b.refused, same_digits (decimal b.offset) (decimal printed) (sym b.bad))
 
 -- for the bytes of a file there is one line, one list of records, and one state after it
 same_file_line : WhereAnswered → WherePolled → WhereDenied → WhereRefused → (setup : Setup) (at : Moment) (before : State) (bytes line line' : List ℕ) (records records' : List (List ℕ)) (after after' : State) →
@@ -163,7 +163,7 @@ same_file_line answered polled denied refused setup at before bytes line line' r
     let there = denied setup at before bytes line records after b.file says b.is_denied in
     (there.0 ∙ sym b.reply, there.1 ∙ sym b.unkept, there.2 ∙ sym b.state)
 same_file_line answered polled denied refused setup at before bytes line line' records records' after after' says (inr (inr (inr b))) =
-    let there = refused setup at before bytes line records after b.place says b.refused in
+    let there = refused setup at before bytes line records after b.offset says b.refused in
     (there.0 ∙ sym b.bad, there.1 ∙ sym b.unkept, there.2 ∙ sym b.state)
 
 -- and so there is for a frame, since what is due is done in one order
@@ -195,8 +195,8 @@ same_output one setup before (t ∷ ts) (u ∷ us) after after' (mid, fits, says
     subst (λ (at : Moment). AnswersFrame setup at before u.content t.line t.records mid) moment (subst (λ (c : Content). AnswersFrame setup t.at before c t.line t.records mid) content says) in
     let first = one setup u.at before u.content t.line u.line t.records u.records mid mid' there says' in
     let on : AreTurns setup mid us after' = subst (λ (s : State). AreTurns setup s us after') (sym first.2) rest' in
-    let behind = same_output one setup mid ts us after after' rest on (same_tail e) (same_tail m) in
-    (both first.0 behind.0, both first.1 behind.1, behind.2)
+    let suffix = same_output one setup mid ts us after after' rest on (same_tail e) (same_tail m) in
+    (both first.0 suffix.0, both first.1 suffix.1, suffix.2)
   where
     both : {X : Type 0} {a b more more' : List X} → a ≡ b → more ≡ more' → a ++ more ≡ b ++ more'
-    both first behind = cc
+    both first suffix = cc

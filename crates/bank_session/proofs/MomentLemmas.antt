@@ -2,11 +2,11 @@
 use Rattle.std.proofs.Common.{◌≡◌, List, [], ◌∷◌, ◌++◌, Option, None, Some, sym}
 use Rattle.std.proofs.lemmas.List.{map-append}
 use Rattle.std.proofs.lemmas.List.Elements.{All-nil, All-append}
-use Rattle.ofx_ports.specs.Told.{Stays}
+use Rattle.ofx_ports.specs.Known.{Stays}
 use Rattle.ofx_types.specs.declared.number.Moment.{Moment}
 use Rattle.bank_session.specs.Answers.{Turn, moments_in, AreMoments}
-use Rattle.ofx_ports.proofs.ToldLaws.{Stays-trans, Grows-trans, Grows-kept}
-use Rattle.bank_session.proofs.ToldLemmas.{grows_nothing}
+use Rattle.ofx_ports.proofs.KnownLaws.{Stays-trans, Grows-trans, Grows-kept}
+use Rattle.bank_session.proofs.ReportedLemmas.{grows_nothing}
 
 -- a clock that wasn't read gave no moment
 pub no_moments : (at : Option Moment) (a b : Option (List Moment)) → Stays a b → AreMoments at a b []

@@ -1,14 +1,14 @@
 -- What a command that has a bank comes to since before its bank opened.
 use Rattle.std.proofs.Common.{◌≡◌, ◌≢◌, ℕ, ◌≤◌, Bool, true, false, refl, List, [], Option, Result, Ok, Err, inl, inr, sym, subst}
-use Rattle.ofx_ports.specs.Told.{Stays, Grows}
-use Rattle.ofx_ports.proofs.ToldLaws.{Stays-trans, Grows-nil, Grows-trans, Grows-kept}
+use Rattle.ofx_ports.specs.Known.{Stays, Grows}
+use Rattle.ofx_ports.proofs.KnownLaws.{Stays-trans, Grows-nil, Grows-trans, Grows-kept}
 use Rattle.ofx_ports.proofs.FaultLaws.{Rose-later}
 use Rattle.ofx_types.specs.declared.number.Moment.{Moment}
 use Rattle.bank_model.specs.declared.setup.Setup.{Setup}
 use Rattle.bank_model.specs.declared.event.State.{State}
 use Rattle.bank_core.specs.BookView.{BookView}
 use Rattle.bank_model.specs.SetupForm.{IsWithinLimits}
-use Rattle.bank_replay.specs.Opening.{Stands}
+use Rattle.bank_replay.specs.Opening.{RecordsGive}
 use Rattle.bank_session.specs.Answers.{Turn}
 use Rattle.bank_session.specs.PortsView.{PortsView}
 use Rattle.bank_session.specs.SetupRead.{IsSetupOf}
@@ -31,7 +31,7 @@ pub record IsOpened (before : PortsView) (bank : BookView) (setup : Setup) : Typ
   pub found : IsSetupOf before.setup_left setup
   pub own : bank.setup ≡ setup
   pub within : IsWithinLimits setup
-  pub stands : Stands setup before.records bank.state
+  pub holds : RecordsGive setup before.records bank.state
 
 is_within : (before : PortsView) (bank : BookView) (setup : Setup) → IsOpened before bank setup → IsWithinLimits bank.setup
 is_within before bank setup is = subst IsWithinLimits (sym is.own) is.within
@@ -39,8 +39,8 @@ is_within before bank setup is = subst IsWithinLimits (sym is.own) is.within
 is_found : (before : PortsView) (bank : BookView) (setup : Setup) → IsOpened before bank setup → IsSetupOf before.setup_left bank.setup
 is_found before bank setup is = subst (IsSetupOf before.setup_left) (sym is.own) is.found
 
-it_stands : (before : PortsView) (bank : BookView) (setup : Setup) → IsOpened before bank setup → Stands bank.setup before.records bank.state
-it_stands before bank setup is = subst (λ (s : Setup). Stands s before.records bank.state) (sym is.own) is.stands
+it_holds : (before : PortsView) (bank : BookView) (setup : Setup) → IsOpened before bank setup → RecordsGive bank.setup before.records bank.state
+it_holds before bank setup is = subst (λ (s : Setup). RecordsGive s before.records bank.state) (sym is.own) is.holds
 
 -- the outside as it was then
 abbrev pub at_opening : PortsView → Option (List (List ℕ)) → ℕ → Bool → PortsView
@@ -72,13 +72,13 @@ run_since setup start at before after records keeps unsettled (Ok done) opened h
   written = h.written;
   moments = h.moments;
 }
-run_since setup start at before after records keeps unsettled (Err (stops.Frame place)) opened h = record {
+run_since setup start at before after records keeps unsettled (Err (stops.Frame offset)) opened h = record {
   turns = h.turns;
   state = h.state;
   ahead = h.ahead;
   taken = taken_since setup start before after records keeps unsettled h.turns h.state h.ahead h.taken;
   more = h.more;
-  place_is = h.place_is;
+  offset_is = h.offset_is;
   kept = grown before after records keeps _ opened h.kept;
   written = h.written;
   moments = h.moments;
@@ -208,7 +208,7 @@ due_since setup start before after records keeps unsettled (Err stops.NoMemory) 
   kept = grown before after records keeps _ opened h.kept;
 }
 due_since setup start before after records keeps unsettled (Err stops.ReadFailed) opened h = absurd h
-due_since setup start before after records keeps unsettled (Err (stops.Frame place)) opened h = absurd h
+due_since setup start before after records keeps unsettled (Err (stops.Frame offset)) opened h = absurd h
 due_since setup start before after records keeps unsettled (Err stops.Usage) opened h = absurd h
 due_since setup start before after records keeps unsettled (Err (stops.Setup line)) opened h = absurd h
 due_since setup start before after records keeps unsettled (Err (stops.Records fault)) opened h = absurd h
@@ -279,7 +279,7 @@ letter_since bank name subject body before after records keeps unsettled (Err st
 }
 letter_since bank name subject body before after records keeps unsettled (Err (stops.Letter fault)) opened (cause, left) = (cause, left_since before after records keeps unsettled opened left)
 letter_since bank name subject body before after records keeps unsettled (Err stops.ReadFailed) opened h = absurd h
-letter_since bank name subject body before after records keeps unsettled (Err (stops.Frame place)) opened h = absurd h
+letter_since bank name subject body before after records keeps unsettled (Err (stops.Frame offset)) opened h = absurd h
 letter_since bank name subject body before after records keeps unsettled (Err stops.Usage) opened h = absurd h
 letter_since bank name subject body before after records keeps unsettled (Err (stops.Setup line)) opened h = absurd h
 letter_since bank name subject body before after records keeps unsettled (Err (stops.Records fault)) opened h = absurd h
@@ -311,7 +311,7 @@ settles (Err stops.WriteFailed) unsettled settled failed = settled (λ e. cc)
 settles (Err stops.NoMemory) unsettled settled failed = settled (λ e. cc)
 settles (Err stops.Usage) unsettled settled failed = settled (λ e. cc)
 settles (Err (stops.Setup line)) unsettled settled failed = settled (λ e. cc)
-settles (Err (stops.Frame place)) unsettled settled failed = settled (λ e. cc)
+settles (Err (stops.Frame offset)) unsettled settled failed = settled (λ e. cc)
 settles (Err (stops.Records fault)) unsettled settled failed = settled (λ e. cc)
 settles (Err (stops.Letter fault)) unsettled settled failed = settled (λ e. cc)
 
@@ -323,7 +323,7 @@ with_bank Works bank setup before after (Ok done) is settled failed ends = recor
   start = bank.state;
   found = is_found before bank setup is;
   within = is_within before bank setup is;
-  stands = it_stands before bank setup is;
+  holds = it_holds before bank setup is;
   ends = ends;
   settled = settled (λ e. cc);
 }
@@ -332,7 +332,7 @@ with_bank Works bank setup before after (Err stop) is settled failed ends = inr 
   start = bank.state;
   found = is_found before bank setup is;
   within = is_within before bank setup is;
-  stands = it_stands before bank setup is;
+  holds = it_holds before bank setup is;
   ends = ends;
   settled = settles (Err stop) after.unsettled settled failed;
 })

@@ -11,7 +11,7 @@ use Rattle.bank_session.specs.Answers.{Turn, AreTurns, read_in}
 use Rattle.bank_session.specs.Determined.{AllFit, OneSplit, goes_on, falls_short, contents_of}
 use Rattle.bank_session.specs.RunEnd.{Taken, Finished, StoppedAtFrame, RunEnds}
 use Rattle.bank_session.specs.PortsView.{PortsView}
-use Rattle.bank_session.specs.Run.{EndsWithBank, EndsSo, told_of, told}
+use Rattle.bank_session.specs.Run.{EndsWithBank, EndsSo, reported_of, reported}
 use Rattle.ofx_types.specs.declared.told.Told.{Told}
 use Rattle.ofx_types.specs.declared.told.Note.TheVariants.{Place}
 use Rattle.bank_session.specs.Statuses.{IsInterrupted, RefusesSetup, RefusesRecord, RefusesIllegal, BringsFrames, AnswersAll, RefusesFrame, IsRun}
@@ -67,21 +67,21 @@ nothing_after [] rest e = sym e
 nothing_after (x ∷ prefix) rest e = cc
 
 -- what is consumed of told bytes leaves told bytes
-left_told : (all taken : List ℕ) (coming : Option (List ℕ)) → Consumes (Some all) coming taken → (rest : List ℕ) × (coming ≡ Some rest) × (all ≡ taken ++ rest)
-left_told all taken None h = absurd h
-left_told all taken (Some rest) h = (rest, refl, h)
+left_reported : (all taken : List ℕ) (coming : Option (List ℕ)) → Consumes (Some all) coming taken → (rest : List ℕ) × (coming ≡ Some rest) × (all ≡ taken ++ rest)
+left_reported all taken None h = absurd h
+left_reported all taken (Some rest) h = (rest, refl, h)
 
 -- a frame before bytes begins them
 begun : (bytes : List ℕ) (content : Content) (rest tail : List ℕ) → BeginsNoFrame bytes → Fits content → bytes ≡ (frame_of content ++ rest) ++ tail → ⊥
 begun bytes content rest tail none fits e = none content (rest ++ tail) fits (e ∙ append_assoc (frame_of content) rest tail)
 
--- how the turns of a run split an input that is told
+-- how the turns of a run split an input that is reported
 split_taken : (setup : Setup) (start : State) (before after : PortsView) (ahead : List ℕ) (turns : List Turn) (state : State) (contents : List Content) (rest : List ℕ) → BringsFrames before contents rest → Taken setup start before after turns state ahead →
     (tail : List ℕ) × (prepend_known ahead after.input_left ≡ Some tail) × OneSplit contents (contents_of turns) rest tail
 split_taken setup start before after ahead turns state contents rest gives taken =
     let P : Option (List ℕ) → Type 0 = λ left. Consumes left (prepend_known ahead after.input_left) (read_in turns) in
-    let behind = left_told (flat_map frame_of contents ++ rest) (read_in turns) (prepend_known ahead after.input_left) (subst P gives.input_is taken.read) in
-    (behind.0, behind.1, one_split contents (contents_of turns) rest behind.0 gives.fit (turns_fit setup _ state turns taken.are_turns) (behind.2 ∙ ap (λ (l : List ℕ). l ++ behind.0) (contents_read turns)))
+    let suffix = left_reported (flat_map frame_of contents ++ rest) (read_in turns) (prepend_known ahead after.input_left) (subst P gives.input_is taken.read) in
+    (suffix.0, suffix.1, one_split contents (contents_of turns) rest suffix.0 gives.fit (turns_fit setup _ state turns taken.are_turns) (suffix.2 ∙ ap (λ (l : List ℕ). l ++ suffix.0) (contents_read turns)))
 
 -- a run over frames and nothing else doesn't stop at a frame
 no_more_split : (contents : List Content) (turns : List Turn) (tail : List ℕ) → AllFit contents → length contents ≤ 1000000 → OneSplit contents (contents_of turns) [] tail → tail ≢ [] → (BeginsNoFrame tail ⊎ (length turns ≡ 1000000)) → ⊥
@@ -119,26 +119,26 @@ stuck_split contents turns rest tail fits fits' few few' (falls_short (m ∷ ms)
 stuck_split contents turns rest tail fits fits' few few' (falls_short (m ∷ ms) same then) (inr full) stuck' =
     absurd (omega (arith, few', full, ap length same, length-append contents (m ∷ ms), contents_counted turns))
 
--- what stands after the frames of a run that stopped at a frame
-more_left : (setup : Setup) (start : State) (at : Option Moment) (before after : PortsView) (place : ℕ) (stopped : StoppedAtFrame setup start at before after place) (tail : List ℕ) → prepend_known stopped.ahead after.input_left ≡ Some tail → (tail ≢ []) × (BeginsNoFrame tail ⊎ (length stopped.turns ≡ 1000000))
-more_left setup start at before after place stopped tail e =
+-- what follows the frames of a run that stopped at a frame
+more_left : (setup : Setup) (start : State) (at : Option Moment) (before after : PortsView) (offset : ℕ) (stopped : StoppedAtFrame setup start at before after offset) (tail : List ℕ) → prepend_known stopped.ahead after.input_left ≡ Some tail → (tail ≢ []) × (BeginsNoFrame tail ⊎ (length stopped.turns ≡ 1000000))
+more_left setup start at before after offset stopped tail e =
     let P : Option (List ℕ) → Type 0 = λ coming. IfSome coming (λ rest. (rest ≢ []) × (BeginsNoFrame rest ⊎ (length stopped.turns ≡ 1000000))) in
     subst P e stopped.more
 
-no_more : (setup : Setup) (start : State) (at : Option Moment) (before after : PortsView) (place : ℕ) (contents : List Content) → BringsFrames before contents [] → StoppedAtFrame setup start at before after place → ⊥
-no_more setup start at before after place contents gives stopped =
+no_more : (setup : Setup) (start : State) (at : Option Moment) (before after : PortsView) (offset : ℕ) (contents : List Content) → BringsFrames before contents [] → StoppedAtFrame setup start at before after offset → ⊥
+no_more setup start at before after offset contents gives stopped =
     let split = split_taken setup start before after stopped.ahead stopped.turns stopped.state contents [] gives stopped.taken in
-    let more = more_left setup start at before after place stopped split.0 split.1 in
+    let more = more_left setup start at before after offset stopped split.0 split.1 in
     no_more_split contents stopped.turns split.0 gives.fit gives.few split.2 more.0 more.1
 
 -- a run that stops at a frame does so after the contents of the input
-at_place : (setup : Setup) (start : State) (at : Option Moment) (before after : PortsView) (place : ℕ) (contents : List Content) (rest : List ℕ) → BringsFrames before contents rest → (BeginsNoFrame rest ⊎ (length contents ≡ 1000000)) → StoppedAtFrame setup start at before after place → place ≡ length (flat_map frame_of contents)
-at_place setup start at before after place contents rest gives stuck stopped =
+at_offset : (setup : Setup) (start : State) (at : Option Moment) (before after : PortsView) (offset : ℕ) (contents : List Content) (rest : List ℕ) → BringsFrames before contents rest → (BeginsNoFrame rest ⊎ (length contents ≡ 1000000)) → StoppedAtFrame setup start at before after offset → offset ≡ length (flat_map frame_of contents)
+at_offset setup start at before after offset contents rest gives stuck stopped =
     let split = split_taken setup start before after stopped.ahead stopped.turns stopped.state contents rest gives stopped.taken in
-    let more = more_left setup start at before after place stopped split.0 split.1 in
+    let more = more_left setup start at before after offset stopped split.0 split.1 in
     let same : contents ≡ contents_of stopped.turns =
     stuck_split contents stopped.turns rest split.0 gives.fit (turns_fit setup _ stopped.state stopped.turns stopped.taken.are_turns) gives.few stopped.taken.few split.2 stuck more.1 in
-    stopped.place_is ∙ ap length (contents_read stopped.turns ∙ ap (λ (l : List Content). flat_map frame_of l) (sym same))
+    stopped.offset_is ∙ ap length (contents_read stopped.turns ∙ ap (λ (l : List Content). flat_map frame_of l) (sym same))
 
 no_end : (setup : Setup) (start : State) (at : Option Moment) (before after : PortsView) (contents : List Content) (rest : List ℕ) → BringsFrames before contents rest → rest ≢ [] → (BeginsNoFrame rest ⊎ (length contents ≡ 1000000)) → Finished setup start at before after → ⊥
 no_end setup start at before after contents rest gives some stuck finished =
@@ -148,9 +148,9 @@ no_end setup start at before after contents rest gives some stuck finished =
 -- ---- a run over frames
 
 -- how a run ends that has a bank
-bank_answers : (at : Option Moment) (before after : PortsView) (end : Result (Unit {0}) Stop) → EndsWithBank (RunEnds at) before after end → AnswersAll before after (told_of end)
+bank_answers : (at : Option Moment) (before after : PortsView) (end : Result (Unit {0}) Stop) → EndsWithBank (RunEnds at) before after end → AnswersAll before after (reported_of end)
 bank_answers at before after (Ok done) h = λ contents gives. inl refl
-bank_answers at before after (Err (stops.Frame place)) h = λ contents gives. absurd (no_more h.setup h.start at before after place contents gives h.ends)
+bank_answers at before after (Err (stops.Frame offset)) h = λ contents gives. absurd (no_more h.setup h.start at before after offset contents gives h.ends)
 bank_answers at before after (Err stops.ReadFailed) h = λ contents gives. inr (inl (refl, inr h.ends.1))
 bank_answers at before after (Err stops.WriteFailed) h = λ contents gives. inr (inr (inl (refl, h.ends.1)))
 bank_answers at before after (Err stops.KeeperFailed) h = λ contents gives. inr (inr (inr (inl (refl, h.ends.1))))
@@ -160,10 +160,10 @@ bank_answers at before after (Err (stops.Setup line)) h = absurd h.ends
 bank_answers at before after (Err (stops.Records fault)) h = absurd h.ends
 bank_answers at before after (Err (stops.Letter fault)) h = absurd h.ends
 
-bank_refuses : (at : Option Moment) (before after : PortsView) (end : Result (Unit {0}) Stop) → EndsWithBank (RunEnds at) before after end → RefusesFrame before after (told_of end)
+bank_refuses : (at : Option Moment) (before after : PortsView) (end : Result (Unit {0}) Stop) → EndsWithBank (RunEnds at) before after end → RefusesFrame before after (reported_of end)
 bank_refuses at before after (Ok done) h = λ contents rest gives some stuck. absurd (no_end h.setup h.start at before after contents rest gives some stuck h.ends)
-bank_refuses at before after (Err (stops.Frame place)) h =
-    λ contents rest gives some stuck. inl (ap (λ (k : ℕ). told 4 (Place k)) (at_place h.setup h.start at before after place contents rest gives stuck h.ends))
+bank_refuses at before after (Err (stops.Frame offset)) h =
+    λ contents rest gives some stuck. inl (ap (λ (k : ℕ). reported 4 (Place k)) (at_offset h.setup h.start at before after offset contents rest gives stuck h.ends))
 bank_refuses at before after (Err stops.ReadFailed) h = λ contents rest gives some stuck. inr (inl (refl, inr h.ends.1))
 bank_refuses at before after (Err stops.WriteFailed) h = λ contents rest gives some stuck. inr (inr (inl (refl, h.ends.1)))
 bank_refuses at before after (Err stops.KeeperFailed) h = λ contents rest gives some stuck. inr (inr (inr (inl (refl, h.ends.1))))
@@ -173,9 +173,9 @@ bank_refuses at before after (Err (stops.Setup line)) h = absurd h.ends
 bank_refuses at before after (Err (stops.Records fault)) h = absurd h.ends
 bank_refuses at before after (Err (stops.Letter fault)) h = absurd h.ends
 
-bank_otherwise : (at : Option Moment) (before after : PortsView) (end : Result (Unit {0}) Stop) → EndsWithBank (RunEnds at) before after end → (told_of end).status.0 ≡ 2 → ⊥
+bank_otherwise : (at : Option Moment) (before after : PortsView) (end : Result (Unit {0}) Stop) → EndsWithBank (RunEnds at) before after end → (reported_of end).status.0 ≡ 2 → ⊥
 bank_otherwise at before after (Ok done) h two = absurd (omega (arith, two))
-bank_otherwise at before after (Err (stops.Frame place)) h two = absurd (omega (arith, two))
+bank_otherwise at before after (Err (stops.Frame offset)) h two = absurd (omega (arith, two))
 bank_otherwise at before after (Err stops.ReadFailed) h two = absurd (omega (arith, two))
 bank_otherwise at before after (Err stops.WriteFailed) h two = absurd (omega (arith, two))
 bank_otherwise at before after (Err stops.KeeperFailed) h two = absurd (omega (arith, two))
@@ -190,27 +190,27 @@ data Comes (at : Option Moment) (before after : PortsView) (what : Told) : Type 
   without : Unopened before after what → Comes at before after what
   with_bank : (setup : Setup) (start : State) → IsBankOf before setup start → AnswersAll before after what → RefusesFrame before after what → (what.status.0 ≡ 2 → ⊥) → Comes at before after what
 
-with_its_bank : (at : Option Moment) (before after : PortsView) (end : Result (Unit {0}) Stop) → EndsWithBank (RunEnds at) before after end → Comes at before after (told_of end)
+with_its_bank : (at : Option Moment) (before after : PortsView) (end : Result (Unit {0}) Stop) → EndsWithBank (RunEnds at) before after end → Comes at before after (reported_of end)
 with_its_bank at before after end h =
-    with_bank h.setup h.start (record { found = h.found; stands = h.stands }) (bank_answers at before after end h) (bank_refuses at before after end h) (bank_otherwise at before after end h)
+    with_bank h.setup h.start (record { found = h.found; holds = h.holds }) (bank_answers at before after end h) (bank_refuses at before after end h) (bank_otherwise at before after end h)
 
-comes : (at : Option Moment) (before after : PortsView) (end : Result (Unit {0}) Stop) → EndsSo (RunEnds at) before after end → Comes at before after (told_of end)
+comes : (at : Option Moment) (before after : PortsView) (end : Result (Unit {0}) Stop) → EndsSo (RunEnds at) before after end → Comes at before after (reported_of end)
 comes at before after (Ok done) h = with_its_bank at before after (Ok done) h
 comes at before after (Err stop) (inl h) = without (unopened before after stop h)
 comes at before after (Err stop) (inr h) = with_its_bank at before after (Err stop) h
 
-told_comes : (at : Option Moment) (before after : PortsView) (end : Result (Unit {0}) Stop) (what : Told) → what ≡ told_of end → EndsSo (RunEnds at) before after end → Comes at before after what
-told_comes at before after end what e ends = subst (Comes at before after) (sym e) (comes at before after end ends)
+reported_comes : (at : Option Moment) (before after : PortsView) (end : Result (Unit {0}) Stop) (what : Told) → what ≡ reported_of end → EndsSo (RunEnds at) before after end → Comes at before after what
+reported_comes at before after end what e ends = subst (Comes at before after) (sym e) (comes at before after end ends)
 
 refuses_setup : (at : Option Moment) (before after : PortsView) (what : Told) → Comes at before after what → RefusesSetup IsInterrupted before after what
 refuses_setup at before after what (without how) text left none = or_interrupted before after what _ (unopened_setup before after what how text left none)
 refuses_setup at before after what (with_bank setup start bank answers refuses never) text left none = absurd (unspelled_setup before text setup left none bank.found)
 
 refuses_record : OneSetup → OneBank → (at : Option Moment) (before after : PortsView) (what : Told) → Comes at before after what → RefusesRecord IsInterrupted before after what
-refuses_record one opening at before after what (without how) setup records number place has unformed =
-    or_interrupted before after what _ (unopened_record one opening before after what how setup records number place has unformed)
-refuses_record one opening at before after what (with_bank found start bank answers refuses never) setup records number place has unformed =
-    absurd (record_refused one opening before setup found start records number place has unformed bank)
+refuses_record one opening at before after what (without how) setup records number offset has unformed =
+    or_interrupted before after what _ (unopened_record one opening before after what how setup records number offset has unformed)
+refuses_record one opening at before after what (with_bank found start bank answers refuses never) setup records number offset has unformed =
+    absurd (record_refused one opening before setup found start records number offset has unformed bank)
 
 refuses_illegal : OneSetup → OneBank → (at : Option Moment) (before after : PortsView) (what : Told) → Comes at before after what → RefusesIllegal IsInterrupted before after what
 refuses_illegal one opening at before after what (without how) setup records number has illegal =
@@ -229,12 +229,12 @@ answers_all one opening at before after what (without how) contents gives =
 answers_all one opening at before after what (with_bank setup start bank answers refuses never) contents gives = answers contents gives
 
 -- what a run comes to, by its end
-pub is_run : OneSetup → OneBank → (at : Option Moment) (before after : PortsView) (end : Result (Unit {0}) Stop) (what : Told) → what ≡ told_of end → EndsSo (RunEnds at) before after end → IsRun at before after what
+pub is_run : OneSetup → OneBank → (at : Option Moment) (before after : PortsView) (end : Result (Unit {0}) Stop) (what : Told) → what ≡ reported_of end → EndsSo (RunEnds at) before after end → IsRun at before after what
 is_run one opening at before after end what e ends =
-    let how = told_comes at before after end what e ends in
+    let how = reported_comes at before after end what e ends in
     record {
       command = record {
-        ends = record { end = end; told_is = e; ends = ends };
+        ends = record { end = end; reported_is = e; ends = ends };
         refuses_setup = refuses_setup at before after what how;
         refuses_record = refuses_record one opening at before after what how;
         refuses_illegal = refuses_illegal one opening at before after what how;
@@ -243,10 +243,10 @@ is_run one opening at before after end what e ends =
       answers_all = answers_all one opening at before after what how;
     }
 
--- no run ends as words without a form do
+-- no run ends as arguments without a form do
 never_two : (at : Option Moment) (before after : PortsView) (what : Told) → Comes at before after what → what.status.0 ≡ 2 → ⊥
 never_two at before after what (without how) two = unopened_otherwise before after what how two
 never_two at before after what (with_bank setup start bank answers refuses never) two = never two
 
-pub never_usage : (at : Option Moment) (before after : PortsView) (end : Result (Unit {0}) Stop) (what : Told) → what ≡ told_of end → EndsSo (RunEnds at) before after end → what.status.0 ≡ 2 → ⊥
-never_usage at before after end what e ends two = never_two at before after what (told_comes at before after end what e ends) two
+pub never_usage : (at : Option Moment) (before after : PortsView) (end : Result (Unit {0}) Stop) (what : Told) → what ≡ reported_of end → EndsSo (RunEnds at) before after end → what.status.0 ≡ 2 → ⊥
+never_usage at before after end what e ends two = never_two at before after what (reported_comes at before after end what e ends) two

@@ -1,10 +1,10 @@
--- What is told of a run whose append failed.
+-- What is reported of a run whose append failed.
 use Rattle.std.proofs.Common.{◌≡◌, ◌≢◌, Result, Err, ap, ◌∙◌}
 use Rattle.ofx_types.specs.declared.told.Told.{Told}
-use Rattle.bank_session.specs.Run.{told_of}
+use Rattle.bank_session.specs.Run.{reported_of}
 use Rattle.bank_session.specs.declared.stop.Stop.{Stop}
 use Rattle.bank_session.specs.declared.stop.Stop.TheVariants as stops
 
--- nothing is to be settled where another status is told
-pub settled_told : (end : Result (Unit {0}) Stop) (what : Told) (settled : Type 0) → what ≡ told_of end → (end ≢ Err stops.KeeperFailed → settled) → what.status.0 ≢ 8 → settled
-settled_told end what settled e behind ne = behind (λ failed. ne (ap (λ (t : Told). t.status.0) (e ∙ ap told_of failed)))
+-- nothing is to be settled where another status is reported
+pub settled_reported : (end : Result (Unit {0}) Stop) (what : Told) (settled : Type 0) → what ≡ reported_of end → (end ≢ Err stops.KeeperFailed → settled) → what.status.0 ≢ 8 → settled
+settled_reported end what settled e suffix ne = suffix (λ failed. ne (ap (λ (t : Told). t.status.0) (e ∙ ap reported_of failed)))

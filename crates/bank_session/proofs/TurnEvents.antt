@@ -33,41 +33,41 @@ signed_on_legal setup S at bytes rec file user codes signed event_is =
     (user_within (position is_user setup.users) (length setup.users) user (found_within is_user setup.users) signed.signed, codes.within, event_is)
 
 -- what reopens after nothing
-behind_none : (setup : Setup) (before mid after : State) (records more : List (List ℕ)) → records ≡ [] → mid ≡ before → Reopens setup mid more after → Reopens setup before (records ++ more) after
-behind_none setup before mid after records more none same reopens =
+after_none : (setup : Setup) (before mid after : State) (records more : List (List ℕ)) → records ≡ [] → mid ≡ before → Reopens setup mid more after → Reopens setup before (records ++ more) after
+after_none setup before mid after records more none same reopens =
     let P : List (List ℕ) → Type 0 = λ kept. Reopens setup before (kept ++ more) after in
     let Q : State → Type 0 = λ S. Reopens setup S more after in
     subst P (sym none) (subst Q same reopens)
 
 -- what reopens after events of one moment that are legal one after another
-behind_one : (setup : Setup) (at : Moment) (before mid after : State) (event : Event) (records more : List (List ℕ)) → ((rec : List ℕ) → Codes rec at event → IsLegal setup before at event) → AreRecordsOf at (event ∷ []) records → mid ≡ state_after setup before at event → Reopens setup mid more after → Reopens setup before (records ++ more) after
-behind_one setup at before mid after event [] more legal kept same reopens = absurd kept
-behind_one setup at before mid after event (rec ∷ records) more legal kept same reopens =
-    (at, event, kept.0, legal rec kept.0, behind_none setup (state_after setup before at event) mid after records more kept.1 same reopens)
+after_one : (setup : Setup) (at : Moment) (before mid after : State) (event : Event) (records more : List (List ℕ)) → ((rec : List ℕ) → Codes rec at event → IsLegal setup before at event) → AreRecordsOf at (event ∷ []) records → mid ≡ state_after setup before at event → Reopens setup mid more after → Reopens setup before (records ++ more) after
+after_one setup at before mid after event [] more legal kept same reopens = absurd kept
+after_one setup at before mid after event (rec ∷ records) more legal kept same reopens =
+    (at, event, kept.0, legal rec kept.0, after_none setup (state_after setup before at event) mid after records more kept.1 same reopens)
 
-behind_due : DueIsLegal → (setup : Setup) (at : Moment) (before mid after : State) (events : List Event) (records more : List (List ℕ)) → AreDue setup before at events → AreRecordsOf at events records → mid ≡ after_events setup before at events → Reopens setup mid more after → Reopens setup before (records ++ more) after
-behind_due legal setup at before mid after [] records more are kept same reopens = behind_none setup before mid after records more kept same reopens
-behind_due legal setup at before mid after (event ∷ events) [] more are kept same reopens = absurd kept
-behind_due legal setup at before mid after (event ∷ events) (rec ∷ records) more are kept same reopens =
-    (at, event, kept.0, legal setup before at event are.0, behind_due legal setup at (state_after setup before at event) mid after events records more are.1 kept.1 same reopens)
+after_due : DueIsLegal → (setup : Setup) (at : Moment) (before mid after : State) (events : List Event) (records more : List (List ℕ)) → AreDue setup before at events → AreRecordsOf at events records → mid ≡ after_events setup before at events → Reopens setup mid more after → Reopens setup before (records ++ more) after
+after_due legal setup at before mid after [] records more are kept same reopens = after_none setup before mid after records more kept same reopens
+after_due legal setup at before mid after (event ∷ events) [] more are kept same reopens = absurd kept
+after_due legal setup at before mid after (event ∷ events) (rec ∷ records) more are kept same reopens =
+    (at, event, kept.0, legal setup before at event are.0, after_due legal setup at (state_after setup before at event) mid after events records more are.1 kept.1 same reopens)
 
-behind_file : (setup : Setup) (at : Moment) (before mid after : State) (bytes line : List ℕ) (records more : List (List ℕ)) → AnswersFile setup at before bytes line records mid → Reopens setup mid more after → Reopens setup before (records ++ more) after
-behind_file setup at before mid after bytes line records more (inl reply) reopens =
-    behind_one setup at before mid after (File reply.user reply.file) records more (λ rec codes. signed_on_legal setup before at bytes rec reply.file reply.user codes reply.is_signed_on reply.is_event) reply.kept reply.state reopens
-behind_file setup at before mid after bytes line records more (inr (inl poll)) reopens = behind_none setup before mid after records more poll.unkept poll.state reopens
-behind_file setup at before mid after bytes line records more (inr (inr (inl denial))) reopens = behind_none setup before mid after records more denial.unkept denial.state reopens
-behind_file setup at before mid after bytes line records more (inr (inr (inr bad))) reopens = behind_none setup before mid after records more bad.unkept bad.state reopens
+after_file : (setup : Setup) (at : Moment) (before mid after : State) (bytes line : List ℕ) (records more : List (List ℕ)) → AnswersFile setup at before bytes line records mid → Reopens setup mid more after → Reopens setup before (records ++ more) after
+after_file setup at before mid after bytes line records more (inl reply) reopens =
+    after_one setup at before mid after (File reply.user reply.file) records more (λ rec codes. signed_on_legal setup before at bytes rec reply.file reply.user codes reply.is_signed_on reply.is_event) reply.kept reply.state reopens
+after_file setup at before mid after bytes line records more (inr (inl poll)) reopens = after_none setup before mid after records more poll.unkept poll.state reopens
+after_file setup at before mid after bytes line records more (inr (inr (inl denial))) reopens = after_none setup before mid after records more denial.unkept denial.state reopens
+after_file setup at before mid after bytes line records more (inr (inr (inr bad))) reopens = after_none setup before mid after records more bad.unkept bad.state reopens
 
-behind_turn : DueIsLegal → (setup : Setup) (at : Moment) (before mid after : State) (content : Content) (line : List ℕ) (records more : List (List ℕ)) → AnswersFrame setup at before content line records mid → Reopens setup mid more after → Reopens setup before (records ++ more) after
-behind_turn legal setup at before mid after (request bytes) line records more says reopens = behind_file setup at before mid after bytes line records more says reopens
-behind_turn legal setup at before mid after due_work line records more says reopens =
-    behind_due legal setup at before mid after says.events records more says.is_run.are_due says.kept says.state reopens
+after_turn : DueIsLegal → (setup : Setup) (at : Moment) (before mid after : State) (content : Content) (line : List ℕ) (records more : List (List ℕ)) → AnswersFrame setup at before content line records mid → Reopens setup mid more after → Reopens setup before (records ++ more) after
+after_turn legal setup at before mid after (request bytes) line records more says reopens = after_file setup at before mid after bytes line records more says reopens
+after_turn legal setup at before mid after due_work line records more says reopens =
+    after_due legal setup at before mid after says.events records more says.is_run.are_due says.kept says.state reopens
 
 -- The records of turns bring a bank from the state before them to the one after them.
 pub turns_reopen : DueIsLegal → (setup : Setup) (before : State) (turns : List Turn) (after : State) → AreTurns setup before turns after → Reopens setup before (records_in turns) after
 turns_reopen legal setup before [] after same = same
 turns_reopen legal setup before (turn ∷ turns) after (mid, fits, says, rest) =
-    behind_turn legal setup turn.at before mid after turn.content turn.line turn.records (records_in turns) says (turns_reopen legal setup mid turns after rest)
+    after_turn legal setup turn.at before mid after turn.content turn.line turn.records (records_in turns) says (turns_reopen legal setup mid turns after rest)
 
 -- ---- a frame that isn't answered whole
 
@@ -107,16 +107,16 @@ refused_in_vain setup at before due_work records kept = kept
 pub frame_reopens : DueIsLegal → (setup : Setup) (at : Moment) (before after : State) (content : Content) (line : List ℕ) (records : List (List ℕ)) → AnswersFrame setup at before content line records after → Reopens setup before records after
 frame_reopens legal setup at before after content line records says =
     let P : List (List ℕ) → Type 0 = λ kept. Reopens setup before kept after in
-    subst P (append-nil records) (behind_turn legal setup at before after after content line records [] says refl)
+    subst P (append-nil records) (after_turn legal setup at before after after content line records [] says refl)
 
 -- What goes on from turns goes on from the opening.
-pub goes_on_behind : DueIsLegal → ReopeningGoesOn → (setup : Setup) (records kept : List (List ℕ)) (start state next : State) (turns : List Turn) → Reopens setup opening_state records start → AreTurns setup start turns state → Reopens setup state kept next → Reopens setup opening_state (records ++ (records_in turns ++ kept)) next
-goes_on_behind legal goes_on setup records kept start state next turns before are behind =
-    let from_start = (goes_on setup start (records_in turns) kept next).1 (state, turns_reopen legal setup start turns state are, behind) in
+pub goes_on_after : DueIsLegal → ReopeningGoesOn → (setup : Setup) (records kept : List (List ℕ)) (start state next : State) (turns : List Turn) → Reopens setup opening_state records start → AreTurns setup start turns state → Reopens setup state kept next → Reopens setup opening_state (records ++ (records_in turns ++ kept)) next
+goes_on_after legal goes_on setup records kept start state next turns before are suffix =
+    let from_start = (goes_on setup start (records_in turns) kept next).1 (state, turns_reopen legal setup start turns state are, suffix) in
     (goes_on setup opening_state records (records_in turns ++ kept) next).1 (start, before, from_start)
 
 -- What is kept of a frame whose append failed goes on from the turns before it.
 pub stopped_reopens : DueIsLegal → ReopeningGoesOn → StoppedRunsReopen IsPrefixKept
 stopped_reopens legal goes_on = λ setup records kept start state turns at content before are vain.
-    let behind = begun_reopens legal setup at state content vain.events kept vain.work vain.kept in
-    (vain, goes_on_behind legal goes_on setup records kept start state (after_events setup state at vain.events) turns before are behind)
+    let suffix = begun_reopens legal setup at state content vain.events kept vain.work vain.kept in
+    (vain, goes_on_after legal goes_on setup records kept start state (after_events setup state at vain.events) turns before are suffix)

@@ -33,11 +33,11 @@ file_fits ahead size holds = omega (arith, file_length ahead size holds, holds.b
 frame_ahead : (ahead : List ℕ) (size : FrameSize) → HoldsFile ahead size → ahead ≡ frame (file_in ahead size) ++ drop (size.head + size.file) ahead
 frame_ahead ahead size holds =
     let same : size.head + (size.head + size.file - size.head) ≡ size.head + size.file = omega arith in
-    let behind : drop size.head ahead ≡ file_in ahead size ++ drop (size.head + size.file) ahead =
+    let suffix : drop size.head ahead ≡ file_in ahead size ++ drop (size.head + size.file) ahead =
     sym (take-append-drop (size.head + size.file - size.head) (drop size.head ahead))
     ∙ ap (λ (l : List ℕ). file_in ahead size ++ l) (drop-drop (size.head + size.file - size.head) size.head ahead ∙ ap (λ (k : ℕ). drop k ahead) same) in
     parted ahead size holds.begins
-    ∙ (ap (λ (l : List ℕ). frame_head size.file ++ l) behind
+    ∙ (ap (λ (l : List ℕ). frame_head size.file ++ l) suffix
     ∙ (ap (λ (n : ℕ). frame_head n ++ (file_in ahead size ++ drop (size.head + size.file) ahead)) (sym (file_length ahead size holds))
     ∙ sym (append_assoc (frame_head (length (file_in ahead size))) (file_in ahead size) (drop (size.head + size.file) ahead))))
 
@@ -115,6 +115,6 @@ turn_stopped at moment before found left ahead stops.KeeperFailed moments stoppe
 turn_stopped at moment before found left ahead stops.NoMemory moments stopped = record { moment = moment; moments = moments; happened = stopped }
 turn_stopped at moment before found left ahead stops.Usage moments stopped = absurd stopped
 turn_stopped at moment before found left ahead (stops.Setup line) moments stopped = absurd stopped
-turn_stopped at moment before found left ahead (stops.Frame place) moments stopped = absurd stopped
+turn_stopped at moment before found left ahead (stops.Frame offset) moments stopped = absurd stopped
 turn_stopped at moment before found left ahead (stops.Records fault) moments stopped = absurd stopped
 turn_stopped at moment before found left ahead (stops.Letter fault) moments stopped = absurd stopped

@@ -10,19 +10,19 @@ use Rattle.bank_model.specs.declared.event.Event.{Event}
 use Rattle.bank_model.specs.declared.event.Event.TheVariants.{File}
 use Rattle.bank_model.specs.Polls.{is_poll}
 use Rattle.bank_model.specs.DueRun.{after_events, AreDue, run_length, IsDueRun}
-use Rattle.ofx_ports.specs.Told.{Stays, Grows}
+use Rattle.ofx_ports.specs.Known.{Stays, Grows}
 use Rattle.bank_frames.specs.Frames.{Content, request, due_work, frame, frame_of, Fits}
 use Rattle.bank_frames.specs.Lines.{bad_line, due_line}
 use Rattle.bank_desk.specs.Keeping.{AreRecordsOf}
 use Rattle.bank_signon.specs.Signon.{IsSignedOn, IsRefused}
 use Rattle.bank_desk.specs.Answering.{Replies, Polls, Denies}
 
--- For any other bytes the line tells the place, and nothing changes. Nothing is kept.
+-- For any other bytes the line tells the offset, and nothing changes. Nothing is kept.
 pub record IsBad (before : State) (bytes line : List ℕ) (records : List (List ℕ)) (after : State) : Type 0 where
-  pub place : ℕ
-  pub refused : IsRefused bytes place
+  pub offset : ℕ
+  pub refused : IsRefused bytes offset
   pub unkept : records ≡ []
-  pub bad : line ≡ bad_line place
+  pub bad : line ≡ bad_line offset
   pub state : after ≡ before
 
 -- what is written for the bytes of a file at a moment, the records that are kept of it, and the state that it leaves: a reply is
@@ -34,7 +34,7 @@ AnswersFile setup at before bytes line records after =
     ⊎ (Denies frame setup at before bytes line records after ⊎ IsBad before bytes line records after))
 
 -- For a call for due work the bank makes a run of what is due at its moment. A record is kept of each event, and the line
--- tells how many there were.
+-- says how many there were.
 pub record DoesDue (setup : Setup) (at : Moment) (before : State) (line : List ℕ) (records : List (List ℕ)) (after : State) : Type 0 where
   pub events : List Event
   pub is_run : IsDueRun setup before at events
@@ -75,11 +75,11 @@ records_in turns = flat_map (λ (turn : Turn). turn.records) turns
 abbrev pub moments_in : List Turn → List Moment
 moments_in turns = map (λ (turn : Turn). turn.at) turns
 
--- With a moment among the words each frame has that one, and without it the moments are the answers of the clock, in
+-- With a moment among the arguments each frame has that one, and without it the moments are the answers of the clock, in
 -- order, where it tells them.
 abbrev pub AreMoments : Option Moment → Option (List Moment) → Option (List Moment) → List Moment → Type 0
-AreMoments None told told' moments = Grows told told' moments
-AreMoments (Some at) told told' moments = Stays told told' × All (λ (moment : Moment). moment ≡ at) moments
+AreMoments None reported reported' moments = Grows reported reported' moments
+AreMoments (Some at) reported reported' moments = Stays reported reported' × All (λ (moment : Moment). moment ≡ at) moments
 
 -- ---- what is kept of a frame that isn't answered whole
 

@@ -1,4 +1,4 @@
--- What a run keeps of a bank's books, whatever files it reads, and that its records bring the bank to where it stands.
+-- What a run keeps of a bank's books, whatever files it reads, and that its records bring the bank to where it is.
 use Rattle.std.specs.Prelude.{ℕ, List, [], ◌∷◌, ◌++◌}
 use Rattle.ofx_types.specs.declared.number.UserId.{UserId}
 use Rattle.ofx_types.specs.declared.number.Moment.{Moment}
@@ -8,7 +8,7 @@ use Rattle.bank_model.specs.declared.event.Event.TheVariants.{Letter}
 use Rattle.bank_model.specs.SetupForm.{IsWithinLimits}
 use Rattle.bank_model.specs.Rules.{IsLegal, opening_state, state_after}
 use Rattle.bank_model.specs.DueRun.{after_events}
-use Rattle.bank_rules.specs.Books.{AreBooksRight}
+use Rattle.bank_invariants.specs.Books.{AreBooksRight}
 use Rattle.event_codec.specs.Records.{Codes, Reopens}
 use Rattle.bank_frames.specs.Frames.{Content}
 use Rattle.bank_session.specs.Answers.{AnswersFrame, Turn, AreTurns, records_in, IsPrefixKept}

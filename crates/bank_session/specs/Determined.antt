@@ -45,16 +45,16 @@ OneLine = (setup : Setup) (at : Moment) (before : State) (content : Content) (li
 
 -- A file that isn't answered has one place to tell,
 abbrev pub OneRefusal : Type 0
-OneRefusal = (bytes : List ℕ) (place place' : ℕ) → IsRefused bytes place → IsRefused bytes place' → place ≡ place'
+OneRefusal = (bytes : List ℕ) (offset offset' : ℕ) → IsRefused bytes offset → IsRefused bytes offset' → offset ≡ offset'
 
 -- and no file is both refused and an event, or both refused and denied, or both an event and denied.
 abbrev pub RefusedIsUnanswered : Type 0
-RefusedIsUnanswered = (setup : Setup) (bytes : List ℕ) (file : RequestFile) (user : UserId) (place : ℕ) →
-    IsSignedOn setup bytes file user → IsRefused bytes place → ⊥
+RefusedIsUnanswered = (setup : Setup) (bytes : List ℕ) (file : RequestFile) (user : UserId) (offset : ℕ) →
+    IsSignedOn setup bytes file user → IsRefused bytes offset → ⊥
 
 abbrev pub RefusedIsUndenied : Type 0
-RefusedIsUndenied = (setup : Setup) (bytes : List ℕ) (file : RequestFile) (place : ℕ) →
-    IsDenied setup bytes file → IsRefused bytes place → ⊥
+RefusedIsUndenied = (setup : Setup) (bytes : List ℕ) (file : RequestFile) (offset : ℕ) →
+    IsDenied setup bytes file → IsRefused bytes offset → ⊥
 
 abbrev pub DeniedIsUnanswered : Type 0
 DeniedIsUnanswered = (setup : Setup) (bytes : List ℕ) (file file' : RequestFile) (user : UserId) →
@@ -78,15 +78,15 @@ WhereDenied = (setup : Setup) (at : Moment) (before : State) (bytes line : List 
     AnswersFile setup at before bytes line records after → IsDenied setup bytes file →
     (line ≡ frame (reply_text (denial file at))) × (records ≡ []) × (after ≡ before)
 
--- where it is refused the line with just this place,
+-- where it is refused the line with just this offset,
 abbrev pub WhereRefused : Type 0
-WhereRefused = (setup : Setup) (at : Moment) (before : State) (bytes line : List ℕ) (records : List (List ℕ)) (after : State) (place : ℕ) →
-    AnswersFile setup at before bytes line records after → IsRefused bytes place → (line ≡ bad_line place) × (records ≡ []) × (after ≡ before)
+WhereRefused = (setup : Setup) (at : Moment) (before : State) (bytes line : List ℕ) (records : List (List ℕ)) (after : State) (offset : ℕ) →
+    AnswersFile setup at before bytes line records after → IsRefused bytes offset → (line ≡ bad_line offset) × (records ≡ []) × (after ≡ before)
 
--- and such a line is written only where it is refused, at a place that is printed so.
+-- and such a line is written only where it is refused, at an offset that is printed so.
 abbrev pub OnlyWhereRefused : Type 0
 OnlyWhereRefused = (setup : Setup) (at : Moment) (before : State) (bytes : List ℕ) (records : List (List ℕ)) (after : State) (printed : ℕ) →
-    AnswersFile setup at before bytes (bad_line printed) records after → (place : ℕ) × IsRefused bytes place × (decimal place ≡ decimal printed)
+    AnswersFile setup at before bytes (bad_line printed) records after → (offset : ℕ) × IsRefused bytes offset × (decimal offset ≡ decimal printed)
 
 -- what the frames of turns hold
 abbrev pub contents_of : List Turn → List Content

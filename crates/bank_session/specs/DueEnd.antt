@@ -1,8 +1,8 @@
--- The command `due`: one run of due work in a bank that stands in a state, and why it ended.
+-- The command `due`: one run of due work in a bank that is in a state, and why it ended.
 use Rattle.std.specs.Prelude.{◌≡◌, ℕ, ◌≤◌, ◌⊎◌, List, [], ◌∷◌, length, take, Result, Ok, Err}
 use Rattle.std.specs.Io.KnownBytes.{Keeps, Appends}
 use Rattle.ofx_ports.specs.Faults.{Rose}
-use Rattle.ofx_ports.specs.Told.{Grows}
+use Rattle.ofx_ports.specs.Known.{Grows}
 use Rattle.ofx_types.specs.declared.number.Moment.{Moment}
 use Rattle.bank_model.specs.declared.setup.Setup.{Setup}
 use Rattle.bank_model.specs.declared.event.State.{State}
@@ -61,14 +61,14 @@ pub record DueRefused (setup : Setup) (start : State) (before after : PortsView)
   pub work : (records ≡ []) ⊎ ((moment : Moment) × (next ≡ moment ∷ []) × IsPrefixKept setup moment start due_work records)
   pub kept : Grows before.records after.records records
 
--- What stands at each end of the command in a bank that stands in a state.
+-- What is at each end of the command in a bank that is in a state.
 abbrev pub DueEnds : Setup → State → PortsView → PortsView → Result (Unit {0}) Stop → Type 0
 DueEnds setup start before after (Ok done) = DueDone setup start before after
 DueEnds setup start before after (Err stops.WriteFailed) = DueBroke setup start before after × Rose before.out_faults after.out_faults
 DueEnds setup start before after (Err stops.KeeperFailed) = DueUnkept setup start before after × Rose before.keeper_faults after.keeper_faults
 DueEnds setup start before after (Err stops.NoMemory) = DueRefused setup start before after
 DueEnds setup start before after (Err stops.ReadFailed) = ⊥
-DueEnds setup start before after (Err (stops.Frame place)) = ⊥
+DueEnds setup start before after (Err (stops.Frame offset)) = ⊥
 DueEnds setup start before after (Err stops.Usage) = ⊥
 DueEnds setup start before after (Err (stops.Setup line)) = ⊥
 DueEnds setup start before after (Err (stops.Records fault)) = ⊥

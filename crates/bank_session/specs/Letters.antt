@@ -29,14 +29,14 @@ pub record IsBody (input body : List ℕ) : Type 0 where
   pub fits : IsTextWithin 10000 body
   pub is_clean : position is_refused_in_text body ≡ None
 
--- Where the bytes are told the body is that of all of them.
+-- Where the bytes are known the body is that of all of them.
 abbrev pub IsBodyOf : Option (List ℕ) → List ℕ → Type 0
 IsBodyOf left body = IfSome left (λ all. IsBody all body)
 
 abbrev pub HasNoBody : List ℕ → Type 0
 HasNoBody input = (body : List ℕ) → IsBody input body → ⊥
 
--- Where the bytes are told they are no body.
+-- Where the bytes are known they are no body.
 abbrev pub IsNoBody : Option (List ℕ) → Type 0
 IsNoBody left = IfSome left HasNoBody
 
@@ -50,7 +50,7 @@ ReadsBody input (Err stops.NoMemory) = Unit {0}
 ReadsBody input (Err stops.ReadFailed) = ⊥
 ReadsBody input (Err stops.WriteFailed) = ⊥
 ReadsBody input (Err stops.KeeperFailed) = ⊥
-ReadsBody input (Err (stops.Frame place)) = ⊥
+ReadsBody input (Err (stops.Frame offset)) = ⊥
 ReadsBody input (Err stops.Usage) = ⊥
 ReadsBody input (Err (stops.Setup line)) = ⊥
 ReadsBody input (Err (stops.Records fault)) = ⊥
@@ -87,5 +87,5 @@ pub record CanWrite (bank : BookView) (to : UserId × ℕ) (subject body : List 
 pub record WritesLetter (setup : Setup) (at : Moment) (before : State) (user : UserId) (subject body line rec : List ℕ) (after : State) : Type 0 where
   pub legal : IsLegal setup before at (Letter user subject body)
   pub codes : Codes rec at (Letter user subject body)
-  pub told : line ≡ mail_line (letter_entry setup before user at subject body).number
+  pub reported : line ≡ mail_line (letter_entry setup before user at subject body).number
   pub state : after ≡ state_after setup before at (Letter user subject body)

@@ -1,7 +1,7 @@
 pub mod Stopping
 pub mod Answers
-pub mod Words
-pub mod WordsRead
+pub mod Arguments
+pub mod ArgumentsRead
 pub mod SetupRead
 pub mod RecordsRead
 pub mod Turns

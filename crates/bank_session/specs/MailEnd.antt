@@ -1,8 +1,8 @@
--- The command `mail`: one letter in a bank that stands in a state, and why it ended.
+-- The command `mail`: one letter in a bank that is in a state, and why it ended.
 use Rattle.std.specs.Prelude.{◌≡◌, ℕ, ◌≤◌, List, [], ◌∷◌, length, take, Option, Some, Result, Ok, Err, ◌⊎◌}
 use Rattle.std.specs.Io.KnownBytes.{Keeps, Appends, IsAtEnd}
 use Rattle.ofx_ports.specs.Faults.{Rose}
-use Rattle.ofx_ports.specs.Told.{Stays, Grows}
+use Rattle.ofx_ports.specs.Known.{Stays, Grows}
 use Rattle.ofx_types.specs.declared.number.UserId.{UserId}
 use Rattle.ofx_types.specs.declared.number.Moment.{Moment}
 use Rattle.bank_model.specs.Rules.{IsLegal}
@@ -73,7 +73,7 @@ pub record LeftAlone (before after : PortsView) : Type 0 where
   pub unwritten : Keeps before.held after.held
   pub unseen : Stays before.shown after.shown
 
--- What stands at each end of a letter in a bank.
+-- What is at each end of a letter in a bank.
 abbrev pub LetterEnds : BookView → List ℕ → List ℕ → List ℕ → PortsView → PortsView → Result (Unit {0}) Stop → Type 0
 LetterEnds bank name subject body before after (Ok done) = LetterDone bank name subject body before after
 LetterEnds bank name subject body before after (Err (stops.Letter fault)) = CauseOf bank name fault × LeftAlone before after
@@ -83,7 +83,7 @@ LetterEnds bank name subject body before after (Err stops.KeeperFailed) =
     LetterUnkept bank name subject body before after × Rose before.keeper_faults after.keeper_faults
 LetterEnds bank name subject body before after (Err stops.NoMemory) = LetterUndone before after
 LetterEnds bank name subject body before after (Err stops.ReadFailed) = ⊥
-LetterEnds bank name subject body before after (Err (stops.Frame place)) = ⊥
+LetterEnds bank name subject body before after (Err (stops.Frame offset)) = ⊥
 LetterEnds bank name subject body before after (Err stops.Usage) = ⊥
 LetterEnds bank name subject body before after (Err (stops.Setup line)) = ⊥
 LetterEnds bank name subject body before after (Err (stops.Records fault)) = ⊥
@@ -99,7 +99,7 @@ StopsReading left before now stops.ReadFailed = Rose before now
 StopsReading left before now stops.NoMemory = Unit {0}
 StopsReading left before now stops.WriteFailed = ⊥
 StopsReading left before now stops.KeeperFailed = ⊥
-StopsReading left before now (stops.Frame place) = ⊥
+StopsReading left before now (stops.Frame offset) = ⊥
 StopsReading left before now stops.Usage = ⊥
 StopsReading left before now (stops.Setup line) = ⊥
 StopsReading left before now (stops.Records fault) = ⊥
@@ -118,7 +118,7 @@ pub record EndsWithBody (bank : BookView) (name subject : List ℕ) (before afte
   pub at_end : IsAtEnd after.input_left
   pub ends : LetterEnds bank name subject body before after end
 
--- What stands at each end of the command in a bank that stands in a state.
+-- What is at each end of the command in a bank that is in a state.
 abbrev pub MailEnds : List ℕ → List ℕ → Setup → State → PortsView → PortsView → Result (Unit {0}) Stop → Type 0
 MailEnds name subject setup start before after (Ok done) =
     EndsWithBody (record { setup = setup; state = start }) name subject before after (Ok done)

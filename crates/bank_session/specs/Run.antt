@@ -1,14 +1,14 @@
--- A whole command: the setup, the bank, its work, and what people are told of its end.
+-- A whole command: the setup, the bank, its work, and what is reported of its end.
 use Rattle.std.specs.Prelude.{◌≡◌, ℕ, Bool, true, false, Result, Ok, Err, ◌⊎◌}
 use Rattle.std.specs.Io.KnownBytes.{Keeps}
-use Rattle.ofx_ports.specs.Told.{Stays}
+use Rattle.ofx_ports.specs.Known.{Stays}
 use Rattle.ofx_types.specs.declared.told.Note.{Note}
 use Rattle.ofx_types.specs.declared.told.Note.TheVariants.{Plain, Place, Record, Illegal, NoUser, Full}
 use Rattle.ofx_types.specs.declared.told.Told.{Told}
 use Rattle.bank_model.specs.declared.setup.Setup.{Setup}
 use Rattle.bank_model.specs.declared.event.State.{State}
 use Rattle.bank_model.specs.SetupForm.{IsWithinLimits}
-use Rattle.bank_replay.specs.Opening.{Stands}
+use Rattle.bank_replay.specs.Opening.{RecordsGive}
 use Rattle.bank_session.specs.PortsView.{PortsView}
 use Rattle.bank_session.specs.SetupRead.{IsSetupOf, StopsSetup}
 use Rattle.bank_session.specs.RecordsRead.{StopsOpening}
@@ -19,32 +19,32 @@ use Rattle.bank_session.specs.declared.stop.LetterFault.TheVariants as faults
 use Rattle.bank_session.specs.declared.stop.Stop.{Stop}
 use Rattle.bank_session.specs.declared.stop.Stop.TheVariants as stops
 
-abbrev pub told : ℕ → Note → Told
-told status note = record { status = record { 0 = status }; note = note }
+abbrev pub reported : ℕ → Note → Told
+reported status note = record { status = record { 0 = status }; note = note }
 
--- What is told of a letter that can't be written: an input that is no body is refused at its first byte.
-abbrev pub told_of_letter : LetterFault → Told
-told_of_letter faults.NoBody = told 4 (Place 0)
-told_of_letter faults.NoUser = told 10 NoUser
-told_of_letter faults.Full = told 10 Full
+-- What is reported of a letter that can't be written: an input that is no body is refused at its first byte.
+abbrev pub reported_of_letter : LetterFault → Told
+reported_of_letter faults.NoBody = reported 4 (Place 0)
+reported_of_letter faults.NoUser = reported 10 NoUser
+reported_of_letter faults.Full = reported 10 Full
 
--- What is told of records that are none of this bank: the first one that isn't, and the place of its fault where it has one.
-abbrev pub told_of_records : RecordsFault → Told
-told_of_records (NoForm number place) = told 9 (Record number place)
-told_of_records (NotLegal number) = told 9 (Illegal number)
+-- What is reported of records that are none of this bank: the first one that isn't, and the offset of its fault where it has one.
+abbrev pub reported_of_records : RecordsFault → Told
+reported_of_records (NoForm number offset) = reported 9 (Record number offset)
+reported_of_records (NotLegal number) = reported 9 (Illegal number)
 
--- What is told of each end: its status, the line of a setup's fault, and the place of what is no frame.
-abbrev pub told_of : Result (Unit {0}) Stop → Told
-told_of (Ok done) = told 0 Plain
-told_of (Err stops.Usage) = told 2 Plain
-told_of (Err (stops.Setup line)) = told 3 (Place line)
-told_of (Err (stops.Frame place)) = told 4 (Place place)
-told_of (Err stops.ReadFailed) = told 5 Plain
-told_of (Err stops.WriteFailed) = told 6 Plain
-told_of (Err stops.NoMemory) = told 7 Plain
-told_of (Err stops.KeeperFailed) = told 8 Plain
-told_of (Err (stops.Records fault)) = told_of_records fault
-told_of (Err (stops.Letter fault)) = told_of_letter fault
+-- What is reported of each end: its status, the line of a setup's fault, and the offset of what is no frame.
+abbrev pub reported_of : Result (Unit {0}) Stop → Told
+reported_of (Ok done) = reported 0 Plain
+reported_of (Err stops.Usage) = reported 2 Plain
+reported_of (Err (stops.Setup line)) = reported 3 (Place line)
+reported_of (Err (stops.Frame offset)) = reported 4 (Place offset)
+reported_of (Err stops.ReadFailed) = reported 5 Plain
+reported_of (Err stops.WriteFailed) = reported 6 Plain
+reported_of (Err stops.NoMemory) = reported 7 Plain
+reported_of (Err stops.KeeperFailed) = reported 8 Plain
+reported_of (Err (stops.Records fault)) = reported_of_records fault
+reported_of (Err (stops.Letter fault)) = reported_of_letter fault
 
 -- ---- how a command ends, whatever work it does in a bank
 
@@ -88,7 +88,7 @@ pub record EndsWithBank (Works : Setup → State → PortsView → PortsView →
   pub start : State
   pub found : IsSetupOf before.setup_left setup
   pub within : IsWithinLimits setup
-  pub stands : Stands setup before.records start
+  pub holds : RecordsGive setup before.records start
   pub ends : Works setup start before after end
   pub settled : Settles end after.unsettled
 
@@ -97,8 +97,8 @@ abbrev pub EndsSo : (Setup → State → PortsView → PortsView → Result (Uni
 EndsSo Works before after (Ok done) = EndsWithBank Works before after (Ok done)
 EndsSo Works before after (Err stop) = NeverOpens before after stop ⊎ EndsWithBank Works before after (Err stop)
 
--- A command ends so, and this is told of it.
+-- A command ends so, and this is reported of it.
 pub record EndsWith (Works : Setup → State → PortsView → PortsView → Result (Unit {0}) Stop → Type 0) (before after : PortsView) (what : Told) : Type 0 where
   pub end : Result (Unit {0}) Stop
-  pub told_is : what ≡ told_of end
+  pub reported_is : what ≡ reported_of end
   pub ends : EndsSo Works before after end

@@ -1,9 +1,9 @@
--- A run over the frames of an input, in a bank that stands in a state, and why it ended.
+-- A run over the frames of an input, in a bank that is in a state, and why it ended.
 use Rattle.std.specs.Prelude.{◌≡◌, ◌≢◌, ℕ, ◌<◌, ◌≤◌, List, [], ◌∷◌, ◌++◌, length, take, Option, Result, Ok, Err, ◌⊎◌}
 use Rattle.std.specs.Option.{IfSome}
 use Rattle.std.specs.Io.KnownBytes.{Consumes, Appends, IsAtEnd, prepend_known}
 use Rattle.ofx_ports.specs.Faults.{Rose}
-use Rattle.ofx_ports.specs.Told.{Grows}
+use Rattle.ofx_ports.specs.Known.{Grows}
 use Rattle.ofx_types.specs.declared.number.Moment.{Moment}
 use Rattle.bank_model.specs.declared.setup.Setup.{Setup}
 use Rattle.bank_model.specs.declared.event.State.{State}
@@ -70,15 +70,15 @@ pub record StoppedInRead (setup : Setup) (start : State) (at : Option Moment) (b
   pub written : Appends before.held after.held (written_in turns)
   pub moments : AreMoments at before.shown after.shown (moments_in turns)
 
--- More is to come at this place of the input: bytes that begin no frame, or anything after the most frames that a run
+-- More is to come at this offset of the input: bytes that begin no frame, or anything after the most frames that a run
 -- answers.
-pub record StoppedAtFrame (setup : Setup) (start : State) (at : Option Moment) (before after : PortsView) (place : ℕ) : Type 0 where
+pub record StoppedAtFrame (setup : Setup) (start : State) (at : Option Moment) (before after : PortsView) (offset : ℕ) : Type 0 where
   pub turns : List Turn
   pub state : State
   pub ahead : List ℕ
   pub taken : Taken setup start before after turns state ahead
   pub more : IfSome (prepend_known ahead after.input_left) (λ rest. (rest ≢ []) × (BeginsNoFrame rest ⊎ (length turns ≡ 1000000)))
-  pub place_is : place ≡ length (read_in turns)
+  pub offset_is : offset ≡ length (read_in turns)
   pub kept : Grows before.records after.records (records_in turns)
   pub written : Appends before.held after.held (written_in turns)
   pub moments : AreMoments at before.shown after.shown (moments_in turns)
@@ -121,10 +121,10 @@ pub record StoppedInKeeping (setup : Setup) (start : State) (at : Option Moment)
   pub written : Appends before.held after.held (written_in turns)
   pub moments : AreMoments at before.shown after.shown (moments_in turns ++ moment ∷ [])
 
--- What stands at each end of a run in a bank that stands in a state.
+-- What is at each end of a run in a bank that is in a state.
 abbrev pub RunEnds : Option Moment → Setup → State → PortsView → PortsView → Result (Unit {0}) Stop → Type 0
 RunEnds at setup start before after (Ok done) = Finished setup start at before after
-RunEnds at setup start before after (Err (stops.Frame place)) = StoppedAtFrame setup start at before after place
+RunEnds at setup start before after (Err (stops.Frame offset)) = StoppedAtFrame setup start at before after offset
 RunEnds at setup start before after (Err stops.ReadFailed) = StoppedInRead setup start at before after × Rose before.input_faults after.input_faults
 RunEnds at setup start before after (Err stops.WriteFailed) = StoppedInLine setup start at before after × Rose before.out_faults after.out_faults
 RunEnds at setup start before after (Err stops.KeeperFailed) = StoppedInKeeping setup start at before after × Rose before.keeper_faults after.keeper_faults

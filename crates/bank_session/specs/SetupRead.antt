@@ -8,11 +8,11 @@ use Rattle.bank_model.specs.declared.setup.Setup.{Setup}
 use Rattle.bank_session.specs.declared.stop.Stop.{Stop}
 use Rattle.bank_session.specs.declared.stop.Stop.TheVariants as stops
 
--- Where the bytes are told they spell the setup.
+-- Where the bytes are known they spell the setup.
 abbrev pub IsSetupOf : Option (List ℕ) → Setup → Type 0
 IsSetupOf left setup = IfSome left (λ all. SpellsSetup all setup)
 
--- Where the bytes are told they spell no setup, and their fault is at this line.
+-- Where the bytes are known they spell no setup, and their fault is at this line.
 abbrev pub IsNoSetup : Option (List ℕ) → ℕ → Type 0
 IsNoSetup left line = IfSome left (λ all. ((setup : Setup) → SpellsSetup all setup → ⊥) × IsSetupFault all line)
 
@@ -22,7 +22,7 @@ StopsSetup left before now (stops.Setup line) = IsNoSetup left line
 StopsSetup left before now stops.ReadFailed = Rose before now
 StopsSetup left before now stops.NoMemory = Unit {0}
 StopsSetup left before now stops.Usage = ⊥
-StopsSetup left before now (stops.Frame place) = ⊥
+StopsSetup left before now (stops.Frame offset) = ⊥
 StopsSetup left before now stops.WriteFailed = ⊥
 StopsSetup left before now stops.KeeperFailed = ⊥
 StopsSetup left before now (stops.Records fault) = ⊥

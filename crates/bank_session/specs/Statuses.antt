@@ -1,4 +1,4 @@
--- Exactly where a run ends with each status, and what is told of it, as far as nothing of the outside fails and memory is
+-- Exactly where a run ends with each status, and what is reported of it, as far as nothing of the outside fails and memory is
 -- there.
 use Rattle.std.specs.Prelude.{◌≡◌, ◌≢◌, ℕ, ◌≤◌, true, false, List, [], ◌++◌, length, Option, None, Some, Result, ◌⊎◌}
 use Rattle.std.specs.List.{flat_map, AllByRecursion}
@@ -18,7 +18,7 @@ use Rattle.bank_session.specs.Letters.{IsBody, HasNoBody}
 use Rattle.bank_session.specs.RunEnd.{RunEnds}
 use Rattle.bank_session.specs.DueEnd.{DueEnds}
 use Rattle.bank_session.specs.MailEnd.{MailEnds}
-use Rattle.bank_session.specs.Run.{EndsWith, told}
+use Rattle.bank_session.specs.Run.{EndsWith, reported}
 use Rattle.bank_session.specs.declared.stop.Stop.{Stop}
 use Rattle.ofx_types.specs.declared.number.Moment.{Moment}
 use Rattle.ofx_types.specs.declared.number.UserId.{UserId}
@@ -28,22 +28,22 @@ use Rattle.ofx_types.specs.declared.told.Told.{Told}
 -- A read or a write or a call of the keeper failed, or memory was refused.
 abbrev pub IsInterrupted : PortsView → PortsView → Told → Type 0
 IsInterrupted before after what =
-    ((what ≡ told 5 Plain) × (Rose before.setup_faults after.setup_faults ⊎ Rose before.input_faults after.input_faults))
-    ⊎ (((what ≡ told 6 Plain) × Rose before.out_faults after.out_faults)
-    ⊎ (((what ≡ told 8 Plain) × Rose before.keeper_faults after.keeper_faults) ⊎ (what ≡ told 7 Plain)))
+    ((what ≡ reported 5 Plain) × (Rose before.setup_faults after.setup_faults ⊎ Rose before.input_faults after.input_faults))
+    ⊎ (((what ≡ reported 6 Plain) × Rose before.out_faults after.out_faults)
+    ⊎ (((what ≡ reported 8 Plain) × Rose before.keeper_faults after.keeper_faults) ⊎ (what ≡ reported 7 Plain)))
 
 -- A read of the setup or a write or a call of the keeper failed, or memory was refused.
 abbrev pub IsDueInterrupted : PortsView → PortsView → Told → Type 0
 IsDueInterrupted before after what =
-    ((what ≡ told 5 Plain) × Rose before.setup_faults after.setup_faults)
-    ⊎ (((what ≡ told 6 Plain) × Rose before.out_faults after.out_faults)
-    ⊎ (((what ≡ told 8 Plain) × Rose before.keeper_faults after.keeper_faults) ⊎ (what ≡ told 7 Plain)))
+    ((what ≡ reported 5 Plain) × Rose before.setup_faults after.setup_faults)
+    ⊎ (((what ≡ reported 6 Plain) × Rose before.out_faults after.out_faults)
+    ⊎ (((what ≡ reported 8 Plain) × Rose before.keeper_faults after.keeper_faults) ⊎ (what ≡ reported 7 Plain)))
 
--- Bytes that spell no setup end a command with 3, and the line of their fault is told.
+-- Bytes that spell no setup end a command with 3, and the line of their fault is reported.
 abbrev pub RefusesSetup : (PortsView → PortsView → Told → Type 0) → PortsView → PortsView → Told → Type 0
 RefusesSetup Stopped before after what =
     (text : List ℕ) → before.setup_left ≡ Some text → ((setup : Setup) → SpellsSetup text setup → ⊥)
-    → ((line : ℕ) × IsSetupFault text line × (what ≡ told 3 (Place line))) ⊎ Stopped before after what
+    → ((line : ℕ) × IsSetupFault text line × (what ≡ reported 3 (Place line))) ⊎ Stopped before after what
 
 -- The setup is spelled, and these are the records.
 pub record HasRecords (before : PortsView) (setup : Setup) (records : List (List ℕ)) : Type 0 where
@@ -52,17 +52,17 @@ pub record HasRecords (before : PortsView) (setup : Setup) (records : List (List
   pub spelled : SpellsSetup text setup
   pub records_are : before.records ≡ Some records
 
--- The first record that codes no event ends it with 9, and its number and the place of its fault are told.
+-- The first record that codes no event ends it with 9, and its number and the offset of its fault are told.
 abbrev pub RefusesRecord : (PortsView → PortsView → Told → Type 0) → PortsView → PortsView → Told → Type 0
 RefusesRecord Stopped before after what =
-    (setup : Setup) (records : List (List ℕ)) (number place : ℕ) → HasRecords before setup records
-    → HasNoForm setup (Some records) number place → (what ≡ told 9 (Record number place)) ⊎ Stopped before after what
+    (setup : Setup) (records : List (List ℕ)) (number offset : ℕ) → HasRecords before setup records
+    → HasNoForm setup (Some records) number offset → (what ≡ reported 9 (Record number offset)) ⊎ Stopped before after what
 
--- So does the first one whose event isn't legal after those before it, and its number is told.
+-- So does the first one whose event isn't legal after those before it, and its number is reported.
 abbrev pub RefusesIllegal : (PortsView → PortsView → Told → Type 0) → PortsView → PortsView → Told → Type 0
 RefusesIllegal Stopped before after what =
     (setup : Setup) (records : List (List ℕ)) (number : ℕ) → HasRecords before setup records
-    → IsNotLegal setup (Some records) number → (what ≡ told 9 (Illegal number)) ⊎ Stopped before after what
+    → IsNotLegal setup (Some records) number → (what ≡ reported 9 (Illegal number)) ⊎ Stopped before after what
 
 -- A command that does such work ends so: what it read and wrote, and exactly where no bank opens what is told.
 pub record IsCommand (Works : Setup → State → PortsView → PortsView → Result (Unit {0}) Stop → Type 0) (Stopped : PortsView → PortsView → Told → Type 0) (before after : PortsView) (what : Told) : Type 0 where
@@ -90,14 +90,14 @@ pub record BringsFrames (before : PortsView) (contents : List Content) (rest : L
 
 -- Frames and nothing after them end it with 0.
 abbrev pub AnswersAll : PortsView → PortsView → Told → Type 0
-AnswersAll before after what = (contents : List Content) → BringsFrames before contents [] → (what ≡ told 0 Plain) ⊎ IsInterrupted before after what
+AnswersAll before after what = (contents : List Content) → BringsFrames before contents [] → (what ≡ reported 0 Plain) ⊎ IsInterrupted before after what
 
 -- Bytes after the frames that begin no frame, or anything after the most frames, end it with 4, and their place in the
 -- input is told.
 abbrev pub RefusesFrame : PortsView → PortsView → Told → Type 0
 RefusesFrame before after what =
     (contents : List Content) (rest : List ℕ) → BringsFrames before contents rest → rest ≢ [] → (BeginsNoFrame rest ⊎ (length contents ≡ 1000000))
-    → (what ≡ told 4 (Place (length (flat_map frame_of contents)))) ⊎ IsInterrupted before after what
+    → (what ≡ reported 4 (Place (length (flat_map frame_of contents)))) ⊎ IsInterrupted before after what
 
 -- The command `answer` over these words' moment ends so, and exactly where what is told.
 pub record IsRun (at : Option Moment) (before after : PortsView) (what : Told) : Type 0 where
@@ -110,7 +110,7 @@ pub record IsRun (at : Option Moment) (before after : PortsView) (what : Told) :
 -- A bank that opens ends it with 0.
 abbrev pub DoesAll : PortsView → PortsView → Told → Type 0
 DoesAll before after what =
-    (setup : Setup) (start : State) → Opens before setup start → (what ≡ told 0 Plain) ⊎ IsDueInterrupted before after what
+    (setup : Setup) (start : State) → Opens before setup start → (what ≡ reported 0 Plain) ⊎ IsDueInterrupted before after what
 
 -- The command `due` ends so, and exactly where what is told.
 pub record IsDueCommand (before after : PortsView) (what : Told) : Type 0 where
@@ -127,25 +127,25 @@ pub record Brings (before : PortsView) (setup : Setup) (start : State) (input : 
 -- An input that is no body ends it with 4, at its first byte.
 abbrev pub RefusesBody : PortsView → PortsView → Told → Type 0
 RefusesBody before after what =
-    (setup : Setup) (start : State) (input : List ℕ) → Brings before setup start input → HasNoBody input → (what ≡ told 4 (Place 0)) ⊎ IsInterrupted before after what
+    (setup : Setup) (start : State) (input : List ℕ) → Brings before setup start input → HasNoBody input → (what ≡ reported 4 (Place 0)) ⊎ IsInterrupted before after what
 
 -- A body for nobody ends it with 10,
 abbrev pub RefusesUser : List ℕ → PortsView → PortsView → Told → Type 0
 RefusesUser name before after what =
     (setup : Setup) (start : State) (input body : List ℕ) → Brings before setup start input → IsBody input body → user_of setup name ≡ None
-    → (what ≡ told 10 NoUser) ⊎ IsInterrupted before after what
+    → (what ≡ reported 10 NoUser) ⊎ IsInterrupted before after what
 
 -- and so does one for a user of a bank that has no number left.
 abbrev pub RefusesFull : List ℕ → PortsView → PortsView → Told → Type 0
 RefusesFull name before after what =
     (setup : Setup) (start : State) (input body : List ℕ) (user : UserId) → Brings before setup start input → IsBody input body
-    → user_of setup name ≡ Some user → has_number setup start ≡ false → (what ≡ told 10 Full) ⊎ IsInterrupted before after what
+    → user_of setup name ≡ Some user → has_number setup start ≡ false → (what ≡ reported 10 Full) ⊎ IsInterrupted before after what
 
 -- A body for a user, and a number that is left, end it with 0.
 abbrev pub WritesIt : List ℕ → PortsView → PortsView → Told → Type 0
 WritesIt name before after what =
     (setup : Setup) (start : State) (input body : List ℕ) (user : UserId) → Brings before setup start input → IsBody input body
-    → user_of setup name ≡ Some user → has_number setup start ≡ true → (what ≡ told 0 Plain) ⊎ IsInterrupted before after what
+    → user_of setup name ≡ Some user → has_number setup start ≡ true → (what ≡ reported 0 Plain) ⊎ IsInterrupted before after what
 
 -- The command `mail` ends so, and exactly where what is told.
 pub record IsMailCommand (name subject : List ℕ) (before after : PortsView) (what : Told) : Type 0 where

@@ -3,7 +3,7 @@ use Rattle.std.specs.Prelude.{ℕ, List, [], ◌∷◌, Option, Result, Ok, Err}
 use Rattle.std.specs.Option.{IfSome}
 use Rattle.std.specs.Io.KnownBytes.{Keeps, IsAtEnd}
 use Rattle.ofx_ports.specs.Faults.{Rose}
-use Rattle.ofx_ports.specs.Told.{Stays}
+use Rattle.ofx_ports.specs.Known.{Stays}
 use Rattle.ofx_types.specs.declared.number.Moment.{Moment}
 use Rattle.bank_core.specs.BookView.{BookView}
 use Rattle.bank_frames.specs.Frames.{BeginsNoFrame}
@@ -12,8 +12,8 @@ use Rattle.bank_frames.specs.NextFrame.{IsNoFrame}
 use Rattle.bank_session.specs.Turns.{TurnView, FrameAnswered, FrameStops}
 use Rattle.bank_session.specs.declared.stop.Stop.{Stop}
 use Rattle.bank_session.specs.declared.stop.Stop.TheVariants as stops
-use Rattle.bank_session.specs.declared.turn.Step.{Step}
-use Rattle.bank_session.specs.declared.turn.Step.TheVariants as steps
+use Rattle.bank_session.specs.declared.turn.TurnEnd.{TurnEnd}
+use Rattle.bank_session.specs.declared.turn.TurnEnd.TheVariants as steps
 
 -- Nothing that is to come was used up, nothing was kept or written, and the clock wasn't read.
 pub record NoTurn (found left : TurnView) : Type 0 where
@@ -38,7 +38,7 @@ TurnStops at before found left ahead stop = AtMoment at found left (λ moment. F
 
 -- A frame of so many bytes was answered; or the input is at its end; or bytes that begin no frame are left; or the run
 -- stops.
-abbrev pub TurnResult : Option Moment → BookView → BookView → TurnView → TurnView → List ℕ → Result Step Stop → Type 0
+abbrev pub TurnResult : Option Moment → BookView → BookView → TurnView → TurnView → List ℕ → Result TurnEnd Stop → Type 0
 TurnResult at before after found left ahead (Ok (steps.Answered size)) = TurnMade at before after found left size
 TurnResult at before after found left ahead (Ok steps.AtEnd) = NoTurn found left × IsAtEnd left.coming
 TurnResult at before after found left ahead (Ok steps.NoFrame) = NoTurn found left × IfSome left.coming IsNoFrame

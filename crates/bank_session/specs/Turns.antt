@@ -2,7 +2,7 @@
 use Rattle.std.specs.Prelude.{◌≡◌, ℕ, List, length, take, Option, Result, Ok, Err}
 use Rattle.std.specs.Io.KnownBytes.{Keeps, Consumes, Appends}
 use Rattle.ofx_ports.specs.Faults.{Rose}
-use Rattle.ofx_ports.specs.Told.{Grows}
+use Rattle.ofx_ports.specs.Known.{Grows}
 use Rattle.ofx_types.specs.declared.number.Moment.{Moment}
 use Rattle.bank_core.specs.BookView.{BookView}
 use Rattle.bank_frames.specs.Frames.{Content, frame_of, Fits}
@@ -37,21 +37,21 @@ turn_view coming reads held writes records keeps shown = record {
 
 -- For a frame this line is to be written, and its records are kept.
 abbrev pub AnswersAndKeeps : Moment → BookView → BookView → Content → Option (List (List ℕ)) → Option (List (List ℕ)) → List ℕ → Type 0
-AnswersAndKeeps at before after content told told' line =
-    (records : List (List ℕ)) × AnswersFrame before.setup at before.state content line records after.state × Grows told told' records
+AnswersAndKeeps at before after content reported reported' line =
+    (records : List (List ℕ)) × AnswersFrame before.setup at before.state content line records after.state × Grows reported reported' records
 
 -- What is kept of a frame for which there is no line: memory was refused, or the append of a record failed.
 abbrev pub KeepsRefused : Moment → BookView → Content → Option (List (List ℕ)) → Option (List (List ℕ)) → Type 0
-KeepsRefused at before content told told' =
-    (records : List (List ℕ)) × IsKeptWhereRefused before.setup at before.state content records × Grows told told' records
+KeepsRefused at before content reported reported' =
+    (records : List (List ℕ)) × IsKeptWhereRefused before.setup at before.state content records × Grows reported reported' records
 
 abbrev pub KeepsPrefix : Moment → BookView → Content → Option (List (List ℕ)) → Option (List (List ℕ)) → Type 0
-KeepsPrefix at before content told told' =
-    (records : List (List ℕ)) × IsPrefixKept before.setup at before.state content records × Grows told told' records
+KeepsPrefix at before content reported reported' =
+    (records : List (List ℕ)) × IsPrefixKept before.setup at before.state content records × Grows reported reported' records
 
 abbrev pub HasNoLine : Moment → BookView → Content → Option (List (List ℕ)) → Option (List (List ℕ)) → DeskFault → Type 0
-HasNoLine at before content told told' NoMemory = KeepsRefused at before content told told'
-HasNoLine at before content told told' AppendFailed = KeepsPrefix at before content told told'
+HasNoLine at before content reported reported' NoMemory = KeepsRefused at before content reported reported'
+HasNoLine at before content reported reported' AppendFailed = KeepsPrefix at before content reported reported'
 
 -- The next frame, of so many bytes, is used up, its records are kept, and its line is written whole.
 pub record FrameAnswered (at : Moment) (size : ℕ) (before after : BookView) (found left : TurnView) : Type 0 where
@@ -102,7 +102,7 @@ FrameStops at before found left stops.NoMemory = MemoryRefused at before found l
 FrameStops at before found left stops.ReadFailed = ⊥
 FrameStops at before found left stops.Usage = ⊥
 FrameStops at before found left (stops.Setup line) = ⊥
-FrameStops at before found left (stops.Frame place) = ⊥
+FrameStops at before found left (stops.Frame offset) = ⊥
 FrameStops at before found left (stops.Records fault) = ⊥
 FrameStops at before found left (stops.Letter fault) = ⊥
 

@@ -3,14 +3,15 @@
 
 ghost use Rattle.std.specs.Prelude.{◌≡◌, ◌≢◌, ◌↔◌, ℕ, false, List, Option, Some, Err, IsSome};
 ghost use Rattle.ofx_types.specs.declared.number.Moment.{Moment as TheMoment};
-ghost use Rattle.ofx_types.specs.declared.told.Told.{Told as WhatIsTold};
-ghost use Rattle.bank_session.specs.Words.{AreWords, AreDueWords, AreMailWords, IsUsage};
-ghost use Rattle.bank_session.specs.WordsRead.{IsLawful};
+ghost use Rattle.ofx_types.specs.declared.told.Told.{Told as WhatIsReported};
+ghost use Rattle.bank_session.specs.Arguments.{AreArguments, AreDueArguments, AreMailArguments, IsUsage};
+ghost use Rattle.bank_session.specs.ArgumentsRead.{IsLawful};
 ghost use Rattle.bank_session.specs.Run as runs;
 ghost use Rattle.bank_session.specs.RunEnd.{RunEnds};
-ghost use Rattle.bank_session.specs.Run.{EndsSo, told_of, told_of_letter, told_of_records};
+ghost use Rattle.bank_session.specs.Run.{EndsSo, reported_of, reported_of_letter, reported_of_records};
 ghost use Rattle.bank_session.specs.Statuses.{IsRun, IsDueCommand, IsMailCommand};
 
+use crate::arguments::{Command, command_of};
 use crate::due::do_due_once;
 use crate::laws::one_bank;
 use crate::mail::send_letter;
@@ -19,7 +20,6 @@ use crate::ports::Ports;
 use crate::run::answer_frames as answer_input;
 use crate::setup_source::read_setup;
 use crate::stop::{LetterFault, RecordsFault, Stop};
-use crate::words::{Command, command_of};
 use bank_model::laws::one_setup;
 use ofx_ports::{Clock, Keeper, Sink, Source};
 use ofx_types::{Moment, Note, Status, Text, Told};
@@ -51,27 +51,27 @@ fn run<A: Source, B: Source, W: Sink, K: Keeper, C: Clock>(
     answer_input(alloc, &mut desk, at, clock, input, out, keeper)
 }
 
-/// What is told of an end.
-pub fn end_told(end: Result<(), Stop>) -> Told
-    ensures { result ≡ told_of end }
+/// What is reported of an end.
+pub fn report_of_end(end: Result<(), Stop>) -> Told
+    ensures { result ≡ reported_of end }
 {
     match end {
         Ok(()) => plain(0),
         Err(Stop::Usage) => plain(2),
-        Err(Stop::Setup(line)) => at_place(3, line),
-        Err(Stop::Frame(place)) => at_place(4, place),
+        Err(Stop::Setup(line)) => at_offset(3, line),
+        Err(Stop::Frame(offset)) => at_offset(4, offset),
         Err(Stop::ReadFailed) => plain(5),
         Err(Stop::WriteFailed) => plain(6),
         Err(Stop::NoMemory) => plain(7),
         Err(Stop::KeeperFailed) => plain(8),
-        Err(Stop::Records(fault)) => records_told(fault),
-        Err(Stop::Letter(fault)) => letter_told(fault),
+        Err(Stop::Records(fault)) => report_of_records(fault),
+        Err(Stop::Letter(fault)) => report_of_letter(fault),
     }
 }
 
-/// What is told of records that are none of this bank.
-fn records_told(fault: RecordsFault) -> Told
-    ensures { result ≡ told_of_records fault }
+/// What is reported of records that are none of this bank.
+fn report_of_records(fault: RecordsFault) -> Told
+    ensures { result ≡ reported_of_records fault }
 {
     match fault {
         RecordsFault::NoForm(number, at) => noted(9, Note::Record(number, at)),
@@ -79,12 +79,12 @@ fn records_told(fault: RecordsFault) -> Told
     }
 }
 
-/// What is told of a letter that can't be written.
-fn letter_told(fault: LetterFault) -> Told
-    ensures { result ≡ told_of_letter fault }
+/// What is reported of a letter that can't be written.
+fn report_of_letter(fault: LetterFault) -> Told
+    ensures { result ≡ reported_of_letter fault }
 {
     match fault {
-        LetterFault::NoBody => at_place(4, 0),
+        LetterFault::NoBody => at_offset(4, 0),
         LetterFault::NoUser => noted(10, Note::NoUser),
         LetterFault::Full => noted(10, Note::Full),
     }
@@ -92,7 +92,7 @@ fn letter_told(fault: LetterFault) -> Told
 
 /// A status with its note.
 fn noted(status: u8, note: Note) -> Told
-    ensures { result ≡ runs.told status note }
+    ensures { result ≡ runs.reported status note }
 {
     Told {
         status: Status(status),
@@ -102,21 +102,21 @@ fn noted(status: u8, note: Note) -> Told
 
 /// A status alone.
 fn plain(status: u8) -> Told
-    ensures { result ≡ runs.told status Note.Plain }
+    ensures { result ≡ runs.reported status Note.Plain }
 {
     noted(status, Note::Plain)
 }
 
-/// A status, and a place or the number of a line.
-fn at_place(status: u8, place: u64) -> Told
-    ensures { result ≡ runs.told status (Note.Place place) }
+/// A status, and an offset or the number of a line.
+fn at_offset(status: u8, offset: u64) -> Told
+    ensures { result ≡ runs.reported status (Note.Place offset) }
 {
-    noted(status, Note::Place(place))
+    noted(status, Note::Place(offset))
 }
 
-/// Answers a stream of frames, does once what is due, or writes a letter, and tells how the run ended.
+/// Answers a stream of frames, does once what is due, or writes a letter, and says how the run ended.
 ///
-/// The words of the first are `answer`, the path of the setup, where the records are kept, and perhaps `--at` with a date
+/// The arguments of the first are `answer`, the path of the setup, where the records are kept, and perhaps `--at` with a date
 /// (OFX 1.6, "Dates, Times, and Time Zones"). The setup is read whole, and the bank opens from the records that the keeper
 /// has: it stands for the events that they code, each legal after those before it. Then each frame of the input is answered
 /// in turn. Of each event a record is appended before anything of it shows: before the bank takes the step, and before its
@@ -127,7 +127,7 @@ fn at_place(status: u8, place: u64) -> Told
 /// with a NEWFILEUID is kept, and the same bytes are written again for each file of that user with this NEWFILEUID, until
 /// one of the user's files that is answered anew names it as OLDFILEUID ("File-Based Error Recovery"). Where no user has
 /// the file's name and password the reply is the failed signon alone, with code 15500, and changes nothing. Bytes that
-/// spell no request file get the line `BAD` with the place of their fault, in bytes from the file's first, and change
+/// spell no request file get the line `BAD` with the offset of their fault, in bytes from the file's first, and change
 /// nothing.
 ///
 /// For the frame `DUE` the bank does what is due at its moment: recurring transfers make their next transfers
@@ -137,10 +137,10 @@ fn at_place(status: u8, place: u64) -> Told
 /// A poll of a user, which asks for nothing but newest tokens ("Data Synchronization"), is answered in its frame too, and
 /// changes nothing, not even the business day.
 ///
-/// The words `due`, the path of the setup and where the records are kept ask for the same once, at the moment that the
+/// The arguments `due`, the path of the setup and where the records are kept ask for the same once, at the moment that the
 /// clock shows then. The input isn't read.
 ///
-/// The words `mail`, the path of the setup, where the records are kept, the name of a user and a subject of 1 to 64 bytes ask
+/// The arguments `mail`, the path of the setup, where the records are kept, the name of a user and a subject of 1 to 64 bytes ask
 /// for a letter of the bank to this user ("Customer Service and E-Mail"). The input is its body, of 1 to 10,000 bytes
 /// without the white space at its ends. The clock is read once, after all that may refuse, and the line is `MAIL` with
 /// the number of the letter's entry.
@@ -151,7 +151,7 @@ fn at_place(status: u8, place: u64) -> Told
 /// | Status | Note | Where |
 /// |---|---|---|
 /// | 0 | | the input was read to its end and every frame answered, or what was due is done, or the letter is written |
-/// | 2 | | the words have another form; nothing was read |
+/// | 2 | | the arguments have another form; nothing was read |
 /// | 3 | the line of the fault, from 1 | the setup has no form or is past a limit; nothing was written |
 /// | 4 | the number of bytes of the frames answered | the input goes on with bytes that begin no frame, or after 1,000,000 frames |
 /// | 4 | 0 | of `mail`: the input is no body, or has more than 262,144 bytes; nothing was written |
@@ -159,14 +159,14 @@ fn at_place(status: u8, place: u64) -> Told
 /// | 6 | | a write failed; a prefix of the text is written |
 /// | 7 | | memory was refused; the frames before are answered |
 /// | 8 | | a call of the keeper failed; the frames before are answered, and the record whose append failed may have landed |
-/// | 9 | the number of a record, from 1, and the place of its first fault | this record is the first that codes no event; nothing was written |
+/// | 9 | the number of a record, from 1, and the offset of its first fault | this record is the first that codes no event; nothing was written |
 /// | 9 | the number of a record, from 1 | this record is the first whose event isn't legal after those before it; nothing was written |
 /// | 10 | no user | of `mail`: no user of the setup has the name; nothing was written |
 /// | 10 | full | of `mail`: no number is left for an entry; nothing was written |
 pub fn answer_told<A: Source, B: Source, W: Sink, K: Keeper, C: Clock>(
     alloc: Global,
     keys: RandomState,
-    words: &[Text],
+    arguments: &[Text],
     setup: &mut A,
     input: &mut B,
     out: &mut W,
@@ -174,40 +174,40 @@ pub fn answer_told<A: Source, B: Source, W: Sink, K: Keeper, C: Clock>(
     clock: &mut C,
 ) -> Told
     requires settled { K.unsettled keeper.old ≡ false }
-    ensures usage { (result.status.0 ≡ 2) ↔ IsUsage words.now }
+    ensures usage { (result.status.0 ≡ 2) ↔ IsUsage arguments.now }
     ensures plain { result.status.0 ≡ 2 → result.note ≡ Note.Plain }
-    ensures unread { IsUsage words.now → (setup.new ≡ setup.old) × (input.new ≡ input.old) × (out.new ≡ out.old) × (keeper.new ≡ keeper.old) × (clock.new ≡ clock.old) }
+    ensures unread { IsUsage arguments.now → (setup.new ≡ setup.old) × (input.new ≡ input.old) × (out.new ≡ out.old) × (keeper.new ≡ keeper.old) × (clock.new ≡ clock.old) }
 
     // What is written and kept, for which frames and at which moments, and why the run ended; and that what the setup, the
     // records and the input are decides what is told, unless something of the outside fails or memory is refused.
-    ensures run { (at : Option TheMoment) → AreWords words.now at → IsRun at
+    ensures run { (at : Option TheMoment) → AreArguments arguments.now at → IsRun at
         (⟦<(A, B, W, K, C) as Ports>⟧.seen (setup.old, input.old, out.old, keeper.old, clock.old))
         (⟦<(A, B, W, K, C) as Ports>⟧.seen (setup.new, input.new, out.new, keeper.new, clock.new)) result }
 
     // The same of `due`, which leaves the input as it is.
-    ensures due { AreDueWords words.now → (input.new ≡ input.old) × IsDueCommand
+    ensures due { AreDueArguments arguments.now → (input.new ≡ input.old) × IsDueCommand
         (⟦<(A, B, W, K, C) as Ports>⟧.seen (setup.old, input.old, out.old, keeper.old, clock.old))
         (⟦<(A, B, W, K, C) as Ports>⟧.seen (setup.new, input.new, out.new, keeper.new, clock.new)) result }
 
     // The same of `mail`.
-    ensures mail { (name subject : List ℕ) → AreMailWords words.now name subject → IsMailCommand name subject
+    ensures mail { (name subject : List ℕ) → AreMailArguments arguments.now name subject → IsMailCommand name subject
         (⟦<(A, B, W, K, C) as Ports>⟧.seen (setup.old, input.old, out.old, keeper.old, clock.old))
         (⟦<(A, B, W, K, C) as Ports>⟧.seen (setup.new, input.new, out.new, keeper.new, clock.new)) result }
 
     // Only an append that failed leaves something to be settled.
     ensures settled { result.status.0 ≢ 8 → K.unsettled keeper.new ≡ false }
-    ensures clock { (at : TheMoment) → AreWords words.now (Some at) → clock.new ≡ clock.old }
+    ensures clock { (at : TheMoment) → AreArguments arguments.now (Some at) → clock.new ≡ clock.old }
 {
     one_setup();
     one_bank();
-    match command_of(words) {
+    match command_of(arguments) {
         None => plain(2),
-        Some(Command::Answer(found)) => end_told(run(
+        Some(Command::Answer(found)) => report_of_end(run(
             alloc, keys, found.at, setup, input, out, keeper, clock,
         )),
-        Some(Command::Due) => end_told(do_due_once(alloc, keys, setup, out, keeper, clock)),
+        Some(Command::Due) => report_of_end(do_due_once(alloc, keys, setup, out, keeper, clock)),
         Some(Command::Mail) => {
-            end_told(send_letter(alloc, keys, words, setup, input, out, keeper, clock))
+            report_of_end(send_letter(alloc, keys, arguments, setup, input, out, keeper, clock))
         }
     }
 }
@@ -216,7 +216,7 @@ pub fn answer_told<A: Source, B: Source, W: Sink, K: Keeper, C: Clock>(
 pub fn answer_files<A: Source, B: Source, W: Sink, K: Keeper, C: Clock>(
     alloc: Global,
     keys: RandomState,
-    words: &[Text],
+    arguments: &[Text],
     setup: &mut A,
     input: &mut B,
     out: &mut W,
@@ -224,22 +224,22 @@ pub fn answer_files<A: Source, B: Source, W: Sink, K: Keeper, C: Clock>(
     clock: &mut C,
 ) -> Status
     requires settled { K.unsettled keeper.old ≡ false }
-    ensures usage { (result.0 ≡ 2) ↔ IsUsage words.now }
-    ensures unread { IsUsage words.now → (setup.new ≡ setup.old) × (input.new ≡ input.old) × (out.new ≡ out.old) × (keeper.new ≡ keeper.old) × (clock.new ≡ clock.old) }
+    ensures usage { (result.0 ≡ 2) ↔ IsUsage arguments.now }
+    ensures unread { IsUsage arguments.now → (setup.new ≡ setup.old) × (input.new ≡ input.old) × (out.new ≡ out.old) × (keeper.new ≡ keeper.old) × (clock.new ≡ clock.old) }
 
-    // The run is that of which the status is told.
-    ensures run { (at : Option TheMoment) → AreWords words.now at → (what : WhatIsTold) × (what.status ≡ result) × IsRun at
+    // The run is that of which the status is reported.
+    ensures run { (at : Option TheMoment) → AreArguments arguments.now at → (what : WhatIsReported) × (what.status ≡ result) × IsRun at
         (⟦<(A, B, W, K, C) as Ports>⟧.seen (setup.old, input.old, out.old, keeper.old, clock.old))
         (⟦<(A, B, W, K, C) as Ports>⟧.seen (setup.new, input.new, out.new, keeper.new, clock.new)) what }
-    ensures due { AreDueWords words.now → (input.new ≡ input.old) × ((what : WhatIsTold) × (what.status ≡ result) × IsDueCommand
+    ensures due { AreDueArguments arguments.now → (input.new ≡ input.old) × ((what : WhatIsReported) × (what.status ≡ result) × IsDueCommand
         (⟦<(A, B, W, K, C) as Ports>⟧.seen (setup.old, input.old, out.old, keeper.old, clock.old))
         (⟦<(A, B, W, K, C) as Ports>⟧.seen (setup.new, input.new, out.new, keeper.new, clock.new)) what) }
-    ensures mail { (name subject : List ℕ) → AreMailWords words.now name subject → (what : WhatIsTold) × (what.status ≡ result) × IsMailCommand name subject
+    ensures mail { (name subject : List ℕ) → AreMailArguments arguments.now name subject → (what : WhatIsReported) × (what.status ≡ result) × IsMailCommand name subject
         (⟦<(A, B, W, K, C) as Ports>⟧.seen (setup.old, input.old, out.old, keeper.old, clock.old))
         (⟦<(A, B, W, K, C) as Ports>⟧.seen (setup.new, input.new, out.new, keeper.new, clock.new)) what }
 
     ensures settled { result.0 ≢ 8 → K.unsettled keeper.new ≡ false }
-    ensures clock { (at : TheMoment) → AreWords words.now (Some at) → clock.new ≡ clock.old }
+    ensures clock { (at : TheMoment) → AreArguments arguments.now (Some at) → clock.new ≡ clock.old }
 {
-    answer_told(alloc, keys, words, setup, input, out, keeper, clock).status
+    answer_told(alloc, keys, arguments, setup, input, out, keeper, clock).status
 }

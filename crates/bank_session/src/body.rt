@@ -7,13 +7,13 @@ ghost use Rattle.bank_session.specs.Letters.{IsBodyOf, ReadsBody};
 ghost use Rattle.bank_session.specs.MailEnd.{StopsReading};
 
 use crate::stop::{LetterFault, Stop};
-use bank_frames::{Ahead, MOST_WHOLE, read_whole};
+use bank_frames::{Ahead, MAX_INPUT, read_whole};
 use ofx_ports::{Failed, Source};
 use ofx_types::{Text, TextFault};
 use std::alloc::Global;
 
 /// The most bytes of a body.
-const MOST_BODY: u32 = 10_000;
+const MAX_BODY: u32 = 10_000;
 
 /// The body that all bytes of the input are.
 pub fn read_body<B: Source>(alloc: Global, input: &mut B) -> Result<Text, Stop>
@@ -34,10 +34,10 @@ pub fn read_body<B: Source>(alloc: Global, input: &mut B) -> Result<Text, Stop>
 fn body_of(alloc: Global, input: &[u8]) -> Result<Text, Stop>
     ensures { ReadsBody input.now result }
 {
-    if input.len() > MOST_WHOLE {
+    if input.len() > MAX_INPUT {
         return Err(Stop::Letter(LetterFault::NoBody));
     }
-    match Text::new(alloc, input, MOST_BODY) {
+    match Text::new(alloc, input, MAX_BODY) {
         Ok(body) => {
             if body.as_bytes().is_empty() {
                 Err(Stop::Letter(LetterFault::NoBody))

@@ -25,10 +25,10 @@ pub fn do_due_once<A: Source, W: Sink, K: Keeper, C: Clock>(
     clock: &mut C,
 ) -> Result<(), Stop>
     requires { K.unsettled keeper.old ≡ false }
-    // Whatever stands of the input:
+    // Whatever is left of the input:
     ensures ends { (left : Option (List ℕ)) (faults : ℕ) → EndsSo DueEnds
-        (ports_view (A.left setup.old) (A.faults setup.old) left faults (W.held out.old) (W.faults out.old) (K.records keeper.old) (K.faults keeper.old) (C.told clock.old) (K.unsettled keeper.old))
-        (ports_view (A.left setup.new) (A.faults setup.new) left faults (W.held out.new) (W.faults out.new) (K.records keeper.new) (K.faults keeper.new) (C.told clock.new) (K.unsettled keeper.new)) result }
+        (ports_view (A.left setup.old) (A.faults setup.old) left faults (W.held out.old) (W.faults out.old) (K.records keeper.old) (K.faults keeper.old) (C.shown clock.old) (K.unsettled keeper.old))
+        (ports_view (A.left setup.new) (A.faults setup.new) left faults (W.held out.new) (W.faults out.new) (K.records keeper.new) (K.faults keeper.new) (C.shown clock.new) (K.unsettled keeper.new)) result }
     ensures settled { result ≢ Err Stop.KeeperFailed → K.unsettled keeper.new ≡ false }
     ensures later { K.faults keeper.old ≤ K.faults keeper.new }
 {
@@ -46,10 +46,10 @@ fn write_due<W: Sink, K: Keeper, C: Clock>(
     clock: &mut C,
 ) -> Result<(), Stop>
     requires { K.unsettled keeper.old ≡ false }
-    // Whatever stands of the input and of the source of the setup:
+    // Whatever is left of the input and of the source of the setup:
     ensures ends { (setup_left setup_left' left : Option (List ℕ)) (setup_faults setup_faults' faults : ℕ) → DueEnds desk.old.setup desk.old.state
-        (ports_view setup_left setup_faults left faults (W.held out.old) (W.faults out.old) (K.records keeper.old) (K.faults keeper.old) (C.told clock.old) (K.unsettled keeper.old))
-        (ports_view setup_left' setup_faults' left faults (W.held out.new) (W.faults out.new) (K.records keeper.new) (K.faults keeper.new) (C.told clock.new) (K.unsettled keeper.new)) result }
+        (ports_view setup_left setup_faults left faults (W.held out.old) (W.faults out.old) (K.records keeper.old) (K.faults keeper.old) (C.shown clock.old) (K.unsettled keeper.old))
+        (ports_view setup_left' setup_faults' left faults (W.held out.new) (W.faults out.new) (K.records keeper.new) (K.faults keeper.new) (C.shown clock.new) (K.unsettled keeper.new)) result }
     ensures settled { result ≢ Err Stop.KeeperFailed → K.unsettled keeper.new ≡ false }
     ensures unsettled { result ≡ Err Stop.KeeperFailed → K.unsettled keeper.new ≡ true }
     ensures later { K.faults keeper.old ≤ K.faults keeper.new }

@@ -5,8 +5,8 @@ ghost use Rattle.bank_session.specs.OneBank.{OneBank};
 ghost use Rattle.bank_session.specs.Answers.{IsPrefixKept, IsKeptWhereRefused};
 ghost use Rattle.bank_session.specs.BooksKept.{RunsReopen, StoppedRunsReopen, UnwrittenRunsReopen, LettersReopen, RunsKeepTheBooks};
 
+use bank_invariants::laws::due::{due_work_is_legal, due_work_is_one};
 use bank_replay::laws::{causes_open_nothing, one_cause, one_opening, reopened_books_are_right};
-use bank_rules::laws::due::{due_work_is_legal, due_work_is_one};
 use event_codec::laws::reopening_goes_on;
 use ofx_file::laws::{faults_spell_nothing, one_fault, one_file};
 
@@ -26,7 +26,7 @@ pub fn one_splitting()
 
 /// A file is refused at one place, and is neither an event then nor denied.
 pub fn one_refusal()
-    ensures place { OneRefusal }
+    ensures offset { OneRefusal }
     ensures unanswered { RefusedIsUnanswered }
     ensures undenied { RefusedIsUndenied }
 {
@@ -42,7 +42,7 @@ pub fn one_signon()
 }
 
 /// The framed reply is written where a file is an event, the framed newest tokens where it is a poll, the framed denial
-/// where its signon fails, and exactly where it is refused the line with its place. A record is kept of an event alone.
+/// where its signon fails, and exactly where it is refused the line with its offset. A record is kept of an event alone.
 pub fn exact_lines()
     ensures answered { WhereAnswered }
     ensures polled { WherePolled }

@@ -2,7 +2,7 @@
 
 ghost use Rattle.std.specs.Prelude.{◌≡◌, ◌≢◌, ℕ, true, false, List, [], ◌∷◌, Err, IfOk, IsErrOf};
 ghost use Rattle.ofx_ports.specs.Faults.{CountsFaults};
-ghost use Rattle.ofx_ports.specs.Told.{Stays, Grows};
+ghost use Rattle.ofx_ports.specs.Known.{Stays, Grows};
 ghost use Rattle.ofx_ports.specs.Kept.{MayGrow};
 ghost use Rattle.ofx_types.specs.Calendar.{IsMoment};
 ghost use Rattle.bank_model.specs.Rules.{IsLegal};

@@ -7,6 +7,7 @@
 
 mod addressee;
 mod answer;
+mod arguments;
 mod body;
 mod due;
 pub mod laws;
@@ -20,11 +21,10 @@ mod run;
 mod setup_source;
 mod stop;
 mod turn;
-mod words;
 
-pub use answer::{answer_files, answer_told, end_told};
+pub use answer::{answer_files, answer_told, report_of_end};
+pub use arguments::{AnswerArguments, Command, command_of};
 pub use opening::opening_stop;
 pub use ports::Ports;
 pub use setup_source::read_setup;
 pub use stop::{LetterFault, RecordsFault, Stop};
-pub use words::{AnswerWords, Command, command_of};

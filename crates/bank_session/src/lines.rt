@@ -1,9 +1,9 @@
-//! What is written for a frame: the reply to a file in its frame, the place of a file's fault, or the number of events of due
+//! What is written for a frame: the reply to a file in its frame, the offset of a file's fault, or the number of events of due
 //! work.
 
 ghost use Rattle.std.specs.Prelude.{◌≡◌, ◌≢◌, ℕ, true, false, List, length, Err, IfOk, OnErr, IsErrOf};
 ghost use Rattle.ofx_ports.specs.Faults.{CountsFaults};
-ghost use Rattle.ofx_ports.specs.Told.{Stays, Grows};
+ghost use Rattle.ofx_ports.specs.Known.{Stays, Grows};
 ghost use Rattle.ofx_types.specs.Calendar.{IsMoment};
 ghost use Rattle.bank_frames.specs.Frames as frames;
 ghost use Rattle.bank_frames.specs.Frames.{IsLength};
@@ -54,7 +54,7 @@ pub fn file_line<K: Keeper>(
 {
     match desk.answer(alloc, keeper, at, bytes, FileFrame)? {
         Answered::Sent(line) => Ok(line),
-        Answered::Bad(place) => Ok(bad_file_line(alloc, place)?),
+        Answered::Bad(offset) => Ok(bad_file_line(alloc, offset)?),
     }
 }
 

@@ -3,7 +3,7 @@
 ghost use Rattle.std.specs.Prelude.{◌≡◌, ◌≢◌, ◌≤◌, ℕ, true, false, List, Option, Some, Err};
 ghost use Rattle.bank_model.specs.SetupLookups.{user_of};
 ghost use Rattle.bank_model.specs.Sound.{IsTextWithin};
-ghost use Rattle.bank_session.specs.Words.{AreMailWords, AskForLetter};
+ghost use Rattle.bank_session.specs.Arguments.{AreMailArguments, AskForLetter};
 ghost use Rattle.bank_session.specs.PortsView.{ports_view};
 ghost use Rattle.bank_session.specs.Letters.{CanWrite};
 ghost use Rattle.bank_session.specs.MailEnd.{LetterEnds, MailEnds};
@@ -22,27 +22,27 @@ use ofx_types::{Text, UserId};
 use std::alloc::Global;
 use std::hash::RandomState;
 
-/// Reads the setup, opens the bank from its records, reads the body, writes the letter that the words ask for, and tells the
+/// Reads the setup, opens the bank from its records, reads the body, writes the letter that the arguments ask for, and tells the
 /// number of its entry.
 pub fn send_letter<A: Source, B: Source, W: Sink, K: Keeper, C: Clock>(
     alloc: Global,
     keys: RandomState,
-    words: &[Text],
+    arguments: &[Text],
     setup: &mut A,
     input: &mut B,
     out: &mut W,
     keeper: &mut K,
     clock: &mut C,
 ) -> Result<(), Stop>
-    requires words { AskForLetter words.now }
+    requires arguments { AskForLetter arguments.now }
     requires settled { K.unsettled keeper.old ≡ false }
-    ensures ends { (name subject : List ℕ) → AreMailWords words.now name subject → EndsSo (MailEnds name subject)
+    ensures ends { (name subject : List ℕ) → AreMailArguments arguments.now name subject → EndsSo (MailEnds name subject)
         (⟦<(A, B, W, K, C) as Ports>⟧.seen (setup.old, input.old, out.old, keeper.old, clock.old))
         (⟦<(A, B, W, K, C) as Ports>⟧.seen (setup.new, input.new, out.new, keeper.new, clock.new)) result }
     ensures settled { result ≢ Err Stop.KeeperFailed → K.unsettled keeper.new ≡ false }
     ensures later { K.faults keeper.old ≤ K.faults keeper.new }
 {
-    match words {
+    match arguments {
         [_, _, _, name, subject] => {
             send(alloc, keys, name, subject, setup, input, out, keeper, clock)
         }
@@ -88,10 +88,10 @@ fn send_at<B: Source, W: Sink, K: Keeper, C: Clock>(
 ) -> Result<(), Stop>
     requires subject { IsTextWithin 64 subject.now }
     requires settled { K.unsettled keeper.old ≡ false }
-    // Whatever stands of the source of the setup:
+    // Whatever is left of the source of the setup:
     ensures ends { (setup_left setup_left' : Option (List ℕ)) (setup_faults setup_faults' : ℕ) → MailEnds name.now subject.now desk.old.setup desk.old.state
-        (ports_view setup_left setup_faults (B.left input.old) (B.faults input.old) (W.held out.old) (W.faults out.old) (K.records keeper.old) (K.faults keeper.old) (C.told clock.old) (K.unsettled keeper.old))
-        (ports_view setup_left' setup_faults' (B.left input.new) (B.faults input.new) (W.held out.new) (W.faults out.new) (K.records keeper.new) (K.faults keeper.new) (C.told clock.new) (K.unsettled keeper.new)) result }
+        (ports_view setup_left setup_faults (B.left input.old) (B.faults input.old) (W.held out.old) (W.faults out.old) (K.records keeper.old) (K.faults keeper.old) (C.shown clock.old) (K.unsettled keeper.old))
+        (ports_view setup_left' setup_faults' (B.left input.new) (B.faults input.new) (W.held out.new) (W.faults out.new) (K.records keeper.new) (K.faults keeper.new) (C.shown clock.new) (K.unsettled keeper.new)) result }
     ensures settled { result ≢ Err Stop.KeeperFailed → K.unsettled keeper.new ≡ false }
     ensures unsettled { result ≡ Err Stop.KeeperFailed → K.unsettled keeper.new ≡ true }
     ensures later { K.faults keeper.old ≤ K.faults keeper.new }
@@ -114,10 +114,10 @@ fn write_letter<W: Sink, K: Keeper, C: Clock>(
     requires subject { IsTextWithin 64 subject.now }
     requires body { IsTextWithin 10000 body }
     requires settled { K.unsettled keeper.old ≡ false }
-    // Whatever stands of the input and of the source of the setup:
+    // Whatever is left of the input and of the source of the setup:
     ensures ends { (setup_left setup_left' left left' : Option (List ℕ)) (setup_faults setup_faults' faults faults' : ℕ) → LetterEnds desk.old name.now subject.now body
-        (ports_view setup_left setup_faults left faults (W.held out.old) (W.faults out.old) (K.records keeper.old) (K.faults keeper.old) (C.told clock.old) (K.unsettled keeper.old))
-        (ports_view setup_left' setup_faults' left' faults' (W.held out.new) (W.faults out.new) (K.records keeper.new) (K.faults keeper.new) (C.told clock.new) (K.unsettled keeper.new)) result }
+        (ports_view setup_left setup_faults left faults (W.held out.old) (W.faults out.old) (K.records keeper.old) (K.faults keeper.old) (C.shown clock.old) (K.unsettled keeper.old))
+        (ports_view setup_left' setup_faults' left' faults' (W.held out.new) (W.faults out.new) (K.records keeper.new) (K.faults keeper.new) (C.shown clock.new) (K.unsettled keeper.new)) result }
     ensures settled { result ≢ Err Stop.KeeperFailed → K.unsettled keeper.new ≡ false }
     ensures unsettled { result ≡ Err Stop.KeeperFailed → K.unsettled keeper.new ≡ true }
     ensures later { K.faults keeper.old ≤ K.faults keeper.new }
@@ -142,8 +142,8 @@ fn write_to<W: Sink, K: Keeper, C: Clock>(
     requires to { CanWrite desk.old to subject.now body }
     requires settled { K.unsettled keeper.old ≡ false }
     ensures ends { (setup_left setup_left' left left' : Option (List ℕ)) (setup_faults setup_faults' faults faults' : ℕ) (name : List ℕ) → user_of desk.old.setup name ≡ Some to.0 → LetterEnds desk.old name subject.now body
-        (ports_view setup_left setup_faults left faults (W.held out.old) (W.faults out.old) (K.records keeper.old) (K.faults keeper.old) (C.told clock.old) (K.unsettled keeper.old))
-        (ports_view setup_left' setup_faults' left' faults' (W.held out.new) (W.faults out.new) (K.records keeper.new) (K.faults keeper.new) (C.told clock.new) (K.unsettled keeper.new)) result }
+        (ports_view setup_left setup_faults left faults (W.held out.old) (W.faults out.old) (K.records keeper.old) (K.faults keeper.old) (C.shown clock.old) (K.unsettled keeper.old))
+        (ports_view setup_left' setup_faults' left' faults' (W.held out.new) (W.faults out.new) (K.records keeper.new) (K.faults keeper.new) (C.shown clock.new) (K.unsettled keeper.new)) result }
     ensures settled { result ≢ Err Stop.KeeperFailed → K.unsettled keeper.new ≡ false }
     ensures unsettled { result ≡ Err Stop.KeeperFailed → K.unsettled keeper.new ≡ true }
     ensures later { K.faults keeper.old ≤ K.faults keeper.new }

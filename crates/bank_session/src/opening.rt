@@ -1,9 +1,9 @@
 //! The bank opens from its records, and why a run stops whose bank doesn't.
 
 ghost use Rattle.std.specs.Prelude.{◌≡◌, ◌≤◌, false, IfOk, IfErr};
-ghost use Rattle.ofx_ports.specs.Told.{Stays};
+ghost use Rattle.ofx_ports.specs.Known.{Stays};
 ghost use Rattle.bank_model.specs.SetupForm.{IsWithinLimits};
-ghost use Rattle.bank_replay.specs.Opening.{Stands};
+ghost use Rattle.bank_replay.specs.Opening.{RecordsGive};
 ghost use Rattle.bank_session.specs.RecordsRead as records;
 ghost use Rattle.bank_session.specs.RecordsRead.{StopsOpening};
 
@@ -37,7 +37,7 @@ pub fn open_desk<K: Keeper>(
     requires within { IsWithinLimits setup }
     requires settled { K.unsettled keeper.old ≡ false }
     ensures setup { IfOk result (λ desk. desk.setup ≡ setup) }
-    ensures stands { IfOk result (λ desk. Stands setup (K.records keeper.old) desk.state) }
+    ensures holds { IfOk result (λ desk. RecordsGive setup (K.records keeper.old) desk.state) }
     ensures stops { IfErr result (StopsOpening setup (K.records keeper.old) (K.faults keeper.old) (K.faults keeper.new)) }
     ensures list { Stays (K.records keeper.old) (K.records keeper.new) }
     ensures settled { K.unsettled keeper.new ≡ false }

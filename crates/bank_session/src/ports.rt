@@ -20,7 +20,7 @@ impl<A: Source, B: Source, W: Sink, K: Keeper, C: Clock> Ports for (A, B, W, K, 
       out_faults = W.faults p.2;
       records = K.records p.3;
       keeper_faults = K.faults p.3;
-      shown = C.told p.4;
+      shown = C.shown p.4;
       unsettled = K.unsettled p.3;
     } };
 }

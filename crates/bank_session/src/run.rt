@@ -2,13 +2,13 @@
 
 ghost use Rattle.std.specs.Prelude.{◌≡◌, ◌≢◌, ◌≤◌, ℕ, true, false, List, Option, Err, IsSome};
 ghost use Rattle.std.specs.Io.KnownBytes.{prepend_known};
-ghost use Rattle.bank_session.specs.WordsRead.{IsLawful};
+ghost use Rattle.bank_session.specs.ArgumentsRead.{IsLawful};
 ghost use Rattle.bank_session.specs.PortsView.{ports_view};
 ghost use Rattle.bank_session.specs.RunEnd.{RunEnds};
 ghost use Rattle.bank_session.specs.AfterLastFrame.{AfterLastFrame};
 
 use crate::stop::Stop;
-use crate::turn::{Step, take_turn};
+use crate::turn::{TurnEnd, run_turn};
 use bank_desk::Desk;
 use bank_frames::{Ahead, Next, next_frame};
 use ofx_ports::{Clock, Failed, Keeper, Sink, Source};
@@ -16,7 +16,7 @@ use ofx_types::Moment;
 use std::alloc::Global;
 
 /// The most frames that a run answers.
-const MOST_FRAMES: u32 = 1_000_000;
+const MAX_FRAMES: u32 = 1_000_000;
 
 /// Answers the frames of the input in order, each from the state that the one before left and at its moment, and keeps a
 /// record of each event.
@@ -31,10 +31,10 @@ pub fn answer_frames<B: Source, W: Sink, K: Keeper, C: Clock>(
 ) -> Result<(), Stop>
     requires moment { IsLawful at }
     requires settled { K.unsettled keeper.old ≡ false }
-    // Whatever stands of the source of the setup:
+    // Whatever is left of the source of the setup:
     ensures ends { (left left' : Option (List ℕ)) (faults faults' : ℕ) → RunEnds at desk.old.setup desk.old.state
-        (ports_view left faults (B.left input.old) (B.faults input.old) (W.held out.old) (W.faults out.old) (K.records keeper.old) (K.faults keeper.old) (C.told clock.old) (K.unsettled keeper.old))
-        (ports_view left' faults' (B.left input.new) (B.faults input.new) (W.held out.new) (W.faults out.new) (K.records keeper.new) (K.faults keeper.new) (C.told clock.new) (K.unsettled keeper.new)) result }
+        (ports_view left faults (B.left input.old) (B.faults input.old) (W.held out.old) (W.faults out.old) (K.records keeper.old) (K.faults keeper.old) (C.shown clock.old) (K.unsettled keeper.old))
+        (ports_view left' faults' (B.left input.new) (B.faults input.new) (W.held out.new) (W.faults out.new) (K.records keeper.new) (K.faults keeper.new) (C.shown clock.new) (K.unsettled keeper.new)) result }
     ensures reads { B.faults input.old ≤ B.faults input.new }
     ensures writes { W.faults out.old ≤ W.faults out.new }
     ensures keeps { K.faults keeper.old ≤ K.faults keeper.new }
@@ -44,28 +44,28 @@ pub fn answer_frames<B: Source, W: Sink, K: Keeper, C: Clock>(
 {
     let mut ahead = Ahead::new(alloc)?;
     let mut turns = 0;
-    let mut place = 0;
-    while turns < MOST_FRAMES {
-        match take_turn(alloc, desk, at, clock, &mut ahead, input, out, keeper)? {
-            Step::Answered(size) => place += size as u64,
-            Step::AtEnd => return Ok(()),
-            Step::NoFrame => return Err(Stop::Frame(place)),
+    let mut offset = 0;
+    while turns < MAX_FRAMES {
+        match run_turn(alloc, desk, at, clock, &mut ahead, input, out, keeper)? {
+            TurnEnd::Answered(size) => offset += size as u64,
+            TurnEnd::AtEnd => return Ok(()),
+            TurnEnd::NoFrame => return Err(Stop::Frame(offset)),
         }
         turns += 1;
     }
-    end_of_input(place, &mut ahead, input)
+    end_of_input(offset, &mut ahead, input)
 }
 
 /// The end of an input of which no more frames are answered, after this many bytes.
-fn end_of_input<B: Source>(place: u64, ahead: &mut Ahead, input: &mut B) -> Result<(), Stop>
-    ensures end { AfterLastFrame (prepend_known ahead.old (B.left input.old)) place ahead.new (B.left input.new) (B.faults input.old) (B.faults input.new) result }
+fn end_of_input<B: Source>(offset: u64, ahead: &mut Ahead, input: &mut B) -> Result<(), Stop>
+    ensures end { AfterLastFrame (prepend_known ahead.old (B.left input.old)) offset ahead.new (B.left input.new) (B.faults input.old) (B.faults input.new) result }
     ensures reads { B.faults input.old ≤ B.faults input.new }
     ensures kept { result ≢ Err Stop.KeeperFailed }
 {
     match next_frame(input, ahead) {
         Ok(Next::End) => Ok(()),
-        Ok(Next::Frame(_)) => Err(Stop::Frame(place)),
-        Ok(Next::NoFrame) => Err(Stop::Frame(place)),
+        Ok(Next::Frame(_)) => Err(Stop::Frame(offset)),
+        Ok(Next::NoFrame) => Err(Stop::Frame(offset)),
         Err(Failed) => Err(Stop::ReadFailed),
     }
 }

@@ -7,7 +7,7 @@ use ofx_types::OutOfMemory;
 /// Why a run ended before it had answered all of its input.
 #[derive(Clone, Copy, Debug, PartialEq, Eq)]
 pub enum Stop {
-    /// The words have no form.
+    /// The arguments have no form.
     Usage,
     /// The setup has no form or is past a limit, at the line of this number, from 1.
     Setup(u64),

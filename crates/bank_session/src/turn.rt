@@ -6,7 +6,7 @@ ghost use Rattle.ofx_ports.specs.Faults.{CountsFaults};
 ghost use Rattle.ofx_types.specs.Calendar.{IsMoment};
 ghost use Rattle.ofx_types.specs.declared.number.Moment.{Moment};
 ghost use Rattle.bank_frames.specs.NextFrame.{HoldsFrame, content_in, size_of};
-ghost use Rattle.bank_session.specs.WordsRead.{IsLawful};
+ghost use Rattle.bank_session.specs.ArgumentsRead.{IsLawful};
 ghost use Rattle.bank_session.specs.Turns.{turn_view, AnswersAndKeeps, HasNoLine, FrameResult};
 ghost use Rattle.bank_session.specs.TurnResult.{TurnResult};
 
@@ -60,7 +60,7 @@ fn answer_frame<W: Sink, K: Keeper>(
     requires moment { IsMoment at.0 }
     requires frame { HoldsFrame ahead.old frame }
     requires settled { K.unsettled keeper.old ≡ false }
-    // Whatever is to come of the input, of which nothing is lost, and whatever stands of the reads and of the clock:
+    // Whatever is to come of the input, of which nothing is lost, and whatever is left of the reads and of the clock:
     ensures turn { (coming left : Option (List ℕ)) (reads reads' : ℕ) (shown shown' : Option (List Moment)) → Keeps coming (prepend_known ahead.old left)
         → FrameResult at (size_of frame) desk.old desk.new
         (turn_view coming reads (W.held out.old) (W.faults out.old) (K.records keeper.old) (K.faults keeper.old) shown)
@@ -82,7 +82,7 @@ fn answer_frame<W: Sink, K: Keeper>(
 
 /// What a turn came to.
 #[derive(Clone, Copy, Debug, PartialEq, Eq)]
-pub enum Step {
+pub enum TurnEnd {
     /// A frame of this many bytes was answered.
     Answered(usize),
     /// The input is at its end.
@@ -92,7 +92,7 @@ pub enum Step {
 }
 
 /// Takes the next turn. The frame's moment is taken once the whole frame is there, and before it is judged.
-pub fn take_turn<B: Source, W: Sink, K: Keeper, C: Clock>(
+pub fn run_turn<B: Source, W: Sink, K: Keeper, C: Clock>(
     alloc: Global,
     desk: &mut Desk,
     at: Option<Moment>,
@@ -101,12 +101,12 @@ pub fn take_turn<B: Source, W: Sink, K: Keeper, C: Clock>(
     input: &mut B,
     out: &mut W,
     keeper: &mut K,
-) -> Result<Step, Stop>
+) -> Result<TurnEnd, Stop>
     requires moment { IsLawful at }
     requires settled { K.unsettled keeper.old ≡ false }
     ensures turn { TurnResult at desk.old desk.new
-        (turn_view (prepend_known ahead.old (B.left input.old)) (B.faults input.old) (W.held out.old) (W.faults out.old) (K.records keeper.old) (K.faults keeper.old) (C.told clock.old))
-        (turn_view (prepend_known ahead.new (B.left input.new)) (B.faults input.new) (W.held out.new) (W.faults out.new) (K.records keeper.new) (K.faults keeper.new) (C.told clock.new))
+        (turn_view (prepend_known ahead.old (B.left input.old)) (B.faults input.old) (W.held out.old) (W.faults out.old) (K.records keeper.old) (K.faults keeper.old) (C.shown clock.old))
+        (turn_view (prepend_known ahead.new (B.left input.new)) (B.faults input.new) (W.held out.new) (W.faults out.new) (K.records keeper.new) (K.faults keeper.new) (C.shown clock.new))
         ahead.new result }
     ensures reads { B.faults input.old ≤ B.faults input.new }
     ensures writes { W.faults out.old ≤ W.faults out.new }
@@ -117,12 +117,12 @@ pub fn take_turn<B: Source, W: Sink, K: Keeper, C: Clock>(
 {
     match next_frame(input, ahead) {
         Err(Failed) => Err(Stop::ReadFailed),
-        Ok(Next::NoFrame) => Ok(Step::NoFrame),
-        Ok(Next::End) => Ok(Step::AtEnd),
+        Ok(Next::NoFrame) => Ok(TurnEnd::NoFrame),
+        Ok(Next::End) => Ok(TurnEnd::AtEnd),
         Ok(Next::Frame(frame)) => {
             let moment = next_moment(at, clock);
             answer_frame(alloc, desk, moment, ahead, frame, out, keeper)?;
-            Ok(Step::Answered(frame.size()))
+            Ok(TurnEnd::Answered(frame.size()))
         }
     }
 }

@@ -12,13 +12,13 @@ use Rattle.bank_model.specs.declared.log.LogItem.{LogItem}
 use Rattle.bank_model.specs.Polls.{poll_reply}
 use Rattle.bank_model.specs.Rules.{named}
 use Rattle.bank_accounts.specs.AccountView.{AccountView}
-use Rattle.bank_accounts.specs.AtHome.{AreLent}
+use Rattle.bank_accounts.specs.Pool.{AreCheckedOut}
 use Rattle.bank_accounts.specs.HeldAccounts.{AreHeld, HaveSameNumbers}
 use Rattle.bank_ledger.specs.Balanced.{AreBalanced}
 use Rattle.bank_model.specs.SetupForm.{IsWithinLimits}
 use Rattle.bank_solo.specs.Solo.{accounts_in}
 use Rattle.bank_solo.specs.Unnamed.{UnnamedStay}
-use Rattle.bank_engine.proofs.LentAccounts.{lent_settled}
+use Rattle.bank_engine.proofs.CheckedOutAccounts.{lent_settled}
 use Rattle.bank_model.specs.declared.submit.SubmitFault.{SubmitFault}
 use Rattle.bank_model.specs.declared.submit.SubmitFault.TheVariants.{Keeper, OutOfMemory}
 use Rattle.bank_engine.specs.Calls.{Answers, FailsToCommit, FailsToSettle}
@@ -90,8 +90,8 @@ settled_setup (Ok done) old new settles fails = settles.1.setup
 settled_setup (Err (Keeper count)) old new settles fails = fails.fails.setup
 settled_setup (Err OutOfMemory) old new settles fails = absurd fails
 
-pub settled_lent : {A : Type 0} (result : Result A SubmitFault) (old new : JournalView) (home : List (Option AccountView)) (held other : List AccountView) → UnnamedStay → IsWithinLimits old.setup → IfSome old.pending (λ (p : PendingView). AreHeld held (named old.setup old.state p.event)) → HaveSameNumbers other held → AreBalanced new.setup new.state other → OnOk result (IsSettled old new) → IfErr result (FailsToSettle old new) → AreLent (accounts_in old.setup old.state) home held → AreLent (accounts_in new.setup new.state) home other
-settled_lent (Ok done) old new home held other unnamed within names same balanced settles fails lent =
-    lent_settled (Ok settles.0) old new home held other unnamed within names same balanced settles.1 tt lent
-settled_lent (Err fault) old new home held other unnamed within names same balanced settles fails lent =
-    lent_settled (Err fault) old new home held other unnamed within names same balanced tt fails lent
+pub settled_lent : {A : Type 0} (result : Result A SubmitFault) (old new : JournalView) (pool : List (Option AccountView)) (held other : List AccountView) → UnnamedStay → IsWithinLimits old.setup → IfSome old.pending (λ (p : PendingView). AreHeld held (named old.setup old.state p.event)) → HaveSameNumbers other held → AreBalanced new.setup new.state other → OnOk result (IsSettled old new) → IfErr result (FailsToSettle old new) → AreCheckedOut (accounts_in old.setup old.state) pool held → AreCheckedOut (accounts_in new.setup new.state) pool other
+settled_lent (Ok done) old new pool held other unnamed within names same balanced settles fails checked_out =
+    lent_settled (Ok settles.0) old new pool held other unnamed within names same balanced settles.1 tt checked_out
+settled_lent (Err fault) old new pool held other unnamed within names same balanced settles fails checked_out =
+    lent_settled (Err fault) old new pool held other unnamed within names same balanced tt fails checked_out

@@ -1,4 +1,4 @@
-//! A bank that many callers share: its teller behind a lock.
+//! A bank that many callers share: its locked bank behind a lock.
 
 ghost use Rattle.std.specs.Prelude.{◌≡◌, ◌<◌, true, false, length, IfOk};
 ghost use Rattle.ofx_types.specs.Calendar.{IsMoment};
@@ -9,10 +9,10 @@ ghost use Rattle.bank_model.specs.SetupForm.{IsWithinLimits};
 ghost use Rattle.bank_model.specs.Sound.{IsSound};
 
 use crate::advance::Advance;
+use crate::locked_bank::LockedBank;
 use crate::name::BankName;
 use crate::opened::Opened;
 use crate::pass::Pass;
-use crate::teller::Teller;
 use bank_model::{Printer, Setup, SubmitFault};
 use ofx_ports::{Gate, Keeper};
 use ofx_types::{Moment, OutOfMemory, RequestFile, UserId};
@@ -22,11 +22,11 @@ use std::sync::{Mutex, Wait};
 /// The call of a gate before due work is looked for.
 const ADVANCE: u64 = 1 << 32;
 
-/// The bank that `N` names. Its calls take turns at its teller, and each is what the teller's call of that name is.
+/// The bank that `N` names. Its calls take turns at its locked bank, and each is what the teller's call of that name is.
 #[derive(Drop)]
 pub struct Bank<N: BankName, K: Keeper, P: Printer> {
     setup: Setup,
-    teller: Mutex<Teller<N, K, P>>,
+    locked: Mutex<LockedBank<N, K, P>>,
 }
 
 impl<N: BankName, K: Keeper, P: Printer> Model for Bank<N, K, P> {
@@ -48,10 +48,10 @@ impl<N: BankName, K: Keeper, P: Printer> Bank<N, K, P> {
         requires opening { opened.state ≡ N.opening }
         requires first { opened.opened ≡ N.first }
     {
-        let (setup, teller) = opened.into_teller();
+        let (setup, locked) = opened.into_locked();
         let bank = Bank {
             setup,
-            teller: Mutex::new(teller),
+            locked: Mutex::new(locked),
         };
         (bank, Pass::new())
     }
@@ -88,7 +88,7 @@ impl<N: BankName, K: Keeper, P: Printer> Bank<N, K, P> {
         requires event { polls.is_poll file.now ≡ false }
     {
         gate.pass(u64::from(user.0));
-        self.teller.lock(rt).submit(user, file, at)
+        self.locked.lock(rt).submit(user, file, at)
     }
 
     /// Makes what is due first at a moment happen. The gate is passed with 2^32 before the lock is taken.
@@ -105,7 +105,7 @@ impl<N: BankName, K: Keeper, P: Printer> Bank<N, K, P> {
         requires { IsMoment at.0 }
     {
         gate.pass(ADVANCE);
-        self.teller.lock(rt).advance(at)
+        self.locked.lock(rt).advance(at)
     }
 
     /// Answers a poll file of a user, with the newest tokens of some state.
@@ -122,10 +122,10 @@ impl<N: BankName, K: Keeper, P: Printer> Bank<N, K, P> {
         requires poll { polls.is_poll file.now ≡ true }
         ensures { IfOk result (λ reply. (S : State) × (reply.items ≡ reply_text (polls.poll_reply N.setup S user at file.now))) }
     {
-        let lock = self.teller.lock(rt);
-        let teller = &*lock;
+        let lock = self.locked.lock(rt);
+        let locked = &*lock;
         // For the proof alone: its contract says whose setup it is.
-        let _setup = teller.setup();
-        teller.poll(user, file, at)
+        let _setup = locked.setup();
+        locked.poll(user, file, at)
     }
 }

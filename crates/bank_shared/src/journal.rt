@@ -3,14 +3,14 @@
 ghost use Rattle.std.specs.Prelude.{◌≡◌, false, [], None, All, OnOk, OnErr, IfOk, IfErr};
 ghost use Rattle.std.specs.Option.{IfSome, IsSomeAnd, option_map, option_copied};
 ghost use Rattle.ofx_types.specs.Calendar.{IsMoment};
-ghost use Rattle.ofx_ports.specs.Told.{Stays};
+ghost use Rattle.ofx_ports.specs.Known.{Stays};
 ghost use Rattle.bank_model.specs.LegalLog.{IsWholeLog, ends};
 ghost use Rattle.bank_model.specs.Log.{endings, entries_in};
 ghost use Rattle.bank_model.specs.Rules.{IsLegal, named};
 ghost use Rattle.bank_model.specs.SetupForm.{IsWithinLimits};
 ghost use Rattle.bank_accounts.specs.HeldAccounts.{AreHeld, HaveSameNumbers};
 ghost use Rattle.bank_ledger.specs.Balanced.{AreBalanced};
-ghost use Rattle.bank_replay.specs.Opening.{Stands};
+ghost use Rattle.bank_replay.specs.Opening.{RecordsGive};
 ghost use Rattle.bank_engine.specs.Kept.{AreKept};
 ghost use Rattle.bank_engine.specs.Truth.{IsUpTo};
 ghost use Rattle.bank_engine.specs.Calls.{Answers, FailsToCommit, FailsToSettle};
@@ -30,7 +30,7 @@ use std::marker::{Model, PhantomData};
 ///
 /// Its log is legal from the state in which the bank opened, without a cut group, and its book stands for the state that the log
 /// ends in. Where the keeper told its records when the bank opened, it has these, then those of the events that the log answered and
-/// adopted; while an append that failed isn't settled, its record may stand besides.
+/// adopted; while an append that failed isn't settled, its record may be stored besides.
 pub struct Journal<N: BankName, K: Keeper, P: Printer> {
     alloc: Global,
     keeper: K,
@@ -65,7 +65,7 @@ impl<N: BankName, K: Keeper, P: Printer> Journal<N, K, P> {
     pub(crate) fn new(alloc: Global, keeper: K, book: Book<P>) -> Journal<N, K, P>
         requires setup { book.setup ≡ N.setup }
         requires state { book.state ≡ N.opening }
-        requires stands { Stands N.setup N.first N.opening }
+        requires holds { RecordsGive N.setup N.first N.opening }
         requires kept { Stays N.first (K.records keeper) }
         requires settled { K.unsettled keeper ≡ false }
         ensures setup { result.setup ≡ N.setup }
@@ -94,7 +94,7 @@ impl<N: BankName, K: Keeper, P: Printer> Journal<N, K, P> {
     }
 
     /// What is true of the log whenever the lock is free. It does nothing: proofs call it for what it says.
-    pub fn log_stands(&self)
+    pub fn log_holds(&self)
         ensures legal { IsWholeLog N.setup N.opening self.now.log }
         ensures ends { self.now.state ≡ ends N.setup N.opening self.now.log }
         ensures entries { self.now.state.entries ≡ entries_in N.opening self.now.log }
@@ -105,7 +105,7 @@ impl<N: BankName, K: Keeper, P: Printer> Journal<N, K, P> {
         let _ = &self.log;
     }
 
-    /// The event whose append failed, until it is settled whether its record stands. Takes no memory.
+    /// The event whose append failed, until it is settled whether its record is stored. Takes no memory.
     pub fn pending(&self) -> Option<&Event>
         ensures { option_copied result ≡ option_map (λ pending. pending.event) self.now.pending }
     {

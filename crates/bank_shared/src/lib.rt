@@ -1,24 +1,24 @@
 //! A bank that many callers share: its journal, and all of its accounts behind one lock.
 //!
 //! The `Journal` has the book and the keeper of the records, and its contracts the log of all that its callers were answered. It
-//! commits an event with its record, and settles an append that failed before the next event is looked at. The `Teller` lends it
-//! the accounts that an event names. `Bank` puts the teller behind a lock: each of its calls is one of the teller's.
+//! commits an event with its record, and settles an append that failed before the next event is looked at. The `LockedBank` lends it
+//! the accounts that an event names. `Bank` puts the locked bank behind a lock: each of its calls is one of the teller's.
 #![tactic(auto)]
 
 mod advance;
 mod bank;
+mod checkout;
 mod journal;
-mod lending;
+mod locked_bank;
 mod name;
 mod opened;
 mod pass;
-mod teller;
 
 pub use advance::Advance;
 pub use bank::Bank;
 pub use bank_model::SubmitFault;
 pub use journal::Journal;
+pub use locked_bank::LockedBank;
 pub use name::BankName;
 pub use opened::Opened;
 pub use pass::Pass;
-pub use teller::Teller;

@@ -2,19 +2,19 @@
 
 ghost use Rattle.std.specs.Prelude.{◌≡◌, ℕ, ◌≤◌, ◌⊎◌, [], false, pos, ◌≤ℤ◌, All, None, IsSome, IsSomeAnd, IfOk, IfErr, IsErrAnd, MatchResult};
 ghost use Rattle.ofx_ports.specs.Faults.{CountsFaults};
-ghost use Rattle.ofx_ports.specs.Told.{Stays};
+ghost use Rattle.ofx_ports.specs.Known.{Stays};
 ghost use Rattle.bank_model.specs.declared.event.State.{State};
 ghost use Rattle.bank_model.specs.Rules.{opening_state};
 ghost use Rattle.bank_model.specs.SetupForm.{IsWithinLimits};
 ghost use Rattle.event_codec.specs.Records.{Reopens};
 ghost use Rattle.bank_solo.specs.Solo.{AreAccountsIn, accounts_in};
-ghost use Rattle.bank_replay.specs.Opening.{Stands, HasNoForm, IsNotLegal, HasCause};
+ghost use Rattle.bank_replay.specs.Opening.{RecordsGive, HasNoForm, IsNotLegal, HasCause};
 ghost use Rattle.bank_replay.specs.Replay.{IsOfTheOutside};
 
 use crate::journal::Journal;
+use crate::locked_bank::LockedBank;
 use crate::name::BankName;
-use crate::teller::Teller;
-use bank_accounts::{Account, Home};
+use bank_accounts::{Account, AccountPool};
 use bank_core::Book;
 use bank_model::{Printer, Setup};
 use bank_replay::{OpenFault, reopen};
@@ -27,7 +27,7 @@ use std::snapshot::Snapshot;
 
 /// A bank that has opened from its records.
 ///
-/// It has its accounts twice, at home for a bank of many callers and in a list for one caller, so that neither takes memory when
+/// It has its accounts twice, in the pool for a bank of many callers and in a list for one caller, so that neither takes memory when
 /// it begins: one of both is used.
 #[derive(Drop)]
 pub struct Opened<K: Keeper, P: Printer> {
@@ -38,15 +38,15 @@ pub struct Opened<K: Keeper, P: Printer> {
     keeper: K,
     book: Book<P>,
     accounts: Vec<Account>,
-    home: Home,
+    pool: AccountPool,
 }
 
 impl<K: Keeper, P: Printer> Model for Opened<K, P> {
     ghost use Rattle.std.specs.Prelude.{◌≡◌, false};
     ghost use Rattle.bank_model.specs.SetupForm.{IsWithinLimits};
     ghost use Rattle.bank_solo.specs.Solo.{AreAccountsIn, accounts_in};
-    ghost use Rattle.ofx_ports.specs.Told.{Stays};
-    ghost use Rattle.bank_replay.specs.Opening.{Stands};
+    ghost use Rattle.ofx_ports.specs.Known.{Stays};
+    ghost use Rattle.bank_replay.specs.Opening.{RecordsGive};
     ghost use Rattle.bank_shared.specs.OpenedView.{OpenedView};
 
     ghost Value = { OpenedView };
@@ -60,8 +60,8 @@ impl<K: Keeper, P: Printer> Model for Opened<K, P> {
     } };
 
     ghost invariant = { λ o. (o.book.setup ≡ o.setup) × IsWithinLimits o.setup × (K.unsettled o.keeper ≡ false)
-        × Stands o.setup (K.records o.opened.value) o.book.state × Stays (K.records o.opened.value) (K.records o.keeper) × AreAccountsIn o.setup o.book.state o.accounts.items
-        × (o.home ≡ accounts_in o.setup o.book.state) };
+        × RecordsGive o.setup (K.records o.opened.value) o.book.state × Stays (K.records o.opened.value) (K.records o.keeper) × AreAccountsIn o.setup o.book.state o.accounts.items
+        × (o.pool ≡ accounts_in o.setup o.book.state) };
 }
 
 impl<K: Keeper, P: Printer> Opened<K, P> {
@@ -82,14 +82,14 @@ impl<K: Keeper, P: Printer> Opened<K, P> {
         requires settled { K.unsettled keeper ≡ false }
         requires within { IsWithinLimits setup }
         ensures setup { IfOk result (λ opened. opened.setup ≡ setup) }
-        ensures stands { IfOk result (λ opened. Stands setup (K.records keeper) opened.state) }
+        ensures holds { IfOk result (λ opened. RecordsGive setup (K.records keeper) opened.state) }
         ensures cause { IfErr result (λ refused. HasCause setup (K.records keeper) refused.0) }
 
-        // Where the records are told they decide the answer, unless a read fails or memory is refused.
+        // Where the records are known they decide the answer, unless a read fails or memory is refused.
         ensures opens { (state : State) → IsSomeAnd (K.records keeper) (λ all. Reopens setup opening_state all state)
             → MatchResult result (λ opened. opened.state ≡ state) (λ refused. IsOfTheOutside refused.0) }
-        ensures formless { (number place : ℕ) → IsSome (K.records keeper) → HasNoForm setup (K.records keeper) number place
-            → IsErrAnd result (λ refused. (refused.0 ≡ OpenFault.Record number place) ⊎ IsOfTheOutside refused.0) }
+        ensures formless { (number offset : ℕ) → IsSome (K.records keeper) → HasNoForm setup (K.records keeper) number offset
+            → IsErrAnd result (λ refused. (refused.0 ≡ OpenFault.Record number offset) ⊎ IsOfTheOutside refused.0) }
         ensures illegal { (number : ℕ) → IsSome (K.records keeper) → IsNotLegal setup (K.records keeper) number
             → IsErrAnd result (λ refused. (refused.0 ≡ OpenFault.Illegal number) ⊎ IsOfTheOutside refused.0) }
 
@@ -107,16 +107,16 @@ impl<K: Keeper, P: Printer> Opened<K, P> {
         };
         match reopen(alloc, keys, &mut keeper, setup, printer) {
             Err(fault) => Err((fault, keeper)),
-            Ok((book, accounts)) => match at_home(alloc, &book, &accounts) {
+            Ok((book, accounts)) => match in_pool(alloc, &book, &accounts) {
                 Err(OutOfMemory) => Err((OpenFault::OutOfMemory, keeper)),
-                Ok(home) => Ok(Opened {
+                Ok(pool) => Ok(Opened {
                     alloc,
                     setup: own,
                     opened,
                     keeper,
                     book,
                     accounts,
-                    home,
+                    pool,
                 }),
             },
         }
@@ -133,7 +133,7 @@ impl<K: Keeper, P: Printer> Opened<K, P> {
         ensures log { result.1.log ≡ [] }
         ensures pending { result.1.pending ≡ None }
         ensures records { result.1.records ≡ self.records }
-        ensures stands { Stands N.setup N.first N.opening }
+        ensures holds { RecordsGive N.setup N.first N.opening }
         ensures accounts { AreAccountsIn N.setup N.opening result.2.items }
         ensures within { IsWithinLimits N.setup }
     {
@@ -141,8 +141,8 @@ impl<K: Keeper, P: Printer> Opened<K, P> {
         (self.setup, journal, self.accounts)
     }
 
-    /// The setup, and the teller. Takes no memory.
-    pub(crate) fn into_teller<N: BankName>(self) -> (Setup, Teller<N, K, P>)
+    /// The setup, and the locked bank. Takes no memory.
+    pub(crate) fn into_locked<N: BankName>(self) -> (Setup, LockedBank<N, K, P>)
         requires setup { self.setup ≡ N.setup }
         requires opening { self.state ≡ N.opening }
         requires first { self.opened ≡ N.first }
@@ -152,23 +152,23 @@ impl<K: Keeper, P: Printer> Opened<K, P> {
         ensures within { IsWithinLimits N.setup }
     {
         let journal = Journal::new(self.alloc, self.keeper, self.book);
-        (self.setup, Teller::new(self.alloc, journal, self.home))
+        (self.setup, LockedBank::new(self.alloc, journal, self.pool))
     }
 }
 
-/// Copies of all accounts of the bank of a book, at home.
-fn at_home<P: Printer>(
+/// Copies of all accounts of the bank of a book, in the pool.
+fn in_pool<P: Printer>(
     alloc: Global,
     book: &Book<P>,
     accounts: &[Account],
-) -> Result<Home, OutOfMemory>
+) -> Result<AccountPool, OutOfMemory>
     requires { AreAccountsIn book.now.setup book.now.state accounts.now }
-    ensures { IfOk result (λ home. home ≡ accounts_in book.now.setup book.now.state) }
+    ensures { IfOk result (λ pool. pool ≡ accounts_in book.now.setup book.now.state) }
 {
     // For the proof alone: its contract says that no balance is below zero.
     let _setup = book.setup();
     let copies = copied(alloc, accounts)?;
-    Home::from_vec(alloc, copies)
+    AccountPool::from_vec(alloc, copies)
 }
 
 /// Copies of accounts whose balances aren't below zero.

@@ -22,18 +22,18 @@ pub record IsDenied (setup : Setup) (bytes : List ℕ) (file : RequestFile) : Ty
   pub spelled : SpellsFile bytes file
   pub unsigned : signed_on setup file.user file.pass ≡ None
 
--- The place of a fault is told. Want of memory has none.
-abbrev pub fault_place : FileFault → Option ℕ
-fault_place (Header at) = Some at
-fault_place (Syntax at) = Some at
-fault_place (Form at) = Some at
-fault_place OutOfMemory = None
+-- The offset of a fault is reported. Want of memory has none.
+abbrev pub fault_offset : FileFault → Option ℕ
+fault_offset (Header at) = Some at
+fault_offset (Syntax at) = Some at
+fault_offset (Form at) = Some at
+fault_offset OutOfMemory = None
 
--- Bytes that spell no file are refused: the place is that of their fault.
-pub record IsRefused (bytes : List ℕ) (place : ℕ) : Type 0 where
+-- Bytes that spell no file are refused: the offset is that of their fault.
+pub record IsRefused (bytes : List ℕ) (offset : ℕ) : Type 0 where
   pub fault : FileFault
   pub is_fault : IsFaultOf bytes fault
-  pub has_place : fault_place fault ≡ Some place
+  pub has_offset : fault_offset fault ≡ Some offset
 
 -- The file of a user who signs on. Where it is no poll it is an event that is legal in any state.
 pub record IsOfUser (setup : Setup) (bytes : List ℕ) (user : UserId) (file : RequestFile) : Type 0 where
@@ -41,9 +41,9 @@ pub record IsOfUser (setup : Setup) (bytes : List ℕ) (user : UserId) (file : R
   pub known : user.0 < length setup.users
   pub sound : IsSound file
 
--- It is an event or a poll where its user signs on, is denied where the signon fails, and has a place to tell where it is refused.
+-- It is an event or a poll where its user signs on, is denied where the signon fails, and has an offset to tell where it is refused.
 abbrev pub IsJudged : Setup → List ℕ → Judgement → Type 0
 IsJudged setup bytes (Event user file) = IsOfUser setup bytes user file × (is_poll file ≡ false)
 IsJudged setup bytes (Poll user file) = IsOfUser setup bytes user file × (is_poll file ≡ true)
 IsJudged setup bytes (Denied file) = IsDenied setup bytes file
-IsJudged setup bytes (Refused place) = IsRefused bytes place
+IsJudged setup bytes (Refused offset) = IsRefused bytes offset

@@ -4,7 +4,7 @@ ghost use Rattle.std.specs.Prelude.{◌≡◌, ◌≤◌, length, IfOk};
 ghost use Rattle.ofx_types.specs.FileForm.{SpellsFile};
 ghost use Rattle.bank_model.specs.SetupForm.{IsWithinLimits};
 ghost use Rattle.bank_model.specs.Sound.{IsSound};
-ghost use Rattle.bank_signon.specs.Signon.{fault_place, IsJudged};
+ghost use Rattle.bank_signon.specs.Signon.{fault_offset, IsJudged};
 
 use bank_model::{Setup, is_poll};
 use ofx_file::read_request;
@@ -20,7 +20,7 @@ pub enum Judgement {
     Poll(UserId, RequestFile),
     /// A file whose signon failed.
     Denied(RequestFile),
-    /// A file that isn't answered, and the place to tell.
+    /// A file that isn't answered, and the offset to tell.
     Refused(u64),
 }
 
@@ -33,7 +33,7 @@ pub fn judge(alloc: Global, setup: &Setup, bytes: &[u8]) -> Result<Judgement, Ou
     match read_request(alloc, bytes) {
         Ok(file) => Ok(judge_file(setup, bytes, file)),
         Err(fault) => match place_of(fault) {
-            Some(place) => Ok(Judgement::Refused(place)),
+            Some(offset) => Ok(Judgement::Refused(offset)),
             None => Err(OutOfMemory),
         },
     }
@@ -41,7 +41,7 @@ pub fn judge(alloc: Global, setup: &Setup, bytes: &[u8]) -> Result<Judgement, Ou
 
 /// Where a fault stands. None for want of memory.
 fn place_of(fault: FileFault) -> Option<u64>
-    ensures { result ≡ fault_place fault }
+    ensures { result ≡ fault_offset fault }
 {
     match fault {
         FileFault::Header(at) | FileFault::Syntax(at) | FileFault::Form(at) => Some(at),

@@ -1,4 +1,4 @@
--- The accounts of a bank as they stand in a state, at home and lent.
+-- The accounts of a bank as they are in a state, in the pool and lent.
 use Rattle.std.proofs.Common.{◌≡◌, ℕ, ◌<◌, ◌≤◌, ◌⊎◌, ◌↔◌, inl, inr, List, [], length, map, get_or, Option, None, Some, Result, Ok, Err, OnOk, refl, sym, ap, ◌∙◌, subst, arith}
 use Rattle.std.specs.List.{All, Contains}
 use Rattle.std.specs.Option.{IfSome, IsSome}
@@ -17,7 +17,7 @@ use Rattle.bank_model.specs.Ledger.{balance}
 use Rattle.bank_model.specs.Rules.{named, opening_state, state_after}
 use Rattle.bank_accounts.specs.AccountView.{AccountView}
 use Rattle.bank_accounts.specs.HeldAccounts.{IsHeld, AreHeld, AreNamed, HaveSameNumbers}
-use Rattle.bank_accounts.specs.AtHome.{at_home, AreAllHome, AreNumbered, IsLentOrHome, AreLent}
+use Rattle.bank_accounts.specs.Pool.{in_pool, AreAllPooled, AreNumbered, IsOutOrPooled, AreCheckedOut}
 use Rattle.bank_accounts.proofs.HomeLemmas.{lent_none, lent_all_back}
 use Rattle.bank_ledger.specs.Balanced.{AreBalanced}
 use Rattle.bank_core.specs.Opened.{AreOpened}
@@ -35,21 +35,21 @@ opened_in setup begun state accounts same opens opened =
 -- ---- the accounts of a state, each at its place
 
 pub length_in : (setup : Setup) (state : State) → length (accounts_in setup state) ≡ length setup.accounts
-length_in setup state = length-map-range_with_len (λ (place : ℕ). Some (account_in setup state (record { 0 = place }))) 0 (length setup.accounts)
+length_in setup state = length-map-range_with_len (λ (index : ℕ). Some (account_in setup state (record { 0 = index }))) 0 (length setup.accounts)
 
-pub at_in : (setup : Setup) (state : State) (number : AcctId) → number.0 < length setup.accounts → at_home (accounts_in setup state) number ≡ Some (account_in setup state number)
+pub at_in : (setup : Setup) (state : State) (number : AcctId) → number.0 < length setup.accounts → in_pool (accounts_in setup state) number ≡ Some (account_in setup state number)
 at_in setup state number within =
-    get_or-map-range_with_len (λ (place : ℕ). Some (account_in setup state (record { 0 = place }))) 0 (length setup.accounts) number.0 number.0 None within (omega arith)
+    get_or-map-range_with_len (λ (index : ℕ). Some (account_in setup state (record { 0 = index }))) 0 (length setup.accounts) number.0 number.0 None within (omega arith)
 
-pub all_home : (setup : Setup) (state : State) → AreAllHome (accounts_in setup state)
+pub all_home : (setup : Setup) (state : State) → AreAllPooled (accounts_in setup state)
 all_home setup state number within = subst IsSome (sym (at_in setup state number (omega (arith, within, length_in setup state)))) refl
 
--- Where none is lent all are at home.
-pub home_is : (setup : Setup) (state : State) (home : List (Option AccountView)) (held : List AccountView) → AreLent (accounts_in setup state) home held → held ≡ [] → home ≡ accounts_in setup state
-home_is setup state home held lent none = lent_all_back (accounts_in setup state) home (subst (AreLent (accounts_in setup state) home) none lent)
+-- Where none is checked out all are in the pool.
+pub home_is : (setup : Setup) (state : State) (pool : List (Option AccountView)) (held : List AccountView) → AreCheckedOut (accounts_in setup state) pool held → held ≡ [] → pool ≡ accounts_in setup state
+home_is setup state pool held checked_out none = lent_all_back (accounts_in setup state) pool (subst (AreCheckedOut (accounts_in setup state) pool) none checked_out)
 
-pub home_all : (setup : Setup) (state : State) (home : List (Option AccountView)) (held : List AccountView) → AreLent (accounts_in setup state) home held → held ≡ [] → AreAllHome home
-home_all setup state home held lent none = subst AreAllHome (sym (home_is setup state home held lent none)) (all_home setup state)
+pub home_all : (setup : Setup) (state : State) (pool : List (Option AccountView)) (held : List AccountView) → AreCheckedOut (accounts_in setup state) pool held → held ≡ [] → AreAllPooled pool
+home_all setup state pool held checked_out none = subst AreAllPooled (sym (home_is setup state pool held checked_out none)) (all_home setup state)
 
 -- ---- the accounts that are lent
 
@@ -60,34 +60,34 @@ IsOwn setup state account = (account.number.0 < length setup.accounts) × (accou
 missing : (found : Option AccountView) (account : AccountView) → found ≡ None → found ≡ Some account → ⊥
 missing found account none some = absurd (let both : None ≡ Some account = sym none ∙ some in cc)
 
-is_own : (setup : Setup) (state : State) (account : AccountView) → at_home (accounts_in setup state) account.number ≡ Some account → IsOwn setup state account
+is_own : (setup : Setup) (state : State) (account : AccountView) → in_pool (accounts_in setup state) account.number ≡ Some account → IsOwn setup state account
 is_own setup state account found = by (cases_lt account.number.0 (length setup.accounts))
   where
     by : (account.number.0 < length setup.accounts) ⊎ (length setup.accounts ≤ account.number.0) → IsOwn setup state account
     by (inl within) =
         (within, ap (λ (a : AccountView). a.balance) (sym (same_Some (account_in setup state account.number) account (sym (at_in setup state account.number within) ∙ found))))
     by (inr past) =
-        absurd (missing (at_home (accounts_in setup state) account.number) account (get_or_past (accounts_in setup state) account.number.0 None (omega (arith, past, length_in setup state))) found)
+        absurd (missing (in_pool (accounts_in setup state) account.number) account (get_or_past (accounts_in setup state) account.number.0 None (omega (arith, past, length_in setup state))) found)
 
-own_held : (setup : Setup) (state : State) (home : List (Option AccountView)) (held : List AccountView) → AreLent (accounts_in setup state) home held → All (IsOwn setup state) held
-own_held setup state home held lent =
-    All-weaker (λ (a : AccountView). at_home (accounts_in setup state) a.number ≡ Some a) (IsOwn setup state) (is_own setup state) held lent.own
+own_held : (setup : Setup) (state : State) (pool : List (Option AccountView)) (held : List AccountView) → AreCheckedOut (accounts_in setup state) pool held → All (IsOwn setup state) held
+own_held setup state pool held checked_out =
+    All-weaker (λ (a : AccountView). in_pool (accounts_in setup state) a.number ≡ Some a) (IsOwn setup state) (is_own setup state) held checked_out.own
 
-pub held_balanced : (setup : Setup) (state : State) (home : List (Option AccountView)) (held : List AccountView) → AreLent (accounts_in setup state) home held → AreBalanced setup state held
-held_balanced setup state home held lent =
-    All-weaker (IsOwn setup state) (λ (a : AccountView). a.balance ≡ record { 0 = balance setup state.entries a.number }) (λ a own. own.1) held (own_held setup state home held lent)
+pub held_balanced : (setup : Setup) (state : State) (pool : List (Option AccountView)) (held : List AccountView) → AreCheckedOut (accounts_in setup state) pool held → AreBalanced setup state held
+held_balanced setup state pool held checked_out =
+    All-weaker (IsOwn setup state) (λ (a : AccountView). a.balance ≡ record { 0 = balance setup state.entries a.number }) (λ a own. own.1) held (own_held setup state pool held checked_out)
 
-abbrev HavePlaces : ℕ → List AccountView → Type 0
-HavePlaces count held = All (λ (a : AccountView). a.number.0 < count) held
+abbrev HaveOffsets : ℕ → List AccountView → Type 0
+HaveOffsets count held = All (λ (a : AccountView). a.number.0 < count) held
 
-pub held_known : (setup : Setup) (state : State) (home : List (Option AccountView)) (held : List AccountView) → AreLent (accounts_in setup state) home held → HavePlaces (length home) held
-held_known setup state home held lent =
-    All-weaker (IsOwn setup state) (λ (a : AccountView). a.number.0 < length home)
-    (λ a own. omega (arith, own.0, lent.count, length_in setup state)) held (own_held setup state home held lent)
+pub held_known : (setup : Setup) (state : State) (pool : List (Option AccountView)) (held : List AccountView) → AreCheckedOut (accounts_in setup state) pool held → HaveOffsets (length pool) held
+held_known setup state pool held checked_out =
+    All-weaker (IsOwn setup state) (λ (a : AccountView). a.number.0 < length pool)
+    (λ a own. omega (arith, own.0, checked_out.count, length_in setup state)) held (own_held setup state pool held checked_out)
 
 -- what holds of numbers holds where the numbers are the same
-same_places : (count : ℕ) (held other : List AccountView) → HaveSameNumbers other held → HavePlaces count held → HavePlaces count other
-same_places count held other same known k d within =
+same_slots : (count : ℕ) (held other : List AccountView) → HaveSameNumbers other held → HaveOffsets count held → HaveOffsets count other
+same_slots count held other same known k d within =
     let number_of : AccountView → AcctId = λ account. account.number in
     let size : length other ≡ length held = sym (length-map other number_of) ∙ ap length same ∙ length-map held number_of in
     let there : k < length held = omega (arith, within, size) in
@@ -95,8 +95,8 @@ same_places count held other same known k d within =
     sym (get_or-map number_of held k d d.number there) ∙ ap (λ (ns : List AcctId). get_or ns k d.number) (sym same) ∙ get_or-map number_of other k d d.number within in
     subst (λ (number : AcctId). number.0 < count) is (known k d there)
 
-pub same_known : (setup : Setup) (state : State) (home : List (Option AccountView)) (held other : List AccountView) → AreLent (accounts_in setup state) home held → HaveSameNumbers other held → HavePlaces (length home) other
-same_known setup state home held other lent same = same_places (length home) held other same (held_known setup state home held lent)
+pub same_known : (setup : Setup) (state : State) (pool : List (Option AccountView)) (held other : List AccountView) → AreCheckedOut (accounts_in setup state) pool held → HaveSameNumbers other held → HaveOffsets (length pool) other
+same_known setup state pool held other checked_out same = same_slots (length pool) held other same (held_known setup state pool held checked_out)
 
 -- ---- the accounts that an event names
 
@@ -124,11 +124,11 @@ named_known setup state event numbers count size only =
 -- ---- after a step
 
 -- Those that are held have their balances after it, and the others keep theirs.
-pub still_lent : (setup : Setup) (state : State) (at : Moment) (event : Event) (home : List (Option AccountView)) (held other : List AccountView) → UnnamedStay → IsWithinLimits setup → AreLent (accounts_in setup state) home held → AreHeld held (named setup state event) → HaveSameNumbers other held → AreBalanced setup (state_after setup state at event) other → AreLent (accounts_in setup (state_after setup state at event)) home other
-still_lent setup state at event home held other unnamed within lent names same balanced = record {
-  count = lent.count ∙ length_in setup state ∙ sym (length_in setup after);
-  each = λ number there. each number (omega (arith, there, length_in setup after)) (lent.each number (omega (arith, there, length_in setup after, length_in setup state)));
-  own = λ k d there. own (get_or other k d) (omega (arith, same_known setup state home held other lent same k d there, lent.count, length_in setup state)) (balanced k d there);
+pub still_lent : (setup : Setup) (state : State) (at : Moment) (event : Event) (pool : List (Option AccountView)) (held other : List AccountView) → UnnamedStay → IsWithinLimits setup → AreCheckedOut (accounts_in setup state) pool held → AreHeld held (named setup state event) → HaveSameNumbers other held → AreBalanced setup (state_after setup state at event) other → AreCheckedOut (accounts_in setup (state_after setup state at event)) pool other
+still_lent setup state at event pool held other unnamed within checked_out names same balanced = record {
+  count = checked_out.count ∙ length_in setup state ∙ sym (length_in setup after);
+  each = λ number there. each number (omega (arith, there, length_in setup after)) (checked_out.each number (omega (arith, there, length_in setup after, length_in setup state)));
+  own = λ k d there. own (get_or other k d) (omega (arith, same_known setup state pool held other checked_out same k d there, checked_out.count, length_in setup state)) (balanced k d there);
 }
   where
     after : State
@@ -145,34 +145,34 @@ still_lent setup state at event home held other unnamed within lent names same b
         unnamed setup state at event number within
         (λ there. apart (All-contains (λ (entry : Option AcctId). IfSome entry (IsHeld held)) (named setup state event) (Some number) names there))
 
-    each : (number : AcctId) → number.0 < length setup.accounts → IsLentOrHome (accounts_in setup state) home held number → IsLentOrHome (accounts_in setup after) home other number
-    each number there (inl lent) = inl (moved number lent.0, lent.1)
+    each : (number : AcctId) → number.0 < length setup.accounts → IsOutOrPooled (accounts_in setup state) pool held number → IsOutOrPooled (accounts_in setup after) pool other number
+    each number there (inl checked_out) = inl (moved number checked_out.0, checked_out.1)
     each number there (inr here) =
         inr (
-          (λ lent. here.0 (back number lent)),
+          (λ checked_out. here.0 (back number checked_out)),
           here.1 ∙ at_in setup state number there ∙ ap (λ (b : _). Some (record { number = number; balance = record { 0 = b } })) (sym (kept number here.0)) ∙ sym (at_in setup after number there),
         )
 
-    own : (account : AccountView) → account.number.0 < length setup.accounts → account.balance ≡ record { 0 = balance setup after.entries account.number } → at_home (accounts_in setup after) account.number ≡ Some account
+    own : (account : AccountView) → account.number.0 < length setup.accounts → account.balance ≡ record { 0 = balance setup after.entries account.number } → in_pool (accounts_in setup after) account.number ≡ Some account
     own account there has =
         at_in setup after account.number there ∙ ap (λ (b : _). Some (record { number = account.number; balance = b })) (sym has)
 
--- Where all have come back, none is lent.
-pub none_lent : (setup : Setup) (state : State) (home : List (Option AccountView)) (held : List AccountView) → home ≡ accounts_in setup state → held ≡ [] → AreLent (accounts_in setup state) home held
-none_lent setup state home held is none =
-    subst (λ (places : List (Option AccountView)). AreLent (accounts_in setup state) places held) (sym is)
-    (subst (AreLent (accounts_in setup state) (accounts_in setup state)) (sym none) (lent_none (accounts_in setup state)))
+-- Where all have come back, none is checked out.
+pub none_lent : (setup : Setup) (state : State) (pool : List (Option AccountView)) (held : List AccountView) → pool ≡ accounts_in setup state → held ≡ [] → AreCheckedOut (accounts_in setup state) pool held
+none_lent setup state pool held is none =
+    subst (λ (slots : List (Option AccountView)). AreCheckedOut (accounts_in setup state) slots held) (sym is)
+    (subst (AreCheckedOut (accounts_in setup state) (accounts_in setup state)) (sym none) (lent_none (accounts_in setup state)))
 
 -- The book has taken the step, and all accounts have come back.
-pub adopted : (setup setup' : Setup) (state state' : State) (at : Moment) (event : Event) (home home' : List (Option AccountView)) (held other left : List AccountView) → UnnamedStay → IsWithinLimits setup → AreLent (accounts_in setup state) home held → AreHeld held (named setup state event) → HaveSameNumbers other held → setup' ≡ setup → state' ≡ state_after setup state at event → AreBalanced setup' state' other → ((all : List (Option AccountView)) → AreLent all home other → home' ≡ all) → left ≡ [] → IsWithinLimits setup' × AreLent (accounts_in setup' state') home' left
-adopted setup setup' state state' at event home home' held other left unnamed within lent names same own after balanced back none =
+pub adopted : (setup setup' : Setup) (state state' : State) (at : Moment) (event : Event) (pool pool' : List (Option AccountView)) (held other left : List AccountView) → UnnamedStay → IsWithinLimits setup → AreCheckedOut (accounts_in setup state) pool held → AreHeld held (named setup state event) → HaveSameNumbers other held → setup' ≡ setup → state' ≡ state_after setup state at event → AreBalanced setup' state' other → ((all : List (Option AccountView)) → AreCheckedOut all pool other → pool' ≡ all) → left ≡ [] → IsWithinLimits setup' × AreCheckedOut (accounts_in setup' state') pool' left
+adopted setup setup' state state' at event pool pool' held other left unnamed within checked_out names same own after balanced back none =
     let there : AreBalanced setup (state_after setup state at event) other =
     subst (λ (s : Setup). AreBalanced s (state_after setup state at event) other) own (subst (λ (S : State). AreBalanced setup' S other) after balanced) in
     let all : List (Option AccountView) = accounts_in setup (state_after setup state at event) in
-    let come : home' ≡ all = back all (still_lent setup state at event home held other unnamed within lent names same there) in (
+    let come : pool' ≡ all = back all (still_lent setup state at event pool held other unnamed within checked_out names same there) in (
       subst IsWithinLimits (sym own) within,
-      subst (λ (s : Setup). AreLent (accounts_in s state') home' left) (sym own)
-          (subst (λ (S : State). AreLent (accounts_in setup S) home' left) (sym after) (none_lent setup (state_after setup state at event) home' left come none)),
+      subst (λ (s : Setup). AreCheckedOut (accounts_in s state') pool' left) (sym own)
+          (subst (λ (S : State). AreCheckedOut (accounts_in setup S) pool' left) (sym after) (none_lent setup (state_after setup state at event) pool' left come none)),
     )
 
 -- what follows where a result is one
@@ -182,8 +182,8 @@ when_done (Err refused) P Q follows holds = tt
 
 -- ---- a row of accounts
 
-pub places_in : (setup : Setup) (state : State) (accounts : List AccountView) → AreAccountsIn setup state accounts → map Some accounts ≡ accounts_in setup state
-places_in setup state accounts are =
+pub slots_in : (setup : Setup) (state : State) (accounts : List AccountView) → AreAccountsIn setup state accounts → map Some accounts ≡ accounts_in setup state
+slots_in setup state accounts are =
     ext_get_or None (map Some accounts) (accounts_in setup state) (length-map accounts Some ∙ are.count ∙ sym (length_in setup state)) each
   where
     same : (account : AccountView) (number : AcctId) → account.number.0 ≡ number.0 → account.balance ≡ record { 0 = balance setup state.entries account.number } → account ≡ account_in setup state number
@@ -212,6 +212,6 @@ accounts_back setup state accounts is numbered = record {
     balanced : (k : ℕ) (d : AccountView) → k < length accounts → (get_or accounts k d).balance ≡ record { 0 = balance setup state.entries (get_or accounts k d).number }
     balanced k d below =
         let found : Some (get_or accounts k d) ≡ Some (account_in setup state (record { 0 = k })) =
-        sym (get_or-map Some accounts k d None below) ∙ ap (λ (places : List (Option AccountView)). get_or places k None) is ∙ at_in setup state (record { 0 = k }) (omega (arith, below, size)) in
+        sym (get_or-map Some accounts k d None below) ∙ ap (λ (slots : List (Option AccountView)). get_or slots k None) is ∙ at_in setup state (record { 0 = k }) (omega (arith, below, size)) in
         let same : get_or accounts k d ≡ account_in setup state (record { 0 = k }) = same_Some _ _ found in
         ap (λ (a : AccountView). a.balance) same ∙ ap (λ (a : AccountView). record { 0 = balance setup state.entries a.number }) (sym same)

@@ -25,22 +25,22 @@ use Rattle.bank_model.specs.Ledger.{row_of}
 use Rattle.bank_model.specs.Rules.{named, named_by, named_by_deed, named_by_pair, named_by_object, named_by_row}
 
 -- a place that is found is one of the list's
-pub found_within : {X : Type 0} (test : X → Bool) (xs : List X) (place : ℕ) → position test xs ≡ Some place → place < length xs
-found_within test xs place e =
-    let parts = cond_some (nat_lt (prefix_len (λ x. not (test x)) xs) (length xs)) (prefix_len (λ x. not (test x)) xs) place e in
+pub found_within : {X : Type 0} (test : X → Bool) (xs : List X) (index : ℕ) → position test xs ≡ Some index → index < length xs
+found_within test xs index e =
+    let parts = cond_some (nat_lt (prefix_len (λ x. not (test x)) xs) (length xs)) (prefix_len (λ x. not (test x)) xs) index e in
     omega (arith, parts.1, ltb-true _ _ parts.0)
 
 -- the account of a place
 abbrev pub numbered : ℕ → AcctId
-numbered place = record { 0 = place }
+numbered index = record { 0 = index }
 
 -- an account of the setup, where there is one
 abbrev IsWithin : ℕ → Option AcctId → Type 0
 IsWithin count entry = IfSome entry (λ (number : AcctId). number.0 < count)
 
-entry_within : (count : ℕ) (found : Option ℕ) → ((place : ℕ) → found ≡ Some place → place < count) → IsWithin count (option_map numbered found)
+entry_within : (count : ℕ) (found : Option ℕ) → ((index : ℕ) → found ≡ Some index → index < count) → IsWithin count (option_map numbered found)
 entry_within count None within = tt
-entry_within count (Some place) within = within place refl
+entry_within count (Some index) within = within index refl
 
 name_within : (setup : Setup) (name : AcctName) → IsWithin (length setup.accounts) (account_of setup name)
 name_within setup name =
@@ -92,5 +92,5 @@ row_within setup (Some row) =
 pub named_within : (setup : Setup) (state : State) (event : Event) → All (IsWithin (length setup.accounts)) (named setup state event)
 named_within setup state (File user file) = asks_within setup file.asks
 named_within setup state (Post id) = row_within setup (row_of id state.entries)
-named_within setup state (Spawn id place) = All-from_recursion (IsWithin (length setup.accounts)) [] tt
+named_within setup state (Spawn id index) = All-from_recursion (IsWithin (length setup.accounts)) [] tt
 named_within setup state (Letter user subject body) = All-from_recursion (IsWithin (length setup.accounts)) [] tt

@@ -35,12 +35,12 @@ use Rattle.bank_model.specs.SetupForm.{IsWithinLimits}
 use Rattle.bank_model.specs.SetupLookups.{account_of, line_at}
 use Rattle.bank_model.specs.Ledger.{Posting, row_in, row_of, is_posted, posting_of, moved, part, sum_from, balance_on, balance}
 use Rattle.bank_model.specs.Models.{is_waiting, made_in, all_waiting, waiting_of, model_of}
-use Rattle.bank_model.specs.Deeds.{new_row, changed_row, with_terms, entries_behind, if_pending, entry_on, model_entries_on, added, done, code_of, deed_answer}
-use Rattle.bank_model.specs.Due.{settled_row, posts, spawned_row, spawns_on, spawns, place_date}
+use Rattle.bank_model.specs.Deeds.{new_row, changed_row, with_terms, entries_after, if_pending, entry_on, model_entries_on, added, done, code_of, deed_answer}
+use Rattle.bank_model.specs.Due.{processed_row, posts, spawned_row, spawns_on, spawns, occurrence_date}
 use Rattle.bank_model.specs.Objects.{account_about, object_named, newest}
 use Rattle.bank_model.specs.Sync.{rejection, deed_answers, deeds_or_rejection, sync_on, sync_answer}
 use Rattle.bank_model.specs.Rules.{raised, ask_answer, ask_answers, kept_for, outcome_or_kept, new_outcome, file_outcome, state_after, named_by_deed, named_by_pair, named_by_object, named_by, named_by_row, named}
-use Rattle.bank_rules.proofs.AccountPlaces.{account_of-line}
+use Rattle.bank_invariants.proofs.AccountIndices.{account_of-line}
 use Rattle.bank_model.proofs.Lists.{all_append}
 use Rattle.bank_model.proofs.AccountNames.{same_account-is}
 use Rattle.bank_ledger.proofs.PostingLemmas.{moved-append}
@@ -163,10 +163,10 @@ waiting_wait id entries =
     (All-filter (λ (row : TransferRow). eqb row.model id) Waits (all_waiting entries) (filter_passes (λ (row : TransferRow). is_waiting row.code) (flat_map (λ (entry : Entry). made_in entries entry.change) entries)))
 
 -- what waits on is given other terms, or dropped
-behind_leave : (setup : Setup) (account : AcctId) (count : ℕ) (change : TransferRow → Change) (rows : List TransferRow) → ((row : TransferRow) → Waits row → LeavesRow setup account (row_in (change row))) → AllByRecursion Waits rows → AllByRecursion (Leaves setup account) (entries_behind setup count change rows)
-unfolding entries_behind
-behind_leave setup account count change [] each wait = tt
-behind_leave setup account count change (row ∷ rows) each wait = (each row wait.0, behind_leave setup account (count + 1) change rows each wait.1)
+after_leave : (setup : Setup) (account : AcctId) (count : ℕ) (change : TransferRow → Change) (rows : List TransferRow) → ((row : TransferRow) → Waits row → LeavesRow setup account (row_in (change row))) → AllByRecursion Waits rows → AllByRecursion (Leaves setup account) (entries_after setup count change rows)
+unfolding entries_after
+after_leave setup account count change [] each wait = tt
+after_leave setup account count change (row ∷ rows) each wait = (each row wait.0, after_leave setup account (count + 1) change rows each wait.1)
 
 pending_leave : (setup : Setup) (account : AcctId) (pending : Bool) (entries : List Entry) → AllByRecursion (Leaves setup account) entries → AllByRecursion (Leaves setup account) (if_pending pending entries)
 pending_leave setup account true entries leave = leave
@@ -197,10 +197,10 @@ done_leaves setup account S user at trnuid (CancelTransfer id) misses = dropped_
 done_leaves setup account S user at trnuid (Model recur info) misses = (tt, tt)
 done_leaves setup account S user at trnuid (ModifyModel id recur info pending) misses =
     model_leaves setup account S trnuid (model_of id S.entries) _ _ (λ row. tt)
-    (pending_leave setup account pending _ (behind_leave setup account (length S.entries + 1) (λ row. SetTransfer (with_terms info row)) (waiting_of id S.entries) (terms_leave setup account info) (waiting_wait id S.entries)))
+    (pending_leave setup account pending _ (after_leave setup account (length S.entries + 1) (λ row. SetTransfer (with_terms info row)) (waiting_of id S.entries) (terms_leave setup account info) (waiting_wait id S.entries)))
 done_leaves setup account S user at trnuid (CancelModel id pending) misses =
     model_leaves setup account S trnuid (model_of id S.entries) _ _ (λ row. tt)
-    (pending_leave setup account pending _ (behind_leave setup account (length S.entries + 1) (λ row. DropTransfer row.id) (waiting_of id S.entries) (λ row waits. tt) (waiting_wait id S.entries)))
+    (pending_leave setup account pending _ (after_leave setup account (length S.entries + 1) (λ row. DropTransfer row.id) (waiting_of id S.entries) (λ row waits. tt) (waiting_wait id S.entries)))
 done_leaves setup account S user at trnuid (BankMail about mail) misses = (tt, tt)
 done_leaves setup account S user at trnuid (Mail mail) misses = (tt, tt)
 
@@ -271,7 +271,7 @@ file_adds setup account S user at file misses = unless_kept setup account S user
 -- ---- what the bank does by itself
 
 post_leaves : (setup : Setup) (account : AcctId) (S : State) (at : Moment) (row : Option TransferRow) → Misses account (named_by_row setup row) → AllByRecursion (Leaves setup account) (posts setup S at row)
-unfolding settled_row
+unfolding processed_row
 post_leaves setup account S at None misses = tt
 post_leaves setup account S at (Some row) misses = ((λ posted. misses), tt)
 
@@ -281,9 +281,9 @@ spawn_leaves setup account S None date = tt
 spawn_leaves setup account S (Some row) None = tt
 spawn_leaves setup account S (Some row) (Some date) = ((λ posted. absurd cc), tt)
 
-spawned_leave : (setup : Setup) (account : AcctId) (S : State) (id place : ℕ) → AllByRecursion (Leaves setup account) (spawns setup S id place)
+spawned_leave : (setup : Setup) (account : AcctId) (S : State) (id index : ℕ) → AllByRecursion (Leaves setup account) (spawns setup S id index)
 unfolding spawns
-spawned_leave setup account S id place = spawn_leaves setup account S (model_of id S.entries) (place_date (model_of id S.entries) place)
+spawned_leave setup account S id index = spawn_leaves setup account S (model_of id S.entries) (occurrence_date (model_of id S.entries) index)
 
 -- ---- an event
 
@@ -294,10 +294,10 @@ event_adds setup account S at (Post id) misses = record {
   is = refl;
   leave = post_leaves setup account (raised S at) at (row_of id S.entries) misses;
 }
-event_adds setup account S at (Spawn id place) misses = record {
-  more = spawns setup (raised S at) id place;
+event_adds setup account S at (Spawn id index) misses = record {
+  more = spawns setup (raised S at) id index;
   is = refl;
-  leave = spawned_leave setup account (raised S at) id place;
+  leave = spawned_leave setup account (raised S at) id index;
 }
 event_adds setup account S at (Letter user subject body) misses = record { more = _; is = refl; leave = (tt, tt) }
 

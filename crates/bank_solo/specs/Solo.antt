@@ -1,4 +1,4 @@
--- A bank for one caller: its book, and its accounts at home or lent.
+-- A bank for one caller: its book, and its accounts in the pool or lent.
 use Rattle.std.specs.Prelude.{◌≡◌, ℕ, ◌<◌, List, map, length, slice_index_or, Option, Some}
 use Rattle.std.specs.List.{range_with_len}
 use Rattle.ofx_types.specs.declared.number.AcctId.{AcctId}
@@ -23,10 +23,10 @@ account_in setup state number = record { number = number; balance = record { 0 =
 -- All accounts of the bank, each at the place of its number.
 abbrev pub accounts_in : Setup → State → List (Option AccountView)
 accounts_in setup state =
-    map (λ (place : ℕ). Some (account_in setup state (record { 0 = place }))) (range_with_len 0 (length setup.accounts))
+    map (λ (index : ℕ). Some (account_in setup state (record { 0 = index }))) (range_with_len 0 (length setup.accounts))
 
 -- What contracts see of such a bank: its setup and its state, the room that is reserved in its book, and the accounts that
--- are lent for the step of an event.
+-- are checked out for the step of an event.
 pub record SoloView : Type 0 where
   pub setup : Setup
   pub state : State

@@ -5,12 +5,12 @@ ghost use Rattle.ofx_types.specs.Calendar.{IsMoment};
 ghost use Rattle.bank_model.specs.SetupForm.{IsWithinLimits};
 ghost use Rattle.bank_model.specs.Rules.{IsLegal, opening_state, state_after, answer_to, named};
 ghost use Rattle.bank_accounts.specs.HeldAccounts.{AreHeld, AreNamed};
-ghost use Rattle.bank_accounts.specs.AtHome.{AreLent};
+ghost use Rattle.bank_accounts.specs.Pool.{AreCheckedOut};
 ghost use Rattle.bank_core.specs.BookView.{HasRoom};
 ghost use Rattle.bank_solo.specs.Solo.{AreAccountsIn, accounts_in};
 
 use crate::laws::unnamed_accounts_stay;
-use bank_accounts::{Account, Held, Home};
+use bank_accounts::{Account, AccountPool, Held};
 use bank_core::{Book, Prepared};
 use bank_model::{Event, Printer, Setup};
 use ofx_types::{AcctId, Moment, OutOfMemory};
@@ -22,20 +22,20 @@ use std::marker::Model;
 #[derive(Drop)]
 pub struct SoloBank<P: Printer> {
     book: Book<P>,
-    home: Home,
+    pool: AccountPool,
     held: Held,
 }
 
 impl<P: Printer> Model for SoloBank<P> {
     ghost use Rattle.bank_model.specs.SetupForm.{IsWithinLimits};
-    ghost use Rattle.bank_accounts.specs.AtHome.{AreLent};
+    ghost use Rattle.bank_accounts.specs.Pool.{AreCheckedOut};
     ghost use Rattle.bank_solo.specs.Solo.{SoloView, accounts_in};
 
     ghost Value = { SoloView };
 
     ghost view = { λ b. record { setup = b.book.setup; state = b.book.state; room = b.book.room; held = b.held } };
 
-    ghost invariant = { λ b. IsWithinLimits b.book.setup × AreLent (accounts_in b.book.setup b.book.state) b.home b.held };
+    ghost invariant = { λ b. IsWithinLimits b.book.setup × AreCheckedOut (accounts_in b.book.setup b.book.state) b.pool b.held };
 }
 
 impl<P: Printer> SoloBank<P> {
@@ -49,7 +49,7 @@ impl<P: Printer> SoloBank<P> {
         requires { IsWithinLimits setup }
         ensures setup { IfOk result (λ bank. bank.setup ≡ setup) }
         ensures state { IfOk result (λ bank. bank.state ≡ opening_state) }
-        ensures home { IfOk result (λ bank. bank.held ≡ []) }
+        ensures pool { IfOk result (λ bank. bank.held ≡ []) }
     {
         let (book, accounts) = Book::begin(alloc, keys, setup, printer)?;
         SoloBank::new(alloc, book, accounts)
@@ -65,12 +65,12 @@ impl<P: Printer> SoloBank<P> {
         requires accounts { AreAccountsIn book.setup book.state accounts.items }
         ensures setup { IfOk result (λ bank. bank.setup ≡ book.setup) }
         ensures state { IfOk result (λ bank. bank.state ≡ book.state) }
-        ensures home { IfOk result (λ bank. bank.held ≡ []) }
+        ensures pool { IfOk result (λ bank. bank.held ≡ []) }
     {
-        let home = Home::from_vec(alloc, accounts)?;
+        let pool = AccountPool::from_vec(alloc, accounts)?;
         Ok(SoloBank {
             book,
-            home,
+            pool,
             held: Held::new(alloc),
         })
     }
@@ -84,9 +84,9 @@ impl<P: Printer> SoloBank<P> {
         &self.book
     }
 
-    /// What the event answers at that moment, and the state that it leaves. The accounts that it names are lent for its step,
+    /// What the event answers at that moment, and the state that it leaves. The accounts that it names are checked out for its step,
     /// which `adopt` takes and `give_up` doesn't. All memory of the event is taken here; where it is refused, all
-    /// accounts are at home.
+    /// accounts are in the pool.
     pub fn prepare(
         &mut self,
         alloc: Global,
@@ -95,7 +95,7 @@ impl<P: Printer> SoloBank<P> {
     ) -> Result<Prepared, OutOfMemory>
         requires moment { IsMoment at.0 }
         requires legal { IsLegal self.old.setup self.old.state at event.now }
-        requires home { self.old.held ≡ [] }
+        requires pool { self.old.held ≡ [] }
         ensures setup { self.new.setup ≡ self.old.setup }
         ensures state { self.new.state ≡ self.old.state }
         ensures of { IfOk result (λ prepared. prepared.setup ≡ self.old.setup) }
@@ -108,18 +108,18 @@ impl<P: Printer> SoloBank<P> {
         ensures only { OnOk result (AreNamed self.new.held (named self.old.setup self.old.state event.now)) }
         ensures refused { OnErr result (self.new.held ≡ []) }
     {
-        self.lend(alloc, event)?;
+        self.check_out(alloc, event)?;
         match self.book.answer(alloc, &mut self.held, event, at) {
             Ok(prepared) => Ok(prepared),
             Err(OutOfMemory) => {
-                self.home.receive(&mut self.held);
+                self.pool.check_in(&mut self.held);
                 Err(OutOfMemory)
             }
         }
     }
 
-    /// Lends the accounts that the event names, and no others.
-    fn lend(&mut self, alloc: Global, event: &Event) -> Result<(), OutOfMemory>
+    /// Checks out the accounts that the event names, and no others.
+    fn check_out(&mut self, alloc: Global, event: &Event) -> Result<(), OutOfMemory>
         requires { self.old.held ≡ [] }
         ensures setup { self.new.setup ≡ self.old.setup }
         ensures state { self.new.state ≡ self.old.state }
@@ -128,10 +128,10 @@ impl<P: Printer> SoloBank<P> {
         ensures refused { OnErr result (self.new.held ≡ []) }
     {
         let numbers = self.book.named(alloc, event)?;
-        self.home.lend(&mut self.held, &numbers)
+        self.pool.check_out(&mut self.held, &numbers)
     }
 
-    /// Takes the step that was prepared, and gives the bytes of its reply. All accounts are at home then. Takes no memory.
+    /// Takes the step that was prepared, and gives the bytes of its reply. All accounts are in the pool then. Takes no memory.
     pub fn adopt(&mut self, at: Moment, prepared: Prepared) -> Vec<u8>
         requires of { prepared.setup ≡ self.old.setup }
         requires made { prepared.before ≡ self.old.state }
@@ -140,31 +140,31 @@ impl<P: Printer> SoloBank<P> {
         requires named { AreHeld self.old.held (named self.old.setup self.old.state prepared.event) }
         ensures setup { self.new.setup ≡ self.old.setup }
         ensures state { self.new.state ≡ prepared.after }
-        ensures home { self.new.held ≡ [] }
+        ensures pool { self.new.held ≡ [] }
         ensures reply { result.items ≡ prepared.reply }
     {
         unnamed_accounts_stay();
         let reply = self.book.adopt(&mut self.held, prepared);
-        self.home.receive(&mut self.held);
+        self.pool.check_in(&mut self.held);
         reply
     }
 
-    /// Gives up what was prepared: the accounts that were lent for it are at home again. Takes no memory.
+    /// Gives up what was prepared: the accounts that were checked out for it are in the pool again. Takes no memory.
     pub fn give_up(&mut self)
         ensures setup { self.new.setup ≡ self.old.setup }
         ensures state { self.new.state ≡ self.old.state }
-        ensures home { self.new.held ≡ [] }
+        ensures pool { self.new.held ≡ [] }
     {
-        self.home.receive(&mut self.held);
+        self.pool.check_in(&mut self.held);
     }
 
     /// Makes an event happen at that moment, and gives its reply. Where memory is refused, nothing has happened.
     pub fn step(&mut self, alloc: Global, event: &Event, at: Moment) -> Result<Vec<u8>, OutOfMemory>
         requires moment { IsMoment at.0 }
         requires legal { IsLegal self.old.setup self.old.state at event.now }
-        requires home { self.old.held ≡ [] }
+        requires pool { self.old.held ≡ [] }
         ensures setup { self.new.setup ≡ self.old.setup }
-        ensures home { self.new.held ≡ [] }
+        ensures pool { self.new.held ≡ [] }
         ensures state { OnOk result (self.new.state ≡ state_after self.old.setup self.old.state at event.now) }
         ensures reply { IfOk result (λ reply. reply.items ≡ answer_to self.old.setup self.old.state at event.now) }
         ensures refused { OnErr result (self.new.state ≡ self.old.state) }
@@ -180,7 +180,7 @@ impl<P: Printer> SoloBank<P> {
         ensures state { IfOk result (λ parts. parts.0.state ≡ self.state) }
         ensures accounts { IfOk result (λ parts. AreAccountsIn self.setup self.state parts.1.items) }
     {
-        let accounts = self.home.into_vec(alloc)?;
+        let accounts = self.pool.into_vec(alloc)?;
         Ok((self.book, accounts))
     }
 }

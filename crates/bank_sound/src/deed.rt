@@ -7,19 +7,19 @@ use crate::value::{is_day_option, is_name, is_sound_account, is_text};
 use ofx_types::{Cents, Deed, MailText, Recur, Text, XferInfo};
 
 /// The most bytes of the subject of a mail.
-const MOST_SUBJECT: usize = 64;
+const MAX_SUBJECT: usize = 64;
 
 /// The most bytes of the message of a mail.
-const MOST_BODY: usize = 10_000;
+const MAX_BODY: usize = 10_000;
 
 /// The greatest amount either way: 99,999,999,999.99.
-const MOST_CENTS: u64 = 9_999_999_999_999;
+const MAX_CENTS: u64 = 9_999_999_999_999;
 
 /// The greatest number of ten digits.
-const MOST_ID: u64 = 9_999_999_999;
+const MAX_ID: u64 = 9_999_999_999;
 
 /// The most transfers of a series that ends.
-const MOST_COUNT: u32 = 999;
+const MAX_COUNT: u32 = 999;
 
 pub(crate) fn is_sound_deed(deed: &Deed) -> bool
     ensures { IsTrue result ↔ bounds.IsSoundDeed deed.now }
@@ -51,7 +51,7 @@ fn is_sound_mail(mail: &MailText) -> bool
 pub fn is_sound_letter(subject: &Text, body: &Text) -> bool
     ensures { IsTrue result ↔ (bounds.IsTextWithin 64 subject.now × bounds.IsTextWithin 10000 body.now) }
 {
-    is_text(subject, MOST_SUBJECT) && is_text(body, MOST_BODY)
+    is_text(subject, MAX_SUBJECT) && is_text(body, MAX_BODY)
 }
 
 /// Whether the values of a transfer are within their bounds: both accounts, the amount, and the due day where it has one.
@@ -68,14 +68,14 @@ pub fn is_sound_info(info: &XferInfo) -> bool
 pub fn is_sound_amount(amount: Cents) -> bool
     ensures { IsTrue result ↔ (unsigned_abs amount.0 ≤ 9999999999999) }
 {
-    amount.0.unsigned_abs() <= MOST_CENTS
+    amount.0.unsigned_abs() <= MAX_CENTS
 }
 
 /// Whether an id has at most ten digits.
 pub fn is_id(id: u64) -> bool
     ensures { IsTrue result ↔ bounds.IsId id }
 {
-    id <= MOST_ID
+    id <= MAX_ID
 }
 
 /// Whether a series has 1 to 999 transfers, or no end.
@@ -83,7 +83,7 @@ pub fn is_sound_recur(recur: Recur) -> bool
     ensures { IsTrue result ↔ bounds.IsSoundRecur recur }
 {
     match recur.count {
-        Some(count) => 0 < count && count <= MOST_COUNT,
+        Some(count) => 0 < count && count <= MAX_COUNT,
         None => true,
     }
 }

@@ -14,10 +14,10 @@ use ofx_types::{
 };
 
 /// The most asks of a file, and the most deeds of a synchronisation.
-const MOST_ASKS: usize = 65_535;
+const MAX_ASKS: usize = 65_535;
 
 /// The most bytes of a token.
-const MOST_TOKEN: usize = 64;
+const MAX_TOKEN: usize = 64;
 
 /// Whether all values of a file are within their bounds.
 pub fn is_sound(file: &RequestFile) -> bool
@@ -26,7 +26,7 @@ pub fn is_sound(file: &RequestFile) -> bool
     known(&file.older);
     known(&file.newer);
     let asks = file.asks.items();
-    is_version(file.version) && asks.len() <= MOST_ASKS && is_bank_first(asks) && are_sound(asks)
+    is_version(file.version) && asks.len() <= MAX_ASKS && is_bank_first(asks) && are_sound(asks)
 }
 
 /// What the type keeps of each file uid, for the prover: nothing runs here.
@@ -45,7 +45,7 @@ fn is_version(version: u16) -> bool
     version == 102 || version == 103 || version == 151 || version == 160
 }
 
-/// Whether what the bank is asked stands before mail.
+/// Whether what the bank is asked comes before mail.
 fn is_bank_first(asks: &[Ask]) -> bool
     ensures { IsTrue result ↔ (asks.now ≡ filter (λ ask. not (files.is_mail_ask ask)) asks.now
         ++ filter files.is_mail_ask asks.now) }
@@ -108,7 +108,7 @@ fn is_sound_sync(ask: &SyncAsk) -> bool
     let deeds = ask.deeds.items();
     is_sound_object(&ask.object)
         && is_sound_kind(&ask.kind)
-        && deeds.len() <= MOST_ASKS
+        && deeds.len() <= MAX_ASKS
         && are_sound_pairs(ask.object.family(), deeds)
 }
 
@@ -127,7 +127,7 @@ fn is_sound_kind(kind: &SyncKind) -> bool
     ensures { IsTrue result ↔ bounds.IsSoundKind kind.now }
 {
     match kind {
-        SyncKind::After(token) => is_text(token, MOST_TOKEN),
+        SyncKind::After(token) => is_text(token, MAX_TOKEN),
         SyncKind::TokenOnly => true,
         SyncKind::Refresh => true,
     }

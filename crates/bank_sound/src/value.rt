@@ -8,7 +8,7 @@ ghost use Rattle.bank_model.specs.Sound as bounds;
 use ofx_types::{AcctName, Day, Moment, Text};
 
 /// The most bytes of a bank's id and of an account's number.
-const MOST_BYTES: usize = 32;
+const MAX_BYTES: usize = 32;
 
 /// Whether the name of an account has a bank's id and a number of 1 to 32 bytes each.
 pub fn is_sound_account(account: &AcctName) -> bool
@@ -21,7 +21,7 @@ pub fn is_sound_account(account: &AcctName) -> bool
 pub(crate) fn is_name(text: &Text) -> bool
     ensures { IsTrue result ↔ bounds.IsTextWithin 32 text.now }
 {
-    is_text(text, MOST_BYTES)
+    is_text(text, MAX_BYTES)
 }
 
 /// Whether a text has 1 byte up to a limit; that it is trimmed and clean its type keeps.

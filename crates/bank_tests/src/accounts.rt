@@ -30,7 +30,7 @@ fn holds_accounts(rt: HostRuntime) {
 fn gives_balances(rt: HostRuntime) {
     let mut held = two(&rt, rt.alloc());
     let mut balances = Balances::new(rt.alloc());
-    held.settle(&balances);
+    held.set_balances(&balances);
     assert_eq!(rt; held.balance(AcctId(3)), Some(Cents(5)));
     balances.reserve(2).expect(&rt, "room");
     balances.give(Balance {
@@ -43,7 +43,7 @@ fn gives_balances(rt: HostRuntime) {
     });
     assert_eq!(rt; balances.get(AcctId(3)), Some(Cents(7)));
     assert_eq!(rt; balances.get(AcctId(0)), None);
-    held.settle(&balances);
+    held.set_balances(&balances);
     assert_eq!(rt; held.balance(AcctId(0)), Some(Cents(10_000)));
     assert_eq!(rt; held.balance(AcctId(3)), Some(Cents(7)));
 }

@@ -1,4 +1,4 @@
-//! What finds by hashes, or keeps an order, answers as plain lists do that are searched from the front, in 10,000 calls
+//! What finds by hashes, or keeps an order, answers as plain lists do that are searched from the start, in 10,000 calls
 //! that dice choose.
 
 ghost use Rattle.ofx_types.specs.Calendar.{IsDay};
@@ -140,7 +140,7 @@ fn put(
         next: first.0,
         step,
         count,
-        place: 0,
+        occurrence: 0,
         cancelled,
     };
     plain.keep(made).expect(rt, "room");
@@ -157,7 +157,7 @@ fn change(rt: &impl Abort, models: &mut Models, plain: &mut PlainModels, id: u64
     } else if models.get(id).is_some() && models.next_k(id) < 999 {
         models.spawned(id);
         one.next = one.next.wrapping_add(one.step);
-        one.place = one.place.wrapping_add(1);
+        one.occurrence = one.occurrence.wrapping_add(1);
     }
     plain.keep(one).expect(rt, "room");
 }
@@ -175,7 +175,7 @@ fn has_same(models: &Models, plain: &PlainModels, id: u64, last: i32) -> bool {
         && row.first.0 == one.first
         && row.recur.count == one.count
         && models.cancelled(id) == one.cancelled
-        && models.next_k(id) == one.place
+        && models.next_k(id) == one.occurrence
         && ahead.is_some() == one.makes_by(last)
         && (ahead.is_none() || ahead == Some(Day(one.next)))
 }

@@ -166,7 +166,7 @@ const PAST_THE_END: &[(i32, Freq, u32)] = &[
 #[test]
 fn a_series_ends_with_the_year_9999(rt: HostRuntime) {
     for case in PAST_THE_END.iter() {
-        let (first, freq, place) = *case;
-        assert_eq!(rt; date_of(day(&rt, first), freq, place), None);
+        let (first, freq, occurrence) = *case;
+        assert_eq!(rt; date_of(day(&rt, first), freq, occurrence), None);
     }
 }

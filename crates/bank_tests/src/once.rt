@@ -59,7 +59,7 @@ fn a_reply_is_kept_until_its_file_is_released(rt: HostRuntime) {
 }
 
 #[test]
-fn uids_of_an_event_stand_in_their_order(rt: HostRuntime) {
+fn uids_of_an_event_are_in_their_order(rt: HostRuntime) {
     let mut uids = Uids::new(rt.alloc());
     assert!(rt; !uids.has(&trnuid(&rt, b"t2")));
     uids.use_up(trnuid(&rt, b"t2")).expect(&rt, "room");

@@ -108,7 +108,7 @@ const FAULTS: [(usize, &str, u64); 44] = [
 ];
 
 #[test]
-fn tells_the_line_of_a_fault(rt: HostRuntime) {
+fn reports_the_line_of_a_fault(rt: HostRuntime) {
     let alloc = rt.alloc();
     for (number, text, line) in FAULTS.iter() {
         let setup = with_line(&rt, alloc, *number, text);

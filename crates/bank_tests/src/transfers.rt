@@ -82,8 +82,8 @@ fn only_a_waiting_transfer_is_changed_or_cancelled(rt: HostRuntime) {
     let alloc = rt.alloc();
     let setup = bank(&rt, alloc);
     let asked = info(&rt, alloc, "1001", "1002", 7, Some(TOMORROW));
-    for (user, standing, code) in STANDING.iter() {
-        let found = row(&rt, alloc, 1, 5, *standing, Moment(0));
+    for (user, present, code) in STANDING.iter() {
+        let found = row(&rt, alloc, 1, 5, *present, Moment(0));
         assert_eq!(rt;
             judge_modify(&setup, *user, None, Some(&found), &asked, TODAY),
             *code

@@ -53,7 +53,7 @@ fn take_in(rt: &impl Abort, window: &mut Window, number: u64) -> u64
 }
 
 /// The numbers of the entries above a token that isn't below the floor.
-fn told(rt: &impl Abort, alloc: Global, window: &Window, token: u64) -> Vec<u64> {
+fn reported(rt: &impl Abort, alloc: Global, window: &Window, token: u64) -> Vec<u64> {
     let mut numbers = Vec::new(alloc);
     if window.floor() <= token {
         for entry in window.since(token) {
@@ -81,7 +81,7 @@ fn is_so(rt: &impl Abort, alloc: Global, width: u32, case: &Case) -> bool
     for number in numbers {
         take_in(rt, &mut window, *number);
     }
-    let lent = told(rt, alloc, &window, token);
+    let lent = reported(rt, alloc, &window, token);
     window.floor() == floor && window.newest() == newest && lent.as_slice() == above
 }
 
@@ -153,7 +153,7 @@ fn a_wide_window_lends_around_the_end_of_its_ring(rt: HostRuntime) {
     }
     assert_eq!(rt; window.floor(), 2_500);
     for token in AROUND_THE_END {
-        let lent = told(&rt, alloc, &window, token);
+        let lent = reported(&rt, alloc, &window, token);
         assert!(rt; is_run(lent.as_slice(), token, 12_500));
     }
 }

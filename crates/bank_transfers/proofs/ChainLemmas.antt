@@ -9,11 +9,11 @@ use Rattle.std.specs.Prelude.{int_lt}
 use Rattle.std.specs.List.{All}
 use Rattle.ofx_types.specs.declared.number.Moment.{Moment}
 use Rattle.bank_model.specs.Ledger.{Posting}
-use Rattle.bank_transfers.specs.Chain.{is_of, place_or_none, key_of, touches, place_before, last_by, posting_of, postings_of, PassesAt, IsBetween, AreBetween, IsLinked, AreLinked}
-use Rattle.bank_transfers.specs.Link.{earliest, latest}
+use Rattle.bank_transfers.specs.Chain.{is_of, index_or_none, key_of, touches, index_before, last_by, posting_of, postings_of, PassesAt, IsBetween, AreBetween, IsLinked, AreLinked}
+use Rattle.bank_transfers.specs.SkipLink.{earliest, latest}
 use Rattle.bank_transfers.specs.PostingsView.{IsPosted}
 use Rattle.bank_transfers.specs.TransfersView.{IsWithinAmounts}
-use Rattle.bank_transfers.specs.declared.link.Link.{Link}
+use Rattle.bank_transfers.specs.declared.skip_link.SkipLink.{SkipLink}
 use Rattle.bank_transfers.specs.declared.postings.Linked.{Linked}
 
 -- ---- the last posting that passes a test
@@ -22,7 +22,7 @@ pub last_within : (test : Posting → Bool) (postings : List Posting) → last_b
 last_within test [] = omega arith
 last_within test (posting ∷ more) = bound (test posting) (last_by test more) (last_within test more)
   where
-    bound : (b : Bool) (n : ℕ) → n ≤ length more → place_before b n ≤ suc (length more)
+    bound : (b : Bool) (n : ℕ) → n ≤ length more → index_before b n ≤ suc (length more)
     bound true zero h = omega arith
     bound false zero h = omega arith
     bound b (suc n) h = omega (arith, h)
@@ -30,18 +30,18 @@ last_within test (posting ∷ more) = bound (test posting) (last_by test more) (
 pub last_push : (test : Posting → Bool) (postings : List Posting) (posting : Posting) → last_by test (postings ++ posting ∷ []) ≡ cond (test posting) (length postings + 1) (last_by test postings)
 last_push test [] posting = one (test posting)
   where
-    one : (b : Bool) → place_before b 0 ≡ cond b 1 0
+    one : (b : Bool) → index_before b 0 ≡ cond b 1 0
     one true = refl
     one false = refl
-last_push test (p ∷ more) posting = ap (place_before (test p)) (last_push test more posting) ∙ by (test posting)
+last_push test (p ∷ more) posting = ap (index_before (test p)) (last_push test more posting) ∙ by (test posting)
   where
-    suc_next : (n : ℕ) → place_before (test p) (n + 1) ≡ suc n + 1
+    suc_next : (n : ℕ) → index_before (test p) (n + 1) ≡ suc n + 1
     suc_next n =
         let next : n + 1 ≡ suc n = omega arith in
         let after : suc (suc n) ≡ suc n + 1 = omega arith in
-        ap (place_before (test p)) next ∙ after
+        ap (index_before (test p)) next ∙ after
 
-    by : (b : Bool) → place_before (test p) (cond b (length more + 1) (last_by test more)) ≡ cond b (suc (length more) + 1) (place_before (test p) (last_by test more))
+    by : (b : Bool) → index_before (test p) (cond b (length more + 1) (last_by test more)) ≡ cond b (suc (length more) + 1) (index_before (test p) (last_by test more))
     by true = suc_next (length more)
     by false = refl
 
@@ -49,7 +49,7 @@ pub last_passes : (test : Posting → Bool) (postings : List Posting) → Passes
 last_passes test [] = tt
 last_passes test (posting ∷ more) = by (test posting) (last_by test more) refl (last_passes test more)
   where
-    by : (b : Bool) (n : ℕ) → test posting ≡ b → PassesAt test n more → PassesAt test (place_before b n) (posting ∷ more)
+    by : (b : Bool) (n : ℕ) → test posting ≡ b → PassesAt test n more → PassesAt test (index_before b n) (posting ∷ more)
     by true zero is rest = λ d. is
     by false zero is rest = tt
     by b (suc n) is rest = λ d. rest d
@@ -59,14 +59,14 @@ pub last_after : (test : Posting → Bool) (postings : List Posting) (k : ℕ) (
 last_after test [] k d after within = absurd (omega (arith, within))
 last_after test (posting ∷ more) k d after within = by k (test posting) (last_by test more) refl (λ j. last_after test more j d) after within
   where
-    by : (j : ℕ) (b : Bool) (n : ℕ) → test posting ≡ b → ((j : ℕ) → n ≤ j → j < length more → test (get_or more j d) ≡ false) → place_before b n ≤ j → j < suc (length more) → test (get_or (posting ∷ more) j d) ≡ false
+    by : (j : ℕ) (b : Bool) (n : ℕ) → test posting ≡ b → ((j : ℕ) → n ≤ j → j < length more → test (get_or more j d) ≡ false) → index_before b n ≤ j → j < suc (length more) → test (get_or (posting ∷ more) j d) ≡ false
     by zero true zero is rest after within = absurd (omega (arith, after))
     by zero false zero is rest after within = is
     by zero b (suc n) is rest after within = absurd (omega (arith, after))
     by (suc j) b zero is rest after within = rest j (omega arith) (omega (arith, within))
     by (suc j) b (suc n) is rest after within = rest j (omega (arith, after)) (omega (arith, within))
 
-pub passes_in : (test : Posting → Bool) (place k : ℕ) (postings : List Posting) → place ≤ k → PassesAt test place (take k postings) → PassesAt test place postings
+pub passes_in : (test : Posting → Bool) (index k : ℕ) (postings : List Posting) → index ≤ k → PassesAt test index (take k postings) → PassesAt test index postings
 passes_in test zero k postings le passes = tt
 passes_in test (suc j) k postings le passes = λ d. sym (ap test (get_or-take k postings j d (omega (arith, le)))) ∙ passes d
 
@@ -81,8 +81,8 @@ amount_at held k linked all within is =
     (subst IsPosted (posting_is held k linked is) (all k (posting_of linked) (omega (arith, within, count)))).0
 
 -- Where a posting is about an account of the key, the one of its two links that is taken for the key is linked.
-pub link_at : (key : ℕ) (held : List Linked) (place : ℕ) (linked : Linked) → AreLinked held → 0 < place → place ≤ length (postings_of held) → PassesAt (touches key) place (postings_of held) → linked ≡ get_or held (place - 1) linked
-    → IsLinked key (cond (eqb (key_of linked.row.from) key) linked.from_link linked.to_link) (place - 1) (postings_of held)
+pub link_at : (key : ℕ) (held : List Linked) (index : ℕ) (linked : Linked) → AreLinked held → 0 < index → index ≤ length (postings_of held) → PassesAt (touches key) index (postings_of held) → linked ≡ get_or held (index - 1) linked
+    → IsLinked key (cond (eqb (key_of linked.row.from) key) linked.from_link linked.to_link) (index - 1) (postings_of held)
 link_at key held zero linked are there within passes is = absurd (omega (arith, there))
 link_at key held (suc k) linked are there within passes is =
     subst (λ n. IsLinked key (cond (eqb (key_of linked.row.from) key) linked.from_link linked.to_link) n (postings_of held)) (sym same)
@@ -105,7 +105,7 @@ link_at key held (suc k) linked are there within passes is =
     by true same_key from to touched = subst (λ n. IsLinked n linked.from_link k (postings_of held)) (eqb-true (key_of linked.row.from) key same_key) from
     by false same_key from to touched = subst (λ n. IsLinked n linked.to_link k (postings_of held)) (eqb-true (key_of linked.row.to) key touched) to
 
-pub before_within : (key : ℕ) (link : Link) (k : ℕ) (postings : List Posting) → k ≤ length postings → IsLinked key link k postings → link.before ≤ k
+pub before_within : (key : ℕ) (link : SkipLink) (k : ℕ) (postings : List Posting) → k ≤ length postings → IsLinked key link k postings → link.before ≤ k
 before_within key link k postings within linked =
     let bound : last_by (touches key) (take k postings) ≤ length (take k postings) = last_within (touches key) (take k postings) in
     let size : length (take k postings) ≡ k = length-take-le k postings within in
@@ -113,15 +113,15 @@ before_within key link k postings within linked =
 
 -- ---- with more postings behind
 
-passes_stays : (test : Posting → Bool) (place : ℕ) (postings more : List Posting) → place ≤ length postings → PassesAt test place postings → PassesAt test place (postings ++ more)
+passes_stays : (test : Posting → Bool) (index : ℕ) (postings more : List Posting) → index ≤ length postings → PassesAt test index postings → PassesAt test index (postings ++ more)
 passes_stays test zero postings more within passes = tt
 passes_stays test (suc k) postings more within passes = λ d. ap test (get_or-append postings more d k (omega (arith, within))) ∙ passes d
 
-between_stays : (key : ℕ) (least greatest : Moment) (after place : ℕ) (postings more : List Posting) → place ≤ length postings → AreBetween key least greatest after place postings → AreBetween key least greatest after place (postings ++ more)
-between_stays key least greatest after place postings more within are k d low high =
+between_stays : (key : ℕ) (least greatest : Moment) (after index : ℕ) (postings more : List Posting) → index ≤ length postings → AreBetween key least greatest after index postings → AreBetween key least greatest after index (postings ++ more)
+between_stays key least greatest after index postings more within are k d low high =
     subst (λ (p : Posting). touches key p ≡ true → IsBetween least greatest p) (sym (get_or-append postings more d k (omega (arith, within, high)))) (are k d low high)
 
-linked_stays : (key : ℕ) (link : Link) (k : ℕ) (postings more : List Posting) → k < length postings → IsLinked key link k postings → IsLinked key link k (postings ++ more)
+linked_stays : (key : ℕ) (link : SkipLink) (k : ℕ) (postings more : List Posting) → k < length postings → IsLinked key link k postings → IsLinked key link k (postings ++ more)
 linked_stays key link k postings more within linked =
     let little : link.before ≤ k = before_within key link k postings (omega (arith, within)) linked in
     record {
@@ -134,7 +134,7 @@ linked_stays key link k postings more within linked =
 -- ---- the link of a new posting
 
 -- It leads to the last posting of the key, where its bounds hold from where it skips to up to there, and at the new one.
-linked_last : (key : ℕ) (link : Link) (k : ℕ) (postings : List Posting) (posting : Posting) → k ≡ length postings → link.before ≡ last_by (touches key) postings → link.skip ≤ link.before → PassesAt (touches key) link.skip postings
+linked_last : (key : ℕ) (link : SkipLink) (k : ℕ) (postings : List Posting) (posting : Posting) → k ≡ length postings → link.before ≡ last_by (touches key) postings → link.skip ≤ link.before → PassesAt (touches key) link.skip postings
     → AreBetween key link.least link.greatest link.skip link.before postings → IsBetween link.least link.greatest posting → IsLinked key link k (postings ++ posting ∷ [])
 linked_last key link k postings posting count before skip lands between own = record {
   before = before ∙ ap (last_by (touches key)) (sym (ap (λ n. take n (postings ++ posting ∷ [])) count ∙ take-append_seam postings (posting ∷ [])));
@@ -155,11 +155,11 @@ linked_last key link k postings posting count before skip lands between own = re
         let last : j ≡ length postings = omega (arith, high, end) in
         subst (IsBetween link.least link.greatest) (sym (ap (λ n. get_or (postings ++ posting ∷ []) n d) last ∙ get_or-append_seam postings posting [] d)) own
 
-pub short_linked : (key before : ℕ) (stamp : Moment) (link : Link) (held : List Linked) (posting : Posting) → before ≡ last_by (touches key) (postings_of held) → link ≡ record { before = before; skip = before; rank = 0; least = stamp; greatest = stamp }
+pub short_linked : (key before : ℕ) (stamp : Moment) (link : SkipLink) (held : List Linked) (posting : Posting) → before ≡ last_by (touches key) (postings_of held) → link ≡ record { before = before; skip = before; rank = 0; least = stamp; greatest = stamp }
     → posting.row.stamp ≡ stamp → IsLinked key link (length held) (postings_of held ++ posting ∷ [])
 short_linked key before stamp link held posting last is same =
     let at : posting.row.stamp.0 ≡ stamp.0 = ap (λ (m : Moment). m.0) same in
-    subst (λ (l : Link). IsLinked key l (length held) (postings_of held ++ posting ∷ [])) (sym is)
+    subst (λ (l : SkipLink). IsLinked key l (length held) (postings_of held ++ posting ∷ [])) (sym is)
     (linked_last key (record { before = before; skip = before; rank = 0; least = stamp; greatest = stamp }) (length held) (postings_of held) posting (sym (length-map held posting_of)) last (omega arith)
     (subst (λ n. PassesAt (touches key) n (postings_of held)) (sym last) (last_passes (touches key) (postings_of held)))
     (λ k d low high. absurd (omega (arith, low, high)))
@@ -183,7 +183,7 @@ wider : (least greatest low high : Moment) (posting : Posting) → low.0 ≤ℤ 
 wider least greatest low high posting below above between = (omega (arith, ints, below, between.0), omega (arith, ints, above, between.1))
 
 -- Over the skip of the last posting of the key, and of the one where that lands.
-pub over_linked : (key : ℕ) (link last earlier : Link) (stamp : Moment) (held : List Linked) (posting : Posting) → 0 < link.before → 0 < last.skip → link.before ≡ last_by (touches key) (postings_of held)
+pub over_linked : (key : ℕ) (link last earlier : SkipLink) (stamp : Moment) (held : List Linked) (posting : Posting) → 0 < link.before → 0 < last.skip → link.before ≡ last_by (touches key) (postings_of held)
     → IsLinked key last (link.before - 1) (postings_of held) → IsLinked key earlier (last.skip - 1) (postings_of held)
     → link.skip ≡ earlier.skip → link.least ≡ earliest stamp (earliest last.least earlier.least) → link.greatest ≡ latest stamp (latest last.greatest earlier.greatest)
     → posting.row.stamp ≡ stamp → IsLinked key link (length held) (postings_of held ++ posting ∷ [])
@@ -256,27 +256,27 @@ linked_push held linked are from to k d within = subst (BothLinked (get_or (held
         subst (λ (l : Linked). BothLinked l k (postings_of held ++ posting_of linked ∷ [])) (sym (ap (λ n. get_or (held ++ linked ∷ []) n d) last ∙ get_or-append_seam held linked [] d))
         (subst (λ n. BothLinked linked n (postings_of held ++ posting_of linked ∷ [])) (sym last) (from, to))
 
-pub lasts_set : (from to key place : ℕ) (found : Option ℕ) (postings : List Posting) (posting : Posting) → place ≡ length postings + 1 → key_of posting.row.from ≡ from → key_of posting.row.to ≡ to
-    → place_or_none found ≡ last_by (touches key) postings
-    → place_or_none (cond (eqb to key) (Some place) (cond (eqb from key) (Some place) found)) ≡ last_by (touches key) (postings ++ posting ∷ [])
-lasts_set from to key place found postings posting is from_is to_is before =
+pub lasts_set : (from to key index : ℕ) (found : Option ℕ) (postings : List Posting) (posting : Posting) → index ≡ length postings + 1 → key_of posting.row.from ≡ from → key_of posting.row.to ≡ to
+    → index_or_none found ≡ last_by (touches key) postings
+    → index_or_none (cond (eqb to key) (Some index) (cond (eqb from key) (Some index) found)) ≡ last_by (touches key) (postings ++ posting ∷ [])
+lasts_set from to key index found postings posting is from_is to_is before =
     set_is (eqb from key) (eqb to key)
     ∙ (λ i. cond (eqb (sym from_is i) key || eqb (sym to_is i) key) (is i) (before i))
     ∙ sym (last_push (touches key) postings posting)
   where
-    set_is : (b c : Bool) → place_or_none (cond c (Some place) (cond b (Some place) found)) ≡ cond (b || c) place (place_or_none found)
+    set_is : (b c : Bool) → index_or_none (cond c (Some index) (cond b (Some index) found)) ≡ cond (b || c) index (index_or_none found)
     set_is true true = refl
     set_is true false = refl
     set_is false true = refl
     set_is false false = refl
 
-pub id_set : (id key place : ℕ) (found : Option ℕ) (postings : List Posting) (posting : Posting) → place ≡ length postings + 1 → posting.row.id ≡ id
-    → place_or_none found ≡ last_by (is_of key) postings → place_or_none (cond (eqb id key) (Some place) found) ≡ last_by (is_of key) (postings ++ posting ∷ [])
-id_set id key place found postings posting is same before =
+pub id_set : (id key index : ℕ) (found : Option ℕ) (postings : List Posting) (posting : Posting) → index ≡ length postings + 1 → posting.row.id ≡ id
+    → index_or_none found ≡ last_by (is_of key) postings → index_or_none (cond (eqb id key) (Some index) found) ≡ last_by (is_of key) (postings ++ posting ∷ [])
+id_set id key index found postings posting is same before =
     set_is (eqb id key)
     ∙ (λ i. cond (eqb (sym same i) key) (is i) (before i))
     ∙ sym (last_push (is_of key) postings posting)
   where
-    set_is : (b : Bool) → place_or_none (cond b (Some place) found) ≡ cond b place (place_or_none found)
+    set_is : (b : Bool) → index_or_none (cond b (Some index) found) ≡ cond b index (index_or_none found)
     set_is true = refl
     set_is false = refl

@@ -96,17 +96,17 @@ stays first (task ∷ tasks) follow =
     ap (λ b. fold or_earlier (cond b (Some task) (Some first)) tasks) follow.0.0 ∙ stays first tasks follow.1
 
 comes : (first before : Task) (tasks : List Task) → Follows first before → AllByRecursion (Follows first) tasks → IsIn first tasks → fold or_earlier (Some before) tasks ≡ Some first
-comes first before [] behind follow is = absurd is
-comes first before (task ∷ tasks) behind follow (inl same) =
+comes first before [] suffix follow is = absurd is
+comes first before (task ∷ tasks) suffix follow (inl same) =
     (elim (is_before first before) as (λ b. is_before first before ≡ b → fold or_earlier (cond (is_before task before) (Some task) (Some before)) tasks ≡ Some first) [
       | true ↦ (λ early. ap (λ (t : Task). fold or_earlier (cond (is_before t before) (Some t) (Some before)) tasks) same ∙ ap (λ b. fold or_earlier (cond b (Some first) (Some before)) tasks) early ∙ stays first tasks follow.1)
       | false ↦ (λ late. ap (λ (t : Task). fold or_earlier (cond (is_before t before) (Some t) (Some before)) tasks) same ∙ ap (λ b. fold or_earlier (cond b (Some first) (Some before)) tasks) late
-          ∙ ap (λ (t : Task). fold or_earlier (Some t) tasks) (behind.1 late) ∙ stays first tasks follow.1)
+          ∙ ap (λ (t : Task). fold or_earlier (Some t) tasks) (suffix.1 late) ∙ stays first tasks follow.1)
     ]) refl
-comes first before (task ∷ tasks) behind follow (inr rest) =
+comes first before (task ∷ tasks) suffix follow (inr rest) =
     elim (is_before task before) as (λ b. fold or_earlier (cond b (Some task) (Some before)) tasks ≡ Some first) [
       | true ↦ comes first task tasks follow.0 follow.1 rest
-      | false ↦ comes first before tasks behind follow.1 rest
+      | false ↦ comes first before tasks suffix follow.1 rest
     ]
 
 least : (first : Task) (tasks : List Task) → AllByRecursion (Follows first) tasks → IsIn first tasks → first_task tasks ≡ Some first
@@ -120,8 +120,8 @@ abbrev task_held : DueTask → Task
 task_held task = record { day = task.day.0; id = task.id.0 }
 
 -- what is the same as the last of tasks in order, or one of those before it
-abbrev IsBehind : DueTask → DueTask → Type 0
-IsBehind last task = (task_order task last ≡ Equal) ⊎ (task_order task last ≡ Less)
+abbrev IsAfter : DueTask → DueTask → Type 0
+IsAfter last task = (task_order task last ≡ Equal) ⊎ (task_order task last ≡ Less)
 
 abbrev IsLast : DueTask → List DueTask → Type 0
 IsLast last [] = ⊥
@@ -132,8 +132,8 @@ last_is : (last : DueTask) (tasks : List DueTask) → slice_get tasks (length ta
 last_is last [] is = cc
 last_is last (task ∷ []) is = let first : suc 0 - 1 ≡ 0 = omega arith in let same : Some task ≡ Some last = ap (slice_get (task ∷ [])) (sym first) ∙ is in cc
 last_is last (task ∷ next ∷ tasks) is =
-    let behind : suc (suc (length tasks)) - 1 ≡ suc (suc (length tasks) - 1) = omega arith in
-    last_is last (next ∷ tasks) (ap (slice_get (task ∷ next ∷ tasks)) (sym behind) ∙ is)
+    let suffix : suc (suc (length tasks)) - 1 ≡ suc (suc (length tasks) - 1) = omega arith in
+    last_is last (next ∷ tasks) (ap (slice_get (task ∷ next ∷ tasks)) (sym suffix) ∙ is)
 
 equal_is : (r : Ordering) → is_eq r ≡ true → r ≡ Equal
 equal_is Less is = cc
@@ -161,21 +161,21 @@ before_last last task [] above end = absurd end
 before_last last task (next ∷ []) above end = ap (task_order task) (sym end) ∙ above.0
 before_last last task (next ∷ more ∷ tasks) above end = before_last last task (more ∷ tasks) above.1 end
 
-behind_last : (last key : DueTask) (tasks : List DueTask) → IsStrictlySortedBy task_order tasks → IsLast last tasks → has task_order tasks key ≡ true → IsBehind last key
+after_last : (last key : DueTask) (tasks : List DueTask) → IsStrictlySortedBy task_order tasks → IsLast last tasks → has task_order tasks key ≡ true → IsAfter last key
 unfolding IsStrictlySortedBy
-behind_last last key [] sorted end is = cc
-behind_last last key (task ∷ []) sorted end is =
-    (elim (eq_by_cmp task_order key task) as (λ b. eq_by_cmp task_order key task ≡ b → (b || false) ≡ true → IsBehind last key) [
+after_last last key [] sorted end is = cc
+after_last last key (task ∷ []) sorted end is =
+    (elim (eq_by_cmp task_order key task) as (λ b. eq_by_cmp task_order key task ≡ b → (b || false) ≡ true → IsAfter last key) [
       | true ↦ (λ same any. inl (ap (task_order key) (sym end) ∙ equal_is (task_order key task) same))
       | false ↦ (λ other rest. cc)
     ]) refl is
-behind_last last key (task ∷ next ∷ tasks) sorted end is =
-    (elim (eq_by_cmp task_order key task) as (λ b. eq_by_cmp task_order key task ≡ b → (b || has task_order (next ∷ tasks) key) ≡ true → IsBehind last key) [
+after_last last key (task ∷ next ∷ tasks) sorted end is =
+    (elim (eq_by_cmp task_order key task) as (λ b. eq_by_cmp task_order key task ≡ b → (b || has task_order (next ∷ tasks) key) ≡ true → IsAfter last key) [
       | true ↦ (λ same any. inr (ap (λ (t : DueTask). task_order t last) (same_task key task (equal_is (task_order key task) same)) ∙ before_last last task (next ∷ tasks) sorted.0 end))
-      | false ↦ (λ other rest. behind_last last key (next ∷ tasks) sorted.1 end rest)
+      | false ↦ (λ other rest. after_last last key (next ∷ tasks) sorted.1 end rest)
     ]) refl is
 
-follows_of : (first key : DueTask) → IsBehind first key → Follows (task_held first) (task_held key)
+follows_of : (first key : DueTask) → IsAfter first key → Follows (task_held first) (task_held key)
 follows_of first key (inl same) =
     let is : task_held key ≡ task_held first = ap task_held (same_task key first same) in
     (ap (λ (t : Task). is_before t (task_held first)) is ∙ itself first.day.0.0 first.id.0, λ late. is)
@@ -190,7 +190,7 @@ follows_of first key (inr less) = by (less_parts first.day.0.0 key.day.0.0 first
         let both = subst (λ (y : ℤ). ((int_lt y first.day.0.0 || (int_le y first.day.0.0 && nat_lt key.id.0 first.id.0)) ≡ false) × ((int_lt first.day.0.0 y || (int_le first.day.0.0 y && nat_lt first.id.0 key.id.0)) ≡ true)) low.0 (same_day first.day.0.0 first.id.0 key.id.0 low.1) in
         (both.0, never both.1)
 
-not_due : (first key : DueTask) (day : Day) → IsBehind first key → int_le first.day.0.0 day.0 ≡ false → int_le key.day.0.0 day.0 ≡ false
+not_due : (first key : DueTask) (day : Day) → IsAfter first key → int_le first.day.0.0 day.0 ≡ false → int_le key.day.0.0 day.0 ≡ false
 not_due first key day (inl same) late = ap (λ (t : DueTask). int_le t.day.0.0 day.0) (same_task key first same) ∙ late
 not_due first key day (inr less) late = by (less_parts first.day.0.0 key.day.0.0 first.id.0 key.id.0 less)
   where
@@ -203,21 +203,21 @@ not_due first key day (inr less) late = by (less_parts first.day.0.0 key.day.0.0
 abbrev due : Day → List TransferRow → List TransferRow
 due day rows = filter (λ (row : TransferRow). int_le row.due.0 day.0) rows
 
-abbrev AreBehind : DueTask → List TransferRow → Type 0
-AreBehind first rows = AllByRecursion (λ (row : TransferRow). IsBehind first (task_key row)) rows
+abbrev AreAfter : DueTask → List TransferRow → Type 0
+AreAfter first rows = AllByRecursion (λ (row : TransferRow). IsAfter first (task_key row)) rows
 
-due_follow : (first : DueTask) (day : Day) (rows : List TransferRow) → AreBehind first rows → AllByRecursion (Follows (task_held first)) (map task_of (due day rows))
-due_follow first day [] behind = tt
-due_follow first day (row ∷ rows) behind =
+due_follow : (first : DueTask) (day : Day) (rows : List TransferRow) → AreAfter first rows → AllByRecursion (Follows (task_held first)) (map task_of (due day rows))
+due_follow first day [] suffix = tt
+due_follow first day (row ∷ rows) suffix =
     elim (int_le row.due.0 day.0) as (λ b. AllByRecursion (Follows (task_held first)) (map task_of (cond b (row ∷ due day rows) (due day rows)))) [
-      | true ↦ (follows_of first (task_key row) behind.0, due_follow first day rows behind.1)
-      | false ↦ due_follow first day rows behind.1
+      | true ↦ (follows_of first (task_key row) suffix.0, due_follow first day rows suffix.1)
+      | false ↦ due_follow first day rows suffix.1
     ]
 
-none_due : (first : DueTask) (day : Day) (rows : List TransferRow) → AreBehind first rows → int_le first.day.0.0 day.0 ≡ false → due day rows ≡ []
-none_due first day [] behind late = refl
-none_due first day (row ∷ rows) behind late =
-    ap (λ b. cond b (row ∷ due day rows) (due day rows)) (not_due first (task_key row) day behind.0 late) ∙ none_due first day rows behind.1 late
+none_due : (first : DueTask) (day : Day) (rows : List TransferRow) → AreAfter first rows → int_le first.day.0.0 day.0 ≡ false → due day rows ≡ []
+none_due first day [] suffix late = refl
+none_due first day (row ∷ rows) suffix late =
+    ap (λ b. cond b (row ∷ due day rows) (due day rows)) (not_due first (task_key row) day suffix.0 late) ∙ none_due first day rows suffix.1 late
 
 in_due : (day : Day) (id : ℕ) (row : TransferRow) (rows : List TransferRow) → row_found id rows ≡ Some row → int_le row.due.0 day.0 ≡ true → IsIn (task_of row) (map task_of (due day rows))
 in_due day id row [] found now = cc
@@ -239,11 +239,11 @@ listed_key : (waiting : WaitingView) (tasks : List DueTask) (made : List Made) (
 listed_key waiting tasks made rows listed are row found =
     listed.by_day.are (task_key row) ∙ ap (is_key task_order task_key (task_key row)) (are.found row.id ∙ found) ∙ own (task_key row)
 
-all_behind : (waiting : WaitingView) (first : DueTask) (tasks : List DueTask) (made : List Made) (all : List TransferRow) → AreListed waiting.rows tasks made → IsLast first tasks → AreRows waiting all → (rows : List TransferRow) → AllByRecursion (λ (row : TransferRow). row_found row.id all ≡ Some row) rows → AreBehind first rows
-all_behind waiting first tasks made all listed end are [] found = tt
-all_behind waiting first tasks made all listed end are (row ∷ rows) found = (
-  behind_last first (task_key row) tasks listed.by_day.sorted end (listed_key waiting tasks made all listed are row found.0),
-  all_behind waiting first tasks made all listed end are rows found.1,
+all_after : (waiting : WaitingView) (first : DueTask) (tasks : List DueTask) (made : List Made) (all : List TransferRow) → AreListed waiting.rows tasks made → IsLast first tasks → AreRows waiting all → (rows : List TransferRow) → AllByRecursion (λ (row : TransferRow). row_found row.id all ≡ Some row) rows → AreAfter first rows
+all_after waiting first tasks made all listed end are [] found = tt
+all_after waiting first tasks made all listed end are (row ∷ rows) found = (
+  after_last first (task_key row) tasks listed.by_day.sorted end (listed_key waiting tasks made all listed are row found.0),
+  all_after waiting first tasks made all listed end are rows found.1,
 )
 
 -- The row of a task is found.
@@ -261,13 +261,13 @@ first_id day rows = option_map (λ (task : Task). task.id) (first_task (map task
 
 first_of : (waiting : WaitingView) (first : DueTask) (tasks : List DueTask) (made : List Made) (rows : List TransferRow) (day : Day) → AreListed waiting.rows tasks made → IsLast first tasks → AreRows waiting rows → (b : Bool) → int_le first.day.0.0 day.0 ≡ b → cond b (Some first.id.0) None ≡ first_id day rows
 first_of waiting first tasks made rows day listed end are false late =
-    sym (ap (λ (l : List TransferRow). option_map (λ (task : Task). task.id) (first_task (map task_of l))) (none_due first day rows (all_behind waiting first tasks made rows listed end are rows (each_found rows are.rise)) late))
+    sym (ap (λ (l : List TransferRow). option_map (λ (task : Task). task.id) (first_task (map task_of l))) (none_due first day rows (all_after waiting first tasks made rows listed end are rows (each_found rows are.rise)) late))
 first_of waiting first tasks made rows day listed end are true now =
     let its = its_row waiting first tasks made rows listed (last_among first tasks end) are (row_found first.id.0 rows) refl in
     let row = its.0 in
     let same : task_held first ≡ task_of row = its.2 in
     let is_in = in_due day first.id.0 row rows its.1 (ap (λ (t : Task). int_le t.day.0 day.0) (sym same) ∙ now) in
-    sym (ap (option_map (λ (task : Task). task.id)) (least (task_held first) (map task_of (due day rows)) (due_follow first day rows (all_behind waiting first tasks made rows listed end are rows (each_found rows are.rise))) (subst (λ (t : Task). IsIn t (map task_of (due day rows))) (sym same) is_in)))
+    sym (ap (option_map (λ (task : Task). task.id)) (least (task_held first) (map task_of (due day rows)) (due_follow first day rows (all_after waiting first tasks made rows listed end are rows (each_found rows are.rise))) (subst (λ (t : Task). IsIn t (map task_of (due day rows))) (sym same) is_in)))
 
 pub first_due : (waiting : WaitingView) (first : DueTask) (tasks : List DueTask) (made : List Made) (rows : List TransferRow) (day : Day) → AreListed waiting.rows tasks made → AreRows waiting rows → slice_get tasks (length tasks - 1) ≡ Some first → cond (int_le first.day.0.0 day.0) (Some first.id.0) None ≡ first_id day rows
 first_due waiting first tasks made rows day listed are is = first_of waiting first tasks made rows day listed (last_is first tasks is) are (int_le first.day.0.0 day.0) refl

@@ -1,7 +1,7 @@
 pub mod GrowthLemmas
 pub mod WaitingLemmas
 pub mod HeldLemmas
-pub mod StandsLemmas
+pub mod RepresentsLemmas
 pub mod OnceLemmas
 pub mod ChainLemmas
 pub mod LineLemmas

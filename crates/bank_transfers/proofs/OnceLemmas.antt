@@ -13,7 +13,7 @@ use Rattle.bank_model.specs.declared.entry.Entry.{Entry}
 use Rattle.bank_model.specs.Ledger.{Posting, row_in, is_dropped, with_code, row_of, is_posted, posting_of, moved}
 use Rattle.bank_model.specs.Models.{is_waiting}
 use Rattle.bank_transfers.specs.Growth.{row_given, row_after}
-use Rattle.bank_transfers.specs.Lawful.{IsLawful, AreLawfulBehind, AreLawful, PostsOnce}
+use Rattle.bank_transfers.specs.Lawful.{IsLawful, AreLawfulAfter, AreLawful, PostsOnce}
 use Rattle.bank_transfers.specs.TransfersView.{waits}
 use Rattle.bank_transfers.proofs.GrowthLemmas.{moved-push, row_of-push}
 use Rattle.bank_transfers.proofs.WaitingLemmas.{same_flips}
@@ -21,7 +21,7 @@ use Rattle.bank_transfers.proofs.HeldLemmas.{posted_closed}
 
 -- ---- one entry more
 
-lawful_more : (before entries : List Entry) (entry : Entry) → AreLawfulBehind before entries → IsLawful (before ++ entries) entry.change → AreLawfulBehind before (entries ++ entry ∷ [])
+lawful_more : (before entries : List Entry) (entry : Entry) → AreLawfulAfter before entries → IsLawful (before ++ entries) entry.change → AreLawfulAfter before (entries ++ entry ∷ [])
 lawful_more before [] entry are is = (subst (λ (l : List Entry). IsLawful l entry.change) (append-nil before) is, tt)
 lawful_more before (first ∷ entries) entry are is =
     (are.0, lawful_more (before ++ first ∷ []) entries entry are.1 (subst (λ (l : List Entry). IsLawful l entry.change) (sym (append_assoc before (first ∷ []) entries)) is))
@@ -51,20 +51,20 @@ names id (DropModel gone pending) = false
 names id (NewMail mail) = false
 
 other_id : (entries : List Entry) (named id : ℕ) → is_settled (row_of named entries) ≡ false → is_settled (row_of id entries) ≡ true → eqb named id ≡ false
-other_id entries named id unsettled settled = apart (eqb named id) (λ same. let no : false ≡ true = sym unsettled ∙ ap (λ n. is_settled (row_of n entries)) (eqb-true named id same) ∙ settled in cc)
+other_id entries named id unsettled processed = apart (eqb named id) (λ same. let no : false ≡ true = sym unsettled ∙ ap (λ n. is_settled (row_of n entries)) (eqb-true named id same) ∙ processed in cc)
   where
     apart : (b : Bool) → (b ≡ true → ⊥) → b ≡ false
     apart true never = absurd (never refl)
     apart false never = refl
 
 unnamed : (entries : List Entry) (change : Change) → IsLawful entries change → (id : ℕ) → is_settled (row_of id entries) ≡ true → names id change ≡ false
-unnamed entries (NewTransfer row) new id settled = other_id entries row.id id (ap is_settled new) settled
-unnamed entries (SetTransfer row) waiting id settled = other_id entries row.id id (waiting_unsettled (row_of row.id entries) waiting) settled
-unnamed entries (DropTransfer gone) waiting id settled = other_id entries gone id (waiting_unsettled (row_of gone entries) waiting) settled
-unnamed entries (NewModel row) lawful id settled = refl
-unnamed entries (SetModel row pending) lawful id settled = refl
-unnamed entries (DropModel gone pending) lawful id settled = refl
-unnamed entries (NewMail mail) lawful id settled = refl
+unnamed entries (NewTransfer row) new id processed = other_id entries row.id id (ap is_settled new) processed
+unnamed entries (SetTransfer row) waiting id processed = other_id entries row.id id (waiting_unsettled (row_of row.id entries) waiting) processed
+unnamed entries (DropTransfer gone) waiting id processed = other_id entries gone id (waiting_unsettled (row_of gone entries) waiting) processed
+unnamed entries (NewModel row) lawful id processed = refl
+unnamed entries (SetModel row pending) lawful id processed = refl
+unnamed entries (DropModel gone pending) lawful id processed = refl
+unnamed entries (NewMail mail) lawful id processed = refl
 
 unnamed_kept : (id : ℕ) (dropped : Bool) (before : Option TransferRow) (change : Change) → names id change ≡ false → row_after id dropped before change ≡ before
 unnamed_kept id dropped before (NewTransfer row) other = ap (λ b. cond b (Some (cond dropped (with_code Cancelled row) row)) before) other
@@ -76,9 +76,9 @@ unnamed_kept id dropped before (DropModel gone pending) other = refl
 unnamed_kept id dropped before (NewMail mail) other = refl
 
 settled_stays : (entries : List Entry) (entry : Entry) → IsLawful entries entry.change → (id : ℕ) → is_settled (row_of id entries) ≡ true → is_settled (row_of id (entries ++ entry ∷ [])) ≡ true
-settled_stays entries entry lawful id settled =
-    ap is_settled (row_of-push id entries entry ∙ unnamed_kept id (is_dropped id entries) (row_of id entries) entry.change (unnamed entries entry.change lawful id settled))
-    ∙ settled
+settled_stays entries entry lawful id processed =
+    ap is_settled (row_of-push id entries entry ∙ unnamed_kept id (is_dropped id entries) (row_of id entries) entry.change (unnamed entries entry.change lawful id processed))
+    ∙ processed
 
 -- ---- a posting more
 
@@ -138,33 +138,33 @@ posted_more entries entry lawful posted = with_row (row_in entry.change) refl
     after : List Entry
     after = entries ++ entry ∷ []
 
-    settled : AllByRecursion (λ (p : Posting). is_settled (row_of p.row.id after) ≡ true) (moved entries)
-    settled = all_as (λ (p : Posting). is_settled (row_of p.row.id entries) ≡ true) (λ (p : Posting). is_settled (row_of p.row.id after) ≡ true) (λ p s. settled_stays entries entry lawful p.row.id s) (moved entries) posted.1
+    processed : AllByRecursion (λ (p : Posting). is_settled (row_of p.row.id after) ≡ true) (moved entries)
+    processed = all_as (λ (p : Posting). is_settled (row_of p.row.id entries) ≡ true) (λ (p : Posting). is_settled (row_of p.row.id after) ≡ true) (λ p s. settled_stays entries entry lawful p.row.id s) (moved entries) posted.1
 
     apart : (row : TransferRow) → row_in entry.change ≡ Some row → AllByRecursion (λ (p : Posting). eqb p.row.id row.id ≡ false) (moved entries)
     apart row is = all_as (λ (p : Posting). is_settled (row_of p.row.id entries) ≡ true) (λ (p : Posting). eqb p.row.id row.id ≡ false) (λ p s. same_flips p.row.id row.id ∙ sym (names_given p.row.id entry.change row is) ∙ unnamed entries entry.change lawful p.row.id s) (moved entries) posted.1
 
     none : ArePosted after (moved entries ++ [])
-    none = subst (ArePosted after) (sym (append-nil (moved entries))) (posted.0, settled)
+    none = subst (ArePosted after) (sym (append-nil (moved entries))) (posted.0, processed)
 
     with_row : (row : Option TransferRow) → row_in entry.change ≡ row → ArePosted after (moved entries ++ posting_of entry.number row)
     with_row None is = none
     with_row (Some row) is = (elim (is_posted row.code) as (λ b. is_posted row.code ≡ b → ArePosted after (moved entries ++ cond b (record { number = entry.number; row = row } ∷ []) [])) [
       | true ↦ (λ e. (
         distinct_more (moved entries) (record { number = entry.number; row = row }) posted.0 (apart row is),
-        all_more (λ (p : Posting). is_settled (row_of p.row.id after) ≡ true) (moved entries) (record { number = entry.number; row = row }) settled
+        all_more (λ (p : Posting). is_settled (row_of p.row.id after) ≡ true) (moved entries) (record { number = entry.number; row = row }) processed
             (ap is_settled (row_of-push row.id entries entry) ∙ posting_settled (is_dropped row.id entries) (row_of row.id entries) entry.change row is e),
       ))
       | false ↦ (λ e. none)
     ]) refl
 
-posted_behind : (before entries : List Entry) → AreLawfulBehind before entries → ArePosted before (moved before) → ArePosted (before ++ entries) (moved (before ++ entries))
-posted_behind before [] are posted = subst (λ (l : List Entry). ArePosted l (moved l)) (sym (append-nil before)) posted
-posted_behind before (entry ∷ entries) are posted =
+posted_after : (before entries : List Entry) → AreLawfulAfter before entries → ArePosted before (moved before) → ArePosted (before ++ entries) (moved (before ++ entries))
+posted_after before [] are posted = subst (λ (l : List Entry). ArePosted l (moved l)) (sym (append-nil before)) posted
+posted_after before (entry ∷ entries) are posted =
     subst (λ (l : List Entry). ArePosted l (moved l)) (append_assoc before (entry ∷ []) entries)
-    (posted_behind (before ++ entry ∷ []) entries are.1
+    (posted_after (before ++ entry ∷ []) entries are.1
     (subst (ArePosted (before ++ entry ∷ [])) (sym (moved-push before entry)) (posted_more before entry are.0 posted)))
 
 pub posts_once : (entries : List Entry) → AreLawful entries → PostsOnce entries
 unfolding moved IsDistinct
-posts_once entries are = (posted_behind [] entries are (tt, tt)).0
+posts_once entries are = (posted_after [] entries are (tt, tt)).0

@@ -106,7 +106,7 @@ is_there name setup is =
     let test = λ (line : AccountLine). same_account line.name name in
     sym (position_there test setup.accounts) ∙ found (nat_lt (position_or_len test setup.accounts) (length setup.accounts)) (position_or_len test setup.accounts) is
   where
-    found : (b : Bool) (n : ℕ) → IsSome (option_map (λ (place : ℕ). let a : AcctId = record { 0 = place } in a) (cond b (Some n) None)) → b ≡ true
+    found : (b : Bool) (n : ℕ) → IsSome (option_map (λ (index : ℕ). let a : AcctId = record { 0 = index } in a) (cond b (Some n) None)) → b ≡ true
     found true n is = refl
     found false n is = cc
 
@@ -137,15 +137,15 @@ shifted : (line : AccountLine) (lines : List AccountLine) (a n : ℕ) → map (s
 shifted line lines a zero = refl
 shifted line lines a (suc n) = rw add-one (ap (λ ls. slice_get lines a ∷ ls) (rw (← add-one) (shifted line lines (a + 1) n)))
 
-each_place : (lines : List AccountLine) → map (slice_get lines) (range_with_len 0 (length lines)) ≡ map (λ (line : AccountLine). Some line) lines
-each_place [] = refl
-each_place (line ∷ lines) = ap (λ ls. Some line ∷ ls) (shifted line lines 0 (length lines) ∙ each_place lines)
+each_index : (lines : List AccountLine) → map (slice_get lines) (range_with_len 0 (length lines)) ≡ map (λ (line : AccountLine). Some line) lines
+each_index [] = refl
+each_index (line ∷ lines) = ap (λ ls. Some line ∷ ls) (shifted line lines 0 (length lines) ∙ each_index lines)
 
-by_number : (g : Option AccountLine → ℤ) (lines : List AccountLine) → fold (λ (sum : ℤ) (account : AcctId). sum +ℤ g (slice_get lines account.0)) (pos 0) (map (λ (place : ℕ). record { 0 = place }) (range_with_len 0 (length lines))) ≡ total (λ line. g (Some line)) (pos 0) lines
+by_number : (g : Option AccountLine → ℤ) (lines : List AccountLine) → fold (λ (sum : ℤ) (account : AcctId). sum +ℤ g (slice_get lines account.0)) (pos 0) (map (λ (index : ℕ). record { 0 = index }) (range_with_len 0 (length lines))) ≡ total (λ line. g (Some line)) (pos 0) lines
 by_number g lines =
-    fold-map (λ (sum : ℤ) (account : AcctId). sum +ℤ g (slice_get lines account.0)) (λ (place : ℕ). record { 0 = place }) (pos 0) (range_with_len 0 (length lines))
+    fold-map (λ (sum : ℤ) (account : AcctId). sum +ℤ g (slice_get lines account.0)) (λ (index : ℕ). record { 0 = index }) (pos 0) (range_with_len 0 (length lines))
     ∙ sym (fold-map (λ (sum : ℤ) (line : Option AccountLine). sum +ℤ g line) (slice_get lines) (pos 0) (range_with_len 0 (length lines)))
-    ∙ ap (fold (λ (sum : ℤ) (line : Option AccountLine). sum +ℤ g line) (pos 0)) (each_place lines)
+    ∙ ap (fold (λ (sum : ℤ) (line : Option AccountLine). sum +ℤ g line) (pos 0)) (each_index lines)
     ∙ fold-map (λ (sum : ℤ) (line : Option AccountLine). sum +ℤ g line) (λ (line : AccountLine). Some line) (pos 0) lines
 
 pub balances_stay : (setup : Setup) (entries : List Entry) → IsWithinLimits setup → All (IsInside setup) (moved entries) → balances setup entries ≡ openings setup.accounts

@@ -5,7 +5,7 @@ use Rattle.std.specs.Map.{lookup}
 use Rattle.ofx_types.specs.declared.account.AcctName.{AcctName}
 use Rattle.ofx_types.specs.declared.number.Moment.{Moment}
 use Rattle.bank_model.specs.Ledger.{Posting}
-use Rattle.bank_transfers.specs.declared.link.Link.{Link}
+use Rattle.bank_transfers.specs.declared.skip_link.SkipLink.{SkipLink}
 use Rattle.bank_transfers.specs.declared.postings.Linked.{Linked}
 
 -- the key of an account, from its number
@@ -23,13 +23,13 @@ abbrev pub is_of : ℕ → Posting → Bool
 is_of id posting = posting.row.id == id
 
 -- the place of the last posting that passes a test
-abbrev pub place_before : Bool → ℕ → ℕ
-place_before passes zero = if passes then 1 else 0
-place_before passes (suc place) = suc (suc place)
+abbrev pub index_before : Bool → ℕ → ℕ
+index_before passes zero = if passes then 1 else 0
+index_before passes (suc index) = suc (suc index)
 
 abbrev pub last_by : (Posting → Bool) → List Posting → ℕ
 last_by test [] = 0
-last_by test (posting ∷ more) = place_before (test posting) (last_by test more)
+last_by test (posting ∷ more) = index_before (test posting) (last_by test more)
 
 abbrev pub posting_of : Linked → Posting
 posting_of linked = record { number = linked.number; row = linked.row }
@@ -48,12 +48,12 @@ IsBetween least greatest posting = (least.0 ≤ℤ posting.row.stamp.0) × (post
 
 -- Stamps are from one moment to another: those of the postings of a key after one place, up to another.
 abbrev pub AreBetween : ℕ → Moment → Moment → ℕ → ℕ → List Posting → Type 0
-AreBetween key least greatest after place postings = (k : ℕ) (d : Posting) → after ≤ k → k < place
+AreBetween key least greatest after index postings = (k : ℕ) (d : Posting) → after ≤ k → k < index
     → touches key (slice_index_or postings k d) ≡ true → IsBetween least greatest (slice_index_or postings k d)
 
 -- A posting after k others leads back to the last one of a key before it, and skips to one that is no later; stamps after
 -- that one up to its own are between the least and the greatest.
-pub record IsLinked (key : ℕ) (link : Link) (k : ℕ) (postings : List Posting) : Type 0 where
+pub record IsLinked (key : ℕ) (link : SkipLink) (k : ℕ) (postings : List Posting) : Type 0 where
   pub before : link.before ≡ last_by (touches key) (take k postings)
   pub skip : link.skip ≤ link.before
   pub lands : PassesAt (touches key) link.skip postings
@@ -65,10 +65,10 @@ AreLinked held = (k : ℕ) (d : Linked) → k < length held
     → IsLinked (key_of (slice_index_or held k d).row.from) (slice_index_or held k d).from_link k (postings_of held)
     × IsLinked (key_of (slice_index_or held k d).row.to) (slice_index_or held k d).to_link k (postings_of held)
 
-abbrev pub place_or_none : Option ℕ → ℕ
-place_or_none None = 0
-place_or_none (Some place) = place
+abbrev pub index_or_none : Option ℕ → ℕ
+index_or_none None = 0
+index_or_none (Some index) = index
 
 -- The table has the place of the last posting of each key.
 abbrev pub HasLasts : (ℕ → Posting → Bool) → List (ℕ × ℕ) → List Posting → Type 0
-HasLasts test table postings = (key : ℕ) → place_or_none (lookup (λ k. key == k) table) ≡ last_by (test key) postings
+HasLasts test table postings = (key : ℕ) → index_or_none (lookup (λ k. key == k) table) ≡ last_by (test key) postings

@@ -18,12 +18,12 @@ IsLawful entries (DropModel id pending) = Unit {0}
 IsLawful entries (NewMail mail) = Unit {0}
 
 -- Each entry is lawful after those before it.
-abbrev pub AreLawfulBehind : List Entry → List Entry → Type 0
-AreLawfulBehind before [] = Unit {0}
-AreLawfulBehind before (entry ∷ more) = IsLawful before entry.change × AreLawfulBehind (before ++ entry ∷ []) more
+abbrev pub AreLawfulAfter : List Entry → List Entry → Type 0
+AreLawfulAfter before [] = Unit {0}
+AreLawfulAfter before (entry ∷ more) = IsLawful before entry.change × AreLawfulAfter (before ++ entry ∷ []) more
 
 abbrev pub AreLawful : List Entry → Type 0
-AreLawful entries = AreLawfulBehind [] entries
+AreLawful entries = AreLawfulAfter [] entries
 
 -- No two postings are of one transfer.
 abbrev pub PostsOnce : List Entry → Type 0

@@ -3,7 +3,7 @@ pub mod Growth
 pub mod Held
 pub mod Lawful
 pub mod Lines
-pub mod Link
+pub mod SkipLink
 pub mod Order
 pub mod PostingsView
 pub mod Together

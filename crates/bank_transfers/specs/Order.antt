@@ -15,7 +15,7 @@ abbrev pub is_key : {K : Type 0} → (K → K → Ordering) → (TransferRow →
 is_key R key_of key None = false
 is_key R key_of key (Some row) = eq_by_cmp R key (key_of row)
 
--- Keys list the rows that are found by their ids: they stand in order, and each is the key of the row found by its id.
+-- Keys list the rows that are found by their ids: they are in order, and each is the key of the row found by its id.
 pub record Lists {K : Type 0} (R : K → K → Ordering) (id_of : K → ℕ) (key_of : TransferRow → K) (keys : List K) (found : ℕ → Option TransferRow) : Type 0 where
   pub sorted : IsStrictlySortedBy R keys
   pub are : (key : K) → has R keys key ≡ is_key R key_of key (found (id_of key))

@@ -9,7 +9,7 @@ use Rattle.bank_model.specs.Ledger.{Posting, balance}
 
 -- the accounts of a setup, numbered from 0
 abbrev pub accounts_of : Setup → List AcctId
-accounts_of setup = map (λ (place : ℕ). record { 0 = place }) (range_with_len 0 (length setup.accounts))
+accounts_of setup = map (λ (index : ℕ). record { 0 = index }) (range_with_len 0 (length setup.accounts))
 
 -- the balances of all accounts together
 abbrev pub balances : Setup → List Entry → ℤ

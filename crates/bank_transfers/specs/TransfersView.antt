@@ -24,7 +24,7 @@ pub record TransfersView : Type 0 where
 abbrev pub row_found : ℕ → List TransferRow → Option TransferRow
 row_found id rows = find (λ (row : TransferRow). row.id == id) rows
 
--- the row that stands under an id
+-- the row that is under an id
 abbrev pub row_at : List (ℕ × TransferRow) → ℕ → Option TransferRow
 row_at rows id = lookup (λ key. id == key) rows
 
@@ -43,7 +43,7 @@ RiseById (row ∷ rows) = AllByRecursion (λ (other : TransferRow). row.id < oth
 
 -- The transfers stand for a list of entries: the row that they have for an id is the row that the entries have for it,
 -- those that wait are the ones that wait by the entries, whose ids rise, and their postings are what the entries moved.
-pub record StandsFor (transfers : TransfersView) (entries : List Entry) : Type 0 where
+pub record Represents (transfers : TransfersView) (entries : List Entry) : Type 0 where
   pub rows : (id : ℕ) → row_held transfers id ≡ row_of id entries
   pub waiting : (id : ℕ) → row_at transfers.waiting id ≡ row_found id (all_waiting entries)
   pub rise : RiseById (all_waiting entries)

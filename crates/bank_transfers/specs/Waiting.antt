@@ -37,7 +37,7 @@ task_key row = record { day = record { 0 = row.due }; id = record { 0 = row.id }
 abbrev pub made_key : TransferRow → Made
 made_key row = record { model = record { 0 = row.model }; id = row.id }
 
--- What lists the rows that stand under ids: each row stands under its own, and the tasks and the transfers that recurring
+-- What lists the rows that stand under ids: each row is under its own, and the tasks and the transfers that recurring
 -- ones made are those of the rows.
 pub record AreListed (rows : List (ℕ × TransferRow)) (tasks : List DueTask) (made : List Made) : Type 0 where
   pub keyed : (id : ℕ) → IfSome (row_at rows id) (λ (row : TransferRow). row.id ≡ id)

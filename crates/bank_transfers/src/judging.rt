@@ -16,7 +16,7 @@ use ofx_types::{AcctId, AcctName, Cents, Day, TransferRow, UserId, XferCode, Xfe
 
 /// The code of a transfer that a user asks for on a business day, when its source has that balance.
 ///
-/// Where the deed stands in the synchronisation of one account, `only` is that account. Takes no memory.
+/// Where the deed is in the synchronisation of one account, `only` is that account. Takes no memory.
 #[tactic(auto, unfolding(bank_model::specs::Judging::transfer_code))]
 pub fn judge_transfer(
     setup: &Setup,
@@ -75,7 +75,7 @@ pub fn judge_cancel(
     ensures { result ≡ cancel_code setup.now user only (option_map (λ r. r.now) row.entry) }
 {
     match row {
-        Some(found) => standing_code(setup, user, only, found),
+        Some(found) => state_code(setup, user, only, found),
         None => UNKNOWN_SERVER_ID,
     }
 }
@@ -93,7 +93,7 @@ fn change_code(
     requires { IsWithinLimits setup.now }
     ensures { result ≡ modify_code setup.now user only (Some found.now) info.now day }
 {
-    match standing_code(setup, user, only, found) {
+    match state_code(setup, user, only, found) {
         DONE => asked_code(setup, found, info, day),
         refusal => refusal,
     }
@@ -126,7 +126,7 @@ fn asked_code(setup: &Setup, found: &TransferRow, info: &XferInfo, day: Day) -> 
 
 /// What a change and a cancellation refuse alike.
 #[tactic(auto, unfolding(bank_model::specs::Judging::cancel_code))]
-fn standing_code(setup: &Setup, user: UserId, only: Option<AcctId>, found: &TransferRow) -> u16
+fn state_code(setup: &Setup, user: UserId, only: Option<AcctId>, found: &TransferRow) -> u16
     requires { IsWithinLimits setup.now }
     ensures { result ≡ cancel_code setup.now user only (Some found.now) }
 {

@@ -9,7 +9,7 @@ ghost use Rattle.bank_model.specs.Ledger.{row_in, drops, is_dropped, row_of, pos
 ghost use Rattle.bank_transfers.specs.Growth.{row_after};
 ghost use Rattle.bank_transfers.specs.Lawful.{IsLawful, AreLawful, PostsOnce};
 ghost use Rattle.bank_transfers.specs.Together.{IsInside, balances};
-ghost use Rattle.bank_transfers.specs.TransfersView.{TransfersView, StandsFor};
+ghost use Rattle.bank_transfers.specs.TransfersView.{TransfersView, Represents};
 
 /// One entry more moves what it posts, after all that was moved.
 pub fn moved_by_one_more()
@@ -39,9 +39,9 @@ pub fn money_stays()
 /// What transfers stand for stays where an entry gives no transfer a row and drops none, as an entry of a recurring
 /// transfer does.
 pub fn models_leave_transfers()
-    ensures { (transfers : TransfersView) (entries : List Entry) (entry : Entry) → StandsFor transfers entries
+    ensures { (transfers : TransfersView) (entries : List Entry) (entry : Entry) → Represents transfers entries
         → row_in entry.change ≡ None → ((id : ℕ) → drops id entry.change ≡ false)
-        → StandsFor transfers (entries ++ entry ∷ []) }
+        → Represents transfers (entries ++ entry ∷ []) }
 {}
 
 /// Lawful entries stay so with one more that is lawful after them.

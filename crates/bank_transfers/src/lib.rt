@@ -8,11 +8,11 @@
 mod judging;
 mod key;
 pub mod laws;
-mod link;
 mod order;
 mod posted;
 mod postings;
 mod rows;
+mod skip_link;
 mod transfers;
 mod waiting;
 

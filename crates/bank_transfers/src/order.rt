@@ -16,15 +16,15 @@ pub(crate) fn put_key<K: Ord + Drop>(keys: &mut Vec<K>, key: K)
 {
     match keys.binary_search(&key) {
         Ok(_there) => {}
-        Err(place) => {
-            let put: Result<_, _> = keys.insert(place, key);
+        Err(index) => {
+            let put: Result<_, _> = keys.insert(index, key);
             put.unwrap();
         }
     }
 }
 
 /// Takes a key out, where it is there.
-pub(crate) fn take_key<K: Ord + Drop>(keys: &mut Vec<K>, key: &K)
+pub(crate) fn remove_key<K: Ord + Drop>(keys: &mut Vec<K>, key: &K)
     requires sorted { IsStrictlySortedBy K.cmp keys.old.items }
     ensures sorted { IsStrictlySortedBy K.cmp keys.new.items }
     ensures has { (other : K) → has K.cmp keys.new.items other ≡ (has K.cmp keys.old.items other && not (eq_by_cmp K.cmp other key.now)) }
@@ -32,8 +32,8 @@ pub(crate) fn take_key<K: Ord + Drop>(keys: &mut Vec<K>, key: &K)
     ensures capacity { vec_capacity keys.old ≤ vec_capacity keys.new }
 {
     match keys.binary_search(key) {
-        Ok(place) => {
-            let _gone = keys.remove(place);
+        Ok(index) => {
+            let _gone = keys.remove(index);
         }
         Err(_absent) => {}
     }

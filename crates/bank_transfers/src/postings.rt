@@ -8,14 +8,14 @@ ghost use Rattle.std.specs.Map.{lookup};
 ghost use Rattle.bank_model.specs.Ledger as ledger;
 ghost use Rattle.bank_model.specs.Ledger.{Posting, lines_of, is_within_period, line_for};
 ghost use Rattle.bank_transfers.specs.Chain as chain;
-ghost use Rattle.bank_transfers.specs.Chain.{touches, last_by, place_or_none, posting_of, postings_of, PassesAt, IsLinked, AreLinked};
+ghost use Rattle.bank_transfers.specs.Chain.{touches, last_by, index_or_none, posting_of, postings_of, PassesAt, IsLinked, AreLinked};
 ghost use Rattle.bank_transfers.specs.Lines.{lines_for};
 ghost use Rattle.bank_transfers.specs.PostingsView.{IsPosted};
 ghost use Rattle.bank_transfers.specs.TransfersView.{IsWithinAmounts};
 
 use crate::key::key_of;
-use crate::link::Link;
 use crate::posted::{is_about, is_within, part};
+use crate::skip_link::SkipLink;
 use ofx_types::{AcctName, Lines, Moment, OutOfMemory, Sequence, StatementLine, TransferRow};
 use std::alloc::Global;
 use std::collections::HashMap;
@@ -27,8 +27,8 @@ use std::marker::Model;
 pub(crate) struct Linked {
     number: u64,
     row: TransferRow,
-    from_link: Link,
-    to_link: Link,
+    from_link: SkipLink,
+    to_link: SkipLink,
 }
 
 impl Linked {
@@ -55,7 +55,7 @@ impl Linked {
     }
 
     /// How it leads back to earlier postings of a key that is its source's or its destination's.
-    fn link(&self, key: u64) -> Link
+    fn link(&self, key: u64) -> SkipLink
         ensures { result ≡ (if chain.key_of self.now.row.from == key then self.now.from_link else self.now.to_link) }
     {
         if key_of(&self.row.from) == key {
@@ -142,7 +142,7 @@ impl Postings {
         ensures room { self.new.room + 1 ≡ self.old.room }
     {
         let count = self.held.len();
-        let place = count + 1;
+        let index = count + 1;
         let from = key_of(&row.from);
         let to = key_of(&row.to);
         let id = row.id;
@@ -155,9 +155,9 @@ impl Postings {
             to_link,
         };
         self.held.push_reserved(linked);
-        set_place(&mut self.accounts, from, place);
-        set_place(&mut self.accounts, to, place);
-        set_place(&mut self.ids, id, place);
+        set_index(&mut self.accounts, from, index);
+        set_index(&mut self.accounts, to, index);
+        set_index(&mut self.ids, id, index);
         self.left -= 1;
     }
 
@@ -166,11 +166,11 @@ impl Postings {
         ensures { option_copied result
             ≡ option_map (λ posted. posted.row) (find (λ posted. posted.row.id == id) (reverse self.now.postings)) }
     {
-        let place = last_at(&self.ids, id);
-        if place == 0 {
+        let index = last_at(&self.ids, id);
+        if index == 0 {
             return None;
         }
-        let linked = &self.held[place - 1];
+        let linked = &self.held[index - 1];
         Some(&linked.row)
     }
 
@@ -187,11 +187,11 @@ impl Postings {
     {
         let key = key_of(name);
         let mut lines = Vec::new(alloc);
-        let mut place = last_at(&self.accounts, key);
-        while place > 0 {
-            let linked = &self.held[place - 1];
+        let mut index = last_at(&self.accounts, key);
+        while index > 0 {
+            let linked = &self.held[index - 1];
             push_listed(&mut lines, linked, name, period)?;
-            place = linked.link(key).next(period);
+            index = linked.link(key).next(period);
         }
         lines.reverse();
         Ok(Sequence::from_vec(lines))
@@ -199,58 +199,58 @@ impl Postings {
 }
 
 /// How the posting at a place leads back to earlier ones of a key that is its source's or its destination's.
-fn link_at(held: &[Linked], place: usize, key: u64) -> Link
+fn link_at(held: &[Linked], index: usize, key: u64) -> SkipLink
     requires linked { AreLinked held.now }
-    requires some { 0 < place }
-    requires bound { place ≤ length held.now }
-    requires passes { PassesAt (touches key) place (postings_of held.now) }
-    ensures { IsLinked key result (place - 1) (postings_of held.now) }
+    requires some { 0 < index }
+    requires bound { index ≤ length held.now }
+    requires passes { PassesAt (touches key) index (postings_of held.now) }
+    ensures { IsLinked key result (index - 1) (postings_of held.now) }
 {
-    held[place - 1].link(key)
+    held[index - 1].link(key)
 }
 
 /// How a new posting leads back to those of a key before it, of which the last has that place.
 ///
 /// Where that one's skip, and the skip from where it lands, are over equally many postings, the new one skips over both and itself.
 /// So there are skips of every power of two, and a few of them lead to any place.
-fn link_to(held: &[Linked], before: usize, key: u64, stamp: Moment) -> Link
+fn link_to(held: &[Linked], before: usize, key: u64, stamp: Moment) -> SkipLink
     requires linked { AreLinked held.now }
     requires before { before ≡ last_by (touches key) (postings_of held.now) }
     ensures { (posting : Posting) → posting.row.stamp ≡ stamp
         → IsLinked key result (length held.now) (postings_of held.now ++ posting ∷ []) }
 {
     if before == 0 {
-        return Link::to(before, stamp);
+        return SkipLink::to(before, stamp);
     }
     let last = link_at(held, before, key);
     if last.skip == 0 {
-        return Link::to(before, stamp);
+        return SkipLink::to(before, stamp);
     }
     let earlier = link_at(held, last.skip, key);
     if last.rank != earlier.rank {
-        return Link::to(before, stamp);
+        return SkipLink::to(before, stamp);
     }
-    Link::over(before, stamp, last, earlier)
+    SkipLink::over(before, stamp, last, earlier)
 }
 
 /// The place at a key, or 0.
-fn last_at(places: &HashMap<u64, usize>, key: u64) -> usize
-    ensures { result ≡ place_or_none (lookup (λ k. key == k) places.now.entries) }
+fn last_at(indices: &HashMap<u64, usize>, key: u64) -> usize
+    ensures { result ≡ index_or_none (lookup (λ k. key == k) indices.now.entries) }
 {
-    match places.get(&key) {
-        Some(place) => *place,
+    match indices.get(&key) {
+        Some(index) => *index,
         None => 0,
     }
 }
 
 /// Sets the place at a key. There is room for it, and it takes no memory.
-fn set_place(places: &mut HashMap<u64, usize>, key: u64, place: usize)
-    requires { 0 < spare places.old }
-    ensures places { (other : ℕ) → lookup (λ k. other == k) places.new.entries
-        ≡ (if key == other then Some place else lookup (λ k. other == k) places.old.entries) }
-    ensures room { spare places.old ≤ spare places.new + 1 }
+fn set_index(indices: &mut HashMap<u64, usize>, key: u64, index: usize)
+    requires { 0 < spare indices.old }
+    ensures indices { (other : ℕ) → lookup (λ k. other == k) indices.new.entries
+        ≡ (if key == other then Some index else lookup (λ k. other == k) indices.old.entries) }
+    ensures room { spare indices.old ≤ spare indices.new + 1 }
 {
-    let set: Result<_, _> = places.insert(key, place);
+    let set: Result<_, _> = indices.insert(key, index);
     let _before = set.unwrap();
 }
 

@@ -68,7 +68,7 @@ impl Rows {
     }
 
     /// Takes the row of the transfer with this id out, where it is there.
-    pub(crate) fn take_out(&mut self, id: u64)
+    pub(crate) fn remove_row(&mut self, id: u64)
         ensures found { (other : ℕ) → row_at self.new.rows other ≡ (if id == other then None else row_at self.old.rows other) }
         ensures room { self.old.room ≤ self.new.room }
     {

@@ -12,7 +12,7 @@ ghost use Rattle.bank_model.specs.Due.{first_task, to_post};
 ghost use Rattle.ofx_types.specs.declared.transfer.TransferRow.{TransferRow};
 ghost use Rattle.bank_transfers.specs.Held.{IsClosed, AreClosed};
 ghost use Rattle.bank_transfers.specs.PostingsView.{IsPosted};
-ghost use Rattle.bank_transfers.specs.TransfersView.{row_at, row_settled, row_held, StandsFor, GivesRow, IsWithinAmounts};
+ghost use Rattle.bank_transfers.specs.TransfersView.{row_at, row_settled, row_held, Represents, GivesRow, IsWithinAmounts};
 
 use crate::postings::Postings;
 use crate::rows::Rows;
@@ -63,7 +63,7 @@ impl Drop for Transfers {
 impl Transfers {
     /// The transfers before any entry. Takes no memory.
     pub fn new(alloc: Global) -> Transfers
-        ensures { StandsFor result [] }
+        ensures { Represents result [] }
     {
         Transfers {
             waiting: Waiting::new(alloc),
@@ -74,11 +74,11 @@ impl Transfers {
 
     /// The row of the transfer with this id (SRVRTID), lent. Takes no memory.
     pub fn get(&self, id: u64) -> Option<&TransferRow>
-        ensures { (entries : List Entry) → StandsFor self.now entries → option_copied result ≡ row_of id entries }
+        ensures { (entries : List Entry) → Represents self.now entries → option_copied result ≡ row_of id entries }
     {
         match self.waiting.get(id) {
             Some(row) => Some(row),
-            None => settled_row(&self.closed, &self.postings, id),
+            None => processed_row(&self.closed, &self.postings, id),
         }
     }
 
@@ -89,7 +89,7 @@ impl Transfers {
         ensures rows { (id : ℕ) → row_held self.new id ≡ row_held self.old id }
         ensures waiting { (id : ℕ) → row_at self.new.waiting id ≡ row_at self.old.waiting id }
         ensures postings { self.new.postings ≡ self.old.postings }
-        ensures stands { (entries : List Entry) → StandsFor self.old entries → StandsFor self.new entries }
+        ensures holds { (entries : List Entry) → Represents self.old entries → Represents self.new entries }
         ensures room { OnOk result (entries ≤ self.new.room) }
         ensures room_stays { self.old.room ≤ self.new.room }
     {
@@ -102,23 +102,23 @@ impl Transfers {
     pub fn put(&mut self, number: u64, row: TransferRow)
         requires room { 0 < self.old.room }
         requires amount { IsWithinAmounts row }
-        ensures stands { (entries : List Entry) (entry : Entry) → StandsFor self.old entries
+        ensures holds { (entries : List Entry) (entry : Entry) → Represents self.old entries
             → entry.number ≡ number → GivesRow entries entry.change row
-            → StandsFor self.new (entries ++ entry ∷ []) }
+            → Represents self.new (entries ++ entry ∷ []) }
         ensures room { self.old.room ≤ self.new.room + 1 }
     {
         if is_waiting(row.code) {
             self.waiting.put(row);
         } else {
-            self.waiting.take_out(row.id);
-            settle(&mut self.closed, &mut self.postings, number, row);
+            self.waiting.remove_row(row.id);
+            process(&mut self.closed, &mut self.postings, number, row);
         }
     }
 
     /// The transfer that the bank has to post next on a business day: of those that wait and are due on or before it, the
     /// one with the earliest due day, and of one day the one with the least id (SRVRTID). Takes no memory.
     pub fn due_on(&self, day: Day) -> Option<u64>
-        ensures { (entries : List Entry) → StandsFor self.now entries
+        ensures { (entries : List Entry) → Represents self.now entries
             → result ≡ option_map (λ task. task.id) (first_task (to_post day entries)) }
     {
         self.waiting.first_due(day)
@@ -127,7 +127,7 @@ impl Transfers {
     /// The ids (SRVRTID) of the transfers that the recurring transfer with this id (RECSRVRTID) made and that wait, in the
     /// order in which they were made.
     pub fn waiting(&self, alloc: Global, model: u64) -> Result<Vec<u64>, OutOfMemory>
-        ensures { IfOk result (λ ids. (entries : List Entry) → StandsFor self.now entries
+        ensures { IfOk result (λ ids. (entries : List Entry) → Represents self.now entries
             → ids.items ≡ map (λ (row : TransferRow). row.id) (waiting_of model entries)) }
     {
         self.waiting.of_model(alloc, model)
@@ -141,7 +141,7 @@ impl Transfers {
         name: &AcctName,
         period: (Moment, Option<Moment>),
     ) -> Result<Lines, OutOfMemory>
-        ensures { IfOk result (λ lines. (entries : List Entry) → StandsFor self.now entries
+        ensures { IfOk result (λ lines. (entries : List Entry) → Represents self.now entries
             → lines ≡ lines_of name.now period.0 period.1 (moved entries)) }
     {
         self.postings.lines(alloc, name, period)
@@ -149,7 +149,7 @@ impl Transfers {
 }
 
 /// The row of a transfer that doesn't wait.
-fn settled_row<'a>(closed: &'a Rows, postings: &'a Postings, id: u64) -> Option<&'a TransferRow>
+fn processed_row<'a>(closed: &'a Rows, postings: &'a Postings, id: u64) -> Option<&'a TransferRow>
     ensures { option_copied result ≡ row_settled closed.now.rows postings.now.postings id }
 {
     match closed.get(id) {
@@ -159,7 +159,7 @@ fn settled_row<'a>(closed: &'a Rows, postings: &'a Postings, id: u64) -> Option<
 }
 
 /// Puts the row of a transfer that doesn't wait: with its posting where it is posted, and otherwise among the closed ones.
-fn settle(closed: &mut Rows, postings: &mut Postings, number: u64, row: TransferRow)
+fn process(closed: &mut Rows, postings: &mut Postings, number: u64, row: TransferRow)
     requires closed { 0 < closed.old.room }
     requires postings { 0 < postings.old.room }
     requires amount { IsWithinAmounts row }
@@ -173,7 +173,7 @@ fn settle(closed: &mut Rows, postings: &mut Postings, number: u64, row: Transfer
     ensures postings_room { postings.old.room ≤ postings.new.room + 1 }
 {
     if is_posted(row.code) {
-        closed.take_out(row.id);
+        closed.remove_row(row.id);
         postings.post(number, row);
     } else {
         closed.put(row);

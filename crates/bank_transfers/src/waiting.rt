@@ -9,7 +9,7 @@ ghost use Rattle.bank_transfers.specs.Waiting as waiting;
 ghost use Rattle.bank_transfers.specs.TransfersView.{row_at};
 ghost use Rattle.bank_transfers.specs.Waiting.{AreRows, AreFalling};
 
-use crate::order::{put_key, take_key};
+use crate::order::{put_key, remove_key};
 use ofx_types::{Day, OutOfMemory, TransferRow};
 use std::alloc::Global;
 use std::cmp::Reverse;
@@ -107,7 +107,7 @@ impl Waiting {
         ensures room { self.old.room ≤ self.new.room + 1 }
     {
         let id = row.id;
-        self.take_out(id);
+        self.remove_row(id);
         self.left -= 1;
         put_key(&mut self.tasks, task_key(&row));
         put_key(&mut self.made, made_key(&row));
@@ -116,15 +116,15 @@ impl Waiting {
     }
 
     /// Takes the row of the transfer with this id out, where it is there.
-    pub(crate) fn take_out(&mut self, id: u64)
+    pub(crate) fn remove_row(&mut self, id: u64)
         ensures found { (other : ℕ) → row_at self.new.rows other ≡ (if id == other then None else row_at self.old.rows other) }
         ensures room { self.old.room ≤ self.new.room }
     {
         let Some(row) = self.held.remove(&id) else {
             return;
         };
-        take_key(&mut self.tasks, &task_key(&row));
-        take_key(&mut self.made, &made_key(&row));
+        remove_key(&mut self.tasks, &task_key(&row));
+        remove_key(&mut self.made, &made_key(&row));
     }
 
     /// The transfer that is to be posted next on a day: of those that are due on or before it, the one with the earliest due

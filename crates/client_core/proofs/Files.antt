@@ -24,13 +24,13 @@ use Rattle.bank_model.specs.Sound.{IsTextWithin, IsSoundAccount, IsSoundObject, 
 use Rattle.bank_model.specs.Stores.{Row, transfer_row, model_row, mail_row, has_id, Store}
 use Rattle.client_saved.specs.declared.state.ClientState.{ClientState}
 use Rattle.client_saved.specs.Bounds.{IsSoundState, IsSoundStore, IsSoundRow, IsSoundTransfer, IsSoundModel}
-use Rattle.client_core.specs.declared.errand.Errand.{Errand}
-use Rattle.client_core.specs.declared.errand.Errand.TheVariants.{Look, Do}
+use Rattle.client_core.specs.declared.content.Content.{Content}
+use Rattle.client_core.specs.declared.content.Content.TheVariants.{Look, Do}
 use Rattle.client_core.specs.declared.fault.ClientFault.{ClientFault}
 use Rattle.client_core.specs.declared.wish.Wish.{Wish}
 use Rattle.client_core.specs.declared.wish.Wish.TheVariants as wishes
 use Rattle.client_core.specs.Objects.{store_under}
-use Rattle.client_core.specs.Wishes.{IsSoundWish, as_transfer, as_model, transfer_if, model_if, transfer_kept, model_kept, modifying, cancelling, stopping, errand_of}
+use Rattle.client_core.specs.Wishes.{IsSoundWish, as_transfer, as_model, transfer_if, model_if, transfer_kept, model_kept, modifying, cancelling, stopping, content_of}
 use Rattle.client_core.specs.Making.{kind_asked, sync_of, deed_name, looked_at, objects_of, asks_of, file_of}
 use Rattle.client_core.proofs.Lists.{all_find}
 use Rattle.client_core.proofs.Names.{token_within, file_is_uid, deed_is_uid}
@@ -39,12 +39,12 @@ use Rattle.client_core.proofs.SoundStores.{under_sound}
 -- ---- what is asked
 
 -- An errand is sound where what it names is, and its deed is of its object's family.
-abbrev pub IsSoundErrand : Errand → Type 0
-IsSoundErrand (Look account) = IsSoundAccount account
-IsSoundErrand (Do object deed) = IsSoundObject object × (IsSoundDeed deed × (family_of deed ≡ object_family object))
+abbrev pub IsSoundContent : Content → Type 0
+IsSoundContent (Look account) = IsSoundAccount account
+IsSoundContent (Do object deed) = IsSoundObject object × (IsSoundDeed deed × (family_of deed ≡ object_family object))
 
-abbrev pub IfSound : Result Errand ClientFault → Type 0
-IfSound (Ok errand) = IsSoundErrand errand
+abbrev pub IfSound : Result Content ClientFault → Type 0
+IfSound (Ok content) = IsSoundContent content
 IfSound (Err fault) = Unit {0}
 
 as_transfer_sound : (row : Row) → IsSoundRow row → IfSome (as_transfer row) IsSoundTransfer
@@ -106,19 +106,19 @@ bank_within = record {
   is_within = omega arith;
 }
 
-pub errand_sound : (client : ClientState) (wish : Wish) (at : Moment) → IsSoundState client → IsSoundWish wish → IsMoment at.0
-    → IfSound (errand_of client wish at)
-unfolding errand_of
-errand_sound client (wishes.Sync account) at is wish moment = wish
-errand_sound client (wishes.Transfer info) at is wish moment = (wish.from, (wish, refl))
-errand_sound client (wishes.Modify id to amount due) at is wish moment =
+pub content_sound : (client : ClientState) (wish : Wish) (at : Moment) → IsSoundState client → IsSoundWish wish → IsMoment at.0
+    → IfSound (content_of client wish at)
+unfolding content_of
+content_sound client (wishes.Sync account) at is wish moment = wish
+content_sound client (wishes.Transfer info) at is wish moment = (wish.from, (wish, refl))
+content_sound client (wishes.Modify id to amount due) at is wish moment =
     modifying_sound id to amount due (transfer_kept id client.stores) wish (transfer_sound id client.stores is.stores)
-errand_sound client (wishes.Cancel id) at is wish moment =
+content_sound client (wishes.Cancel id) at is wish moment =
     cancelling_sound id (transfer_kept id client.stores) wish (transfer_sound id client.stores is.stores)
-errand_sound client (wishes.Repeat recur info) at is wish moment = (wish.1.from, (wish, refl))
-errand_sound client (wishes.Stop id) at is wish moment =
+content_sound client (wishes.Repeat recur info) at is wish moment = (wish.1.from, (wish, refl))
+content_sound client (wishes.Stop id) at is wish moment =
     stopping_sound id (model_kept id client.stores) wish (model_sound id client.stores is.stores)
-errand_sound client (wishes.Mail subject body) at is wish moment = (
+content_sound client (wishes.Mail subject body) at is wish moment = (
   tt,
   (
     record {
@@ -131,8 +131,8 @@ errand_sound client (wishes.Mail subject body) at is wish moment = (
     refl,
   ),
 )
-errand_sound client (wishes.Check account) at is wish moment = absurd wish
-errand_sound client wishes.Show at is wish moment = absurd wish
+content_sound client (wishes.Check account) at is wish moment = absurd wish
+content_sound client wishes.Show at is wish moment = absurd wish
 
 -- ---- the file
 
@@ -157,30 +157,30 @@ pub record AreAsks (asked : List Ask) : Type 0 where
   pub bank_first : asked ≡ filter (λ (ask : Ask). not (is_mail_ask ask)) asked ++ filter is_mail_ask asked
   pub sound : AllByRecursion IsSoundAsk asked
 
-asks_sound : (client : ClientState) (errand : Errand) → IsSoundState client → IsSoundErrand errand → AreAsks (asks_of client errand)
-asks_sound client (Look account) is errand = record {
+asks_sound : (client : ClientState) (content : Content) → IsSoundState client → IsSoundContent content → AreAsks (asks_of client content)
+asks_sound client (Look account) is content = record {
   few = omega arith;
   bank_first = refl;
   sound = (
-    (deed_is_uid client.name client.next 0 is.name is.next (omega arith), errand, (tt, tt)),
+    (deed_is_uid client.name client.next 0 is.name is.next (omega arith), content, (tt, tt)),
     (
-      sync_sound client (objects.Intra account) [] is errand (omega arith) tt,
+      sync_sound client (objects.Intra account) [] is content (omega arith) tt,
       (
-        sync_sound client (objects.RecIntra account) [] is errand (omega arith) tt,
+        sync_sound client (objects.RecIntra account) [] is content (omega arith) tt,
         (
-          sync_sound client (objects.BankMail account) [] is errand (omega arith) tt,
+          sync_sound client (objects.BankMail account) [] is content (omega arith) tt,
           (sync_sound client objects.Mail [] is tt (omega arith) tt, tt),
         ),
       ),
     ),
   );
 }
-asks_sound client (Do object deed) is errand = record {
+asks_sound client (Do object deed) is content = record {
   few = omega arith;
   bank_first = first object;
   sound = (
-    sync_sound client object ((deed_name client.name client.next 1, deed) ∷ []) is errand.0 (omega arith)
-        ((deed_is_uid client.name client.next 1 is.name is.next (omega arith), errand.1.0, errand.1.1), tt),
+    sync_sound client object ((deed_name client.name client.next 1, deed) ∷ []) is content.0 (omega arith)
+        ((deed_is_uid client.name client.next 1 is.name is.next (omega arith), content.1.0, content.1.1), tt),
     tt,
   );
 }
@@ -191,9 +191,9 @@ asks_sound client (Do object deed) is errand = record {
     first (objects.BankMail account) = refl
     first objects.Mail = refl
 
-pub file_sound : (client : ClientState) (errand : Errand) → IsSoundState client → IsSoundErrand errand → IsSound (file_of client errand)
-file_sound client errand is named =
-    let are = asks_sound client errand is named in
+pub file_sound : (client : ClientState) (content : Content) → IsSoundState client → IsSoundContent content → IsSound (file_of client content)
+file_sound client content is named =
+    let are = asks_sound client content is named in
     record {
       version = inr (inr (inr refl));
       older = is.done;

@@ -13,18 +13,18 @@ use Rattle.bank_model.specs.Sound.{IsTextWithin, IsSoundObject, IsSound}
 use Rattle.client_saved.specs.declared.state.ClientState.{ClientState}
 use Rattle.client_saved.specs.declared.state.Outstanding.{Outstanding}
 use Rattle.client_saved.specs.Bounds.{IsName, IsSoundState, IsSoundOutstanding}
-use Rattle.client_core.specs.declared.errand.Errand.{Errand}
-use Rattle.client_core.specs.declared.errand.Errand.TheVariants.{Look, Do}
+use Rattle.client_core.specs.declared.content.Content.{Content}
+use Rattle.client_core.specs.declared.content.Content.TheVariants.{Look, Do}
 use Rattle.client_core.specs.declared.fault.ClientFault.{ClientFault}
 use Rattle.client_core.specs.declared.fault.ClientFault.TheVariants as faults
 use Rattle.client_core.specs.declared.report.Report.{Report}
 use Rattle.client_core.specs.declared.wish.Wish.{Wish}
 use Rattle.client_core.specs.ClientForm.{new_client}
-use Rattle.client_core.specs.Wishes.{IsSoundWish, errand_of}
+use Rattle.client_core.specs.Wishes.{IsSoundWish, content_of}
 use Rattle.client_core.specs.Making.{objects_of, with_file, made_for, made}
 use Rattle.client_core.specs.Accepting.{Accepted, with_replies, refusal_for, accepted_unless, accepted_to, accepted}
-use Rattle.client_core.specs.Told.{IsRefusal, IsSoundReply}
-use Rattle.client_core.proofs.Files.{IsSoundErrand, IfSound, errand_sound, file_sound}
+use Rattle.client_core.specs.ReportLines.{IsRefusal, IsSoundReply}
+use Rattle.client_core.proofs.Files.{IsSoundContent, IfSound, content_sound, file_sound}
 use Rattle.client_core.proofs.SoundStores.{AreStores, stores_more, all_more}
 
 pub new_sound : (name user : List ℕ) → IsName name → IsTextWithin 32 user → IsSoundState (new_client name user)
@@ -44,35 +44,35 @@ stores_of client is = record { sound = is.stores; apart = is.distinct }
 
 -- ---- a file more
 
-objects_sound : (errand : Errand) → IsSoundErrand errand → AllByRecursion IsSoundObject (objects_of errand)
+objects_sound : (content : Content) → IsSoundContent content → AllByRecursion IsSoundObject (objects_of content)
 objects_sound (Look account) is = (is, (is, (is, (tt, tt))))
 objects_sound (Do object deed) is = (is.0, tt)
 
-with_sound : (client : ClientState) (at : Moment) (errand : Errand) → IsSoundState client → client.next < 9999999999 → IsMoment at.0
-    → IsSoundErrand errand → IsSoundState (with_file client at errand)
-with_sound client at errand is few moment named =
-    let are = stores_more (objects_of errand) client.stores (objects_sound errand named) (stores_of client is) in
+with_sound : (client : ClientState) (at : Moment) (content : Content) → IsSoundState client → client.next < 9999999999 → IsMoment at.0
+    → IsSoundContent content → IsSoundState (with_file client at content)
+with_sound client at content is few moment named =
+    let are = stores_more (objects_of content) client.stores (objects_sound content named) (stores_of client is) in
     record {
       name = is.name;
       user = is.user;
       next = omega arith;
       done = is.done;
-      outstanding = record { moment = moment; file = file_sound client errand is named; user = refl; pass = refl };
+      outstanding = record { moment = moment; file = file_sound client content is named; user = refl; pass = refl };
       stores = are.sound;
       distinct = are.apart;
     }
 
-for_sound : (client : ClientState) (at : Moment) (errand : Result Errand ClientFault) (new : ClientState) → IsSoundState client
-    → client.next < 9999999999 → IsMoment at.0 → IfSound errand → made_for client at errand ≡ Ok new → IsSoundState new
-for_sound client at (Ok errand) new is few moment named same =
-    let one : with_file client at errand ≡ new = cc in subst IsSoundState one (with_sound client at errand is few moment named)
+for_sound : (client : ClientState) (at : Moment) (content : Result Content ClientFault) (new : ClientState) → IsSoundState client
+    → client.next < 9999999999 → IsMoment at.0 → IfSound content → made_for client at content ≡ Ok new → IsSoundState new
+for_sound client at (Ok content) new is few moment named same =
+    let one : with_file client at content ≡ new = cc in subst IsSoundState one (with_sound client at content is few moment named)
 for_sound client at (Err fault) new is few moment named same = absurd cc
 
 made_sound : (client : ClientState) (wish : Wish) (at : Moment) (new : ClientState) → IsSoundState client → client.next < 9999999999
     → IsSoundWish wish → IsMoment at.0 → made client wish at ≡ Ok new → IsSoundState new
 unfolding made
 made_sound client wish at new is few sound moment same =
-    for_sound client at (errand_of client wish at) new is few moment (errand_sound client wish at is sound moment) same
+    for_sound client at (content_of client wish at) new is few moment (content_sound client wish at is sound moment) same
 
 -- A call that made the file, or left the client as it was, leaves it within its bounds.
 pub make_keeps : (client : ClientState) (wish : Wish) (at : Moment) (new : ClientState) (result : Result Unit ClientFault) → IsSoundState client
@@ -85,8 +85,8 @@ make_keeps client wish at new (Err fault) is few sound moment ok err = subst IsS
 
 with_replies_sound : (client : ClientState) (file : RequestFile) (replies : List AskReply) → IsSoundState client → IsSound file
     → AllByRecursion IsSoundReply replies → IsSoundState (with_replies client file replies).after
-with_replies_sound client file replies is sound told =
-    let are = all_more file.asks replies client.stores sound.asks told (stores_of client is) in
+with_replies_sound client file replies is sound reported =
+    let are = all_more file.asks replies client.stores sound.asks reported (stores_of client is) in
     record {
       name = is.name;
       user = is.user;
@@ -99,28 +99,28 @@ with_replies_sound client file replies is sound told =
 
 unless_sound : (client : ClientState) (file : RequestFile) (reply : ReplyFile) (fault : Option ClientFault) (found : Accepted) → IsSoundState client
     → IsSound file → AllByRecursion IsSoundReply reply.replies → accepted_unless client file reply fault ≡ Ok found → IsSoundState found.after
-unless_sound client file reply None found is sound told same =
+unless_sound client file reply None found is sound reported same =
     let one : with_replies client file reply.replies ≡ found = cc in
-    subst (λ (a : Accepted). IsSoundState a.after) one (with_replies_sound client file reply.replies is sound told)
-unless_sound client file reply (Some fault) found is sound told same = absurd cc
+    subst (λ (a : Accepted). IsSoundState a.after) one (with_replies_sound client file reply.replies is sound reported)
+unless_sound client file reply (Some fault) found is sound reported same = absurd cc
 
 accepted_to_sound : (client : ClientState) (kept : Option Outstanding) (reply : ReplyFile) (found : Accepted) → IsSoundState client
     → IfSome kept (IsSoundOutstanding client.user) → AllByRecursion IsSoundReply reply.replies → accepted_to client kept reply ≡ Ok found
     → IsSoundState found.after
-accepted_to_sound client None reply found is sound told same = absurd cc
-accepted_to_sound client (Some kept) reply found is sound told same = unless_sound client kept.file reply (refusal_for kept.file reply) found is sound.file told same
+accepted_to_sound client None reply found is sound reported same = absurd cc
+accepted_to_sound client (Some kept) reply found is sound reported same = unless_sound client kept.file reply (refusal_for kept.file reply) found is sound.file reported same
 
 accepted_sound : (client : ClientState) (reply : ReplyFile) (found : Accepted) → IsSoundState client → AllByRecursion IsSoundReply reply.replies
     → accepted client reply ≡ Ok found → IsSoundState found.after
 unfolding accepted
-accepted_sound client reply found is told same = accepted_to_sound client client.outstanding reply found is is.outstanding told same
+accepted_sound client reply found is reported same = accepted_to_sound client client.outstanding reply found is is.outstanding reported same
 
 -- A call that accepted the reply, or left the client as it was, leaves it within its bounds.
 pub accept_keeps : (client : ClientState) (reply : ReplyFile) (new : ClientState) (result : Result Report ClientFault) → IsSoundState client
     → AllByRecursion IsSoundReply reply.replies
     → IfOk result (λ report. accepted client reply ≡ Ok (record { after = new; lines = report.lines })) → OnErr result (new ≡ client) → IsSoundState new
-accept_keeps client reply new (Ok report) is told ok err = accepted_sound client reply (record { after = new; lines = report.lines }) is told ok
-accept_keeps client reply new (Err fault) is told ok err = subst IsSoundState (sym err) is
+accept_keeps client reply new (Ok report) is reported ok err = accepted_sound client reply (record { after = new; lines = report.lines }) is reported ok
+accept_keeps client reply new (Err fault) is reported ok err = subst IsSoundState (sym err) is
 
 -- What a rule refuses, a call refuses so.
 pub refused_with : {A : Type 0} (given : Result A ClientFault) (fault : ClientFault) → given ≡ Err fault → IsRefusal given fault

@@ -15,48 +15,48 @@ use Rattle.ofx_types.proofs.Trimming.{no_text_fault}
 use Rattle.bank_model.specs.Sound.{IsTextWithin, IsClientUid}
 use Rattle.client_saved.specs.Bounds.{IsName}
 use Rattle.client_core.specs.Making.{file_name, deed_name}
-use Rattle.bank_model.proofs.Ink.{IsInk, ink_append, ink_trimmed, ink_clean, decimal_ink}
+use Rattle.bank_model.proofs.Visible.{IsVisible, visible_append, visible_trimmed, visible_clean, decimal_visible}
 
 -- ---- bytes that are no white space and no control bytes
 
 uid_takes : (b : ℕ) → 32 < b → is_refused_in_uid b ≡ false
 uid_takes b above = grind (arith, common_steps)
 
-past_uid : (bytes : List ℕ) → IsInk bytes → position_or_len is_refused_in_uid bytes ≡ length bytes
+past_uid : (bytes : List ℕ) → IsVisible bytes → position_or_len is_refused_in_uid bytes ≡ length bytes
 past_uid [] p = refl
 past_uid (b ∷ bytes) p = rw (uid_takes b p.0, past_uid bytes p.1) (omega arith)
 
-clean_uid : (bytes : List ℕ) → IsInk bytes → position is_refused_in_uid bytes ≡ None
+clean_uid : (bytes : List ℕ) → IsVisible bytes → position is_refused_in_uid bytes ≡ None
 clean_uid bytes p = rw (past_uid bytes p, le-ltb (length bytes) (length bytes) (omega arith)) refl
 
-ink_text : (bytes : List ℕ) → IsInk bytes → length bytes ≤ 64 → IsText bytes
-ink_text bytes p short = record { is_trimmed = ink_trimmed bytes p; is_clean = ink_clean bytes p; is_short = omega arith }
+visible_text : (bytes : List ℕ) → IsVisible bytes → length bytes ≤ 64 → IsText bytes
+visible_text bytes p short = record { is_trimmed = visible_trimmed bytes p; is_clean = visible_clean bytes p; is_short = omega arith }
 
 -- ---- names
 
-letter_ink : (b : ℕ) → is_ascii_alphanumeric b ≡ true → 32 < b
-letter_ink b is = grind (arith, nat_tests)
+letter_visible : (b : ℕ) → is_ascii_alphanumeric b ≡ true → 32 < b
+letter_visible b is = grind (arith, nat_tests)
 
-letters_ink : (name : List ℕ) → list_all is_ascii_alphanumeric name ≡ true → IsInk name
-letters_ink [] all = tt
-letters_ink (b ∷ name) all =
+letters_visible : (name : List ℕ) → list_all is_ascii_alphanumeric name ≡ true → IsVisible name
+letters_visible [] all = tt
+letters_visible (b ∷ name) all =
     let both = and_parts (is_ascii_alphanumeric b) (list_all is_ascii_alphanumeric name) all in
-    (letter_ink b both.0, letters_ink name both.1)
+    (letter_visible b both.0, letters_visible name both.1)
 
 pub token_within : (n : ℕ) → n ≤ 9999999999 → IsTextWithin 64 (decimal n)
 token_within n most =
     let short = length-decimal-le 10 n (omega arith) (omega arith) (omega arith) in
-    record { is_text = ink_text (decimal n) (decimal_ink n (omega arith)) (omega arith); is_there = decimal_nonempty n (omega arith); is_within = omega arith }
+    record { is_text = visible_text (decimal n) (decimal_visible n (omega arith)) (omega arith); is_there = decimal_nonempty n (omega arith); is_within = omega arith }
 
-part_ink : (n : ℕ) → n ≤ 9999999999 → IsInk (45 ∷ decimal n)
-part_ink n most = (omega arith, decimal_ink n (omega arith))
+part_visible : (n : ℕ) → n ≤ 9999999999 → IsVisible (45 ∷ decimal n)
+part_visible n most = (omega arith, decimal_visible n (omega arith))
 
 part_short : (n : ℕ) → n ≤ 9999999999 → length (45 ∷ decimal n) ≤ 11
 part_short n most = let short = length-decimal-le 10 n (omega arith) (omega arith) (omega arith) in omega arith
 
-file_ink : (name : List ℕ) (n : ℕ) → IsName name → n ≤ 9999999999 → IsInk (file_name name n)
+file_visible : (name : List ℕ) (n : ℕ) → IsName name → n ≤ 9999999999 → IsVisible (file_name name n)
 unfolding file_name
-file_ink name n is most = ink_append name (45 ∷ decimal n) (letters_ink name is.1) (part_ink n most)
+file_visible name n is most = visible_append name (45 ∷ decimal n) (letters_visible name is.1) (part_visible n most)
 
 file_short : (name : List ℕ) (n : ℕ) → IsName name → n ≤ 9999999999 → length (file_name name n) ≤ 23
 unfolding file_name
@@ -88,41 +88,41 @@ file_some name n same =
 
 pub file_is_uid : (name : List ℕ) (n : ℕ) → IsName name → n ≤ 9999999999 → IsFileUid (file_name name n)
 file_is_uid name n is most =
-    let ink = file_ink name n is most in
+    let visible = file_visible name n is most in
     let short = file_short name n is most in
     let long = file_long name n is in
     record {
-      is_trimmed = ink_trimmed (file_name name n) ink;
-      is_clean = clean_uid (file_name name n) ink;
+      is_trimmed = visible_trimmed (file_name name n) visible;
+      is_clean = clean_uid (file_name name n) visible;
       is_there = omega arith;
       is_within = omega arith;
       is_some = file_some name n;
     }
 
-deed_ink : (name : List ℕ) (n place : ℕ) → IsName name → n ≤ 9999999999 → place ≤ 9999999999 → IsInk (deed_name name n place)
+deed_visible : (name : List ℕ) (n index : ℕ) → IsName name → n ≤ 9999999999 → index ≤ 9999999999 → IsVisible (deed_name name n index)
 unfolding deed_name
-deed_ink name n place is most few = ink_append (file_name name n) (45 ∷ decimal place) (file_ink name n is most) (part_ink place few)
+deed_visible name n index is most few = visible_append (file_name name n) (45 ∷ decimal index) (file_visible name n is most) (part_visible index few)
 
-deed_short : (name : List ℕ) (n place : ℕ) → IsName name → n ≤ 9999999999 → place ≤ 9 → length (deed_name name n place) ≤ 36
+deed_short : (name : List ℕ) (n index : ℕ) → IsName name → n ≤ 9999999999 → index ≤ 9 → length (deed_name name n index) ≤ 36
 unfolding deed_name
-deed_short name n place is most few =
+deed_short name n index is most few =
     let short = file_short name n is most in
-    let part = length-decimal-le 1 place (omega arith) (omega arith) (omega arith) in
-    omega (arith, length-append (file_name name n) (45 ∷ decimal place))
+    let part = length-decimal-le 1 index (omega arith) (omega arith) (omega arith) in
+    omega (arith, length-append (file_name name n) (45 ∷ decimal index))
 
-deed_long : (name : List ℕ) (n place : ℕ) → IsName name → 2 ≤ length (deed_name name n place)
+deed_long : (name : List ℕ) (n index : ℕ) → IsName name → 2 ≤ length (deed_name name n index)
 unfolding deed_name
-deed_long name n place is =
-    let long = file_long name n is in omega (arith, length-append (file_name name n) (45 ∷ decimal place))
+deed_long name n index is =
+    let long = file_long name n is in omega (arith, length-append (file_name name n) (45 ∷ decimal index))
 
-pub deed_is_uid : (name : List ℕ) (n place : ℕ) → IsName name → n ≤ 9999999999 → place ≤ 9 → IsClientUid (deed_name name n place)
-deed_is_uid name n place is most few =
-    let short = deed_short name n place is most few in
-    let long = deed_long name n place is in
-    let ink = deed_ink name n place is most (omega arith) in (
-      (λ same. let one : length (deed_name name n place) ≡ length (codes "0") = ap length same in absurd (omega arith)),
+pub deed_is_uid : (name : List ℕ) (n index : ℕ) → IsName name → n ≤ 9999999999 → index ≤ 9 → IsClientUid (deed_name name n index)
+deed_is_uid name n index is most few =
+    let short = deed_short name n index is most few in
+    let long = deed_long name n index is in
+    let visible = deed_visible name n index is most (omega arith) in (
+      (λ same. let one : length (deed_name name n index) ≡ length (codes "0") = ap length same in absurd (omega arith)),
       record {
-        is_text = ink_text (deed_name name n place) ink (omega arith);
+        is_text = visible_text (deed_name name n index) visible (omega arith);
         is_there = omega arith;
         is_within = short;
       },

@@ -11,12 +11,12 @@ use Rattle.ofx_types.specs.declared.transfer.Change.{Change}
 use Rattle.ofx_types.specs.declared.transfer.Change.TheVariants.{NewTransfer, SetTransfer, DropTransfer, NewModel, SetModel, DropModel, NewMail}
 use Rattle.ofx_types.specs.declared.transfer.DeedReply.{DeedReply}
 use Rattle.bank_model.specs.Sound.{IsId}
-use Rattle.bank_model.specs.Stores.{Row, transfer_row, model_row, mail_row, has_id, is_below, put, take_out, with_model, model_if_named, model_among, changed, change_done, applied}
-use Rattle.client_store.specs.RowForm.{is_of, IsRising, bound_behind}
+use Rattle.bank_model.specs.Stores.{Row, transfer_row, model_row, mail_row, has_id, is_below, put, remove_row, with_model, model_if_named, model_among, changed, change_done, applied}
+use Rattle.client_store.specs.RowForm.{is_of, IsRising, bound_after}
 use Rattle.client_store.proofs.Ordered.{put_rising, out_rising, follows}
 use Rattle.bank_model.specs.Stores.{id_of}
 use Rattle.client_saved.specs.Bounds.{IsSoundRow, IsSoundTransfer, IsSoundModel, IsSoundMailRow}
-use Rattle.client_core.specs.Told.{IsSoundChange, IsSoundDeedReply}
+use Rattle.client_core.specs.ReportLines.{IsSoundChange, IsSoundDeedReply}
 use Rattle.bank_model.proofs.Lists.{all_append, all_filtered, all_flat}
 
 -- rows that a store of the family may have
@@ -36,7 +36,7 @@ put_all id row (first ∷ more) here all =
       ]
     ]
 
-out_all : (id : ℕ) (rows : List Row) → AllByRecursion IsSoundRow rows → AllByRecursion IsSoundRow (take_out id rows)
+out_all : (id : ℕ) (rows : List Row) → AllByRecursion IsSoundRow rows → AllByRecursion IsSoundRow (remove_row id rows)
 out_all id rows all = all_filtered IsSoundRow (λ (row : Row). not (has_id id row)) rows all
 
 -- ---- the recurring transfer that made a row
@@ -70,13 +70,13 @@ put_rows family id row rows kind named here are = record {
   sound = put_all id row rows here are.sound;
 }
 
-out_rows : (family : Family) (id : ℕ) (rows : List Row) → AreRows family rows → AreRows family (take_out id rows)
+out_rows : (family : Family) (id : ℕ) (rows : List Row) → AreRows family rows → AreRows family (remove_row id rows)
 out_rows family id rows are = record { order = out_rising family 0 id rows are.order; sound = out_all id rows are.sound }
 
 last_rising : (family : Family) (bound : ℕ) (rows : List Row) (row : MailRow) → is_of family (mail_row row) ≡ true → IsRising family bound rows
     → IsRising family bound (rows ++ mail_row row ∷ [])
 last_rising family bound [] row kind rising = (follows family bound (mail_row row) kind refl, tt)
-last_rising family bound (first ∷ more) row kind rising = (rising.0, last_rising family (bound_behind bound (id_of first)) more row kind rising.1)
+last_rising family bound (first ∷ more) row kind rising = (rising.0, last_rising family (bound_after bound (id_of first)) more row kind rising.1)
 
 last_rows : (family : Family) (rows : List Row) (row : MailRow) → is_of family (mail_row row) ≡ true → IsSoundMailRow row → AreRows family rows
     → AreRows family (rows ++ mail_row row ∷ [])

@@ -21,7 +21,7 @@ use Rattle.bank_model.proofs.SetupParts.{distinct_push}
 use Rattle.client_saved.specs.Bounds.{IsSoundStore, AreDistinct, same_object, same_store, has_store}
 use Rattle.client_core.specs.Objects.{is_of_object, store_under, with_store, with_stores}
 use Rattle.client_core.specs.Accepting.{taken_by, stores_with, stores_after}
-use Rattle.client_core.specs.Told.{IsSoundDeedReply, IsSoundReply}
+use Rattle.client_core.specs.ReportLines.{IsSoundDeedReply, IsSoundReply}
 use Rattle.client_core.proofs.Lists.{all_find, distinct_map}
 use Rattle.client_core.proofs.Rows.{AreRows, applied_rows}
 use Rattle.bank_model.proofs.Lists.{all_append, all_map}
@@ -133,16 +133,16 @@ under_sound object stores is all = by_found (find (is_of_object object) stores) 
 -- ---- a whole reply
 
 one_more : (ask : Ask) (reply : AskReply) (stores : List Store) → IsSoundAsk ask → IsSoundReply reply → AreStores stores → AreStores (stores_with ask reply stores)
-one_more (asks.Sync ask) (replies.Sync reply) stores asked told are =
-    each_sound ask reply (with_store ask.object stores) told (store_more ask.object stores asked.object are)
-one_more (asks.Sync ask) (replies.Statement uid code body) stores asked told are = are
-one_more (asks.Sync ask) (replies.One reply) stores asked told are = are
-one_more (asks.Statement trnuid account period) reply stores asked told are = are
-one_more (asks.One trnuid deed) reply stores asked told are = are
+one_more (asks.Sync ask) (replies.Sync reply) stores asked reported are =
+    each_sound ask reply (with_store ask.object stores) reported (store_more ask.object stores asked.object are)
+one_more (asks.Sync ask) (replies.Statement uid code body) stores asked reported are = are
+one_more (asks.Sync ask) (replies.One reply) stores asked reported are = are
+one_more (asks.Statement trnuid account period) reply stores asked reported are = are
+one_more (asks.One trnuid deed) reply stores asked reported are = are
 
-pub all_more : (asked : List Ask) (told : List AskReply) (stores : List Store) → AllByRecursion IsSoundAsk asked → AllByRecursion IsSoundReply told
-    → AreStores stores → AreStores (stores_after asked told stores)
-all_more [] told stores asks_sound replies_sound are = are
+pub all_more : (asked : List Ask) (reported : List AskReply) (stores : List Store) → AllByRecursion IsSoundAsk asked → AllByRecursion IsSoundReply reported
+    → AreStores stores → AreStores (stores_after asked reported stores)
+all_more [] reported stores asks_sound replies_sound are = are
 all_more (ask ∷ more) [] stores asks_sound replies_sound are = are
 all_more (ask ∷ more) (reply ∷ others) stores asks_sound replies_sound are =
     all_more more others (stores_with ask reply stores) asks_sound.1 replies_sound.1 (one_more ask reply stores asks_sound.0 replies_sound.0 are)

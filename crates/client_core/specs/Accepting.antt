@@ -1,4 +1,4 @@
--- What a reply makes of a client, and what is told of it.
+-- What a reply makes of a client, and what is reported of it.
 use Rattle.std.specs.Prelude.{ℕ, ◌==◌, not, Bool, true, false, List, [], ◌∷◌, ◌++◌, map, Option, None, Some, Result, Ok, Err, if◌then◌else◌}
 use Rattle.std.specs.Option.{option_map}
 use Rattle.std.specs.Str.{bytes_eq}
@@ -64,7 +64,7 @@ lines_along asks replies stores = []
 
 -- ---- the client
 
--- what a client knows once it has accepted a reply, and the lines that tell of it
+-- what a client knows once it has accepted a reply, and the lines that report it
 pub record Accepted : Type 0 where
   pub after : ClientState
   pub lines : List (List ℕ)

@@ -4,5 +4,5 @@ pub mod Wishes
 pub mod Making
 pub mod Answering
 pub mod Accepting
-pub mod Told
+pub mod ReportLines
 pub mod Taking

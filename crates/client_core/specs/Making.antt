@@ -16,11 +16,11 @@ use Rattle.ofx_types.specs.declared.request.RequestFile.{RequestFile}
 use Rattle.bank_model.specs.Stores.{Store}
 use Rattle.client_saved.specs.declared.state.ClientState.{ClientState}
 use Rattle.client_core.specs.Objects.{store_under, with_stores}
-use Rattle.client_core.specs.Wishes.{errand_of}
+use Rattle.client_core.specs.Wishes.{content_of}
 use Rattle.client_core.specs.declared.fault.ClientFault.{ClientFault}
 use Rattle.client_core.specs.declared.wish.Wish.{Wish}
-use Rattle.client_core.specs.declared.errand.Errand.{Errand}
-use Rattle.client_core.specs.declared.errand.Errand.TheVariants.{Look, Do}
+use Rattle.client_core.specs.declared.content.Content.{Content}
+use Rattle.client_core.specs.declared.content.Content.TheVariants.{Look, Do}
 
 -- ---- names
 
@@ -29,7 +29,7 @@ unfoldable pub file_name : List ℕ → ℕ → List ℕ
 file_name name number = name ++ 45 ∷ decimal number
 
 unfoldable pub deed_name : List ℕ → ℕ → ℕ → List ℕ
-deed_name name number place = file_name name number ++ 45 ∷ decimal place
+deed_name name number index = file_name name number ++ 45 ∷ decimal index
 
 -- ---- asks
 
@@ -50,7 +50,7 @@ whole_period = record { start = None; end = None; include = true }
 abbrev pub looked_at : AcctName → List ObjectName
 looked_at account = objects.Intra account ∷ objects.RecIntra account ∷ objects.BankMail account ∷ objects.Mail ∷ []
 
-abbrev pub objects_of : Errand → List ObjectName
+abbrev pub objects_of : Content → List ObjectName
 objects_of (Look account) = looked_at account
 objects_of (Do object deed) = object ∷ []
 
@@ -66,21 +66,21 @@ looking client account =
 abbrev pub acting : ClientState → ObjectName → Deed → List Ask
 acting client object deed = sync_of client object ((deed_name client.name client.next 1, deed) ∷ []) ∷ []
 
-abbrev pub asks_of : ClientState → Errand → List Ask
+abbrev pub asks_of : ClientState → Content → List Ask
 asks_of client (Look account) = looking client account
 asks_of client (Do object deed) = acting client object deed
 
 -- ---- the file
 
 -- A file has the version 160, names the last file whose reply was accepted, and has no password yet.
-abbrev pub file_of : ClientState → Errand → RequestFile
-file_of client errand = record {
+abbrev pub file_of : ClientState → Content → RequestFile
+file_of client content = record {
   version = 160;
   older = client.done;
   newer = Some (file_name client.name client.next);
   user = client.user;
   pass = [];
-  asks = asks_of client errand;
+  asks = asks_of client content;
 }
 
 -- a store of each object that is asked about
@@ -95,23 +95,23 @@ with_opened objects client = record {
 }
 
 -- The file is outstanding, the next one has the next number, and there is a store of each object that is asked about.
-abbrev pub with_file : ClientState → Moment → Errand → ClientState
-with_file client at errand = record {
+abbrev pub with_file : ClientState → Moment → Content → ClientState
+with_file client at content = record {
   name = client.name;
   user = client.user;
   next = client.next + 1;
   done = client.done;
-  outstanding = Some (record { at = at; file = file_of client errand });
-  stores = with_stores (objects_of errand) client.stores;
+  outstanding = Some (record { at = at; file = file_of client content });
+  stores = with_stores (objects_of content) client.stores;
 }
 
-abbrev pub made_for : ClientState → Moment → Result Errand ClientFault → Result ClientState ClientFault
+abbrev pub made_for : ClientState → Moment → Result Content ClientFault → Result ClientState ClientFault
 made_for client at (Err fault) = Err fault
-made_for client at (Ok errand) = Ok (with_file client at errand)
+made_for client at (Ok content) = Ok (with_file client at content)
 
 -- What a client knows once it has made the file of a wish at a moment, or why it made none.
 unfoldable pub made : ClientState → Wish → Moment → Result ClientState ClientFault
-made client wish at = made_for client at (errand_of client wish at)
+made client wish at = made_for client at (content_of client wish at)
 
 -- ---- polls
 

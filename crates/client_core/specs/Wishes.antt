@@ -21,8 +21,8 @@ use Rattle.client_core.specs.declared.fault.ClientFault.{ClientFault}
 use Rattle.client_core.specs.declared.fault.ClientFault.TheVariants.{NoRow}
 use Rattle.client_core.specs.declared.wish.Wish.{Wish}
 use Rattle.client_core.specs.declared.wish.Wish.TheVariants as wishes
-use Rattle.client_core.specs.declared.errand.Errand.{Errand}
-use Rattle.client_core.specs.declared.errand.Errand.TheVariants.{Look, Do}
+use Rattle.client_core.specs.declared.content.Content.{Content}
+use Rattle.client_core.specs.declared.content.Content.TheVariants.{Look, Do}
 
 -- The texts and numbers of a wish for which a file is made are within the bounds of a sound file. Whoever wishes to check for
 -- news, or to be shown what is kept, needs no file.
@@ -71,23 +71,23 @@ model_kept id (store ∷ more) = option_or (model_if (find (has_id id) store.row
 -- ---- what a file has to ask
 
 -- A transfer out of an account, and each change of one, belongs to the transfers out of its source.
-abbrev pub in_transfers : AcctName → Deed → Errand
+abbrev pub in_transfers : AcctName → Deed → Content
 in_transfers source deed = Do (objects.Intra source) deed
 
-abbrev pub in_models : AcctName → Deed → Errand
+abbrev pub in_models : AcctName → Deed → Content
 in_models source deed = Do (objects.RecIntra source) deed
 
-abbrev pub modifying : ℕ → AcctName → Cents → Day → Option TransferRow → Result Errand ClientFault
+abbrev pub modifying : ℕ → AcctName → Cents → Day → Option TransferRow → Result Content ClientFault
 modifying id to amount due None = Err (NoRow id)
 modifying id to amount due (Some row) =
     Ok (in_transfers row.from (deeds.ModifyTransfer id (record { from = row.from; to = to; amount = amount; due = Some due })))
 
-abbrev pub cancelling : ℕ → Option TransferRow → Result Errand ClientFault
+abbrev pub cancelling : ℕ → Option TransferRow → Result Content ClientFault
 cancelling id None = Err (NoRow id)
 cancelling id (Some row) = Ok (in_transfers row.from (deeds.CancelTransfer id))
 
 -- Whoever stops a recurring transfer cancels the transfers of it that wait, too.
-abbrev pub stopping : ℕ → Option ModelRow → Result Errand ClientFault
+abbrev pub stopping : ℕ → Option ModelRow → Result Content ClientFault
 stopping id None = Err (NoRow id)
 stopping id (Some row) = Ok (in_models row.from (deeds.CancelModel id true))
 
@@ -98,13 +98,13 @@ mail_of client subject body at =
 -- A wish to synchronise looks at an account. Any other has one deed: a transfer and a recurring transfer as they are wished; a
 -- change and a cancellation of a row that a store has, whose source they keep; and a mail to the bank, written now. For a wish
 -- to check or to be shown what is kept no file is made, and `NoRow 0` stands for that.
-unfoldable pub errand_of : ClientState → Wish → Moment → Result Errand ClientFault
-errand_of client (wishes.Sync account) at = Ok (Look account)
-errand_of client (wishes.Transfer info) at = Ok (in_transfers info.from (deeds.Transfer info))
-errand_of client (wishes.Modify id to amount due) at = modifying id to amount due (transfer_kept id client.stores)
-errand_of client (wishes.Cancel id) at = cancelling id (transfer_kept id client.stores)
-errand_of client (wishes.Repeat recur info) at = Ok (in_models info.from (deeds.Model recur info))
-errand_of client (wishes.Stop id) at = stopping id (model_kept id client.stores)
-errand_of client (wishes.Mail subject body) at = Ok (Do objects.Mail (mail_of client subject body at))
-errand_of client (wishes.Check account) at = Err (NoRow 0)
-errand_of client wishes.Show at = Err (NoRow 0)
+unfoldable pub content_of : ClientState → Wish → Moment → Result Content ClientFault
+content_of client (wishes.Sync account) at = Ok (Look account)
+content_of client (wishes.Transfer info) at = Ok (in_transfers info.from (deeds.Transfer info))
+content_of client (wishes.Modify id to amount due) at = modifying id to amount due (transfer_kept id client.stores)
+content_of client (wishes.Cancel id) at = cancelling id (transfer_kept id client.stores)
+content_of client (wishes.Repeat recur info) at = Ok (in_models info.from (deeds.Model recur info))
+content_of client (wishes.Stop id) at = stopping id (model_kept id client.stores)
+content_of client (wishes.Mail subject body) at = Ok (Do objects.Mail (mail_of client subject body at))
+content_of client (wishes.Check account) at = Err (NoRow 0)
+content_of client wishes.Show at = Err (NoRow 0)

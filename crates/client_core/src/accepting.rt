@@ -2,14 +2,14 @@
 
 ghost use Rattle.std.specs.Prelude.{◌≡◌, ◌++◌, map, Ok, IfOk, IfErr, OnOk, OnErr};
 ghost use Rattle.client_core.specs.Accepting as rules;
-ghost use Rattle.client_core.specs.Told.{IsRefusal};
-ghost use Rattle.client_core.specs.Taking.{told_of, GivesTaken};
+ghost use Rattle.client_core.specs.ReportLines.{IsRefusal};
+ghost use Rattle.client_core.specs.Taking.{reported_of, GivesTaken};
 
 use crate::answering::first_unanswered;
 use crate::fault::ClientFault;
 use crate::report::{Report, ReportLines};
+use crate::reporting::report_replies;
 use crate::stores::open_store;
-use crate::telling::tell;
 use client_saved::{ClientState, Stores, is_same_object};
 use client_store::Store;
 use ofx_types::{
@@ -24,14 +24,14 @@ struct Taken {
     done: Option<FileUid>,
     /// The stores after it.
     stores: Stores,
-    /// The lines that tell of it.
+    /// The lines that report it.
     lines: ReportLines,
 }
 
 // ---- stores
 
 /// Takes a reply into a store, where this is the object's.
-fn take_if_asked(store: &mut Store, ask: &SyncAsk, reply: &SyncReply) -> Result<(), OutOfMemory>
+fn accept_if_asked(store: &mut Store, ask: &SyncAsk, reply: &SyncReply) -> Result<(), OutOfMemory>
     ensures { OnOk result (store.new ≡ rules.taken_by ask.now reply.now store.old) }
 {
     if is_same_object(store.object(), &ask.object) {
@@ -40,16 +40,16 @@ fn take_if_asked(store: &mut Store, ask: &SyncAsk, reply: &SyncReply) -> Result<
     Ok(())
 }
 
-fn take_each(stores: &mut [Store], ask: &SyncAsk, reply: &SyncReply) -> Result<(), OutOfMemory>
+fn accept_each(stores: &mut [Store], ask: &SyncAsk, reply: &SyncReply) -> Result<(), OutOfMemory>
     ensures { OnOk result (stores.new ≡ map (rules.taken_by ask.now reply.now) stores.old) }
 {
     for store in stores.iter_mut() {
-        take_if_asked(store, ask, reply)?;
+        accept_if_asked(store, ask, reply)?;
     }
     Ok(())
 }
 
-fn take_sync(
+fn accept_sync(
     alloc: Global,
     stores: &mut Vec<Store>,
     ask: &SyncAsk,
@@ -58,10 +58,10 @@ fn take_sync(
     ensures { OnOk result (stores.new.items ≡ rules.taken_into ask.now reply.now stores.old.items) }
 {
     open_store(alloc, &ask.object, stores)?;
-    take_each(stores.as_mut_slice(), ask, reply)
+    accept_each(stores.as_mut_slice(), ask, reply)
 }
 
-fn take_one(
+fn accept_one(
     alloc: Global,
     stores: &mut Vec<Store>,
     ask: &Ask,
@@ -70,13 +70,13 @@ fn take_one(
     ensures { OnOk result (stores.new.items ≡ rules.stores_with ask.now reply.now stores.old.items) }
 {
     match (ask, reply) {
-        (Ask::Sync(ask), AskReply::Sync(reply)) => take_sync(alloc, stores, ask, reply),
+        (Ask::Sync(ask), AskReply::Sync(reply)) => accept_sync(alloc, stores, ask, reply),
         _ => Ok(()),
     }
 }
 
-/// Takes each reply into the stores in its turn, and adds the lines that tell of it.
-fn take_all(
+/// Takes each reply into the stores in its turn, and adds the lines that report it.
+fn accept_all(
     alloc: Global,
     stores: &mut Vec<Store>,
     lines: &mut ReportLines,
@@ -87,32 +87,32 @@ fn take_all(
     ensures lines { OnOk result (lines.new ≡ lines.old ++ rules.lines_along asks.now replies.now stores.old.items) }
 {
     let mut left = asks;
-    let mut told = replies;
-    while let [ask, behind @ ..] = left {
-        let [reply, others @ ..] = told else {
+    let mut reported = replies;
+    while let [ask, rest @ ..] = left {
+        let [reply, others @ ..] = reported else {
             return Ok(());
         };
-        take_one(alloc, stores, ask, reply)?;
-        tell(alloc, ask, reply, stores, lines)?;
-        left = behind;
-        told = others;
+        accept_one(alloc, stores, ask, reply)?;
+        report_replies(alloc, ask, reply, stores, lines)?;
+        left = rest;
+        reported = others;
     }
     Ok(())
 }
 
 // ---- the reply
 
-fn take_replies(
+fn accept_replies(
     alloc: Global,
     client: &ClientState,
     file: &RequestFile,
     replies: &[AskReply],
 ) -> Result<Taken, OutOfMemory>
-    ensures { IfOk result (λ taken. told_of client.now taken ≡ rules.with_replies client.now file.now replies.now) }
+    ensures { IfOk result (λ taken. reported_of client.now taken ≡ rules.with_replies client.now file.now replies.now) }
 {
     let mut stores = client.stores.copy()?.into_vec();
     let mut lines = ReportLines::new(alloc);
-    take_all(alloc, &mut stores, &mut lines, file.asks.items(), replies)?;
+    accept_all(alloc, &mut stores, &mut lines, file.asks.items(), replies)?;
     Ok(Taken {
         done: file.newer.copy()?,
         stores: Stores::from_vec(stores),
@@ -147,7 +147,7 @@ fn refusal_for(file: &RequestFile, reply: &ReplyFile) -> Option<ClientFault>
     }
 }
 
-fn take_for(
+fn accept_for(
     alloc: Global,
     client: &ClientState,
     file: &RequestFile,
@@ -157,7 +157,7 @@ fn take_for(
 {
     match refusal_for(file, reply) {
         Some(fault) => Err(fault),
-        None => Ok(take_replies(alloc, client, file, reply.replies.items())?),
+        None => Ok(accept_replies(alloc, client, file, reply.replies.items())?),
     }
 }
 
@@ -166,7 +166,7 @@ fn take(alloc: Global, client: &ClientState, reply: &ReplyFile) -> Result<Taken,
     ensures { GivesTaken client.now (rules.accepted client.now reply.now) result }
 {
     match &client.outstanding {
-        Some(kept) => take_for(alloc, client, &kept.file, reply),
+        Some(kept) => accept_for(alloc, client, &kept.file, reply),
         None => Err(ClientFault::NotMine),
     }
 }

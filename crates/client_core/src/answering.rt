@@ -8,7 +8,7 @@ use ofx_types::{Ask, AskReply, Deed, DeedReply, Family, SyncAsk, SyncReply, Text
 use ofx_values::read_number;
 
 /// The most digits of a token.
-const MOST_DIGITS: usize = 10;
+const MAX_DIGITS: usize = 10;
 
 /// The number of the first ask, from 1, that isn't answered by the reply at its place, or of the first place that one of both
 /// lists lacks. Takes no memory.
@@ -17,21 +17,21 @@ pub fn first_unanswered(asks: &[Ask], replies: &[AskReply]) -> Option<u64>
     ensures { result ≡ rules.first_unanswered asks.now replies.now }
 {
     let count = asks.len();
-    let mut place: usize = 0;
+    let mut index: usize = 0;
     let mut left = asks;
-    let mut told = replies;
-    while let [ask, behind @ ..] = left {
-        let [reply, others @ ..] = told else {
-            return Some(place as u64 + 1);
+    let mut reported = replies;
+    while let [ask, rest @ ..] = left {
+        let [reply, others @ ..] = reported else {
+            return Some(index as u64 + 1);
         };
         if !is_answered(ask, reply) {
-            return Some(place as u64 + 1);
+            return Some(index as u64 + 1);
         }
-        left = behind;
-        told = others;
-        place += 1;
+        left = rest;
+        reported = others;
+        index += 1;
     }
-    if told.is_empty() {
+    if reported.is_empty() {
         None
     } else {
         Some(count as u64 + 1)
@@ -42,7 +42,7 @@ fn is_answered(ask: &Ask, reply: &AskReply) -> bool
     ensures { result ≡ rules.is_answered ask.now reply.now }
 {
     match (ask, reply) {
-        (Ask::Statement(trnuid, _, _), AskReply::Statement(told, _, _)) => trnuid == told,
+        (Ask::Statement(trnuid, _, _), AskReply::Statement(reported, _, _)) => trnuid == reported,
         (Ask::One(trnuid, deed), AskReply::One(reply)) => {
             *trnuid == reply.trnuid && is_same_family(deed.family(), reply.family)
         }
@@ -75,7 +75,7 @@ fn is_sync_answered(ask: &SyncAsk, reply: &SyncReply) -> bool
 fn is_token(text: &Text) -> bool
     ensures { result ≡ rules.is_token text.now }
 {
-    read_number(text.as_bytes(), MOST_DIGITS).is_some()
+    read_number(text.as_bytes(), MAX_DIGITS).is_some()
 }
 
 /// Whether the last replies are those to the deeds.
@@ -100,16 +100,16 @@ fn have_uids(deeds: &[(TrnUid, Deed)], replies: &[DeedReply]) -> bool
     ensures { result ≡ rules.have_uids deeds.now replies.now }
 {
     let mut left = deeds;
-    let mut told = replies;
-    while let [deed, behind @ ..] = left {
-        let [reply, others @ ..] = told else {
+    let mut reported = replies;
+    while let [deed, rest @ ..] = left {
+        let [reply, others @ ..] = reported else {
             return false;
         };
         if deed.0 != reply.trnuid {
             return false;
         }
-        left = behind;
-        told = others;
+        left = rest;
+        reported = others;
     }
-    told.is_empty()
+    reported.is_empty()
 }

@@ -13,7 +13,7 @@ ghost use Rattle.client_core.specs.ClientForm.{new_client, discarded};
 ghost use Rattle.client_core.specs.Wishes.{IsSoundWish};
 ghost use Rattle.client_core.specs.Making.{made, poll_of};
 ghost use Rattle.client_core.specs.Accepting.{accepted};
-ghost use Rattle.client_core.specs.Told.{IsRefusal, IsSoundReply};
+ghost use Rattle.client_core.specs.ReportLines.{IsRefusal, IsSoundReply};
 
 use crate::accepting::accept;
 use crate::fault::ClientFault;
@@ -161,7 +161,7 @@ impl Client {
         poll_of(self.alloc, &self.state, account)
     }
 
-    /// Takes the reply to the outstanding file in, and tells what is to be printed of it. The file has ended then, and the next
+    /// Takes the reply to the outstanding file in, and says what is to be printed of it. The file has ended then, and the next
     /// one names it as the last whose reply was accepted.
     ///
     /// The caller knows that the rows that the reply brings are within their bounds. `NotMine` exactly where it doesn't bear the
@@ -204,7 +204,7 @@ impl Client {
         ensures fault { (at : ℕ) → result ≡ Err (StoreFault.Bad at) → IsFirstFault bytes.now at }
         // A text with a fault is refused.
         ensures faulty { (at : ℕ) → IsFirstFault bytes.now at
-            → IsErrAnd result (λ told. (told ≡ StoreFault.Bad at) ⊎ (told ≡ StoreFault.OutOfMemory)) }
+            → IsErrAnd result (λ reported. (reported ≡ StoreFault.Bad at) ⊎ (reported ≡ StoreFault.OutOfMemory)) }
     {
         let state = read_state(alloc, bytes)?;
         Ok(Client { state, alloc })

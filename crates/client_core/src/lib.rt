@@ -7,19 +7,19 @@
 mod accepting;
 mod answering;
 mod client;
-mod errand;
+mod content;
 mod fault;
 mod making;
 mod polling;
 mod report;
+mod reporting;
 mod stores;
-mod telling;
 mod uids;
 mod wish;
 
 pub use answering::first_unanswered;
 pub use client::Client;
-pub use errand::Errand;
+pub use content::Content;
 pub use fault::ClientFault;
 pub use report::{Report, ReportLines};
 pub use wish::Wish;

@@ -6,9 +6,9 @@ ghost use Rattle.client_saved.specs.Bounds.{IsName, IsSoundState};
 ghost use Rattle.client_core.specs.Objects as objects;
 ghost use Rattle.client_core.specs.Wishes as wishes;
 ghost use Rattle.client_core.specs.Making as rules;
-ghost use Rattle.client_core.specs.Told.{IsRefusal, FollowsRule};
+ghost use Rattle.client_core.specs.ReportLines.{IsRefusal, FollowsRule};
 
-use crate::errand::Errand;
+use crate::content::Content;
 use crate::fault::ClientFault;
 use crate::stores::{model_kept, open_stores, store_of, transfer_kept};
 use crate::uids::{deed_uid, file_uid};
@@ -33,16 +33,16 @@ const FIRST: u64 = 1;
 
 // ---- what a wish asks
 
-fn in_transfers(source: &AcctName, deed: Deed) -> Result<Errand, OutOfMemory>
-    ensures { IfOk result (λ errand. errand ≡ wishes.in_transfers source.now deed) }
+fn in_transfers(source: &AcctName, deed: Deed) -> Result<Content, OutOfMemory>
+    ensures { IfOk result (λ content. content ≡ wishes.in_transfers source.now deed) }
 {
-    Ok(Errand::Do(ObjectName::Intra(source.copy()?), deed))
+    Ok(Content::Do(ObjectName::Intra(source.copy()?), deed))
 }
 
-fn in_models(source: &AcctName, deed: Deed) -> Result<Errand, OutOfMemory>
-    ensures { IfOk result (λ errand. errand ≡ wishes.in_models source.now deed) }
+fn in_models(source: &AcctName, deed: Deed) -> Result<Content, OutOfMemory>
+    ensures { IfOk result (λ content. content ≡ wishes.in_models source.now deed) }
 {
-    Ok(Errand::Do(ObjectName::RecIntra(source.copy()?), deed))
+    Ok(Content::Do(ObjectName::RecIntra(source.copy()?), deed))
 }
 
 fn modifying(
@@ -51,7 +51,7 @@ fn modifying(
     to: &AcctName,
     amount: Cents,
     due: Day,
-) -> Result<Errand, ClientFault>
+) -> Result<Content, ClientFault>
     ensures { FollowsRule (wishes.modifying id to.now amount due (wishes.transfer_kept id stores.now)) result }
 {
     match transfer_kept(stores, id) {
@@ -68,7 +68,7 @@ fn modifying(
     }
 }
 
-fn cancelling(stores: &[Store], id: u64) -> Result<Errand, ClientFault>
+fn cancelling(stores: &[Store], id: u64) -> Result<Content, ClientFault>
     ensures { FollowsRule (wishes.cancelling id (wishes.transfer_kept id stores.now)) result }
 {
     match transfer_kept(stores, id) {
@@ -77,7 +77,7 @@ fn cancelling(stores: &[Store], id: u64) -> Result<Errand, ClientFault>
     }
 }
 
-fn stopping(stores: &[Store], id: u64) -> Result<Errand, ClientFault>
+fn stopping(stores: &[Store], id: u64) -> Result<Content, ClientFault>
     ensures { FollowsRule (wishes.stopping id (wishes.model_kept id stores.now)) result }
 {
     match model_kept(stores, id) {
@@ -115,17 +115,17 @@ fn mail_of(
 }
 
 /// What a file has to ask for a wish. For the last two wishes there is no file.
-#[tactic(auto, unfolding(crate::specs::Wishes::errand_of))]
-fn errand_of(
+#[tactic(auto, unfolding(crate::specs::Wishes::content_of))]
+fn content_of(
     alloc: Global,
     client: &ClientState,
     wish: &Wish,
     at: Moment,
-) -> Result<Errand, ClientFault>
-    ensures { FollowsRule (wishes.errand_of client.now wish.now at) result }
+) -> Result<Content, ClientFault>
+    ensures { FollowsRule (wishes.content_of client.now wish.now at) result }
 {
     match wish {
-        Wish::Sync(account) => Ok(Errand::Look(account.copy()?)),
+        Wish::Sync(account) => Ok(Content::Look(account.copy()?)),
         Wish::Transfer(info) => Ok(in_transfers(&info.from, Deed::Transfer(info.copy()?))?),
         Wish::Modify(id, to, amount, due) => {
             modifying(client.stores.items(), *id, to, *amount, *due)
@@ -133,7 +133,7 @@ fn errand_of(
         Wish::Cancel(id) => cancelling(client.stores.items(), *id),
         Wish::Repeat(recur, info) => Ok(in_models(&info.from, Deed::Model(*recur, info.copy()?))?),
         Wish::Stop(id) => stopping(client.stores.items(), *id),
-        Wish::Mail(subject, body) => Ok(Errand::Do(
+        Wish::Mail(subject, body) => Ok(Content::Do(
             ObjectName::Mail,
             mail_of(alloc, client, subject, body, at)?,
         )),
@@ -226,13 +226,13 @@ fn act(
     Ok(asks)
 }
 
-fn asks_of(alloc: Global, client: &ClientState, errand: &Errand) -> Result<Asks, OutOfMemory>
+fn asks_of(alloc: Global, client: &ClientState, content: &Content) -> Result<Asks, OutOfMemory>
     requires { IsSoundState client.now }
-    ensures { IfOk result (λ asks. asks ≡ rules.asks_of client.now errand.now) }
+    ensures { IfOk result (λ asks. asks ≡ rules.asks_of client.now content.now) }
 {
-    match errand {
-        Errand::Look(account) => look(alloc, client, account),
-        Errand::Do(object, deed) => act(alloc, client, object, deed),
+    match content {
+        Content::Look(account) => look(alloc, client, account),
+        Content::Do(object, deed) => act(alloc, client, object, deed),
     }
 }
 
@@ -248,9 +248,13 @@ pub(crate) fn no_password(alloc: Global) -> Result<Text, OutOfMemory>
     }
 }
 
-fn file_of(alloc: Global, client: &ClientState, errand: &Errand) -> Result<RequestFile, OutOfMemory>
+fn file_of(
+    alloc: Global,
+    client: &ClientState,
+    content: &Content,
+) -> Result<RequestFile, OutOfMemory>
     requires { IsSoundState client.now }
-    ensures { IfOk result (λ file. file ≡ rules.file_of client.now errand.now) }
+    ensures { IfOk result (λ file. file ≡ rules.file_of client.now content.now) }
 {
     let newer = file_uid(alloc, &client.name, client.next)?;
     Ok(RequestFile {
@@ -259,7 +263,7 @@ fn file_of(alloc: Global, client: &ClientState, errand: &Errand) -> Result<Reque
         newer: Some(newer),
         user: client.user.copy()?,
         pass: no_password(alloc)?,
-        asks: asks_of(alloc, client, errand)?,
+        asks: asks_of(alloc, client, content)?,
     })
 }
 
@@ -293,13 +297,13 @@ fn open_one(alloc: Global, client: &mut ClientState, object: &ObjectName) -> Res
 }
 
 /// Makes the stores of what an errand asks about. Where memory is refused all are as before.
-fn open(alloc: Global, client: &mut ClientState, errand: &Errand) -> Result<(), OutOfMemory>
-    ensures ok { OnOk result (client.new ≡ rules.with_opened (rules.objects_of errand.now) client.old) }
+fn open(alloc: Global, client: &mut ClientState, content: &Content) -> Result<(), OutOfMemory>
+    ensures ok { OnOk result (client.new ≡ rules.with_opened (rules.objects_of content.now) client.old) }
     ensures err { OnErr result (client.new ≡ client.old) }
 {
-    match errand {
-        Errand::Look(account) => open_looked_at(alloc, client, account),
-        Errand::Do(object, _) => open_one(alloc, client, object),
+    match content {
+        Content::Look(account) => open_looked_at(alloc, client, account),
+        Content::Do(object, _) => open_one(alloc, client, object),
     }
 }
 
@@ -307,16 +311,16 @@ fn open(alloc: Global, client: &mut ClientState, errand: &Errand) -> Result<(), 
 fn set_out(
     alloc: Global,
     client: &mut ClientState,
-    errand: &Errand,
+    content: &Content,
     at: Moment,
 ) -> Result<(), OutOfMemory>
     requires sound { IsSoundState client.old }
     requires number { client.old.next < 9999999999 }
-    ensures ok { OnOk result (client.new ≡ rules.with_file client.old at errand.now) }
+    ensures ok { OnOk result (client.new ≡ rules.with_file client.old at content.now) }
     ensures err { OnErr result (client.new ≡ client.old) }
 {
-    let file = file_of(alloc, client, errand)?;
-    open(alloc, client, errand)?;
+    let file = file_of(alloc, client, content)?;
+    open(alloc, client, content)?;
     client.outstanding = Some(Outstanding { at, file });
     client.next += 1;
     Ok(())
@@ -336,7 +340,7 @@ pub(crate) fn make(
     ensures refusal { IfErr result (λ fault. IsRefusal (rules.made client.old wish.now at) fault) }
     ensures err { OnErr result (client.new ≡ client.old) }
 {
-    let errand = errand_of(alloc, client, wish, at)?;
-    set_out(alloc, client, &errand, at)?;
+    let content = content_of(alloc, client, wish, at)?;
+    set_out(alloc, client, &content, at)?;
     Ok(())
 }

@@ -1,4 +1,4 @@
-//! What is told of a reply.
+//! What is reported of a reply.
 
 use ofx_types::{Sequence, Text};
 

@@ -50,9 +50,9 @@ fn open_each(
     ensures kept { take (length stores.old.items) stores.new.items ≡ stores.old.items }
 {
     let mut left = objects;
-    while let [object, behind @ ..] = left {
+    while let [object, rest @ ..] = left {
         open_store(alloc, object, stores)?;
-        left = behind;
+        left = rest;
     }
     Ok(())
 }
@@ -143,11 +143,11 @@ pub(crate) fn transfer_kept(stores: &[Store], id: u64) -> Option<&TransferRow>
     ensures { option_copied result ≡ wishes.transfer_kept id stores.now }
 {
     let mut left = stores;
-    while let [store, behind @ ..] = left {
+    while let [store, rest @ ..] = left {
         if let Some(row) = transfer_in(store, id) {
             return Some(row);
         }
-        left = behind;
+        left = rest;
     }
     None
 }
@@ -157,11 +157,11 @@ pub(crate) fn model_kept(stores: &[Store], id: u64) -> Option<&ModelRow>
     ensures { option_copied result ≡ wishes.model_kept id stores.now }
 {
     let mut left = stores;
-    while let [store, behind @ ..] = left {
+    while let [store, rest @ ..] = left {
         if let Some(row) = model_in(store, id) {
             return Some(row);
         }
-        left = behind;
+        left = rest;
     }
     None
 }

@@ -27,13 +27,13 @@ fn file_name(alloc: Global, name: &Text, number: u64) -> Result<Vec<u8>, OutOfMe
     Ok(bytes)
 }
 
-/// The bytes of the TRNUID of what stands at a place of a file.
+/// The bytes of the TRNUID of what is there at a place of a file.
 #[tactic(auto, unfolding(crate::specs::Making::deed_name))]
-fn deed_name(alloc: Global, name: &Text, number: u64, place: u64) -> Result<Vec<u8>, OutOfMemory>
-    ensures { IfOk result (λ bytes. bytes.items ≡ deed_name name.now number place) }
+fn deed_name(alloc: Global, name: &Text, number: u64, index: u64) -> Result<Vec<u8>, OutOfMemory>
+    ensures { IfOk result (λ bytes. bytes.items ≡ deed_name name.now number index) }
 {
     let mut bytes = file_name(alloc, name, number)?;
-    put_part(place, &mut bytes)?;
+    put_part(index, &mut bytes)?;
     Ok(bytes)
 }
 
@@ -50,19 +50,19 @@ pub(crate) fn file_uid(alloc: Global, name: &Text, number: u64) -> Result<FileUi
     }
 }
 
-/// The TRNUID of what stands at a place of a client's file of a number.
+/// The TRNUID of what is there at a place of a client's file of a number.
 pub(crate) fn deed_uid(
     alloc: Global,
     name: &Text,
     number: u64,
-    place: u64,
+    index: u64,
 ) -> Result<TrnUid, OutOfMemory>
     requires name { IsName name.now }
     requires number { number ≤ 9999999999 }
-    requires place { place ≤ 9 }
-    ensures { IfOk result (λ uid. uid ≡ deed_name name.now number place) }
+    requires index { index ≤ 9 }
+    ensures { IfOk result (λ uid. uid ≡ deed_name name.now number index) }
 {
-    let bytes = deed_name(alloc, name, number, place)?;
+    let bytes = deed_name(alloc, name, number, index)?;
     match TrnUid::new(&bytes) {
         Ok(uid) => Ok(uid),
         Err(_) => unreachable!(),

@@ -33,11 +33,11 @@ use Rattle.bank_model.specs.Deeds.{deed_answer}
 use Rattle.bank_model.specs.Objects.{account_about, object_named, newest}
 use Rattle.bank_model.specs.SetupForm.{IsWithinLimits}
 use Rattle.bank_model.specs.SetupLookups.{own_account}
-use Rattle.bank_model.specs.Sync.{token_of, refused_with, rejection, history_told, deed_answers, deeds_or_rejection, sync_on, sync_answer}
+use Rattle.bank_model.specs.Sync.{token_of, refused_with, rejection, history_replies, deed_answers, deeds_or_rejection, sync_on, sync_answer}
 use Rattle.bank_model.specs.Rules.{raised, statement_reply, ask_answer, ask_answers, reply_file}
-use Rattle.bank_laws.specs.Histories.{IsInOrder}
-use Rattle.bank_laws.proofs.Events.{grows_ask, grows_raised}
-use Rattle.bank_laws.proofs.Tokens.{newest_read}
+use Rattle.sync_laws.specs.Histories.{IsInOrder}
+use Rattle.sync_laws.proofs.Events.{grows_ask, grows_raised}
+use Rattle.sync_laws.proofs.Tokens.{newest_read}
 use Rattle.client_saved.specs.declared.state.ClientState.{ClientState}
 use Rattle.client_saved.specs.declared.state.Outstanding.{Outstanding}
 use Rattle.client_saved.specs.Bounds.{same_object}
@@ -76,17 +76,17 @@ uids_length (deed ∷ deeds) [] have = absurd cc
 uids_length (deed ∷ deeds) (reply ∷ replies) have =
     let rest = uids_length deeds replies (and_parts (bytes_eq deed.0 reply.trnuid) (have_uids deeds replies) have).1 in omega (arith, rest)
 
-drop_front : (front back : List DeedReply) → drop (length front) (front ++ back) ≡ back
-drop_front [] back = refl
-drop_front (reply ∷ front) back = drop_front front back
+drop_prefix : (prefix back : List DeedReply) → drop (length prefix) (prefix ++ back) ≡ back
+drop_prefix [] back = refl
+drop_prefix (reply ∷ prefix) back = drop_prefix prefix back
 
 -- the replies to the deeds stand last
-have_last : (deeds : List (List ℕ × Deed)) (front back : List DeedReply) → have_uids deeds back ≡ true
-    → have_uids deeds (last_replies deeds (front ++ back)) ≡ true
-have_last deeds front back have =
+have_last : (deeds : List (List ℕ × Deed)) (prefix back : List DeedReply) → have_uids deeds back ≡ true
+    → have_uids deeds (last_replies deeds (prefix ++ back)) ≡ true
+have_last deeds prefix back have =
     let same = uids_length deeds back have in
-    let count : length (front ++ back) - length deeds ≡ length front = omega (arith, same, length-append front back) in
-    ap (have_uids deeds) (ap (λ (n : ℕ). drop n (front ++ back)) count ∙ drop_front front back) ∙ have
+    let count : length (prefix ++ back) - length deeds ≡ length prefix = omega (arith, same, length-append prefix back) in
+    ap (have_uids deeds) (ap (λ (n : ℕ). drop n (prefix ++ back)) count ∙ drop_prefix prefix back) ∙ have
 
 wired : (deeds : List (List ℕ × Deed)) (replies : List DeedReply) → have_uids deeds replies ≡ true → have_uids deeds (map wire replies) ≡ true
 wired [] [] have = refl
@@ -118,11 +118,11 @@ answered_uids setup S user only at (deed ∷ more) =
     and_from _ _ (ap (bytes_eq deed.0) (answer_uid setup S user only at deed.0 deed.1) ∙ bytes_eq_self deed.0)
     (answered_uids setup (deed_answer setup S user only at deed.0 deed.1).after user only at more)
 
-told_uids : (setup : Setup) (S : State) (user : UserId) (at : Moment) (ask : SyncAsk) (code : Option ℕ)
+reported_uids : (setup : Setup) (S : State) (user : UserId) (at : Moment) (ask : SyncAsk) (code : Option ℕ)
     → have_uids ask.deeds (deeds_or_rejection setup S user at ask code).replies ≡ true
 unfolding deeds_or_rejection
-told_uids setup S user at ask None = answered_uids setup S user (account_about setup user ask.object) at ask.deeds
-told_uids setup S user at ask (Some code) = refused_uids (object_family ask.object) code ask.deeds
+reported_uids setup S user at ask None = answered_uids setup S user (account_about setup user ask.object) at ask.deeds
+reported_uids setup S user at ask (Some code) = refused_uids (object_family ask.object) code ask.deeds
 
 -- ---- synchronisations
 
@@ -149,8 +149,8 @@ known_answered : (setup : Setup) (S : State) (user : UserId) (at : Moment) (ask 
 unfolding sync_on
 known_answered setup S user at ask object within order =
     let answers = deeds_or_rejection setup S user at ask (rejection ask.reject (newest object S.entries) ask.kind) in
-    let history = history_told setup.window object (object_family ask.object) S.entries ask.kind in
-    let uids = wired ask.deeds answers.replies (told_uids setup S user at ask (rejection ask.reject (newest object S.entries) ask.kind)) in
+    let history = history_replies setup.window object (object_family ask.object) S.entries ask.kind in
+    let uids = wired ask.deeds answers.replies (reported_uids setup S user at ask (rejection ask.reject (newest object S.entries) ask.kind)) in
     sync_is ask (sync_on setup S user at ask (Some object)).reply (object_itself ask.object)
     (ap is_some (newest_read setup answers.after object within order))
     (ap (λ (all : List DeedReply). have_uids ask.deeds (last_replies ask.deeds all)) (map-append wire history answers.replies)

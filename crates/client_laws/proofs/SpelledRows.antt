@@ -28,7 +28,7 @@ use Rattle.ofx_types.proofs.Trimming.{text_within_in}
 use Rattle.bank_model.specs.Sound.{IsSoundAccount}
 use Rattle.ofx_file.proofs.SoundDeeds.{sound_account, sound_id, sound_recur, sound_info, sound_text}
 use Rattle.client_saved.specs.Bounds.{IsSoundTransfer, IsSoundModel, IsSoundMailRow}
-use Rattle.client_core.specs.Told.{IsSoundChange, IsSoundDeedReply, IsSoundReply}
+use Rattle.client_core.specs.ReportLines.{IsSoundChange, IsSoundDeedReply, IsSoundReply}
 
 -- ---- parts
 
@@ -48,7 +48,7 @@ spelled_row reply row is few =
       to = info.to;
       amount = info.amount;
       due = info.due;
-      stamp = let stamp = is.processing.has_stamp in stamp.stands.is_moment;
+      stamp = let stamp = is.processing.has_stamp in stamp.holds.is_moment;
     }
 
 spelled_model : (reply : Item) (row : ModelRow) → IsModelRow reply row → IsSoundModel row
@@ -118,27 +118,27 @@ spelled_answer : (transaction : Item) (reply : DeedReply) → IsTransactionReply
 spelled_answer transaction reply (inl is) = by_code reply.code reply.family transaction reply.change is.is_change
 spelled_answer transaction reply (inr is) = mail_by_code reply.code reply.family transaction reply.change is.is_change
 
-spelled_answers : (items : List Item) (told : List DeedReply) → AllZip IsTransactionReply items told → AllByRecursion IsSoundDeedReply told
+spelled_answers : (items : List Item) (reported : List DeedReply) → AllZip IsTransactionReply items reported → AllByRecursion IsSoundDeedReply reported
 spelled_answers [] [] are = tt
-spelled_answers [] (reply ∷ told) are = absurd are
+spelled_answers [] (reply ∷ reported) are = absurd are
 spelled_answers (item ∷ items) [] are = absurd are
-spelled_answers (item ∷ items) (reply ∷ told) are = (spelled_answer item reply are.0, spelled_answers items told are.1)
+spelled_answers (item ∷ items) (reply ∷ reported) are = (spelled_answer item reply are.0, spelled_answers items reported are.1)
 
 spelled_reply : (item : Item) (reply : AskReply) → IsAskReply item reply → IsSoundReply reply
 spelled_reply item (replies.Statement trnuid code body) is = tt
 spelled_reply item (replies.One reply) is = spelled_answer item reply is
 spelled_reply item (replies.Sync reply) is = let all = is.replies in spelled_answers _ reply.replies all
 
-spelled_each : (items : List Item) (told : List AskReply) → AllZip IsAskReply items told → AllByRecursion IsSoundReply told
+spelled_each : (items : List Item) (reported : List AskReply) → AllZip IsAskReply items reported → AllByRecursion IsSoundReply reported
 spelled_each [] [] are = tt
-spelled_each [] (reply ∷ told) are = absurd are
+spelled_each [] (reply ∷ reported) are = absurd are
 spelled_each (item ∷ items) [] are = absurd are
-spelled_each (item ∷ items) (reply ∷ told) are = (spelled_reply item reply are.0, spelled_each items told are.1)
+spelled_each (item ∷ items) (reply ∷ reported) are = (spelled_reply item reply are.0, spelled_each items reported are.1)
 
-spelled_set : (name : List ℕ) (names : List (List ℕ)) (ofx : Item) (told : List AskReply) → AreMaybeMessages IsAskReply name names ofx told
-    → AllByRecursion IsSoundReply told
-spelled_set name names ofx told (inl none) = subst (AllByRecursion IsSoundReply) (sym none.1) tt
-spelled_set name names ofx told (inr (set, only, are)) = spelled_each _ told are
+spelled_set : (name : List ℕ) (names : List (List ℕ)) (ofx : Item) (reported : List AskReply) → AreMaybeMessages IsAskReply name names ofx reported
+    → AllByRecursion IsSoundReply reported
+spelled_set name names ofx reported (inl none) = subst (AllByRecursion IsSoundReply) (sym none.1) tt
+spelled_set name names ofx reported (inr (set, only, are)) = spelled_each _ reported are
 
 both_sets : (xs ys : List AskReply) → AllByRecursion IsSoundReply xs → AllByRecursion IsSoundReply ys → AllByRecursion IsSoundReply (xs ++ ys)
 both_sets [] ys first second = second

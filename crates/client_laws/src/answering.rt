@@ -9,7 +9,7 @@ ghost use Rattle.bank_model.specs.declared.event.State.{State};
 ghost use Rattle.bank_model.specs.declared.setup.Setup.{Setup};
 ghost use Rattle.bank_model.specs.Rules.{raised, ask_answers, reply_file};
 ghost use Rattle.bank_model.specs.SetupForm.{IsWithinLimits};
-ghost use Rattle.bank_laws.specs.Histories.{IsInOrder};
+ghost use Rattle.sync_laws.specs.Histories.{IsInOrder};
 ghost use Rattle.client_saved.specs.declared.state.ClientState.{ClientState};
 ghost use Rattle.client_saved.specs.declared.state.Outstanding.{Outstanding};
 ghost use Rattle.client_core.specs.Answering.{first_unanswered};

@@ -4,10 +4,10 @@
 //! Nothing here runs in a program: one call takes a reply in as a client does, and the contracts are laws.
 #![tactic(auto)]
 
+mod accepting;
 mod answering;
 mod spelled;
-mod taking;
 
+pub use accepting::accept_bank_reply;
 pub use answering::bank_replies_answer;
 pub use spelled::spelled_replies_are_sound;
-pub use taking::take_bank_reply;

@@ -1,7 +1,7 @@
 -- A poll: its file may be printed, and what comes of it is told.
 use Rattle.std.proofs.Common.{◌≡◌, ℕ, ◌≤◌, List, [], ◌∷◌, ◌++◌, length, take, Option, None, Some, Result, Ok, Err, refl, sym, subst, arith, append-nil}
 use Rattle.std.specs.Io.KnownBytes.{Keeps, Appends, prepend_known}
-use Rattle.ofx_ports.specs.Told.{Grows}
+use Rattle.ofx_ports.specs.Known.{Grows}
 use Rattle.ofx_ports.specs.Writes.{AppendsPart}
 use Rattle.ofx_ports.specs.declared.fault.PutFault.{PutFault}
 use Rattle.ofx_types.specs.Calendar.{IsMoment}
@@ -13,17 +13,17 @@ use Rattle.ofx_types.specs.declared.request.RequestFile.{RequestFile}
 use Rattle.ofx_file.specs.Printable.{IsPrintableFile}
 use Rattle.client_saved.specs.declared.state.ClientState.{ClientState}
 use Rattle.client_core.specs.Making.{poll_of}
-use Rattle.client_core.specs.Told.{FollowsRule}
+use Rattle.client_core.specs.ReportLines.{FollowsRule}
 use Rattle.client_core.specs.declared.fault.ClientFault.{ClientFault}
 use Rattle.client_run.specs.Views.{LinkView, OutView}
 use Rattle.client_run.specs.Commands.{Checks, JudgesNews}
 use Rattle.client_run.specs.Exchange.{request_bytes, Exchanges}
 use Rattle.client_run.specs.Lines.{news, printed, Prints}
-use Rattle.client_run.specs.Settling.{print_end}
+use Rattle.client_run.specs.Sending.{print_end}
 use Rattle.client_run.specs.declared.stop.CallStop.{CallStop}
 use Rattle.client_run.specs.declared.stop.CallStop.TheVariants as calls
-use Rattle.client_run.specs.declared.stop.Stop.{Stop}
-use Rattle.client_run.specs.declared.stop.Stop.TheVariants as stops
+use Rattle.client_run.specs.declared.stop.ClientStop.{ClientStop}
+use Rattle.client_run.specs.declared.stop.ClientStop.TheVariants as stops
 
 poll_itself : (client : ClientState) (account : AcctName) (at : Moment) → IsMoment at.0 → IsPrintableFile (poll_of client account) at
 unfolding poll_of
@@ -53,7 +53,7 @@ unsent pass client account at link shown shown' out reads = record {
 }
 
 -- What comes of the poll file comes of a check.
-pub checks_by : (pass : List ℕ) (client : ClientState) (account : AcctName) (file : RequestFile) (at : Moment) (link link' : LinkView) (shown shown' : Option (List Moment)) (out out' : OutView) (ahead' : List ℕ) (got : Result ReplyFile CallStop) (end : Result (Unit {0}) Stop)
+pub checks_by : (pass : List ℕ) (client : ClientState) (account : AcctName) (file : RequestFile) (at : Moment) (link link' : LinkView) (shown shown' : Option (List Moment)) (out out' : OutView) (ahead' : List ℕ) (got : Result ReplyFile CallStop) (end : Result (Unit {0}) ClientStop)
     → file ≡ poll_of client account → Grows shown shown' (at ∷ []) → Exchanges (request_bytes pass file at) [] link ahead' link' got → JudgesNews file.asks got out out' end
     → Checks pass client account link shown out link' shown' out' end
 checks_by pass client account file at link link' shown shown' out out' ahead' got end same reads exchanges judges = record {
@@ -66,9 +66,9 @@ checks_by pass client account file at link link' shown shown' out out' ahead' go
 }
 
 -- A reply that is accepted is told by its lines, and any other by why it isn't.
-pub news_told : (asks : List Ask) (reply : ReplyFile) (lines : List (List ℕ)) (out out' : OutView) (told : Result (Unit {0}) PutFault) (end : Result (Unit {0}) Stop)
-    → FollowsRule (news asks reply) (Ok lines) → Prints (printed lines) out out' told → end ≡ print_end told → JudgesNews asks (Ok reply) out out' end
-news_told asks reply lines out out' told end gives prints end_is = (Ok lines, gives, (told, prints, end_is))
+pub news_reported : (asks : List Ask) (reply : ReplyFile) (lines : List (List ℕ)) (out out' : OutView) (reported : Result (Unit {0}) PutFault) (end : Result (Unit {0}) ClientStop)
+    → FollowsRule (news asks reply) (Ok lines) → Prints (printed lines) out out' reported → end ≡ print_end reported → JudgesNews asks (Ok reply) out out' end
+news_reported asks reply lines out out' reported end gives prints end_is = (Ok lines, gives, (reported, prints, end_is))
 
 pub news_refused : (asks : List Ask) (reply : ReplyFile) (fault : ClientFault) (out : OutView) → FollowsRule (news asks reply) (Err fault) → JudgesNews asks (Ok reply) out out (Err (stops.Refused fault))
 news_refused asks reply fault out gives = (Err fault, gives, (refl, refl))

@@ -10,7 +10,7 @@ use Rattle.ofx_types.specs.PrintedFile.{file_text}
 use Rattle.ofx_types.specs.declared.number.Moment.{Moment}
 use Rattle.ofx_types.specs.declared.reply.ReplyFile.{ReplyFile}
 use Rattle.ofx_types.specs.declared.request.RequestFile.{RequestFile}
-use Rattle.http_link.specs.Answers.{request_of}
+use Rattle.http_link.specs.Responses.{request_of}
 use Rattle.client_run.specs.Views.{LinkView}
 use Rattle.client_run.specs.Exchange.{with_pass, request_bytes, BringsNothing, IsUnread, Receives, Exchanges}
 use Rattle.client_run.specs.declared.stop.CallStop.{CallStop}

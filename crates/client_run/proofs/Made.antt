@@ -1,19 +1,19 @@
 -- What a run comes to that makes a file, from its steps.
 use Rattle.std.proofs.Common.{◌≡◌, ℕ, List, [], ◌∷◌, Option, Result, Ok, Err, refl}
-use Rattle.ofx_ports.specs.Told.{Grows}
+use Rattle.ofx_ports.specs.Known.{Grows}
 use Rattle.ofx_ports.specs.declared.fault.PutFault.{PutFault}
 use Rattle.ofx_types.specs.declared.number.Moment.{Moment}
 use Rattle.client_saved.specs.declared.state.ClientState.{ClientState}
 use Rattle.client_core.specs.Making.{made}
-use Rattle.client_core.specs.Told.{IsRefusal}
+use Rattle.client_core.specs.ReportLines.{IsRefusal}
 use Rattle.client_core.specs.declared.fault.ClientFault.{ClientFault}
 use Rattle.client_core.specs.declared.wish.Wish.{Wish}
 use Rattle.client_run.specs.Views.{LinkView, StoreView, OutView, PortsView}
 use Rattle.client_run.specs.Saves.{Saves}
-use Rattle.client_run.specs.Settling.{Settles}
+use Rattle.client_run.specs.Sending.{SendsOutstanding}
 use Rattle.client_run.specs.Commands.{Resumes, keep_end, Makes, Acts}
-use Rattle.client_run.specs.declared.stop.Stop.{Stop}
-use Rattle.client_run.specs.declared.stop.Stop.TheVariants as stops
+use Rattle.client_run.specs.declared.stop.ClientStop.{ClientStop}
+use Rattle.client_run.specs.declared.stop.ClientStop.TheVariants as stops
 
 -- ---- the file, and what is kept of it
 
@@ -36,7 +36,7 @@ ports link store shown out = record { link = link; store = store; shown = shown;
 
 -- The new one was not made.
 pub acts_unmade : (pass : List ℕ) (wish : Wish) (client later next : ClientState) (ahead : List ℕ) (link link' : LinkView) (store between store' : StoreView)
-    (shown shown' : Option (List Moment)) (out out' : OutView) (stop : Stop) → Resumes pass client.outstanding client link store out later ahead link' between out' (Ok tt)
+    (shown shown' : Option (List Moment)) (out out' : OutView) (stop : ClientStop) → Resumes pass client.outstanding client link store out later ahead link' between out' (Ok tt)
     → Makes wish later between shown next store' shown' (Err stop)
     → Acts pass wish client (ports link store shown out) (ports link' store' shown' out') (Err stop)
 acts_unmade pass wish client later next ahead link link' store between store' shown shown' out out' stop resumes makes = record {
@@ -59,10 +59,10 @@ acts_unmade pass wish client later next ahead link link' store between store' sh
 
 -- The new one was made and sent.
 pub acts_whole : (pass : List ℕ) (wish : Wish) (client later next last : ClientState) (ahead ahead' : List ℕ) (link between link' : LinkView)
-    (store resumed_store made_store store' : StoreView) (shown shown' : Option (List Moment)) (out resumed_out out' : OutView) (end : Result (Unit {0}) Stop)
+    (store resumed_store made_store store' : StoreView) (shown shown' : Option (List Moment)) (out resumed_out out' : OutView) (end : Result (Unit {0}) ClientStop)
     → Resumes pass client.outstanding client link store out later ahead between resumed_store resumed_out (Ok tt)
     → Makes wish later resumed_store shown next made_store shown' (Ok tt)
-    → Settles pass next ahead between made_store resumed_out last ahead' link' store' out' end
+    → SendsOutstanding pass next ahead between made_store resumed_out last ahead' link' store' out' end
     → Acts pass wish client (ports link store shown out) (ports link' store' shown' out') end
 acts_whole pass wish client later next last ahead ahead' link between link' store resumed_store made_store store' shown shown' out resumed_out out' end resumes makes settles = record {
   first = Ok tt;

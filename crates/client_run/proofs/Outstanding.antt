@@ -7,7 +7,7 @@ use Rattle.client_saved.specs.declared.state.ClientState.{ClientState}
 use Rattle.client_saved.specs.declared.state.Outstanding.{Outstanding}
 use Rattle.client_core.specs.Accepting.{Accepted, accepted, accepted_to, accepted_unless, refusal_for, with_replies}
 use Rattle.client_core.specs.Making.{made, made_for, with_file, file_of}
-use Rattle.client_core.specs.Wishes.{errand_of}
+use Rattle.client_core.specs.Wishes.{content_of}
 use Rattle.client_core.specs.declared.fault.ClientFault.{ClientFault}
 use Rattle.client_core.specs.declared.wish.Wish.{Wish}
 
@@ -32,8 +32,8 @@ pub accepted_frees : (client : ClientState) (reply : ReplyFile) (taken : Accepte
 unfolding accepted
 accepted_frees client reply taken e = by_outstanding client client.outstanding reply taken e
 
-some_stands : (kept : Outstanding) → Some kept ≡ None → ⊥
-some_stands kept e = cc
+some_holds : (kept : Outstanding) → Some kept ≡ None → ⊥
+some_holds kept e = cc
 
 same_client : (a b : ClientState) → ◌≡◌ {A = Result ClientState ClientFault} (Ok a) (Ok b) → a ≡ b
 same_client a b e = cc
@@ -42,10 +42,10 @@ refused_makes : (fault : ClientFault) (next : ClientState) → ◌≡◌ {A = Re
 refused_makes fault next e = cc
 
 -- A file that was made is outstanding.
-pub made_stands : (client next : ClientState) (wish : Wish) (at : Moment) → made client wish at ≡ Ok next → next.outstanding ≢ None
+pub made_holds : (client next : ClientState) (wish : Wish) (at : Moment) → made client wish at ≡ Ok next → next.outstanding ≢ None
 unfolding made
-made_stands client next wish at e = (elim (errand_of client wish at) as (λ errand. made_for client at errand ≡ Ok next → next.outstanding ≢ None) [
+made_holds client next wish at e = (elim (content_of client wish at) as (λ content. made_for client at content ≡ Ok next → next.outstanding ≢ None) [
   | Err fault ↦ λ is none. refused_makes fault next is
-  | Ok errand ↦ λ is none. some_stands (record { at = at; file = file_of client errand })
-      (ap (λ (c : ClientState). c.outstanding) (same_client (with_file client at errand) next is) ∙ none)
+  | Ok content ↦ λ is none. some_holds (record { at = at; file = file_of client content })
+      (ap (λ (c : ClientState). c.outstanding) (same_client (with_file client at content) next is) ∙ none)
 ]) e

@@ -6,14 +6,14 @@ use Rattle.ofx_ports.specs.declared.fault.PutFault.{PutFault}
 use Rattle.client_saved.specs.declared.state.ClientState.{ClientState}
 use Rattle.client_saved.specs.declared.state.Outstanding.{Outstanding}
 use Rattle.client_core.specs.Accepting.{accepted}
-use Rattle.client_core.specs.Told.{IsRefusal}
+use Rattle.client_core.specs.ReportLines.{IsRefusal}
 use Rattle.client_core.specs.declared.fault.ClientFault.{ClientFault}
 use Rattle.client_run.specs.Views.{LinkView, StoreView, OutView}
 use Rattle.client_run.specs.Exchange.{request_bytes}
 use Rattle.client_run.specs.Lines.{printed, Prints}
 use Rattle.client_run.specs.Saves.{Saves}
-use Rattle.client_run.specs.Settling.{print_end, Judges, Calls}
-use Rattle.client_run.specs.declared.stop.Stop.TheVariants as stops
+use Rattle.client_run.specs.Sending.{print_end, Judges, Calls}
+use Rattle.client_run.specs.declared.stop.ClientStop.TheVariants as stops
 use Rattle.client_run.proofs.Exchanged.{spelled_by}
 
 -- ---- a reply that is taken
@@ -32,13 +32,13 @@ taken_unsaved client client' reply lines store store' out fault taken saves = (
   record { client_is = refl; kept = Err fault; saves = saves; prints = (refl, refl) },
 )
 
-pub taken_and_told : (client client' : ClientState) (reply : ReplyFile) (lines shown : List (List ℕ)) (store store' : StoreView) (out out' : OutView) (told : Result (Unit {0}) PutFault)
+pub taken_and_reported : (client client' : ClientState) (reply : ReplyFile) (lines shown : List (List ℕ)) (store store' : StoreView) (out out' : OutView) (reported : Result (Unit {0}) PutFault)
     → accepted client reply ≡ Ok (record { after = client'; lines = lines }) → Saves client' store store' (Ok tt) → shown ≡ lines
-    → Prints (printed shown) out out' told → Judges client reply store out client' store' out' (print_end told)
-taken_and_told client client' reply lines shown store store' out out' told taken saves same prints = (
+    → Prints (printed shown) out out' reported → Judges client reply store out client' store' out' (print_end reported)
+taken_and_reported client client' reply lines shown store store' out out' reported taken saves same prints = (
   Ok (record { after = client'; lines = lines }),
   taken,
-  record { client_is = refl; kept = Ok tt; saves = saves; prints = (told, subst (λ (l : List (List ℕ)). Prints (printed l) out out' told) same prints, refl) },
+  record { client_is = refl; kept = Ok tt; saves = saves; prints = (reported, subst (λ (l : List (List ℕ)). Prints (printed l) out out' reported) same prints, refl) },
 )
 
 -- ---- the call

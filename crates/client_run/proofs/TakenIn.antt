@@ -9,32 +9,32 @@ use Rattle.ofx_types.specs.declared.reply.ReplyFile.{ReplyFile}
 use Rattle.bank_model.specs.declared.event.State.{State}
 use Rattle.bank_model.specs.declared.setup.Setup.{Setup}
 use Rattle.bank_model.specs.SetupForm.{IsWithinLimits}
-use Rattle.bank_laws.specs.Histories.{IsInOrder}
+use Rattle.sync_laws.specs.Histories.{IsInOrder}
 use Rattle.client_saved.specs.declared.state.ClientState.{ClientState}
 use Rattle.client_saved.specs.declared.state.Outstanding.{Outstanding}
 use Rattle.client_core.specs.Accepting.{Accepted, accepted, with_replies}
-use Rattle.client_core.specs.Told.{FollowsRule}
+use Rattle.client_core.specs.ReportLines.{FollowsRule}
 use Rattle.client_core.specs.declared.fault.ClientFault.{ClientFault}
 use Rattle.client_core.specs.declared.fault.ClientFault.TheVariants as faults
 use Rattle.client_laws.specs.Answers.{bank_reply}
-use Rattle.client_run.specs.Complete.{IsBroken, Answers, TakesTheBanks}
+use Rattle.client_run.specs.Complete.{IsBroken, Answers, AcceptsTheBanks}
 use Rattle.client_run.specs.Exact.{IsOutcome, IsCallBroken, WholeRepliesDecide}
 use Rattle.client_run.specs.Exchange.{request_bytes, IsNoReplyAt, Exchanges}
-use Rattle.client_run.specs.Settling.{GoesBy, Judges, Follows, Calls, Settles}
+use Rattle.client_run.specs.Sending.{GoesBy, Judges, Follows, Calls, SendsOutstanding}
 use Rattle.client_run.specs.Views.{LinkView, StoreView, OutView}
 use Rattle.client_run.specs.declared.stop.CallStop.{CallStop}
 use Rattle.client_run.specs.declared.stop.CallStop.TheVariants as calls
-use Rattle.client_run.specs.declared.stop.Stop.{Stop}
-use Rattle.client_run.specs.declared.stop.Stop.TheVariants as stops
+use Rattle.client_run.specs.declared.stop.ClientStop.{ClientStop}
+use Rattle.client_run.specs.declared.stop.ClientStop.TheVariants as stops
 
 -- A reply that the rule accepts is taken in, unless memory is refused.
-abbrev IsTaken : Accepted → ClientState → Result (Unit {0}) Stop → Type 0
+abbrev IsTaken : Accepted → ClientState → Result (Unit {0}) ClientStop → Type 0
 IsTaken taken client' end = (client' ≡ taken.after) ⊎ (end ≡ Err (stops.Refused faults.OutOfMemory))
 
-goes : (client : ClientState) (taken : Accepted) (judged : Result Accepted ClientFault) (store : StoreView) (out : OutView) (client' : ClientState) (store' : StoreView) (out' : OutView) (end : Result (Unit {0}) Stop)
+goes : (client : ClientState) (taken : Accepted) (judged : Result Accepted ClientFault) (store : StoreView) (out : OutView) (client' : ClientState) (store' : StoreView) (out' : OutView) (end : Result (Unit {0}) ClientStop)
     → FollowsRule (Ok taken) judged → GoesBy client judged store out client' store' out' end → IsTaken taken client' end
-goes client taken (Ok told) store out client' store' out' end gives by =
-    let same : taken ≡ told = cc in inl (by.client_is ∙ ap (λ (a : Accepted). a.after) (sym same))
+goes client taken (Ok reported) store out client' store' out' end gives by =
+    let same : taken ≡ reported = cc in inl (by.client_is ∙ ap (λ (a : Accepted). a.after) (sym same))
 goes client taken (Err faults.OutOfMemory) store out client' store' out' end gives by = inr by.end_is
 goes client taken (Err faults.BadName) store out client' store' out' end gives by = absurd cc
 goes client taken (Err (faults.NoRow id)) store out client' store' out' end gives by = absurd cc
@@ -42,9 +42,9 @@ goes client taken (Err faults.NotMine) store out client' store' out' end gives b
 goes client taken (Err (faults.Signon code)) store out client' store' out' end gives by = absurd cc
 goes client taken (Err (faults.Shape number)) store out client' store' out' end gives by = absurd cc
 
-judged : (client : ClientState) (taken : Accepted) (reply told : ReplyFile) (store : StoreView) (out : OutView) (client' : ClientState) (store' : StoreView) (out' : OutView) (end : Result (Unit {0}) Stop)
-    → told ≡ reply → accepted client reply ≡ Ok taken → Judges client told store out client' store' out' end → IsTaken taken client' end
-judged client taken reply told store out client' store' out' end same accepts (judgement, gives, by) =
+judged : (client : ClientState) (taken : Accepted) (reply reported : ReplyFile) (store : StoreView) (out : OutView) (client' : ClientState) (store' : StoreView) (out' : OutView) (end : Result (Unit {0}) ClientStop)
+    → reported ≡ reply → accepted client reply ≡ Ok taken → Judges client reported store out client' store' out' end → IsTaken taken client' end
+judged client taken reply reported store out client' store' out' end same accepts (judgement, gives, by) =
     goes client taken judgement store out client' store' out' end
     (subst (λ (given : Result Accepted ClientFault). FollowsRule given judgement) (ap (accepted client) same ∙ accepts) gives) by
 
@@ -53,15 +53,15 @@ unspelled never body reply at spells (inl fault) = never body reply (files.Heade
 unspelled never body reply at spells (inr (inl fault)) = never body reply (files.Syntax at) spells fault
 unspelled never body reply at spells (inr (inr fault)) = never body reply (files.Form at) spells fault
 
-widened : (taken : Accepted) (link link' : LinkView) (client' : ClientState) (end : Result (Unit {0}) Stop) → IsTaken taken client' end → (client' ≡ taken.after) ⊎ IsBroken link link' end
+widened : (taken : Accepted) (link link' : LinkView) (client' : ClientState) (end : Result (Unit {0}) ClientStop) → IsTaken taken client' end → (client' ≡ taken.after) ⊎ IsBroken link link' end
 widened taken link link' client' end (inl is) = inl is
 widened taken link link' client' end (inr refused) = inr (inr (inr (inr refused)))
 
-decided : OneReply → FaultsSpellNoReply → (client : ClientState) (taken : Accepted) (reply : ReplyFile) (body : List ℕ) (link link' : LinkView) (store : StoreView) (out : OutView) (client' : ClientState) (store' : StoreView) (out' : OutView) (end : Result (Unit {0}) Stop) (got : Result ReplyFile CallStop)
+decided : OneReply → FaultsSpellNoReply → (client : ClientState) (taken : Accepted) (reply : ReplyFile) (body : List ℕ) (link link' : LinkView) (store : StoreView) (out : OutView) (client' : ClientState) (store' : StoreView) (out' : OutView) (end : Result (Unit {0}) ClientStop) (got : Result ReplyFile CallStop)
     → SpellsReply body reply → accepted client reply ≡ Ok taken → IsOutcome 200 body got → Follows client got store out client' store' out' end → (client' ≡ taken.after) ⊎ IsBroken link link' end
-decided one never client taken reply body link link' store out client' store' out' end (Ok told) spells accepts is follows =
+decided one never client taken reply body link link' store out client' store' out' end (Ok reported) spells accepts is follows =
     widened taken link link' client' end
-    (judged client taken reply told store out client' store' out' end (one body told reply is.1 spells) accepts follows)
+    (judged client taken reply reported store out client' store' out' end (one body reported reply is.1 spells) accepts follows)
 decided one never client taken reply body link link' store out client' store' out' end (Err (calls.Http code)) spells accepts is follows = absurd (is.0 refl)
 decided one never client taken reply body link link' store out client' store' out' end (Err (calls.BadReply at)) spells accepts is follows = absurd (unspelled never body reply at spells is.1)
 decided one never client taken reply body link link' store out client' store' out' end (Err calls.ReadFailed) spells accepts is follows = absurd is
@@ -71,7 +71,7 @@ decided one never client taken reply body link link' store out client' store' ou
 decided one never client taken reply body link link' store out client' store' out' end (Err (calls.Cut count)) spells accepts is follows = absurd is
 
 -- a call that broke off leaves the client and says so
-broke : (client : ClientState) (link link' : LinkView) (store : StoreView) (out : OutView) (client' : ClientState) (store' : StoreView) (out' : OutView) (end : Result (Unit {0}) Stop) (got : Result ReplyFile CallStop)
+broke : (client : ClientState) (link link' : LinkView) (store : StoreView) (out : OutView) (client' : ClientState) (store' : StoreView) (out' : OutView) (end : Result (Unit {0}) ClientStop) (got : Result ReplyFile CallStop)
     → IsCallBroken link link' got → Follows client got store out client' store' out' end → IsBroken link link' end
 broke client link link' store out client' store' out' end (Ok reply) (inl (e, rose)) follows = absurd cc
 broke client link link' store out client' store' out' end (Ok reply) (inr (inl (e, rose))) follows = absurd cc
@@ -98,7 +98,7 @@ broke client link link' store out client' store' out' end (Err (calls.BadReply a
 broke client link link' store out client' store' out' end (Err (calls.BadReply at)) (inr (inl (e, rose))) follows = absurd cc
 broke client link link' store out client' store' out' end (Err (calls.BadReply at)) (inr (inr e)) follows = absurd cc
 
-either : OneReply → FaultsSpellNoReply → (client : ClientState) (taken : Accepted) (reply : ReplyFile) (body : List ℕ) (link link' : LinkView) (store : StoreView) (out : OutView) (client' : ClientState) (store' : StoreView) (out' : OutView) (end : Result (Unit {0}) Stop) (got : Result ReplyFile CallStop)
+either : OneReply → FaultsSpellNoReply → (client : ClientState) (taken : Accepted) (reply : ReplyFile) (body : List ℕ) (link link' : LinkView) (store : StoreView) (out : OutView) (client' : ClientState) (store' : StoreView) (out' : OutView) (end : Result (Unit {0}) ClientStop) (got : Result ReplyFile CallStop)
     → SpellsReply body reply → accepted client reply ≡ Ok taken → IsOutcome 200 body got ⊎ IsCallBroken link link' got → Follows client got store out client' store' out' end → (client' ≡ taken.after) ⊎ IsBroken link link' end
 either one never client taken reply body link link' store out client' store' out' end got spells accepts (inl is) follows =
     decided one never client taken reply body link link' store out client' store' out' end got spells accepts is follows
@@ -114,8 +114,8 @@ AreAccepted = (setup : Setup) (S : State) (user : UserId) (at : Moment) (client 
     → IsInOrder setup S → client.outstanding ≡ Some kept
     → accepted client (bank_reply setup S user at kept.file) ≡ Ok (with_replies client kept.file (bank_reply setup S user at kept.file).replies)
 
-pub takes_the_banks : WholeRepliesDecide → OneReply → FaultsSpellNoReply → AreAccepted → TakesTheBanks
-takes_the_banks whole one never accept setup S user at pass client kept all ahead link store out client' ahead' link' store' out' end limits order waits left answers settles =
+pub accepts_the_banks : WholeRepliesDecide → OneReply → FaultsSpellNoReply → AreAccepted → AcceptsTheBanks
+accepts_the_banks whole one never accept setup S user at pass client kept all ahead link store out client' ahead' link' store' out' end limits order waits left answers settles =
     let reply = bank_reply setup S user at kept.file in
     either one never client (with_replies client kept.file reply.replies) reply answers.body link link' store out client' store' out' end settles.got
     answers.spells (accept setup S user at client kept limits order waits)

@@ -6,9 +6,9 @@ use Rattle.client_core.specs.declared.wish.Wish.{Wish}
 use Rattle.client_core.specs.declared.wish.Wish.TheVariants as wishes
 use Rattle.client_run.specs.Views.{PortsView}
 use Rattle.client_run.specs.Commands.{Acts, Works}
-use Rattle.client_run.specs.declared.stop.Stop.{Stop}
+use Rattle.client_run.specs.declared.stop.ClientStop.{ClientStop}
 
-pub does_work : (pass : List ℕ) (wish : Wish) (client : ClientState) (before after : PortsView) (end : Result (Unit {0}) Stop) → IsSoundWish wish → Acts pass wish client before after end → Works pass wish client before after end
+pub does_work : (pass : List ℕ) (wish : Wish) (client : ClientState) (before after : PortsView) (end : Result (Unit {0}) ClientStop) → IsSoundWish wish → Acts pass wish client before after end → Works pass wish client before after end
 does_work pass (wishes.Sync account) client before after end sound acts = acts
 does_work pass (wishes.Transfer info) client before after end sound acts = acts
 does_work pass (wishes.Modify id to amount due) client before after end sound acts = acts

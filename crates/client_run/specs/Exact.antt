@@ -8,49 +8,49 @@ use Rattle.ofx_types.specs.declared.reply.ReplyFile.{ReplyFile}
 use Rattle.ofx_types.specs.declared.told.Note.{Note}
 use Rattle.ofx_types.specs.declared.told.Note.TheVariants.{Plain, Place}
 use Rattle.ofx_types.specs.declared.told.Told.{Told}
-use Rattle.http_link.specs.Answers.{IsUnfinishedReply, HasBadHead}
+use Rattle.http_link.specs.Responses.{IsUnfinishedReply, HasBadHead}
 use Rattle.client_saved.specs.SavedText.{IsFirstFault}
 use Rattle.client_saved.specs.declared.state.ClientState.{ClientState}
-use Rattle.client_words.specs.Words.{AreWords, IsUsage}
-use Rattle.client_words.specs.declared.order.Order.{Order}
+use Rattle.client_arguments.specs.Arguments.{AreArguments, IsUsage}
+use Rattle.client_arguments.specs.declared.order.Order.{Order}
 use Rattle.client_run.specs.Exchange.{BeginsWith, IsNoReplyAt, Exchanges}
 use Rattle.client_run.specs.Views.{LinkView, PortsView}
 use Rattle.client_run.specs.Saves.{IsClientIn, IsOurs, IsText}
 use Rattle.client_run.specs.Run.{IsClientRun}
-use Rattle.client_run.specs.Stopping.{told}
+use Rattle.client_run.specs.Stopping.{reported}
 use Rattle.client_run.specs.declared.stop.CallStop.{CallStop}
 use Rattle.client_run.specs.declared.stop.CallStop.TheVariants as calls
 
--- Words without a form end a run with 2 and nothing is done, unless memory is refused.
-abbrev pub RefusesWords : Type 0
-RefusesWords = (words : List (List ℕ)) (before after : PortsView) (what : Told) → IsClientRun words before after what → IsUsage words
-    → ((what ≡ told 2 Plain) ⊎ (what ≡ told 7 Plain)) × (after ≡ before)
+-- Arguments without a form end a run with 2 and nothing is done, unless memory is refused.
+abbrev pub RefusesArguments : Type 0
+RefusesArguments = (arguments : List (List ℕ)) (before after : PortsView) (what : Told) → IsClientRun arguments before after what → IsUsage arguments
+    → ((what ≡ reported 2 Plain) ⊎ (what ≡ reported 7 Plain)) × (after ≡ before)
 
--- The words have a form, and the store tells its text.
-pub record HasText (words : List (List ℕ)) (before : PortsView) (order : Order) (text : List ℕ) : Type 0 where
-  pub are_words : AreWords words order
+-- The arguments have a form, and the store tells its text.
+pub record HasText (arguments : List (List ℕ)) (before : PortsView) (order : Order) (text : List ℕ) : Type 0 where
+  pub are_arguments : AreArguments arguments order
   pub text_is : before.store.text ≡ Some text
 
 -- The text couldn't be loaded, or memory was refused.
 abbrev pub IsUnopened : PortsView → PortsView → Told → Type 0
-IsUnopened before after what = ((what ≡ told 8 Plain) × Rose before.store.faults after.store.faults) ⊎ (what ≡ told 7 Plain)
+IsUnopened before after what = ((what ≡ reported 8 Plain) × Rose before.store.faults after.store.faults) ⊎ (what ≡ reported 7 Plain)
 
 -- A text in which there is another client or another user, or a client without a number left, ends it with 2.
 abbrev pub RefusesOthers : Type 0
-RefusesOthers = (words : List (List ℕ)) (before after : PortsView) (what : Told) (order : Order) (text : List ℕ) (client : ClientState)
-    → IsClientRun words before after what → HasText words before order text → IsClientIn order text client → (IsOurs order client → ⊥)
-    → (what ≡ told 2 Plain) ⊎ IsUnopened before after what
+RefusesOthers = (arguments : List (List ℕ)) (before after : PortsView) (what : Told) (order : Order) (text : List ℕ) (client : ClientState)
+    → IsClientRun arguments before after what → HasText arguments before order text → IsClientIn order text client → (IsOurs order client → ⊥)
+    → (what ≡ reported 2 Plain) ⊎ IsUnopened before after what
 
--- A text that isn't empty and has no form ends it with 15, and the place of its first fault is told.
+-- A text that isn't empty and has no form ends it with 15, and the place of its first fault is reported.
 abbrev pub RefusesText : Type 0
-RefusesText = (words : List (List ℕ)) (before after : PortsView) (what : Told) (order : Order) (text : List ℕ) (at : ℕ)
-    → IsClientRun words before after what → HasText words before order text → (text ≢ []) → IsFirstFault text at
-    → (what ≡ told 15 (Place at)) ⊎ IsUnopened before after what
+RefusesText = (arguments : List (List ℕ)) (before after : PortsView) (what : Told) (order : Order) (text : List ℕ) (at : ℕ)
+    → IsClientRun arguments before after what → HasText arguments before order text → (text ≢ []) → IsFirstFault text at
+    → (what ≡ reported 15 (Place at)) ⊎ IsUnopened before after what
 
--- The words have a form, and there is a client in the text, where that is told, that isn't the one that they name.
-pub record IsOthers (words : List (List ℕ)) (before : PortsView) : Type 0 where
+-- The arguments have a form, and there is a client in the text, where that is reported, that isn't the one that they name.
+pub record IsOthers (arguments : List (List ℕ)) (before : PortsView) : Type 0 where
   pub order : Order
-  pub are_words : AreWords words order
+  pub are_arguments : AreArguments arguments order
   pub text : List ℕ
   pub client : ClientState
   pub text_is : IsText before.store text
@@ -59,13 +59,13 @@ pub record IsOthers (words : List (List ℕ)) (before : PortsView) : Type 0 wher
 
 -- Only these end a run with 2,
 abbrev pub OnlyRefusesThese : Type 0
-OnlyRefusesThese = (words : List (List ℕ)) (before after : PortsView) (what : Told) (note : Note) → IsClientRun words before after what
-    → what ≡ told 2 note → IsUsage words ⊎ IsOthers words before
+OnlyRefusesThese = (arguments : List (List ℕ)) (before after : PortsView) (what : Told) (note : Note) → IsClientRun arguments before after what
+    → what ≡ reported 2 note → IsUsage arguments ⊎ IsOthers arguments before
 
--- The words have a form, and the text, where it is told, has none and its first fault is at this place.
-pub record IsFaulty (words : List (List ℕ)) (before : PortsView) (at : ℕ) : Type 0 where
+-- The arguments have a form, and the text, where it is told, has none and its first fault is at this place.
+pub record IsFaulty (arguments : List (List ℕ)) (before : PortsView) (at : ℕ) : Type 0 where
   pub order : Order
-  pub are_words : AreWords words order
+  pub are_arguments : AreArguments arguments order
   pub text : List ℕ
   pub text_is : IsText before.store text
   pub some : text ≢ []
@@ -73,23 +73,23 @@ pub record IsFaulty (words : List (List ℕ)) (before : PortsView) (at : ℕ) : 
 
 -- and only such a text with 15.
 abbrev pub OnlyRefusesFaults : Type 0
-OnlyRefusesFaults = (words : List (List ℕ)) (before after : PortsView) (what : Told) (at : ℕ) → IsClientRun words before after what
-    → what ≡ told 15 (Place at) → IsFaulty words before at
+OnlyRefusesFaults = (arguments : List (List ℕ)) (before after : PortsView) (what : Told) (at : ℕ) → IsClientRun arguments before after what
+    → what ≡ reported 15 (Place at) → IsFaulty arguments before at
 
 -- Only a call of the store that failed ends a run with 8, and its count of faults rose in the run.
 abbrev pub OnlyBrokenStores : Type 0
-OnlyBrokenStores = (words : List (List ℕ)) (before after : PortsView) (what : Told) (note : Note) → IsClientRun words before after what
-    → what ≡ told 8 note → Rose before.store.faults after.store.faults
+OnlyBrokenStores = (arguments : List (List ℕ)) (before after : PortsView) (what : Told) (note : Note) → IsClientRun arguments before after what
+    → what ≡ reported 8 note → Rose before.store.faults after.store.faults
 
 -- Only a read of the link that failed ends a run with 5, and the link's count of failed reads rose in the run,
 abbrev pub OnlyBrokenReads : Type 0
-OnlyBrokenReads = (words : List (List ℕ)) (before after : PortsView) (what : Told) (note : Note) → IsClientRun words before after what
-    → what ≡ told 5 note → Rose before.link.read_faults after.link.read_faults
+OnlyBrokenReads = (arguments : List (List ℕ)) (before after : PortsView) (what : Told) (note : Note) → IsClientRun arguments before after what
+    → what ≡ reported 5 note → Rose before.link.read_faults after.link.read_faults
 
 -- and only a write of the link or of the output that failed with 6, and the count of the one or of the other rose.
 abbrev pub OnlyBrokenWrites : Type 0
-OnlyBrokenWrites = (words : List (List ℕ)) (before after : PortsView) (what : Told) (note : Note) → IsClientRun words before after what
-    → what ≡ told 6 note → Rose before.link.write_faults after.link.write_faults ⊎ Rose before.out.faults after.out.faults
+OnlyBrokenWrites = (arguments : List (List ℕ)) (before after : PortsView) (what : Told) (note : Note) → IsClientRun arguments before after what
+    → what ≡ reported 6 note → Rose before.link.write_faults after.link.write_faults ⊎ Rose before.out.faults after.out.faults
 
 -- ---- the replies that a bank sends
 
@@ -102,7 +102,7 @@ IsCallBroken before after got =
 -- What comes of a whole reply, by its code and its body.
 abbrev pub IsOutcome : ℕ → List ℕ → Result ReplyFile CallStop → Type 0
 IsOutcome code body (Ok reply) = (code ≡ 200) × SpellsReply body reply
-IsOutcome code body (Err (calls.Http told)) = (code ≢ 200) × (told ≡ code)
+IsOutcome code body (Err (calls.Http reported)) = (code ≢ 200) × (reported ≡ code)
 IsOutcome code body (Err (calls.BadReply at)) = (code ≡ 200) × IsNoReplyAt body at
 IsOutcome code body (Err calls.ReadFailed) = ⊥
 IsOutcome code body (Err calls.WriteFailed) = ⊥
@@ -115,7 +115,7 @@ abbrev pub Asks : List ℕ → List ℕ → LinkView → LinkView → List ℕ �
 Asks all ahead before after ahead' got =
     (prepend_known ahead before.left ≡ Some all) × ((request : List ℕ) × Exchanges request ahead before ahead' after got)
 
--- A whole reply at their front decides what comes of the call,
+-- A whole reply at their start decides what comes of the call,
 abbrev pub WholeRepliesDecide : Type 0
 WholeRepliesDecide = (all ahead : List ℕ) (before after : LinkView) (ahead' : List ℕ) (got : Result ReplyFile CallStop) (code : ℕ) (body : List ℕ)
     → Asks all ahead before after ahead' got → BeginsWith all code body → IsOutcome code body got ⊎ IsCallBroken before after got

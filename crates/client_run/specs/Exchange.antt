@@ -10,15 +10,15 @@ use Rattle.ofx_types.specs.declared.number.Moment.{Moment}
 use Rattle.ofx_types.specs.declared.reply.ReplyFile.{ReplyFile}
 use Rattle.ofx_types.specs.declared.request.RequestFile.{RequestFile}
 use Rattle.http_front.specs.declared.head.ReplyHead.{ReplyHead}
-use Rattle.http_link.specs.Answers.{request_of, IsWholeReply, IsUnfinishedReply, HasBadHead}
-use Rattle.http_link.specs.declared.answer.Answer.{Answer}
+use Rattle.http_link.specs.Responses.{request_of, IsWholeReply, IsUnfinishedReply, HasBadHead}
+use Rattle.http_link.specs.declared.response.Response.{Response}
 use Rattle.client_run.specs.Views.{LinkView}
 use Rattle.client_run.specs.declared.stop.CallStop.{CallStop}
 use Rattle.client_run.specs.declared.stop.CallStop.TheVariants.{ReadFailed, WriteFailed, NoMemory, BadHead, Cut, Http, BadReply}
 
 -- ---- what is sent
 
--- A file is written with the password of the words.
+-- A file is written with the password of the arguments.
 abbrev pub with_pass : List ℕ → RequestFile → RequestFile
 with_pass pass file = record {
   version = file.version;
@@ -33,7 +33,7 @@ with_pass pass file = record {
 unfoldable pub request_bytes : List ℕ → RequestFile → Moment → List ℕ
 request_bytes pass file at = request_of (file_text (with_pass pass file) at)
 
--- A request is sent whole, and the count of faults hasn't fallen. Where a write fails a front of it may be, and where memory is refused
+-- A request is sent whole, and the count of faults hasn't fallen. Where a write fails a prefix of it may be, and where memory is refused
 -- nothing is.
 abbrev pub Sends : List ℕ → Option (List ℕ) → Option (List ℕ) → ℕ → ℕ → Result (Unit {0}) CallStop → Type 0
 Sends request before after faults faults' (Ok done) = Appends before after request × (faults ≤ faults')
@@ -80,8 +80,8 @@ BringsNothing bytes before after (BadReply at) = (body : List ℕ) × BeginsWith
 BringsNothing bytes before after NoMemory = Unit {0}
 BringsNothing bytes before after WriteFailed = ⊥
 
--- The body of a whole reply at the front of the bytes spells a reply file, or there is why not.
-abbrev pub ReadsBody : List ℕ → Answer → Result ReplyFile CallStop → Type 0
+-- The body of a whole reply at the start of the bytes spells a reply file, or there is why not.
+abbrev pub ReadsBody : List ℕ → Response → Result ReplyFile CallStop → Type 0
 ReadsBody bytes answer (Ok reply) = Brings (take answer.size bytes) reply
 ReadsBody bytes answer (Err (Http code)) = (code ≢ 200) × ((body : List ℕ) × BeginsWith bytes code body)
 ReadsBody bytes answer (Err (BadReply at)) = (body : List ℕ) × BeginsWith bytes 200 body × IsNoReplyAt body at
@@ -104,7 +104,7 @@ Receives ahead before ahead' after (Err stop) = IsUnread ahead before ahead' aft
 
 -- ---- both
 
--- A request is sent whole before anything is read. Where a write fails, or memory is refused, a front of it may be. Where a reply file
+-- A request is sent whole before anything is read. Where a write fails, or memory is refused, a prefix of it may be. Where a reply file
 -- is brought neither of the link's counts of faults has fallen.
 abbrev pub Exchanges : List ℕ → List ℕ → LinkView → List ℕ → LinkView → Result ReplyFile CallStop → Type 0
 Exchanges request ahead before ahead' after (Err WriteFailed) =

@@ -2,7 +2,7 @@ pub mod Views
 pub mod Exchange
 pub mod Saves
 pub mod Lines
-pub mod Settling
+pub mod Sending
 pub mod Commands
 pub mod Run
 pub mod Stopping

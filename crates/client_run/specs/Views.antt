@@ -11,7 +11,7 @@ pub record LinkView : Type 0 where
   pub write_faults : ℕ
 
 pub record StoreView : Type 0 where
-  -- the text that stands
+  -- the text that is there
   pub text : Option (List ℕ)
   pub faults : ℕ
 

@@ -4,13 +4,13 @@ ghost use Rattle.std.specs.Prelude.{◌≡◌, ◌≤◌, vec_capacity, IfOk};
 ghost use Rattle.std.specs.Io.KnownBytes.{Keeps};
 ghost use Rattle.ofx_types.specs.PrintedFile.{file_text};
 ghost use Rattle.ofx_file.specs.Printable.{IsPrintableFile};
-ghost use Rattle.http_link.specs.Answers.{HoldsReply};
+ghost use Rattle.http_link.specs.Responses.{HoldsReply};
 ghost use Rattle.client_run.specs.Exchange as rules;
 ghost use Rattle.client_run.specs.Exchange.{with_pass, request_bytes, Sends, Receives, Exchanges};
 ghost use Rattle.client_run.specs.Stopping as stopping;
 
 use crate::stop::CallStop;
-use http_link::{Answer, CallFault, Incoming, next_reply, post};
+use http_link::{CallFault, Incoming, Response, next_reply, post};
 use ofx_file::{read_reply, write_request};
 use ofx_ports::{Failed, Link};
 use ofx_types::{Duplicate, FileFault, Moment, OutOfMemory, ReplyFile, RequestFile, Text};
@@ -46,7 +46,7 @@ fn body_stop(fault: FileFault) -> CallStop
     }
 }
 
-/// The file with the password of the words.
+/// The file with the password of the arguments.
 fn signed(pass: &Text, file: &RequestFile) -> Result<RequestFile, OutOfMemory>
     ensures { IfOk result (λ signed. signed ≡ with_pass pass.now file.now) }
 {
@@ -60,7 +60,7 @@ fn signed(pass: &Text, file: &RequestFile) -> Result<RequestFile, OutOfMemory>
     })
 }
 
-/// The file in its printed form, with the password of the words, as it was made at that moment.
+/// The file in its printed form, with the password of the arguments, as it was made at that moment.
 fn written(
     alloc: Global,
     pass: &Text,
@@ -103,9 +103,9 @@ fn head_room(alloc: Global) -> Result<Vec<u8>, OutOfMemory>
     Ok(Vec::with_capacity(alloc, HEAD_ROOM)?)
 }
 
-/// The reply file that is the body of a reply at the front of the bytes that have come.
+/// The reply file that is the body of a reply at the start of the bytes that have come.
 #[tactic(auto, using(crate::proofs::Received::body_unfound, crate::proofs::Received::body_spelled))]
-fn body_of(alloc: Global, bytes: &[u8], answer: Answer) -> Result<ReplyFile, CallStop>
+fn body_of(alloc: Global, bytes: &[u8], answer: Response) -> Result<ReplyFile, CallStop>
     requires { HoldsReply bytes.now answer }
     ensures { rules.ReadsBody bytes.now answer result }
 {
@@ -119,7 +119,7 @@ fn body_of(alloc: Global, bytes: &[u8], answer: Answer) -> Result<ReplyFile, Cal
 }
 
 /// Reads the next reply, and uses up its bytes where it brings a reply file.
-#[tactic(auto, using(crate::proofs::Received::front_used))]
+#[tactic(auto, using(crate::proofs::Received::prefix_used))]
 fn receive<L: Link>(
     alloc: Global,
     incoming: &mut Incoming,

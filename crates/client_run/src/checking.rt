@@ -2,15 +2,15 @@
 
 ghost use Rattle.std.specs.Prelude.{◌≡◌, ℕ, List, [], ◌++◌, Ok, OnOk};
 ghost use Rattle.ofx_file.specs.Printable.{IsPrintableFile};
-ghost use Rattle.client_core.specs.Told.{FollowsRule};
+ghost use Rattle.client_core.specs.ReportLines.{FollowsRule};
 ghost use Rattle.client_run.specs.Commands.{Checks, JudgesNews};
 ghost use Rattle.client_run.specs.Exchange.{request_bytes, Exchanges};
 ghost use Rattle.client_run.specs.Lines as rules;
 
 use crate::calling::exchange;
 use crate::printing::print_lines;
-use crate::settling::print_end;
-use crate::stop::{CallStop, Stop};
+use crate::sending::print_end;
+use crate::stop::{CallStop, ClientStop};
 use client_core::{Client, ClientFault, ReportLines, first_unanswered};
 use client_report::newest_line;
 use http_link::Incoming;
@@ -20,7 +20,7 @@ use ofx_values::read_number;
 use std::alloc::Global;
 
 /// The most digits of a token.
-const MOST_DIGITS: usize = 10;
+const MAX_DIGITS: usize = 10;
 
 /// The code of a signon that was taken.
 const SIGNED_ON: u16 = 0;
@@ -29,11 +29,11 @@ const SIGNED_ON: u16 = 0;
 fn number_of(token: &Text) -> u64
     ensures { result ≡ rules.number_of token.now }
 {
-    read_number(token.as_bytes(), MOST_DIGITS).unwrap_or(0)
+    read_number(token.as_bytes(), MAX_DIGITS).unwrap_or(0)
 }
 
 /// Adds the line of the newest token of an object.
-fn tell(
+fn report(
     alloc: Global,
     ask: &Ask,
     reply: &AskReply,
@@ -51,7 +51,7 @@ fn tell(
 }
 
 /// Adds the lines of all replies, in the order of the asks.
-fn tell_all(
+fn report_all(
     alloc: Global,
     asks: &[Ask],
     replies: &[AskReply],
@@ -60,19 +60,19 @@ fn tell_all(
     ensures { OnOk result (lines.new ≡ lines.old ++ rules.news_lines asks.now replies.now) }
 {
     let mut left = asks;
-    let mut told = replies;
-    while let [ask, behind @ ..] = left {
-        let [reply, others @ ..] = told else {
+    let mut reported = replies;
+    while let [ask, rest @ ..] = left {
+        let [reply, others @ ..] = reported else {
             return Ok(());
         };
-        tell(alloc, ask, reply, lines)?;
-        left = behind;
-        told = others;
+        report(alloc, ask, reply, lines)?;
+        left = rest;
+        reported = others;
     }
     Ok(())
 }
 
-/// The lines that tell of a reply to a poll.
+/// The lines that report a reply to a poll.
 #[tactic(auto, unfolding(crate::specs::Lines::news))]
 fn news(alloc: Global, asks: &[Ask], reply: &ReplyFile) -> Result<ReportLines, ClientFault>
     ensures { FollowsRule (rules.news asks.now reply.now) result }
@@ -85,26 +85,26 @@ fn news(alloc: Global, asks: &[Ask], reply: &ReplyFile) -> Result<ReportLines, C
         Some(number) => Err(ClientFault::Shape(number)),
         None => {
             let mut lines = ReportLines::new(alloc);
-            tell_all(alloc, asks, replies, &mut lines)?;
+            report_all(alloc, asks, replies, &mut lines)?;
             Ok(lines)
         }
     }
 }
 
-/// Prints what is told of a reply to a poll.
-#[tactic(auto, using(crate::proofs::Checked::news_told, crate::proofs::Checked::news_refused))]
+/// Prints what is reported of a reply to a poll.
+#[tactic(auto, using(crate::proofs::Checked::news_reported, crate::proofs::Checked::news_refused))]
 fn print_news<W: Sink>(
     alloc: Global,
     asks: &[Ask],
     reply: &ReplyFile,
     out: &mut W,
-) -> Result<(), Stop>
+) -> Result<(), ClientStop>
     ensures { JudgesNews asks.now (Ok reply.now) (record { held = W.held out.old; faults = W.faults out.old })
         (record { held = W.held out.new; faults = W.faults out.new }) result }
 {
     match news(alloc, asks, reply) {
         Ok(lines) => print_end(print_lines(alloc, lines.items(), out)),
-        Err(fault) => Err(Stop::Refused(fault)),
+        Err(fault) => Err(ClientStop::Refused(fault)),
     }
 }
 
@@ -118,19 +118,19 @@ pub(crate) fn check<L: Link, C: Clock, W: Sink>(
     link: &mut L,
     clock: &mut C,
     out: &mut W,
-) -> Result<(), Stop>
+) -> Result<(), ClientStop>
     ensures { Checks pass.now client.now account.now
-        (record { left = L.left link.old; sent = L.held link.old; read_faults = L.read_faults link.old; write_faults = L.write_faults link.old }) (C.told clock.old) (record { held = W.held out.old; faults = W.faults out.old })
-        (record { left = L.left link.new; sent = L.held link.new; read_faults = L.read_faults link.new; write_faults = L.write_faults link.new }) (C.told clock.new) (record { held = W.held out.new; faults = W.faults out.new }) result }
+        (record { left = L.left link.old; sent = L.held link.old; read_faults = L.read_faults link.old; write_faults = L.write_faults link.old }) (C.shown clock.old) (record { held = W.held out.old; faults = W.faults out.old })
+        (record { left = L.left link.new; sent = L.held link.new; read_faults = L.read_faults link.new; write_faults = L.write_faults link.new }) (C.shown clock.new) (record { held = W.held out.new; faults = W.faults out.new }) result }
 {
     let at = clock.now();
     let file = match client.poll_file(account) {
         Ok(file) => file,
-        Err(OutOfMemory) => return Err(Stop::Call(CallStop::NoMemory)),
+        Err(OutOfMemory) => return Err(ClientStop::Call(CallStop::NoMemory)),
     };
     match poll(alloc, link, pass, &file, at) {
         Ok(reply) => print_news(alloc, file.asks.items(), &reply, out),
-        Err(stop) => Err(Stop::Call(stop)),
+        Err(stop) => Err(ClientStop::Call(stop)),
     }
 }
 

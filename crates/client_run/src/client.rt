@@ -3,9 +3,9 @@
 ghost use Rattle.std.specs.Prelude.{◌≡◌, ◌<◌};
 ghost use Rattle.bank_model.specs.Sound.{IsTextWithin};
 ghost use Rattle.client_saved.specs.Bounds.{IsName};
-ghost use Rattle.client_words.specs.Reading.{IsInBounds};
+ghost use Rattle.client_arguments.specs.Reading.{IsInBounds};
 ghost use Rattle.client_run.specs.Commands.{Works};
-ghost use Rattle.ofx_types.specs.declared.told.Told.{Told as WhatIsTold};
+ghost use Rattle.ofx_types.specs.declared.told.Told.{Told as WhatIsReported};
 ghost use Rattle.client_run.specs.Run.{Runs, IsClientRun};
 
 use crate::checking::check;
@@ -13,10 +13,10 @@ use crate::keeping::open_client;
 use crate::making::act;
 use crate::ports::Ports;
 use crate::showing::show;
-use crate::stop::Stop;
-use crate::told::{end_told, plain};
+use crate::status::{plain, report_of_end};
+use crate::stop::ClientStop;
+use client_arguments::{ArgumentsFault, Order, order_of};
 use client_core::{Client, Wish};
-use client_words::{Order, WordsFault, order_of};
 use ofx_ports::{Clock, Link, Sink, StoreKeeper};
 use ofx_types::{Status, Text, Told};
 use std::alloc::Global;
@@ -31,7 +31,7 @@ fn work<L: Link, S: StoreKeeper, C: Clock, W: Sink>(
     store: &mut S,
     clock: &mut C,
     out: &mut W,
-) -> Result<(), Stop>
+) -> Result<(), ClientStop>
     requires number { client.old.next < 9999999999 }
     requires wish { IsInBounds order.now.wish }
     ensures { Works order.now.pass order.now.wish client.old
@@ -53,7 +53,7 @@ fn run<L: Link, S: StoreKeeper, C: Clock, W: Sink>(
     store: &mut S,
     clock: &mut C,
     out: &mut W,
-) -> Result<(), Stop>
+) -> Result<(), ClientStop>
     requires name { IsName order.now.name }
     requires user { IsTextWithin 32 order.now.user }
     requires wish { IsInBounds order.now.wish }
@@ -63,25 +63,25 @@ fn run<L: Link, S: StoreKeeper, C: Clock, W: Sink>(
 {
     let mut client = match open_client(alloc, order, store) {
         Ok(client) => client,
-        Err(fault) => return Err(Stop::Open(fault)),
+        Err(fault) => return Err(ClientStop::Open(fault)),
     };
     work(alloc, &mut client, order, link, store, clock, out)
 }
 
-/// Does what the words order, over a link to the bank, and tells how the run ended.
+/// Does what the arguments order, over a link to the bank, and says how the run ended.
 ///
-/// The words are PORT, STORE, CLIENT, USER, PASS, BANK and one command; PORT and STORE were used to open the link and the store.
+/// The arguments are PORT, STORE, CLIENT, USER, PASS, BANK and one command; PORT and STORE were used to open the link and the store.
 /// The client in the store's text goes on from where it was; an empty text is a new client. For `show` it is printed what the
 /// client keeps. For `check` a poll is sent, and the newest tokens of an account's objects are printed; nothing is saved. For
 /// every other command a file that is outstanding from an earlier run is sent again first and its reply is taken in. Then the
 /// file of the command is made at the moment that the clock shows and saved, and only then sent; its reply is taken in, the
-/// client saved, and only then the lines that tell of it are printed (OFX 1.6, "File-Based Error Recovery", "Data
+/// client saved, and only then the lines that report it are printed (OFX 1.6, "File-Based Error Recovery", "Data
 /// Synchronization").
 ///
 /// | Status | Note | Where |
 /// |---|---|---|
 /// | 0 | | all was done, saved and printed |
-/// | 2 | | the words have another form, or the store is another client's or user's, or no number is left for a file |
+/// | 2 | | the arguments have another form, or the store is another client's or user's, or no number is left for a file |
 /// | 5 | | a read of the link failed |
 /// | 6 | | a write of the link or of the output failed |
 /// | 7 | | memory was refused |
@@ -99,35 +99,35 @@ fn run<L: Link, S: StoreKeeper, C: Clock, W: Sink>(
 /// With 2 and 15 nothing is sent, printed or saved. With 5, 11 to 14, 16 and 17 the file stays outstanding, but for 400.
 pub fn client_told<L: Link, S: StoreKeeper, C: Clock, W: Sink>(
     alloc: Global,
-    words: &[Text],
+    arguments: &[Text],
     link: &mut L,
     store: &mut S,
     clock: &mut C,
     out: &mut W,
 ) -> Told
-    ensures { IsClientRun words.now
+    ensures { IsClientRun arguments.now
         (⟦<(L, S, C, W) as Ports>⟧.seen (link.old, store.old, clock.old, out.old))
         (⟦<(L, S, C, W) as Ports>⟧.seen (link.new, store.new, clock.new, out.new)) result }
 {
-    match order_of(words) {
-        Ok(order) => end_told(run(alloc, &order, link, store, clock, out)),
-        Err(WordsFault::Usage) => plain(2),
-        Err(WordsFault::OutOfMemory) => plain(7),
+    match order_of(arguments) {
+        Ok(order) => report_of_end(run(alloc, &order, link, store, clock, out)),
+        Err(ArgumentsFault::Usage) => plain(2),
+        Err(ArgumentsFault::OutOfMemory) => plain(7),
     }
 }
 
 /// Does what `client_told` does, and answers the status alone.
 pub fn client_run<L: Link, S: StoreKeeper, C: Clock, W: Sink>(
     alloc: Global,
-    words: &[Text],
+    arguments: &[Text],
     link: &mut L,
     store: &mut S,
     clock: &mut C,
     out: &mut W,
 ) -> Status
-    ensures { (what : WhatIsTold) × (what.status ≡ result) × IsClientRun words.now
+    ensures { (what : WhatIsReported) × (what.status ≡ result) × IsClientRun arguments.now
         (⟦<(L, S, C, W) as Ports>⟧.seen (link.old, store.old, clock.old, out.old))
         (⟦<(L, S, C, W) as Ports>⟧.seen (link.new, store.new, clock.new, out.new)) what }
 {
-    client_told(alloc, words, link, store, clock, out).status
+    client_told(alloc, arguments, link, store, clock, out).status
 }

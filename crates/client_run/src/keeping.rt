@@ -6,40 +6,40 @@ ghost use Rattle.client_saved.specs.Bounds.{IsName};
 ghost use Rattle.client_core.specs.ClientForm.{new_client};
 ghost use Rattle.client_run.specs.Saves.{FindsIn, IsOurs, Opens, Saves};
 
-use crate::stop::OpenFault;
+use crate::stop::StoreOpenFault;
+use client_arguments::Order;
 use client_core::Client;
-use client_words::Order;
 use ofx_ports::{PutFault, StoreKeeper};
 use ofx_types::Duplicate;
 use std::alloc::Global;
 
 /// The number at which no further file has a name.
-const MOST_NEXT: u64 = 9_999_999_999;
+const MAX_NEXT: u64 = 9_999_999_999;
 
-/// Whether the client is the one that the words name, for their user, and has a number left for a file.
+/// Whether the client is the one that the arguments name, for their user, and has a number left for a file.
 fn is_ours(order: &Order, client: &Client) -> bool
     ensures { IsTrue result ↔ IsOurs order.now client.now }
 {
-    *client.name() == order.name && *client.user() == order.user && client.next() < MOST_NEXT
+    *client.name() == order.name && *client.user() == order.user && client.next() < MAX_NEXT
 }
 
-/// A new client of the name and the user of the words.
-fn new_client(alloc: Global, order: &Order) -> Result<Client, OpenFault>
+/// A new client of the name and the user of the arguments.
+fn new_client(alloc: Global, order: &Order) -> Result<Client, StoreOpenFault>
     requires name { IsName order.now.name }
     requires user { IsTextWithin 32 order.now.user }
     ensures found { IfOk result (λ client. client ≡ new_client order.now.name order.now.user) }
-    ensures refused { IfErr result (λ fault. fault ≡ OpenFault.OutOfMemory) }
+    ensures refused { IfErr result (λ fault. fault ≡ StoreOpenFault.OutOfMemory) }
 {
     let client = Client::new(alloc, order.name.copy()?, order.user.copy()?);
     match client {
         Ok(client) => Ok(client),
-        Err(_) => Err(OpenFault::OutOfMemory),
+        Err(_) => Err(StoreOpenFault::OutOfMemory),
     }
 }
 
-/// The client in a text, where it is the one that the words name.
+/// The client in a text, where it is the one that the arguments name.
 #[tactic(auto, using(crate::proofs::Kept::new_found))]
-fn client_in(alloc: Global, order: &Order, text: &[u8]) -> Result<Client, OpenFault>
+fn client_in(alloc: Global, order: &Order, text: &[u8]) -> Result<Client, StoreOpenFault>
     requires name { IsName order.now.name }
     requires user { IsTextWithin 32 order.now.user }
     ensures { FindsIn order.now text.now result }
@@ -51,17 +51,17 @@ fn client_in(alloc: Global, order: &Order, text: &[u8]) -> Result<Client, OpenFa
     if is_ours(order, &client) {
         Ok(client)
     } else {
-        Err(OpenFault::NotOurs)
+        Err(StoreOpenFault::NotOurs)
     }
 }
 
-/// The client that is kept, where it is the one that the words name. An empty text is a new client.
+/// The client that is kept, where it is the one that the arguments name. An empty text is a new client.
 #[tactic(auto, using(crate::proofs::Kept::found_in))]
 pub(crate) fn open_client<S: StoreKeeper>(
     alloc: Global,
     order: &Order,
     store: &mut S,
-) -> Result<Client, OpenFault>
+) -> Result<Client, StoreOpenFault>
     requires name { IsName order.now.name }
     requires user { IsTextWithin 32 order.now.user }
     ensures { Opens order.now (record { text = S.saved store.old; faults = S.faults store.old })

@@ -1,8 +1,8 @@
 //! Laws of whole runs. Nothing here runs: each contract is a law of what `client_told` promises.
 
-ghost use Rattle.client_run.specs.Exact.{RefusesWords, RefusesOthers, RefusesText, OnlyRefusesThese, OnlyRefusesFaults, OnlyBrokenStores, OnlyBrokenReads, OnlyBrokenWrites, WholeRepliesDecide, UnfinishedRepliesCut, BadHeadsEnd};
+ghost use Rattle.client_run.specs.Exact.{RefusesArguments, RefusesOthers, RefusesText, OnlyRefusesThese, OnlyRefusesFaults, OnlyBrokenStores, OnlyBrokenReads, OnlyBrokenWrites, WholeRepliesDecide, UnfinishedRepliesCut, BadHeadsEnd};
 ghost use Rattle.client_run.specs.GoingOn.{GoesOn};
-ghost use Rattle.client_run.specs.Complete.{TakesTheBanks};
+ghost use Rattle.client_run.specs.Complete.{AcceptsTheBanks};
 
 use client_laws::bank_replies_answer;
 use client_saved::laws::{faults_save_nothing, one_first_fault, one_state};
@@ -12,7 +12,7 @@ use ofx_file::laws::{faults_spell_no_reply, one_reply};
 /// A run is refused for its words, or for a store of another client or user or with no number left, exactly where that is so, and
 /// for a text without a form exactly where that is so, as far as the text can be loaded and memory is there.
 pub fn exact_refusals()
-    ensures words { RefusesWords }
+    ensures arguments { RefusesArguments }
     ensures others { RefusesOthers }
     ensures faults { RefusesText }
     ensures only { OnlyRefusesThese }
@@ -58,8 +58,8 @@ pub fn runs_go_on()
 
 /// A client that sends the file that waits, and to which the bank answers that file, takes the reply in: it is then the client that the
 /// rule makes of that reply, unless a read or a write fails or memory is refused.
-pub fn bank_replies_are_taken()
-    ensures { TakesTheBanks }
+pub fn bank_replies_are_accepted()
+    ensures { AcceptsTheBanks }
 {
     exact_replies();
     one_reply();

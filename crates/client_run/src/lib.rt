@@ -1,5 +1,5 @@
 //! Runs of the customer's program: the client that is kept is found, the file of a wish is made, sent and answered, and what the
-//! reply makes of the client is saved and told.
+//! reply makes of the client is saved and reported.
 //!
 //! The clauses of `client_told` say what a run sent, saved and printed, and why it ended.
 #![tactic(auto)]
@@ -13,11 +13,11 @@ mod lines;
 mod making;
 mod ports;
 mod printing;
-mod settling;
+mod sending;
 mod showing;
+mod status;
 mod stop;
-mod told;
 
 pub use client::{client_run, client_told};
 pub use ports::Ports;
-pub use stop::{CallStop, OpenFault, Stop};
+pub use stop::{CallStop, ClientStop, StoreOpenFault};

@@ -107,9 +107,9 @@ fn put_rows(rows: &[Row], out: &mut Vec<u8>) -> Result<(), OutOfMemory>
     ensures { OnOk result (out.new.items ≡ out.old.items ++ flat_map rules.row_line (all_seen rows.now)) }
 {
     let mut left = rows;
-    while let [row, behind @ ..] = left {
+    while let [row, rest @ ..] = left {
         put_row(row, out)?;
-        left = behind;
+        left = rest;
     }
     Ok(())
 }
@@ -120,9 +120,9 @@ fn put_stores(alloc: Global, stores: &[Store], out: &mut Vec<u8>) -> Result<(), 
     ensures { OnOk result (out.new.items ≡ out.old.items ++ flat_map rules.store_lines stores.now) }
 {
     let mut left = stores;
-    while let [store, behind @ ..] = left {
+    while let [store, rest @ ..] = left {
         put_store(alloc, store, out)?;
-        left = behind;
+        left = rest;
     }
     Ok(())
 }

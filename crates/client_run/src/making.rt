@@ -6,8 +6,8 @@ ghost use Rattle.client_run.specs.Commands.{Resumes, Makes, Acts};
 
 use crate::keeping::save;
 use crate::ports::Ports;
-use crate::settling::settle;
-use crate::stop::Stop;
+use crate::sending::send_outstanding;
+use crate::stop::ClientStop;
 use client_core::{Client, Wish};
 use http_link::Incoming;
 use ofx_ports::{Clock, Link, Sink, StoreKeeper};
@@ -24,7 +24,7 @@ fn resume<L: Link, S: StoreKeeper, W: Sink>(
     link: &mut L,
     store: &mut S,
     out: &mut W,
-) -> Result<(), Stop>
+) -> Result<(), ClientStop>
     requires { incoming.old ≡ [] }
     ensures resumes { Resumes pass.now client.old.outstanding client.old
         (record { left = L.left link.old; sent = L.held link.old; read_faults = L.read_faults link.old; write_faults = L.write_faults link.old })
@@ -40,31 +40,31 @@ fn resume<L: Link, S: StoreKeeper, W: Sink>(
     if client.outstanding().is_none() {
         return Ok(());
     }
-    settle(alloc, client, pass, incoming, link, store, out)
+    send_outstanding(alloc, client, pass, incoming, link, store, out)
 }
 
 /// Makes the file of the wish at the moment that the clock shows, and saves the client.
-#[tactic(auto, using(crate::proofs::Outstanding::made_stands))]
+#[tactic(auto, using(crate::proofs::Outstanding::made_holds))]
 fn make<S: StoreKeeper, C: Clock>(
     client: &mut Client,
     wish: &Wish,
     store: &mut S,
     clock: &mut C,
-) -> Result<(), Stop>
+) -> Result<(), ClientStop>
     requires free { client.old.outstanding ≡ None }
     requires number { client.old.next < 9999999999 }
     requires wish { IsSoundWish wish.now }
-    ensures makes { Makes wish.now client.old (record { text = S.saved store.old; faults = S.faults store.old }) (C.told clock.old)
-        client.new (record { text = S.saved store.new; faults = S.faults store.new }) (C.told clock.new) result }
+    ensures makes { Makes wish.now client.old (record { text = S.saved store.old; faults = S.faults store.old }) (C.shown clock.old)
+        client.new (record { text = S.saved store.new; faults = S.faults store.new }) (C.shown clock.new) result }
     ensures outstanding { OnOk result (client.new.outstanding ≢ None) }
 {
     let at = clock.now();
     if let Err(fault) = client.make_file(wish, at) {
-        return Err(Stop::Refused(fault));
+        return Err(ClientStop::Refused(fault));
     }
     match save(client, store) {
         Ok(()) => Ok(()),
-        Err(fault) => Err(Stop::Keep(fault)),
+        Err(fault) => Err(ClientStop::Keep(fault)),
     }
 }
 
@@ -78,7 +78,7 @@ pub(crate) fn act<L: Link, S: StoreKeeper, C: Clock, W: Sink>(
     store: &mut S,
     clock: &mut C,
     out: &mut W,
-) -> Result<(), Stop>
+) -> Result<(), ClientStop>
     requires number { client.old.next < 9999999999 }
     requires wish { IsSoundWish wish.now }
     ensures { Acts pass.now wish.now client.old
@@ -88,5 +88,5 @@ pub(crate) fn act<L: Link, S: StoreKeeper, C: Clock, W: Sink>(
     let mut incoming = Incoming::new(alloc);
     resume(alloc, client, pass, &mut incoming, link, store, out)?;
     make(client, wish, store, clock)?;
-    settle(alloc, client, pass, &mut incoming, link, store, out)
+    send_outstanding(alloc, client, pass, &mut incoming, link, store, out)
 }

@@ -19,7 +19,7 @@ impl<L: Link, S: StoreKeeper, C: Clock, W: Sink> Ports for (L, S, C, W) {
         write_faults = L.write_faults p.0;
       };
       store = record { text = S.saved p.1; faults = S.faults p.1 };
-      shown = C.told p.2;
+      shown = C.shown p.2;
       out = record { held = W.held p.3; faults = W.faults p.3 };
     } };
 }

@@ -21,9 +21,9 @@ fn put_lines(lines: &[Text], bytes: &mut Vec<u8>) -> Result<(), OutOfMemory>
     ensures { OnOk result (bytes.new.items ≡ bytes.old.items ++ printed lines.now) }
 {
     let mut left = lines;
-    while let [line, behind @ ..] = left {
+    while let [line, rest @ ..] = left {
         put_line(line, bytes)?;
-        left = behind;
+        left = rest;
     }
     Ok(())
 }

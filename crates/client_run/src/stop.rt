@@ -7,9 +7,9 @@ use client_saved::StoreFault;
 use ofx_ports::{FetchFault, PutFault};
 use ofx_types::OutOfMemory;
 
-/// Why no client was found that the words name.
+/// Why no client was found that the arguments name.
 #[derive(Clone, Copy, Debug, PartialEq, Eq)]
-pub enum OpenFault {
+pub enum StoreOpenFault {
     /// The text is another client's or another user's, or its client has no number left for a file.
     NotOurs,
     /// The text has no form: its first fault is at this byte.
@@ -41,9 +41,9 @@ pub enum CallStop {
 
 /// Why a run ended before all was done.
 #[derive(Clone, Copy, Debug, PartialEq, Eq)]
-pub enum Stop {
-    /// No client was found that the words name.
-    Open(OpenFault),
+pub enum ClientStop {
+    /// No client was found that the arguments name.
+    Open(StoreOpenFault),
     /// No reply file came.
     Call(CallStop),
     /// No file was made, or the reply was refused.
@@ -54,38 +54,38 @@ pub enum Stop {
     Print(PutFault),
 }
 
-impl From<OutOfMemory> for OpenFault {
-    ghost use Rattle.client_run.specs.declared.stop.OpenFault.TheVariants as opens;
+impl From<OutOfMemory> for StoreOpenFault {
+    ghost use Rattle.client_run.specs.declared.stop.StoreOpenFault.TheVariants as opens;
 
     ghost from_gives = { λ _ e. e ≡ opens.OutOfMemory };
 
-    fn from(_refused: OutOfMemory) -> OpenFault {
-        OpenFault::OutOfMemory
+    fn from(_refused: OutOfMemory) -> StoreOpenFault {
+        StoreOpenFault::OutOfMemory
     }
 }
 
-impl From<FetchFault> for OpenFault {
+impl From<FetchFault> for StoreOpenFault {
     ghost use Rattle.client_run.specs.Stopping.{open_fault};
 
     ghost from_gives = { λ fault e. e ≡ open_fault fault };
 
-    fn from(fault: FetchFault) -> OpenFault {
+    fn from(fault: FetchFault) -> StoreOpenFault {
         match fault {
-            FetchFault::Failed => OpenFault::Failed,
-            FetchFault::OutOfMemory => OpenFault::OutOfMemory,
+            FetchFault::Failed => StoreOpenFault::Failed,
+            FetchFault::OutOfMemory => StoreOpenFault::OutOfMemory,
         }
     }
 }
 
-impl From<StoreFault> for OpenFault {
+impl From<StoreFault> for StoreOpenFault {
     ghost use Rattle.client_run.specs.Stopping.{text_fault};
 
     ghost from_gives = { λ fault e. e ≡ text_fault fault };
 
-    fn from(fault: StoreFault) -> OpenFault {
+    fn from(fault: StoreFault) -> StoreOpenFault {
         match fault {
-            StoreFault::Bad(at) => OpenFault::Bad(at),
-            StoreFault::OutOfMemory => OpenFault::OutOfMemory,
+            StoreFault::Bad(at) => StoreOpenFault::Bad(at),
+            StoreFault::OutOfMemory => StoreOpenFault::OutOfMemory,
         }
     }
 }

@@ -10,8 +10,8 @@ use Rattle.record_fields.specs.declared.fault.RecordFault.{RecordFault}
 use Rattle.record_fields.specs.declared.fault.RecordFault.TheVariants as faults
 use Rattle.record_fields.specs.Answers.{Fails}
 use Rattle.record_fields.specs.FieldCoding.{u64_bytes}
-use Rattle.event_codec.proofs.Loops.{with_front, regroup}
-use Rattle.client_store.specs.RowForm.{seen, all_seen, bound_behind}
+use Rattle.event_codec.proofs.Loops.{with_prefix, regroup}
+use Rattle.client_store.specs.RowForm.{seen, all_seen, bound_after}
 use Rattle.client_store.specs.declared.row.Row.{Row as HeldRow}
 use Rattle.client_saved.specs.Bounds.{IsSoundRow}
 use Rattle.client_saved.specs.Coding.{row_bytes, counted_bytes}
@@ -20,36 +20,36 @@ use Rattle.client_saved.specs.Reading.{row_at, rows_from, store_at, stores_from}
 -- ---- rows
 
 -- the least id that may stand after rows and one more
-pub behind_one : (own before : Option ℕ) → bound_behind 0 (option_or own before) ≡ bound_behind (bound_behind 0 before) own
-behind_one None before = refl
-behind_one (Some id) before = refl
+pub after_one : (own before : Option ℕ) → bound_after 0 (option_or own before) ≡ bound_after (bound_after 0 before) own
+after_one None before = refl
+after_one (Some id) before = refl
 
-pub rows_go_on : (front : List Row) (count i : ℕ) (family : Family) (bound : ℕ) (rec : List ℕ) (at : ℕ) (row : Row) (next : ℕ) (total : Result (List Row × ℕ) ℕ)
+pub rows_go_on : (prefix : List Row) (count i : ℕ) (family : Family) (bound : ℕ) (rec : List ℕ) (at : ℕ) (row : Row) (next : ℕ) (total : Result (List Row × ℕ) ℕ)
     → i < count → row_at family bound rec at ≡ Ok (row, next)
-    → with_front front (rows_from (count - i) family bound rec at) ≡ total → with_front (front ++ row ∷ []) (rows_from (count - (i + 1)) family (bound_behind bound (id_of row)) rec next) ≡ total
+    → with_prefix prefix (rows_from (count - i) family bound rec at) ≡ total → with_prefix (prefix ++ row ∷ []) (rows_from (count - (i + 1)) family (bound_after bound (id_of row)) rec next) ≡ total
 unfolding rows_from
-rows_go_on front count i family bound rec at row next total lt h so_far =
+rows_go_on prefix count i family bound rec at row next total lt h so_far =
     let k : count - i ≡ suc (count - (i + 1)) = omega arith in
-    let one : with_front front (rows_from (count - i) family bound rec at) ≡ with_front (front ++ row ∷ []) (rows_from (count - (i + 1)) family (bound_behind bound (id_of row)) rec next) =
-    rw (k, h) (regroup front row (rows_from (count - (i + 1)) family (bound_behind bound (id_of row)) rec next)) in
+    let one : with_prefix prefix (rows_from (count - i) family bound rec at) ≡ with_prefix (prefix ++ row ∷ []) (rows_from (count - (i + 1)) family (bound_after bound (id_of row)) rec next) =
+    rw (k, h) (regroup prefix row (rows_from (count - (i + 1)) family (bound_after bound (id_of row)) rec next)) in
     sym one ∙ so_far
 
-pub rows_end : (fault : RecordFault) (front : List Row) (count i : ℕ) (family : Family) (bound : ℕ) (rec : List ℕ) (at : ℕ) (total : Result (List Row × ℕ) ℕ)
-    → i < count → Fails fault (row_at family bound rec at) → with_front front (rows_from (count - i) family bound rec at) ≡ total → Fails fault total
+pub rows_end : (fault : RecordFault) (prefix : List Row) (count i : ℕ) (family : Family) (bound : ℕ) (rec : List ℕ) (at : ℕ) (total : Result (List Row × ℕ) ℕ)
+    → i < count → Fails fault (row_at family bound rec at) → with_prefix prefix (rows_from (count - i) family bound rec at) ≡ total → Fails fault total
 unfolding rows_from
-rows_end (faults.Version n) front count i family bound rec at total lt h so_far = h
-rows_end faults.OutOfMemory front count i family bound rec at total lt h so_far = tt
-rows_end (faults.Bad place) front count i family bound rec at total lt h so_far =
+rows_end (faults.Version n) prefix count i family bound rec at total lt h so_far = h
+rows_end faults.OutOfMemory prefix count i family bound rec at total lt h so_far = tt
+rows_end (faults.Bad offset) prefix count i family bound rec at total lt h so_far =
     let k : count - i ≡ suc (count - (i + 1)) = omega arith in
-    let one : with_front front (rows_from (count - i) family bound rec at) ≡ Err place = rw (k, h) refl in
+    let one : with_prefix prefix (rows_from (count - i) family bound rec at) ≡ Err offset = rw (k, h) refl in
     sym so_far ∙ one
 
-pub rows_done : (front : List Row) (count i : ℕ) (family : Family) (bound : ℕ) (rec : List ℕ) (at : ℕ) (total : Result (List Row × ℕ) ℕ)
-    → count ≤ i → with_front front (rows_from (count - i) family bound rec at) ≡ total → total ≡ Ok (front, at)
+pub rows_done : (prefix : List Row) (count i : ℕ) (family : Family) (bound : ℕ) (rec : List ℕ) (at : ℕ) (total : Result (List Row × ℕ) ℕ)
+    → count ≤ i → with_prefix prefix (rows_from (count - i) family bound rec at) ≡ total → total ≡ Ok (prefix, at)
 unfolding rows_from
-rows_done front count i family bound rec at total le so_far =
+rows_done prefix count i family bound rec at total le so_far =
     let k : count - i ≡ 0 = omega arith in
-    let one : with_front front (rows_from (count - i) family bound rec at) ≡ Ok (front, at) = rw k (ap (λ xs. Ok (xs, at)) (append-nil front)) in
+    let one : with_prefix prefix (rows_from (count - i) family bound rec at) ≡ Ok (prefix, at) = rw k (ap (λ xs. Ok (xs, at)) (append-nil prefix)) in
     sym so_far ∙ one
 
 -- a row among rows that are sound
@@ -68,30 +68,30 @@ rows_written rows i before le =
 
 -- ---- stores
 
-pub stores_go_on : (front : List Store) (count i : ℕ) (rec : List ℕ) (at : ℕ) (store : Store) (next : ℕ) (total : Result (List Store × ℕ) ℕ)
-    → i < count → store_at front rec at ≡ Ok (store, next)
-    → with_front front (stores_from (count - i) front rec at) ≡ total → with_front (front ++ store ∷ []) (stores_from (count - (i + 1)) (front ++ store ∷ []) rec next) ≡ total
+pub stores_go_on : (prefix : List Store) (count i : ℕ) (rec : List ℕ) (at : ℕ) (store : Store) (next : ℕ) (total : Result (List Store × ℕ) ℕ)
+    → i < count → store_at prefix rec at ≡ Ok (store, next)
+    → with_prefix prefix (stores_from (count - i) prefix rec at) ≡ total → with_prefix (prefix ++ store ∷ []) (stores_from (count - (i + 1)) (prefix ++ store ∷ []) rec next) ≡ total
 unfolding stores_from
-stores_go_on front count i rec at store next total lt h so_far =
+stores_go_on prefix count i rec at store next total lt h so_far =
     let k : count - i ≡ suc (count - (i + 1)) = omega arith in
-    let one : with_front front (stores_from (count - i) front rec at) ≡ with_front (front ++ store ∷ []) (stores_from (count - (i + 1)) (front ++ store ∷ []) rec next) =
-    rw (k, h) (regroup front store (stores_from (count - (i + 1)) (front ++ store ∷ []) rec next)) in
+    let one : with_prefix prefix (stores_from (count - i) prefix rec at) ≡ with_prefix (prefix ++ store ∷ []) (stores_from (count - (i + 1)) (prefix ++ store ∷ []) rec next) =
+    rw (k, h) (regroup prefix store (stores_from (count - (i + 1)) (prefix ++ store ∷ []) rec next)) in
     sym one ∙ so_far
 
-pub stores_end : (fault : RecordFault) (front : List Store) (count i : ℕ) (rec : List ℕ) (at : ℕ) (total : Result (List Store × ℕ) ℕ)
-    → i < count → Fails fault (store_at front rec at) → with_front front (stores_from (count - i) front rec at) ≡ total → Fails fault total
+pub stores_end : (fault : RecordFault) (prefix : List Store) (count i : ℕ) (rec : List ℕ) (at : ℕ) (total : Result (List Store × ℕ) ℕ)
+    → i < count → Fails fault (store_at prefix rec at) → with_prefix prefix (stores_from (count - i) prefix rec at) ≡ total → Fails fault total
 unfolding stores_from
-stores_end (faults.Version n) front count i rec at total lt h so_far = h
-stores_end faults.OutOfMemory front count i rec at total lt h so_far = tt
-stores_end (faults.Bad place) front count i rec at total lt h so_far =
+stores_end (faults.Version n) prefix count i rec at total lt h so_far = h
+stores_end faults.OutOfMemory prefix count i rec at total lt h so_far = tt
+stores_end (faults.Bad offset) prefix count i rec at total lt h so_far =
     let k : count - i ≡ suc (count - (i + 1)) = omega arith in
-    let one : with_front front (stores_from (count - i) front rec at) ≡ Err place = rw (k, h) refl in
+    let one : with_prefix prefix (stores_from (count - i) prefix rec at) ≡ Err offset = rw (k, h) refl in
     sym so_far ∙ one
 
-pub stores_done : (front : List Store) (count i : ℕ) (rec : List ℕ) (at : ℕ) (total : Result (List Store × ℕ) ℕ)
-    → count ≤ i → with_front front (stores_from (count - i) front rec at) ≡ total → total ≡ Ok (front, at)
+pub stores_done : (prefix : List Store) (count i : ℕ) (rec : List ℕ) (at : ℕ) (total : Result (List Store × ℕ) ℕ)
+    → count ≤ i → with_prefix prefix (stores_from (count - i) prefix rec at) ≡ total → total ≡ Ok (prefix, at)
 unfolding stores_from
-stores_done front count i rec at total le so_far =
+stores_done prefix count i rec at total le so_far =
     let k : count - i ≡ 0 = omega arith in
-    let one : with_front front (stores_from (count - i) front rec at) ≡ Ok (front, at) = rw k (ap (λ xs. Ok (xs, at)) (append-nil front)) in
+    let one : with_prefix prefix (stores_from (count - i) prefix rec at) ≡ Ok (prefix, at) = rw k (ap (λ xs. Ok (xs, at)) (append-nil prefix)) in
     sym so_far ∙ one

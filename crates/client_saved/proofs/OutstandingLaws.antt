@@ -3,7 +3,7 @@ use Rattle.std.proofs.Common.{◌≡◌, ℕ, List, [], ◌++◌, Ok, refl, sym,
 use Rattle.ofx_types.specs.declared.request.RequestFile.{RequestFile}
 use Rattle.bank_model.specs.Sound.{IsSound}
 use Rattle.record_fields.specs.FieldCoding.{u16_bytes, file_uid_bytes, moment_bytes}
-use Rattle.record_fields.specs.Fields.{StandsAt, IsField}
+use Rattle.record_fields.specs.Fields.{IsCodedAt, IsField}
 use Rattle.record_fields.proofs.Steps.{ok_is, joined, apart, step}
 use Rattle.record_fields.proofs.BoundedLaws.{moment_field}
 use Rattle.record_fields.proofs.TextLaws.{file_uid_field}
@@ -28,19 +28,19 @@ same_file user one named free = ap (λ (u : List ℕ). of_user one u []) (sym na
 pub outstanding_field : (user : List ℕ) → IsField (outstanding_at user) outstanding_bytes (IsSoundOutstanding user)
 unfolding outstanding_at outstanding_bytes file_bytes
 outstanding_field user = record {
-  stands = λ rec at found bytes le e.
+  holds = λ rec at found bytes le e.
       let moment = step moment_field rec at _ found bytes le e in
-      let version = step version_field rec moment.next _ found bytes moment.stands.within moment.rest in
-      let older = step file_uid_field rec version.next _ found bytes version.stands.within version.rest in
-      let newer = step file_uid_field rec older.next _ found bytes older.stands.within older.rest in
-      let asks = step asks_field rec newer.next _ found bytes newer.stands.within newer.rest in
+      let version = step version_field rec moment.next _ found bytes moment.holds.within moment.rest in
+      let older = step file_uid_field rec version.next _ found bytes version.holds.within version.rest in
+      let newer = step file_uid_field rec older.next _ found bytes older.holds.within older.rest in
+      let asks = step asks_field rec newer.next _ found bytes newer.holds.within newer.rest in
       let file : RequestFile = record { version = version.value; older = older.value; newer = newer.value; user = user; pass = []; asks = asks.value } in
       let one : Outstanding = record { at = moment.value; file = file } in
       let made : Outstanding × ℕ = (one, asks.next) in
       let sound : IsSound file = record { version = version.fits; older = older.fits; newer = newer.fits; few = asks.fits.few; bank_first = asks.fits.bank_first; asks = asks.fits.sound } in
       let fits : IsSoundOutstanding user one = record { moment = moment.fits; file = sound; user = refl; pass = refl } in
-      subst (λ (f : Outstanding × ℕ). StandsAt rec at (outstanding_bytes f.0) f.1 × IsSoundOutstanding user f.0) {x = made} (ok_is made found asks.rest)
-      (joined moment.stands (joined (joined (joined version.stands older.stands) newer.stands) asks.stands), fits);
+      subst (λ (f : Outstanding × ℕ). IsCodedAt rec at (outstanding_bytes f.0) f.1 × IsSoundOutstanding user f.0) {x = made} (ok_is made found asks.rest)
+      (joined moment.holds (joined (joined (joined version.holds older.holds) newer.holds) asks.holds), fits);
   again = λ rec at one next le p fits.
       let file : RequestFile = one.file in
       let m = apart rec at (moment_bytes one.at) (u16_bytes file.version ++ file_uid_bytes file.older ++ file_uid_bytes file.newer ++ asks_bytes file.asks) next le p in

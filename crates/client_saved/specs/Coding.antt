@@ -29,8 +29,8 @@ code_number NoFunds = 2
 code_number Cancelled = 3
 
 -- how far a transfer is, and since when
-unfoldable pub standing_bytes : XferCode → Moment → List ℕ
-standing_bytes code stamp = code_number code ∷ moment_bytes stamp
+unfoldable pub processing_bytes : XferCode → Moment → List ℕ
+processing_bytes code stamp = code_number code ∷ moment_bytes stamp
 
 -- source, destination, amount in cents, and a day
 unfoldable pub terms_bytes : AcctName → AcctName → Cents → Day → List ℕ
@@ -43,7 +43,7 @@ ids_bytes id model = u64_bytes id ++ u64_bytes model
 -- its ids, its terms with the due day, how far it is, and since when
 unfoldable pub transfer_bytes : TransferRow → List ℕ
 transfer_bytes row =
-    ids_bytes row.id row.model ++ terms_bytes row.from row.to row.amount row.due ++ standing_bytes row.code row.stamp
+    ids_bytes row.id row.model ++ terms_bytes row.from row.to row.amount row.due ++ processing_bytes row.code row.stamp
 
 -- its id, how it recurs, and its terms with the first day
 unfoldable pub model_bytes : ModelRow → List ℕ

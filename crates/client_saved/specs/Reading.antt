@@ -1,4 +1,4 @@
--- Reading a saved text from left to right: what a client knows, or the place of the first field that has no form.
+-- Reading a saved text from left to right: what a client knows, or the offset of the first field that has no form.
 use Rattle.std.specs.Prelude.{ℕ, zero, suc, nat_le, ◌==◌, false, if◌then◌else◌, List, [], ◌∷◌, ◌++◌, length, Result, Ok, Err}
 use Rattle.std.specs.List.{list_all}
 use Rattle.std.specs.Char.{is_ascii_alphanumeric}
@@ -16,7 +16,7 @@ use Rattle.record_fields.specs.FieldReading.{◌>>=◌, u8_at, u64_at, flag_at, 
 use Rattle.record_fields.specs.PartReading.{acct_at, recur_at, mail_at}
 use Rattle.event_codec.specs.AskReading.{asks_at, object_at}
 use Rattle.event_codec.specs.Reading.{version_at}
-use Rattle.client_store.specs.RowForm.{bound_behind}
+use Rattle.client_store.specs.RowForm.{bound_after}
 use Rattle.client_saved.specs.Bounds.{has_store}
 use Rattle.client_saved.specs.declared.state.Outstanding.{Outstanding}
 use Rattle.client_saved.specs.declared.state.ClientState.{ClientState}
@@ -68,7 +68,7 @@ row_kind families.RecIntra = 2
 row_kind families.BankMail = 3
 row_kind families.Mail = 3
 
--- what stands after the kind of a row that begins at a place
+-- what follows the kind of a row that begins at an offset
 unfoldable pub row_of : Family → ℕ → ℕ → List ℕ → ℕ → Result (Row × ℕ) ℕ
 row_of families.Intra bound first text at = do
   row ← transfer_at bound first text at
@@ -94,7 +94,7 @@ unfoldable pub rows_from : ℕ → Family → ℕ → List ℕ → ℕ → Resul
 rows_from zero family bound text at = Ok ([], at)
 rows_from (suc n) family bound text at = do
   first ← row_at family bound text at
-  others ← rows_from n family (bound_behind bound (id_of first.0)) text first.1
+  others ← rows_from n family (bound_after bound (id_of first.0)) text first.1
   Ok (first.0 ∷ others.0, others.1)
 
 unfoldable pub rows_at : Family → List ℕ → ℕ → Result (List Row × ℕ) ℕ
@@ -155,7 +155,7 @@ coding_at text at = do
   version ← u8_at text at
   if version.0 == 1 then Ok version else Err at
 
--- what a client knows, at the beginning of a text, and the place after it
+-- what a client knows, at the beginning of a text, and the offset after it
 unfoldable pub state_at : List ℕ → ℕ → Result (ClientState × ℕ) ℕ
 state_at text at = do
   version ← coding_at text at

@@ -1,4 +1,4 @@
--- Which bytes are the saved text of what a client knows, and the place of the first fault of those that are none.
+-- Which bytes are the saved text of what a client knows, and the offset of the first fault of those that are none.
 use Rattle.std.specs.Prelude.{◌≡◌, ℕ, ◌<◌, ◌^◌, List, length, Result, Ok, Err}
 use Rattle.std.specs.List.{AllByRecursion}
 use Rattle.bank_model.specs.Stores.{Store}
@@ -20,7 +20,7 @@ pub record IsSavedText (text : List ℕ) (state : ClientState) : Type 0 where
   pub counted : IsCounted state.stores
   pub spelled : text ≡ state_text state
 
--- The first field of a text without a form begins at this place, or nothing may follow there any more.
+-- The first field of a text without a form begins at this offset, or nothing may follow there any more.
 abbrev pub IsFirstFault : List ℕ → ℕ → Type 0
 IsFirstFault text at = state_read text ≡ Err at
 

@@ -1,6 +1,6 @@
 //! The saved text of a client: what a client knows, written and read, in one coding of version 1.
 //!
-//! `write_state` writes what a client knows and `read_state` reads it, or tells the place of the first field without a form.
+//! `write_state` writes what a client knows and `read_state` reads it, or tells the offset of the first field without a form.
 //! The laws tell that each state has one text and each text one state or one fault.
 #![tactic(auto)]
 

@@ -12,14 +12,14 @@ use record_fields::{RecordFault, get_filled_text};
 use std::alloc::Global;
 
 /// The most bytes of a name.
-const MOST: usize = 12;
+const MAX_BYTES: usize = 12;
 
 /// Whether a text may be a client's name: 1 to 12 letters and digits of ASCII.
 pub fn is_name(text: &Text) -> bool
     ensures { MatchBool result (IsName text.now) (IsName text.now → ⊥) }
 {
     let bytes = text.as_bytes();
-    !bytes.is_empty() && bytes.len() <= MOST && is_alphanumeric(bytes)
+    !bytes.is_empty() && bytes.len() <= MAX_BYTES && is_alphanumeric(bytes)
 }
 
 fn is_alphanumeric(bytes: &[u8]) -> bool

@@ -7,7 +7,7 @@ ghost use Rattle.record_fields.specs.Answers.{ReadsField, ReadsFieldBy};
 ghost use Rattle.record_fields.specs.FieldCoding.{optional_bytes, acct_bytes};
 ghost use Rattle.record_fields.specs.FieldReading.{optional_at};
 ghost use Rattle.record_fields.specs.PartReading.{acct_at};
-ghost use Rattle.client_store.specs.RowForm.{seen, bound_behind};
+ghost use Rattle.client_store.specs.RowForm.{seen, bound_after};
 ghost use Rattle.client_saved.specs.Bounds.{IsSoundRow, IsSoundMailRow};
 ghost use Rattle.client_saved.specs.Coding.{mail_row_bytes, row_bytes};
 ghost use Rattle.client_saved.specs.Reading.{mail_row_at, row_kind, row_of, row_at};
@@ -89,7 +89,7 @@ fn kind_of(family: Family) -> u8
     }
 }
 
-/// What stands after the kind of a row that begins at `first`.
+/// What follows the kind of a row that begins at `first`.
 #[tactic(auto, unfolding(crate::specs::Reading::row_of))]
 fn row_of(
     alloc: Global,
@@ -100,7 +100,7 @@ fn row_of(
     at: usize,
 ) -> Result<(Row, usize), RecordFault>
     requires { at ≤ length text.now }
-    ensures gives { ReadsFieldBy (λ found. (seen found.0, found.1)) result (row_of family (bound_behind 0 before) first text.now at) }
+    ensures gives { ReadsFieldBy (λ found. (seen found.0, found.1)) result (row_of family (bound_after 0 before) first text.now at) }
     ensures within { IfOk result (λ found. found.1 ≤ length text.now) }
 {
     match family {
@@ -133,7 +133,7 @@ pub(crate) fn get_row(
     at: usize,
 ) -> Result<(Row, usize), RecordFault>
     requires { at ≤ length text.now }
-    ensures gives { ReadsFieldBy (λ found. (seen found.0, found.1)) result (row_at family (bound_behind 0 before) text.now at) }
+    ensures gives { ReadsFieldBy (λ found. (seen found.0, found.1)) result (row_at family (bound_after 0 before) text.now at) }
     ensures within { IfOk result (λ found. found.1 ≤ length text.now) }
 {
     let (kind, next) = get_u8(text, at)?;

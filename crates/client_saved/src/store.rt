@@ -37,10 +37,10 @@ fn rows_from(
     let mut before = None;
     let mut next = at;
     for _ in 0..count {
-        let (row, behind) = get_row(alloc, family, before, text, next)?;
+        let (row, suffix) = get_row(alloc, family, before, text, next)?;
         before = row.id().or(before);
         rows.push(row)?;
-        next = behind;
+        next = suffix;
     }
     Ok((rows, next))
 }
@@ -150,9 +150,9 @@ fn stores_from(
     let mut stores = Sequence::new(alloc);
     let mut next = at;
     for _ in 0..count {
-        let (store, behind) = get_store(alloc, stores.items(), text, next)?;
+        let (store, suffix) = get_store(alloc, stores.items(), text, next)?;
         stores.push(store)?;
-        next = behind;
+        next = suffix;
     }
     Ok((stores, next))
 }

@@ -63,7 +63,7 @@ pub fn read_state(alloc: Global, text: &[u8]) -> Result<ClientState, StoreFault>
     ensures fault { (at : ℕ) → result ≡ Err (StoreFault.Bad at) → IsFirstFault text.now at }
     // A text with a fault is refused.
     ensures faulty { (at : ℕ) → IsFirstFault text.now at
-        → IsErrAnd result (λ told. (told ≡ StoreFault.Bad at) ⊎ (told ≡ StoreFault.OutOfMemory)) }
+        → IsErrAnd result (λ reported. (reported ≡ StoreFault.Bad at) ⊎ (reported ≡ StoreFault.OutOfMemory)) }
 {
     read_text(alloc, text)
 }

@@ -4,9 +4,9 @@ ghost use Rattle.std.specs.Prelude.{◌≡◌, ◌≤◌, ◌++◌, length, nat_
 ghost use Rattle.bank_model.specs.Sound.{IsSoundAccount};
 ghost use Rattle.record_fields.specs.Answers.{ReadsField};
 ghost use Rattle.record_fields.specs.FieldReading.{choice_at};
-ghost use Rattle.client_store.specs.RowForm.{bound_behind};
+ghost use Rattle.client_store.specs.RowForm.{bound_after};
 ghost use Rattle.client_saved.specs.Bounds.{IsSoundTransfer, IsSoundModel};
-ghost use Rattle.client_saved.specs.Coding.{code_number, ids_bytes, terms_bytes, standing_bytes, transfer_bytes, model_bytes};
+ghost use Rattle.client_saved.specs.Coding.{code_number, ids_bytes, terms_bytes, processing_bytes, transfer_bytes, model_bytes};
 ghost use Rattle.client_saved.specs.Reading.{rising_id_at, transfer_codes, transfer_at, model_at};
 
 use ofx_types::{AcctName, Cents, Day, ModelRow, Moment, OutOfMemory, TransferRow, XferCode};
@@ -42,9 +42,9 @@ fn number_of(code: XferCode) -> u8
 }
 
 /// Appends how far a transfer is, and since when.
-#[tactic(auto, unfolding(crate::specs::Coding::standing_bytes))]
-fn put_standing(code: XferCode, stamp: Moment, out: &mut Vec<u8>) -> Result<(), OutOfMemory>
-    ensures { OnOk result (out.new.items ≡ out.old.items ++ standing_bytes code stamp) }
+#[tactic(auto, unfolding(crate::specs::Coding::processing_bytes))]
+fn put_processing(code: XferCode, stamp: Moment, out: &mut Vec<u8>) -> Result<(), OutOfMemory>
+    ensures { OnOk result (out.new.items ≡ out.old.items ++ processing_bytes code stamp) }
 {
     put_u8(&number_of(code), out)?;
     put_i64(&stamp.0, out)
@@ -64,7 +64,7 @@ fn get_code(text: &[u8], at: usize) -> Result<(XferCode, usize), RecordFault>
 }
 
 fn is_above(id: u64, before: Option<u64>) -> bool
-    ensures { result ≡ nat_le (bound_behind 0 before) id }
+    ensures { result ≡ nat_le (bound_after 0 before) id }
 {
     match before {
         Some(other) => other < id,
@@ -81,7 +81,7 @@ fn get_rising_id(
     at: usize,
 ) -> Result<(u64, usize), RecordFault>
     requires { at ≤ length text.now }
-    ensures gives { ReadsField result (rising_id_at (bound_behind 0 before) first text.now at) }
+    ensures gives { ReadsField result (rising_id_at (bound_after 0 before) first text.now at) }
     ensures within { IfOk result (λ found. found.1 ≤ length text.now) }
 {
     let (id, next) = get_id(text, at)?;
@@ -100,7 +100,7 @@ pub(crate) fn get_transfer(
     at: usize,
 ) -> Result<(TransferRow, usize), RecordFault>
     requires { at ≤ length text.now }
-    ensures gives { ReadsField result (transfer_at (bound_behind 0 before) first text.now at) }
+    ensures gives { ReadsField result (transfer_at (bound_after 0 before) first text.now at) }
     ensures within { IfOk result (λ found. found.1 ≤ length text.now) }
 {
     let (id, next) = get_rising_id(before, first, text, at)?;
@@ -159,7 +159,7 @@ pub(crate) fn put_transfer(row: &TransferRow, out: &mut Vec<u8>) -> Result<(), O
 {
     put_ids(row.id, row.model, out)?;
     put_terms(&row.from, &row.to, row.amount, row.due, out)?;
-    put_standing(row.code, row.stamp, out)
+    put_processing(row.code, row.stamp, out)
 }
 
 // ---- recurring transfers
@@ -173,7 +173,7 @@ pub(crate) fn get_model(
     at: usize,
 ) -> Result<(ModelRow, usize), RecordFault>
     requires { at ≤ length text.now }
-    ensures gives { ReadsField result (model_at (bound_behind 0 before) first text.now at) }
+    ensures gives { ReadsField result (model_at (bound_after 0 before) first text.now at) }
     ensures within { IfOk result (λ found. found.1 ≤ length text.now) }
 {
     let (id, next) = get_rising_id(before, first, text, at)?;

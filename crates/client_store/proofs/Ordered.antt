@@ -4,8 +4,8 @@ use Rattle.std.specs.Prelude.{◌&&◌}
 use Rattle.std.proofs.lemmas.Bool.{eqb-true, ne_eqb, eqb-false, ltb-true, ltb-false, leb-true, le-leb, and_parts}
 use Rattle.ofx_types.specs.declared.transfer.Family.{Family}
 use Rattle.ofx_types.specs.declared.transfer.Family.TheVariants.{Intra, RecIntra, BankMail, Mail}
-use Rattle.bank_model.specs.Stores.{Row, transfer_row, model_row, mail_row, id_of, is_id, has_id, is_less, is_below, put, take_out, model_if_named}
-use Rattle.client_store.specs.RowForm.{is_of, is_from, may_follow, bound_behind, IsRising}
+use Rattle.bank_model.specs.Stores.{Row, transfer_row, model_row, mail_row, id_of, is_id, has_id, is_less, is_below, put, remove_row, model_if_named}
+use Rattle.client_store.specs.RowForm.{is_of, is_from, may_follow, bound_after, IsRising}
 
 pub no_true : false ≡ true → ⊥
 no_true e = cc
@@ -15,20 +15,20 @@ no_false e = cc
 
 -- ---- ids against a bound
 
--- what stands below an id hasn't got it
+-- what is below an id hasn't got it
 pub not_here : (id : ℕ) (own : Option ℕ) → is_less id own ≡ true → is_id id own ≡ false
 not_here id None less = refl
 not_here id (Some own) less = ne_eqb own id (λ same. let lt = ltb-true own id less in omega (arith, lt, same))
 
 -- An id is below what may stand after it,
-pub over_own : (id bound : ℕ) (own : Option ℕ) → is_id id own ≡ true → id < bound_behind bound own
+pub over_own : (id bound : ℕ) (own : Option ℕ) → is_id id own ≡ true → id < bound_after bound own
 over_own id bound None is = absurd (no_true is)
 over_own id bound (Some own) is =
     let same = eqb-true own id is in
     let less : id < suc own = omega (arith, same) in less
 
 -- and below what may stand after a greater one.
-pub over_greater : (id bound : ℕ) (own : Option ℕ) → is_less id own ≡ false → id < bound_behind bound own
+pub over_greater : (id bound : ℕ) (own : Option ℕ) → is_less id own ≡ false → id < bound_after bound own
 over_greater id bound None less = absurd (no_false less)
 over_greater id bound (Some own) less =
     let le = ltb-false own id less in
@@ -38,7 +38,7 @@ pub not_before : (id bound : ℕ) (own : Option ℕ) → is_from bound own ≡ t
 not_before id bound None from lt = refl
 not_before id bound (Some own) from lt = ne_eqb own id (λ same. let le = leb-true bound own from in omega (arith, lt, le, same))
 
-pub bound_grows : (bound : ℕ) (own : Option ℕ) → is_from bound own ≡ true → bound ≤ bound_behind bound own
+pub bound_grows : (bound : ℕ) (own : Option ℕ) → is_from bound own ≡ true → bound ≤ bound_after bound own
 bound_grows bound None from = let same : bound ≤ bound = omega arith in same
 bound_grows bound (Some own) from =
     let le = leb-true bound own from in
@@ -70,12 +70,12 @@ rising_lacks family bound id [] rising lt = tt
 rising_lacks family bound id (row ∷ more) rising lt =
     let from = follows_from family bound row rising.0 in
     let grows = bound_grows bound (id_of row) from in
-    (not_before id bound (id_of row) from lt, rising_lacks family (bound_behind bound (id_of row)) id more rising.1 (omega (arith, lt, grows)))
+    (not_before id bound (id_of row) from lt, rising_lacks family (bound_after bound (id_of row)) id more rising.1 (omega (arith, lt, grows)))
 
-pub lacks_stay : (id : ℕ) (rows : List Row) → Lacks id rows → take_out id rows ≡ rows
+pub lacks_stay : (id : ℕ) (rows : List Row) → Lacks id rows → remove_row id rows ≡ rows
 lacks_stay id [] lacks = refl
 lacks_stay id (row ∷ more) lacks =
-    ap (λ b. cond (not b) (row ∷ take_out id more) (take_out id more)) lacks.0 ∙ ap (λ l. row ∷ l) (lacks_stay id more lacks.1)
+    ap (λ b. cond (not b) (row ∷ remove_row id more) (remove_row id more)) lacks.0 ∙ ap (λ l. row ∷ l) (lacks_stay id more lacks.1)
 
 pub other_model : (id found : ℕ) (row : Row) → has_id id row ≡ false → model_if_named id found row ≡ found
 other_model id found (transfer_row row) other = ap (λ b. cond b row.model found) other
@@ -93,41 +93,41 @@ pub lower : (family : Family) (low bound : ℕ) (rows : List Row) → IsRising f
 lower family low bound [] rising le = tt
 lower family low bound (row ∷ more) rising le = (
   follows family low row (follows_kind family bound row rising.0) (from_lower (id_of row) (follows_from family bound row rising.0)),
-  lower family (bound_behind low (id_of row)) (bound_behind bound (id_of row)) more rising.1 (behind_lower (id_of row)),
+  lower family (bound_after low (id_of row)) (bound_after bound (id_of row)) more rising.1 (after_lower (id_of row)),
 )
   where
     from_lower : (own : Option ℕ) → is_from bound own ≡ true → is_from low own ≡ true
     from_lower None from = refl
     from_lower (Some own) from = le-leb low own (let at = leb-true bound own from in omega (arith, at, le))
 
-    behind_lower : (own : Option ℕ) → bound_behind low own ≤ bound_behind bound own
-    behind_lower None = le
-    behind_lower (Some own) = let same : suc own ≤ suc own = omega arith in same
+    after_lower : (own : Option ℕ) → bound_after low own ≤ bound_after bound own
+    after_lower None = le
+    after_lower (Some own) = let same : suc own ≤ suc own = omega arith in same
 
 if_kept : (family : Family) (bound id : ℕ) (row : Row) (more : List Row) → may_follow family bound row ≡ true
-    → IsRising family (bound_behind bound (id_of row)) (take_out id more) → (b : Bool)
-    → IsRising family bound (cond (not b) (row ∷ take_out id more) (take_out id more))
+    → IsRising family (bound_after bound (id_of row)) (remove_row id more) → (b : Bool)
+    → IsRising family bound (cond (not b) (row ∷ remove_row id more) (remove_row id more))
 if_kept family bound id row more may rest false = (may, rest)
 if_kept family bound id row more may rest true =
-    lower family bound (bound_behind bound (id_of row)) (take_out id more) rest (bound_grows bound (id_of row) (follows_from family bound row may))
+    lower family bound (bound_after bound (id_of row)) (remove_row id more) rest (bound_grows bound (id_of row) (follows_from family bound row may))
 
-pub out_rising : (family : Family) (bound id : ℕ) (rows : List Row) → IsRising family bound rows → IsRising family bound (take_out id rows)
+pub out_rising : (family : Family) (bound id : ℕ) (rows : List Row) → IsRising family bound rows → IsRising family bound (remove_row id rows)
 out_rising family bound id [] rising = tt
 out_rising family bound id (row ∷ more) rising =
-    if_kept family bound id row more rising.0 (out_rising family (bound_behind bound (id_of row)) id more rising.1) (has_id id row)
+    if_kept family bound id row more rising.0 (out_rising family (bound_after bound (id_of row)) id more rising.1) (has_id id row)
 
 module _ (family : Family) (id : ℕ) (row : Row) (kind : is_of family row ≡ true) (is : id_of row ≡ Some id) where
   follows_at : (bound : ℕ) → bound ≤ id → may_follow family bound row ≡ true
   follows_at bound le = follows family bound row kind (ap (is_from bound) is ∙ le-leb bound id le)
 
-  behind_row : (bound : ℕ) → bound_behind bound (id_of row) ≡ suc id
-  behind_row bound = ap (bound_behind bound) is
+  after_row : (bound : ℕ) → bound_after bound (id_of row) ≡ suc id
+  after_row bound = ap (bound_after bound) is
 
-  replaced : (bound : ℕ) (own : Option ℕ) → is_id id own ≡ true → bound_behind bound own ≡ suc id
+  replaced : (bound : ℕ) (own : Option ℕ) → is_id id own ≡ true → bound_after bound own ≡ suc id
   replaced bound None here = absurd (no_true here)
   replaced bound (Some own) here = ap (λ (n : ℕ). suc n) (eqb-true own id here)
 
-  above_first : (bound : ℕ) (own : Option ℕ) → bound ≤ id → is_less id own ≡ true → bound_behind bound own ≤ id
+  above_first : (bound : ℕ) (own : Option ℕ) → bound ≤ id → is_less id own ≡ true → bound_after bound own ≤ id
   above_first bound None le below = le
   above_first bound (Some own) le below =
       let lt = ltb-true own id below in
@@ -140,25 +140,25 @@ module _ (family : Family) (id : ℕ) (row : Row) (kind : is_of family row ≡ t
       let above = ltb-false own id below in
       le-leb (suc id) own (omega (arith, other, above))
 
-  behind_over : (bound : ℕ) (own : Option ℕ) (more : List Row) → is_less id own ≡ false → IsRising family (bound_behind bound own) more
-      → IsRising family (bound_behind (suc id) own) more
-  behind_over bound None more below rest = absurd (no_false below)
-  behind_over bound (Some own) more below rest = rest
+  after_over : (bound : ℕ) (own : Option ℕ) (more : List Row) → is_less id own ≡ false → IsRising family (bound_after bound own) more
+      → IsRising family (bound_after (suc id) own) more
+  after_over bound None more below rest = absurd (no_false below)
+  after_over bound (Some own) more below rest = rest
 
   put_before : (bound : ℕ) (first : Row) (more : List Row) → bound ≤ id → IsRising family bound (first ∷ more)
-      → (bound_behind bound (id_of first) ≤ id → IsRising family (bound_behind bound (id_of first)) (put id row more))
+      → (bound_after bound (id_of first) ≤ id → IsRising family (bound_after bound (id_of first)) (put id row more))
       → (here below : Bool) → has_id id first ≡ here → is_below id first ≡ below
       → IsRising family bound (cond here (row ∷ more) (cond below (first ∷ put id row more) (row ∷ first ∷ more)))
   put_before bound first more le rising deeper true below is_here is_there = (
     follows_at bound le,
-    subst (λ n. IsRising family n more) (replaced bound (id_of first) is_here ∙ sym (behind_row bound)) rising.1,
+    subst (λ n. IsRising family n more) (replaced bound (id_of first) is_here ∙ sym (after_row bound)) rising.1,
   )
   put_before bound first more le rising deeper false true is_here is_there = (rising.0, deeper (above_first bound (id_of first) le is_there))
   put_before bound first more le rising deeper false false is_here is_there = (
     follows_at bound le,
-    subst (λ n. IsRising family n (first ∷ more)) (sym (behind_row bound)) (
+    subst (λ n. IsRising family n (first ∷ more)) (sym (after_row bound)) (
       follows family (suc id) first (follows_kind family bound first rising.0) (from_over (id_of first) is_here is_there),
-      behind_over bound (id_of first) more is_there rising.1,
+      after_over bound (id_of first) more is_there rising.1,
     ),
   )
 
@@ -166,5 +166,5 @@ module _ (family : Family) (id : ℕ) (row : Row) (kind : is_of family row ≡ t
   unfolding put
   put_rising bound [] le rising = (follows_at bound le, tt)
   put_rising bound (first ∷ more) le rising =
-      put_before bound first more le rising (λ above. put_rising (bound_behind bound (id_of first)) more above rising.1)
+      put_before bound first more le rising (λ above. put_rising (bound_after bound (id_of first)) more above rising.1)
       (has_id id first) (is_below id first) refl refl

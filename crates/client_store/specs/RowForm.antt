@@ -34,9 +34,9 @@ is_from bound None = true
 is_from bound (Some own) = nat_le bound own
 
 -- the least id that may stand after an id
-abbrev pub bound_behind : ℕ → Option ℕ → ℕ
-bound_behind bound None = bound
-bound_behind bound (Some own) = suc own
+abbrev pub bound_after : ℕ → Option ℕ → ℕ
+bound_after bound None = bound
+bound_after bound (Some own) = suc own
 
 -- A row may stand after others: it is of the family, and its id is no less than the bound.
 abbrev pub may_follow : Family → ℕ → model.Row → Bool
@@ -46,7 +46,7 @@ may_follow family bound row = is_of family row && is_from bound (id_of row)
 abbrev pub IsRising : Family → ℕ → List model.Row → Type 0
 IsRising family bound [] = Unit {0}
 IsRising family bound (row ∷ more) =
-    (may_follow family bound row ≡ true) × IsRising family (bound_behind bound (id_of row)) more
+    (may_follow family bound row ≡ true) × IsRising family (bound_after bound (id_of row)) more
 
 -- The rows of a store are of its object's family, in rising id.
 abbrev pub IsInOrder : Store → Type 0

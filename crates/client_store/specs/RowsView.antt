@@ -12,12 +12,12 @@ pub record HeldRows : Type 0 where
   pub rows : List model.Row
   pub room : ℕ
 
--- The place of an id: each row before it is below the id, and the one that stands there, if any, isn't.
-abbrev pub IsPlace : ℕ → List model.Row → ℕ → Type 0
-IsPlace id [] zero = Unit {0}
-IsPlace id [] (suc at) = ⊥
-IsPlace id (row ∷ more) zero = is_below id row ≡ false
-IsPlace id (row ∷ more) (suc at) = (is_below id row ≡ true) × IsPlace id more at
+-- The place of an id: each row before it is below the id, and the one that is there, if any, isn't.
+abbrev pub IsIndex : ℕ → List model.Row → ℕ → Type 0
+IsIndex id [] zero = Unit {0}
+IsIndex id [] (suc at) = ⊥
+IsIndex id (row ∷ more) zero = is_below id row ≡ false
+IsIndex id (row ∷ more) (suc at) = (is_below id row ≡ true) × IsIndex id more at
 
 -- whether there is a row, and it has this id
 abbrev pub is_named : ℕ → Option Row → Bool

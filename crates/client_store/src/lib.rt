@@ -4,8 +4,8 @@
 #![tactic(auto)]
 
 mod changes;
-mod places;
 mod row;
+mod row_index;
 mod rows;
 mod store;
 

@@ -40,7 +40,7 @@ impl Row {
         }
     }
 
-    /// Whether the row may stand in an object of the family: transfers, recurring transfers or mails alone.
+    /// Whether the row may be in an object of the family: transfers, recurring transfers or mails alone.
     pub fn is_of(&self, family: Family) -> bool
         ensures { result ≡ form.is_of family (seen self.now) }
     {
@@ -56,14 +56,14 @@ impl Row {
     /// Whether the row may stand after another in an object of the family: it is of the family, and its id, where both have
     /// one, is above the id of the row before it, if there is one.
     pub fn may_follow(&self, family: Family, before: Option<u64>) -> bool
-        ensures { result ≡ form.may_follow family (form.bound_behind 0 before) (seen self.now) }
+        ensures { result ≡ form.may_follow family (form.bound_after 0 before) (seen self.now) }
     {
         self.is_of(family) && self.is_above(before)
     }
 
     /// Whether its id is above another, where there are both.
     fn is_above(&self, before: Option<u64>) -> bool
-        ensures { result ≡ form.is_from (form.bound_behind 0 before) (model.id_of (seen self.now)) }
+        ensures { result ≡ form.is_from (form.bound_after 0 before) (model.id_of (seen self.now)) }
     {
         match (self.id(), before) {
             (Some(own), Some(other)) => other < own,
@@ -81,7 +81,7 @@ impl Row {
         }
     }
 
-    /// Whether it stands before the place of that id. A mail stands before any.
+    /// Whether it is there before the place of that id. A mail comes before any.
     pub(crate) fn is_below(&self, id: u64) -> bool
         ensures { result ≡ model.is_below id (seen self.now) }
     {

@@ -7,10 +7,10 @@ ghost use Rattle.bank_model.specs.Stores as model;
 ghost use Rattle.client_store.specs.RowForm as form;
 ghost use Rattle.client_store.specs.RowForm.{seen, all_seen, IsRising};
 
-use crate::places::{
-    are_rising, copied_rows, model_among, put_row, row_among, take_row_out, with_model,
-};
 use crate::row::Row;
+use crate::row_index::{
+    are_rising, copied_rows, model_among, put_row, remove_row_by_id, row_among, with_model,
+};
 use ofx_types::{Change, Family, MailRow, OutOfMemory};
 use std::alloc::Global;
 use std::marker::Model;
@@ -149,12 +149,12 @@ impl Rows {
     }
 
     /// Takes out the row of an id, where there is one.
-    fn take_out(&mut self, id: u64)
+    fn remove_row(&mut self, id: u64)
         ensures family { self.new.family ≡ self.old.family }
-        ensures rows { self.new.rows ≡ model.take_out id self.old.rows }
+        ensures rows { self.new.rows ≡ model.remove_row id self.old.rows }
         ensures room { self.old.room ≤ self.new.room }
     {
-        take_row_out(&mut self.items, self.family, id);
+        remove_row_by_id(&mut self.items, self.family, id);
     }
 
     /// Puts a mail after all others. There is room for it.
@@ -205,7 +205,7 @@ impl Rows {
                 let model = self.model_of(row.id);
                 self.put(row.id, Row::Transfer(with_model(row, model)));
             }
-            Change::DropTransfer(id) => self.take_out(id),
+            Change::DropTransfer(id) => self.remove_row(id),
             _ => {}
         }
     }
@@ -222,7 +222,7 @@ impl Rows {
         match change {
             Change::NewModel(row) => self.put(row.id, Row::Model(row)),
             Change::SetModel(row, _) => self.put(row.id, Row::Model(row)),
-            Change::DropModel(id, _) => self.take_out(id),
+            Change::DropModel(id, _) => self.remove_row(id),
             _ => {}
         }
     }

@@ -7,7 +7,7 @@ ghost use Rattle.bank_model.specs.Stores as model;
 ghost use Rattle.bank_model.specs.Stores.{taken};
 ghost use Rattle.bank_model.specs.Sync as rules;
 ghost use Rattle.client_store.specs.RowForm.{seen, all_seen, IsInOrder, IsRising};
-ghost use Rattle.client_store.specs.Taking.{history_taken, changes_taken};
+ghost use Rattle.client_store.specs.Taking.{history_applied, changes_applied};
 
 use crate::changes::changes_done;
 use crate::row::Row;
@@ -18,7 +18,7 @@ use std::alloc::Global;
 use std::marker::Model;
 
 /// The most digits of a token.
-const MOST_DIGITS: usize = 10;
+const MAX_DIGITS: usize = 10;
 
 /// What a client keeps of an object: the token up to which it knows the object's history, and the rows that belong to it,
 /// transfers and recurring transfers in rising id and mails in the order in which they came. A store that is marked lost
@@ -137,29 +137,29 @@ impl Store {
     {
         match kind {
             SyncKind::TokenOnly => Ok(()),
-            SyncKind::After(_) => self.take_history(false, reply),
-            SyncKind::Refresh => self.take_history(true, reply),
+            SyncKind::After(_) => self.apply_history(false, reply),
+            SyncKind::Refresh => self.apply_history(true, reply),
         }
     }
 
     /// Takes in what came after the store's token, or all that stands.
-    fn take_history(&mut self, all: bool, reply: &SyncReply) -> Result<(), OutOfMemory>
-        ensures taken { OnOk result (self.new ≡ history_taken self.old all reply.now) }
+    fn apply_history(&mut self, all: bool, reply: &SyncReply) -> Result<(), OutOfMemory>
+        ensures taken { OnOk result (self.new ≡ history_applied self.old all reply.now) }
         ensures err { OnErr result (self.new ≡ self.old) }
     {
         if reply.lost {
             self.lost = true;
             return Ok(());
         }
-        self.take_changes(all, reply)
+        self.apply_changes(all, reply)
     }
 
     /// Does the changes of a reply that were done, to the rows that are there or to none, and takes its token.
     ///
     /// The changes are copied and there is room for all of them before the first is done, so that memory is refused only
     /// where nothing has changed yet.
-    fn take_changes(&mut self, all: bool, reply: &SyncReply) -> Result<(), OutOfMemory>
-        ensures taken { OnOk result (self.new ≡ changes_taken self.old all reply.now) }
+    fn apply_changes(&mut self, all: bool, reply: &SyncReply) -> Result<(), OutOfMemory>
+        ensures taken { OnOk result (self.new ≡ changes_applied self.old all reply.now) }
         ensures err { OnErr result (self.new ≡ self.old) }
     {
         let changes = changes_done(self.rows.allocator(), reply.replies.items())?;
@@ -186,5 +186,5 @@ impl Duplicate for Store {
 fn number_of(token: &Text) -> u64
     ensures { result ≡ unwrap_or (rules.token_of token.now) 0 }
 {
-    read_number(token.as_bytes(), MOST_DIGITS).unwrap_or(0)
+    read_number(token.as_bytes(), MAX_DIGITS).unwrap_or(0)
 }

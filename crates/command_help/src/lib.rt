@@ -1,5 +1,5 @@
-//! The commands of `ofxbank` as people meet them: the form of each, its help, and what is wrong with words that have no form.
-//! Which words have one is judged elsewhere; nothing here is part of a promise but that each call ends.
+//! The commands of `ofxbank` as people meet them: the form of each, its help, and what is wrong with arguments that have no form.
+//! Which arguments have one is judged elsewhere; nothing here is part of a promise but that each call ends.
 #![tactic(auto)]
 
 mod mistake;

@@ -75,7 +75,7 @@ impl Topic {
         }
     }
 
-    /// The words that it can't do without, after the command.
+    /// The arguments that it can't do without, after the command.
     pub fn needs(self) -> &'static [&'static str] {
         match self {
             Topic::Program => &["COMMAND"],
@@ -89,20 +89,20 @@ impl Topic {
 }
 
 /// The word at a place, from 0. Empty where there is none.
-pub fn text_at(words: &[Text], place: usize) -> &str {
-    match words.get(place) {
-        Some(word) => str::from_utf8(word.as_bytes()).unwrap_or(""),
+pub fn text_at(arguments: &[Text], offset: usize) -> &str {
+    match arguments.get(offset) {
+        Some(argument) => str::from_utf8(argument.as_bytes()).unwrap_or(""),
         None => "",
     }
 }
 
-/// Whether the words at the places of the setup and of the records may be paths. One that begins with `-` may be none, unless it is
+/// Whether the arguments at the places of the setup and of the records may be paths. One that begins with `-` may be none, unless it is
 /// `-` alone, which names no file.
-pub fn has_paths(words: &[Text]) -> bool {
-    is_path(text_at(words, 1)) && is_path(text_at(words, 2))
+pub fn has_paths(arguments: &[Text]) -> bool {
+    is_path(text_at(arguments, 1)) && is_path(text_at(arguments, 2))
 }
 
 /// Whether a word may be a path.
-pub fn is_path(word: &str) -> bool {
-    word == "-" || !word.starts_with('-')
+pub fn is_path(argument: &str) -> bool {
+    argument == "-" || !argument.starts_with('-')
 }

@@ -8,7 +8,7 @@ use Rattle.std.proofs.lemmas.Bool.{cases_eq}
 use Rattle.std.proofs.lemmas.Bool.Decides.{nat_tests}
 use Rattle.std.proofs.lemmas.Nat.{from_be_bytes-to_be_bytes_8, be_bytes_8}
 use Rattle.disk_keeper.specs.File.{mark, size_bytes, size_of, next_size, is_whole, joined, records_from, found_in, has_mark, listed}
-use Rattle.disk_keeper.specs.Layout.{block, blocks, front, HaveSizes, IsFile}
+use Rattle.disk_keeper.specs.Layout.{block, blocks, prefix, HaveSizes, IsFile}
 
 pub length-size_bytes : (size : ℕ) → length (size_bytes size) ≡ 8
 unfolding size_bytes
@@ -31,7 +31,7 @@ pub size_bytes-size_of : (bytes : List ℕ) (size : ℕ) → length bytes ≡ 8 
 unfolding size_bytes
 size_bytes-size_of bytes size long fits is = be_bytes_8 bytes size long fits is
 
--- records in front of what follows them
+-- records before what follows them
 abbrev pub all_joined : List (List ℕ) → Result (List (List ℕ)) ℕ → Result (List (List ℕ)) ℕ
 all_joined [] rest = rest
 all_joined (r ∷ rs) rest = joined r (all_joined rs rest)
@@ -54,10 +54,10 @@ gates_is [] most = omega arith
 gates_is (r ∷ rs) most = omega (arith, gates_is rs most)
 
 -- a record is read where it is whole, and then what follows it
-step : (behind r rest : List ℕ) (most number : ℕ) → is_whole behind ≡ true → take (next_size behind) (drop 8 behind) ≡ r → drop (8 + next_size behind) behind ≡ rest
-    → records_from (suc most) number (1 ∷ behind) ≡ joined r (records_from most (number + 1) rest)
+step : (suffix r rest : List ℕ) (most number : ℕ) → is_whole suffix ≡ true → take (next_size suffix) (drop 8 suffix) ≡ r → drop (8 + next_size suffix) suffix ≡ rest
+    → records_from (suc most) number (1 ∷ suffix) ≡ joined r (records_from most (number + 1) rest)
 unfolding records_from
-step behind r rest most number whole is_r is_rest = rw (whole, is_r, is_rest) refl
+step suffix r rest most number whole is_r is_rest = rw (whole, is_r, is_rest) refl
 
 module _ (r : List ℕ) (rest : List ℕ) (fits : length r < 2 ^ 64) where
   size : List ℕ
@@ -100,49 +100,49 @@ records_read (r ∷ rs) rest most number sizes =
     ∙ ap (joined r) (records_read rs rest most (number + 1) sizes.1 ∙ ap (λ n. all_joined rs (records_from most n rest)) (omega arith))
 
 -- a record that passes the end, and a gate that does
-pub cut_read : (most number : ℕ) (behind : List ℕ) → is_whole behind ≡ false → records_from (suc most) number (1 ∷ behind) ≡ Err number
+pub cut_read : (most number : ℕ) (suffix : List ℕ) → is_whole suffix ≡ false → records_from (suc most) number (1 ∷ suffix) ≡ Err number
 unfolding records_from
-cut_read most number behind cut = rw cut refl
+cut_read most number suffix cut = rw cut refl
 
 pub end_read : (most number : ℕ) → records_from most number [] ≡ Err number
 unfolding records_from
 end_read zero number = refl
 end_read (suc most) number = refl
 
-shut_read : (most number gate : ℕ) (behind : List ℕ) → gate ≢ 1 → records_from (suc most) number (gate ∷ behind) ≡ Ok []
+shut_read : (most number gate : ℕ) (suffix : List ℕ) → gate ≢ 1 → records_from (suc most) number (gate ∷ suffix) ≡ Ok []
 unfolding records_from
-shut_read most number gate behind shut = grind (arith, nat_tests)
+shut_read most number gate suffix shut = grind (arith, nat_tests)
 
-pub length-front : (rs : List (List ℕ)) → length (front rs) ≡ 8 + length (blocks rs)
-length-front rs = omega (arith, length-append mark (blocks rs))
+pub length-prefix : (rs : List (List ℕ)) → length (prefix rs) ≡ 8 + length (blocks rs)
+length-prefix rs = omega (arith, length-append mark (blocks rs))
 
 -- each record has a gate and a length
 pub length-blocks : (rs : List (List ℕ)) → length rs ≤ length (blocks rs)
 length-blocks [] = omega arith
 length-blocks (r ∷ rs) = omega (arith, length-blocks rs, length-append (block r) (blocks rs))
 
-pub marked : (rs : List (List ℕ)) (rest : List ℕ) → has_mark (front rs ++ rest) ≡ true
+pub marked : (rs : List (List ℕ)) (rest : List ℕ) → has_mark (prefix rs ++ rest) ≡ true
 marked rs rest = refl
 
 -- what is found in a file of records and more
-pub found_behind : (rs : List (List ℕ)) (rest : List ℕ) → HaveSizes rs → (most : ℕ) → most ≡ length (front rs ++ rest) - length rs
-    → found_in (front rs ++ rest) ≡ all_joined rs (records_from most (1 + length rs) rest)
-found_behind rs rest sizes most is =
-    let long = length-append (front rs) rest in
-    let front_long = length-front rs in
+pub found_after : (rs : List (List ℕ)) (rest : List ℕ) → HaveSizes rs → (most : ℕ) → most ≡ length (prefix rs ++ rest) - length rs
+    → found_in (prefix rs ++ rest) ≡ all_joined rs (records_from most (1 + length rs) rest)
+found_after rs rest sizes most is =
+    let long = length-append (prefix rs) rest in
+    let prefix_long = length-prefix rs in
     let few = length-blocks rs in
-    let enough : length (front rs ++ rest) ≡ gates rs most = omega (arith, gates_is rs most, is, long, front_long, few) in
+    let enough : length (prefix rs ++ rest) ≡ gates rs most = omega (arith, gates_is rs most, is, long, prefix_long, few) in
     ap (λ n. records_from n 1 (blocks rs ++ rest)) enough ∙ records_read rs rest most 1 sizes
 
 -- A file of records is read as these.
-pub listed_file : (rs : List (List ℕ)) (place : ℕ) (file : List ℕ) → IsFile rs place file → listed file ≡ Some rs
-listed_file rs place file is =
-    let rest = is.gate ∷ is.behind in
-    let most = length (front rs ++ rest) - length rs - 1 in
-    let long = length-append (front rs) rest in
-    let front_long = length-front rs in
+pub listed_file : (rs : List (List ℕ)) (offset : ℕ) (file : List ℕ) → IsFile rs offset file → listed file ≡ Some rs
+listed_file rs offset file is =
+    let rest = is.gate ∷ is.suffix in
+    let most = length (prefix rs ++ rest) - length rs - 1 in
+    let long = length-append (prefix rs) rest in
+    let prefix_long = length-prefix rs in
     let few = length-blocks rs in
-    let some_left : length (front rs ++ rest) - length rs ≡ suc most = omega (arith, long, front_long, few) in
-    let found : found_in (front rs ++ rest) ≡ Ok rs =
-    found_behind rs rest is.sizes (suc most) (sym some_left) ∙ ap (all_joined rs) (shut_read most (1 + length rs) is.gate is.behind is.shut) ∙ all_joined-Ok rs in
+    let some_left : length (prefix rs ++ rest) - length rs ≡ suc most = omega (arith, long, prefix_long, few) in
+    let found : found_in (prefix rs ++ rest) ≡ Ok rs =
+    found_after rs rest is.sizes (suc most) (sym some_left) ∙ ap (all_joined rs) (shut_read most (1 + length rs) is.gate is.suffix is.shut) ∙ all_joined-Ok rs in
     ap listed is.bytes ∙ ap result_ok found

@@ -3,17 +3,17 @@ use Rattle.std.specs.Prelude.{◌≡◌, ℕ, ◌+◌, ◌<◌, ◌≤◌, ◌^�
 use Rattle.disk_keeper.specs.declared.reading.Gate.{Gate}
 use Rattle.disk_keeper.specs.declared.reading.Found.{Found}
 use Rattle.disk_keeper.specs.declared.reading.Found.TheVariants.{End, NoMark, Past}
-use Rattle.disk_keeper.specs.declared.reading.Step.{Step}
-use Rattle.disk_keeper.specs.declared.reading.Step.TheVariants.{Next, Last, Cut}
+use Rattle.disk_keeper.specs.declared.reading.ScanStep.{ScanStep}
+use Rattle.disk_keeper.specs.declared.reading.ScanStep.TheVariants.{Next, Last, Cut}
 
--- A gate has its place within the file, after the mark and at least one byte for each record.
+-- A gate has its offset within the file, after the mark and at least one byte for each record.
 pub record IsWithin (gate : Gate) (size : ℕ) : Type 0 where
-  pub place : gate.place < size
-  pub most : gate.place < 2 ^ 63
-  pub few : gate.records + 8 ≤ gate.place
+  pub offset : gate.offset < size
+  pub most : gate.offset < 2 ^ 63
+  pub few : gate.records + 8 ≤ gate.offset
 
-abbrev pub StepsWithin : Gate → ℕ → Step → Type 0
-StepsWithin gate size (Next next) = (next.place ≤ size) × (gate.place < next.place) × (next.records + 8 ≤ next.place)
+abbrev pub StepsWithin : Gate → ℕ → ScanStep → Type 0
+StepsWithin gate size (Next next) = (next.offset ≤ size) × (gate.offset < next.offset) × (next.records + 8 ≤ next.offset)
 StepsWithin gate size Last = Unit {0}
 StepsWithin gate size Cut = Unit {0}
 

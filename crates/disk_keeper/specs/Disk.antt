@@ -10,7 +10,7 @@ pub record History : Type 0 where
   -- what was done, the newest first
   pub changes : List Change
 
--- the bytes with these in the place of those from a place on, and longer where these pass the end
+-- the bytes with these in the place of those from an offset on, and longer where these pass the end
 abbrev pub overlaid : List ℕ → ℕ → List ℕ → List ℕ
 overlaid old at bytes = take at old ++ bytes ++ drop (at + length bytes) old
 
@@ -24,7 +24,7 @@ image found (Sync ∷ changes) = image found changes
 -- moved or not, and the same elsewhere.
 pub record Torn (at size : ℕ) (old new : List ℕ) : Type 0 where
   pub before : take at new ≡ take at old
-  pub behind : drop (at + size) new ≡ drop (at + size) old
+  pub suffix : drop (at + size) new ≡ drop (at + size) old
   pub no_shorter : length old ≤ length new
   pub no_longer : length new ≤ max (length old) (at + size)
 
@@ -47,17 +47,17 @@ after history more = record { found = history.found; changes = more ++ history.c
 abbrev pub Leaves : (List ℕ → Type 0) → History → Type 0
 Leaves P history = (crash : List ℕ) → MayLeave history.found history.changes crash → P crash
 
--- All that a crash may leave has P: in front of these changes, between any two of them, and after them.
+-- All that a crash may leave has P: before these changes, between any two of them, and after them.
 abbrev pub LeavesThroughout : (List ℕ → Type 0) → History → List Change → Type 0
 LeavesThroughout P history [] = Leaves P history
 LeavesThroughout P history (change ∷ more) = Leaves P (after history (change ∷ more)) × LeavesThroughout P history more
 
--- From one history that is told to another, all that a crash may leave at any moment has P.
+-- From one history that is reported to another, all that a crash may leave at any moment has P.
 abbrev pub LeavesOnly : (List ℕ → Type 0) → Option History → Option History → Type 0
 LeavesOnly P None new = ⊤
 LeavesOnly P (Some old) new = (more : List Change) × (new ≡ Some (after old more)) × LeavesThroughout P old more
 
--- A history that is told goes on with these changes, the newest first.
+-- A history that is reported goes on with these changes, the newest first.
 abbrev pub GoesOn : Option History → Option History → List Change → Type 0
 GoesOn None new more = ⊤
 GoesOn (Some old) new more = new ≡ Some (after old more)
@@ -68,25 +68,25 @@ abbrev pub AtMostSynced : Option History → Option History → Type 0
 AtMostSynced None new = ⊤
 AtMostSynced (Some old) new = (new ≡ Some old) ⊎ (new ≡ Some (after old (Sync ∷ [])))
 
--- A disk that tells its history goes on telling it.
-abbrev pub TellsOn : Option History → Option History → Type 0
-TellsOn None new = ⊤
-TellsOn (Some old) new = IsSome new
+-- A disk whose history is known goes on telling it.
+abbrev pub ReportsOn : Option History → Option History → Type 0
+ReportsOn None new = ⊤
+ReportsOn (Some old) new = IsSome new
 
 -- a write that put all of these bytes
 abbrev pub write_of : ℕ → List ℕ → Change
 write_of at bytes = Write at (length bytes) bytes
 
--- A write of so many bytes that failed has done nothing, or has put some bytes at the front of its range. All of the range
+-- A write of so many bytes that failed has done nothing, or has put some bytes at the start of its range. All of the range
 -- may be torn.
 abbrev pub IsBroken : ℕ → ℕ → List Change → Type 0
 IsBroken at size more = (more ≡ []) ⊎ ((bytes : List ℕ) × (length bytes ≤ size) × (more ≡ Write at size bytes ∷ []))
 
--- A history that is told goes on with a write that failed.
+-- A history that is reported goes on with a write that failed.
 abbrev pub Breaks : ℕ → ℕ → Option History → Option History → Type 0
 Breaks at size old new = (more : List Change) × IsBroken at size more × GoesOn old new more
 
--- These are the image's bytes from a place on, where it is told.
+-- These are the image's bytes from an offset on, where it is told.
 abbrev pub Shows : Option History → ℕ → List ℕ → Type 0
 Shows None at bytes = ⊤
 Shows (Some history) at bytes = bytes ≡ slice_range (shown history) at (at + length bytes)

@@ -17,7 +17,7 @@ keeper_code {D = D} d =
     code_by (D × (ℕ × Bool)) (coded× d (coded× coded_ℕ coded_bool)) (λ s. (s.disk, (s.size, s.unsettled))) (λ p. record { disk = p.0; size = p.1.0; unsettled = p.1.1 })
     (λ _. refl)
 
--- The records that stand, where the disk tells: those that its image lists.
+-- The records that are stored, where the disk tells: those that its image lists.
 abbrev pub records_on : Option History → Option (List (List ℕ))
 records_on None = None
 records_on (Some history) = listed (shown history)
@@ -27,7 +27,7 @@ abbrev pub landed_on : ℕ → Option (List (List ℕ)) → Option Bool
 landed_on size None = None
 landed_on size (Some records) = Some (nat_lt size (length records))
 
--- the records in front of one that is to be settled
+-- the records before one that is to be settled
 abbrev pub settled_on : ℕ → Option (List (List ℕ)) → List (List ℕ)
 settled_on size None = []
 settled_on size (Some records) = take size records
@@ -49,7 +49,7 @@ abbrev pub NowLeaves : (List ℕ → Type 0) → Option History → Type 0
 NowLeaves P None = ⊤
 NowLeaves P (Some history) = P (shown history) × Leaves P history
 
--- Of a disk that tells: settling has acknowledged the record that was begun where it stands, and otherwise nothing.
+-- Of a disk that tells: settling has acknowledged the record that was begun where it is, and otherwise nothing.
 abbrev pub SettlesWith : List (List ℕ) → List ℕ → Bool → Option History → List (List ℕ) → Type 0
-SettlesWith before begun stands None now = ⊤
-SettlesWith before begun stands (Some history) now = now ≡ (if stands then before ++ begun ∷ [] else before)
+SettlesWith before begun holds None now = ⊤
+SettlesWith before begun holds (Some history) now = now ≡ (if holds then before ++ begun ∷ [] else before)

@@ -4,7 +4,7 @@ use Rattle.std.specs.Int.{w64, to_be_bytes, from_be_bytes}
 use Rattle.std.specs.Str.{bytes_eq}
 use Rattle.std.specs.Result.{result_ok}
 
--- the mark at the front of the file, OFXKEEP1
+-- the mark at the start of the file, OFXKEEP1
 abbrev pub mark : List ℕ
 mark = 79 ∷ 70 ∷ 88 ∷ 75 ∷ 69 ∷ 69 ∷ 80 ∷ 49 ∷ []
 
@@ -16,15 +16,15 @@ size_bytes size = to_be_bytes w64 size
 unfoldable pub size_of : List ℕ → ℕ
 size_of bytes = from_be_bytes w64 bytes
 
--- the length of the record behind a gate
+-- the length of the record after a gate
 abbrev pub next_size : List ℕ → ℕ
-next_size behind = size_of (take 8 behind)
+next_size suffix = size_of (take 8 suffix)
 
--- whether the record behind a gate is there, with its length
+-- whether the record after a gate is there, with its length
 abbrev pub is_whole : List ℕ → Bool
-is_whole behind = nat_le 8 (length behind) && nat_le (8 + next_size behind) (length behind)
+is_whole suffix = nat_le 8 (length suffix) && nat_le (8 + next_size suffix) (length suffix)
 
--- a record in front of those that follow it
+-- a record before those that follow it
 abbrev pub joined : List ℕ → Result (List (List ℕ)) ℕ → Result (List (List ℕ)) ℕ
 joined record_bytes (Ok records) = Ok (record_bytes ∷ records)
 joined record_bytes (Err number) = Err number
@@ -34,10 +34,10 @@ joined record_bytes (Err number) = Err number
 unfoldable pub records_from : ℕ → ℕ → List ℕ → Result (List (List ℕ)) ℕ
 records_from zero number bytes = Err number
 records_from (suc most) number [] = Err number
-records_from (suc most) number (gate ∷ behind) =
+records_from (suc most) number (gate ∷ suffix) =
     if gate == 1 then
-    (if is_whole behind
-    then joined (take (next_size behind) (drop 8 behind)) (records_from most (number + 1) (drop (8 + next_size behind) behind))
+    (if is_whole suffix
+    then joined (take (next_size suffix) (drop 8 suffix)) (records_from most (number + 1) (drop (8 + next_size suffix) suffix))
     else Err number)
     else Ok []
 

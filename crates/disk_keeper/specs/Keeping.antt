@@ -1,7 +1,7 @@
 -- What is always so of a keeper on a disk.
 use Rattle.std.specs.Prelude.{◌≡◌, ℕ, ◌+◌, ◌<◌, ◌≤◌, ◌^◌, List, [], ◌∷◌, ◌++◌, length, Bool, true, false, ◌==◌, if◌then◌else◌, Option, None, Some}
 use Rattle.disk_keeper.specs.Disk.{History, Leaves, shown}
-use Rattle.disk_keeper.specs.Layout.{front, IsFile, MayHave}
+use Rattle.disk_keeper.specs.Layout.{prefix, IsFile, MayHave}
 use Rattle.disk_keeper.specs.Appending.{IsSettled}
 use Rattle.disk_keeper.specs.Bounds.{IsWithin}
 use Rattle.disk_keeper.specs.Passing.{Passed}
@@ -24,29 +24,29 @@ opened_by (Opening next) gate = if gate == 1 then Some next else None
 
 -- What the disk has, by how far an append that failed had come: the records, all on the disk; the records, whatever a crash
 -- leaves; or these or one more.
-abbrev pub Stands : List (List ℕ) → ℕ → Begun → History → Type 0
-Stands records place Nothing history = IsFile records place (shown history) × IsSettled history
-Stands records place Body history = IsFile records place (shown history) × Leaves (IsFile records place) history
-Stands records place (Opening next) history =
-    (bytes : List ℕ) × MayHave records bytes place next (shown history) × Leaves (MayHave records bytes place next) history
+abbrev pub IsStored : List (List ℕ) → ℕ → Begun → History → Type 0
+IsStored records offset Nothing history = IsFile records offset (shown history) × IsSettled history
+IsStored records offset Body history = IsFile records offset (shown history) × Leaves (IsFile records offset) history
+IsStored records offset (Opening next) history =
+    (bytes : List ℕ) × MayHave records bytes offset next (shown history) × Leaves (MayHave records bytes offset next) history
 
 -- The gate after a record whose append failed is within the file.
 abbrev pub NextWithin : Gate → ℕ → Begun → Type 0
 NextWithin end size Nothing = Unit {0}
 NextWithin end size Body = Unit {0}
-NextWithin end size (Opening next) = (next < size) × (next < 2 ^ 63) × (end.place < next)
+NextWithin end size (Opening next) = (next < size) × (next < 2 ^ 63) × (end.offset < next)
 
 -- The records of a disk that tells, with the gate after them and the gate that was read last.
 pub record Keeps (end last : Gate) (begun : Begun) (history : History) : Type 0 where
   pub records : List (List ℕ)
   pub count : end.records ≡ length records
-  pub place : end.place ≡ length (front records)
+  pub offset : end.offset ≡ length (prefix records)
   pub read : Passed records last
-  pub now : Stands records end.place begun history
+  pub now : IsStored records end.offset begun history
 
-pub record IsSound (told : Option History) (size : ℕ) (end last : Gate) (begun : Begun) : Type 0 where
+pub record IsSound (known : Option History) (size : ℕ) (end last : Gate) (begun : Begun) : Type 0 where
   pub within : IsWithin end size
-  pub last_within : last.place ≤ size
+  pub last_within : last.offset ≤ size
   pub last_before : last.records ≤ end.records
   pub next : NextWithin end size begun
-  pub keeps : (history : History) → told ≡ Some history → Keeps end last begun history
+  pub keeps : (history : History) → known ≡ Some history → Keeps end last begun history

@@ -10,24 +10,24 @@ abbrev pub blocks : List (List ℕ) → List ℕ
 blocks [] = []
 blocks (r ∷ rs) = block r ++ blocks rs
 
--- the bytes in front of the last gate
-abbrev pub front : List (List ℕ) → List ℕ
-front records = mark ++ blocks records
+-- the bytes before the last gate
+abbrev pub prefix : List (List ℕ) → List ℕ
+prefix records = mark ++ blocks records
 
 -- the lengths of all of them fit into eight bytes
 abbrev pub HaveSizes : List (List ℕ) → Type 0
 HaveSizes [] = Unit {0}
 HaveSizes (r ∷ rs) = (length r < 2 ^ 64) × HaveSizes rs
 
--- The file has these records, with its last gate at this place.
-pub record IsFile (records : List (List ℕ)) (place : ℕ) (file : List ℕ) : Type 0 where
+-- The file has these records, with its last gate at this offset.
+pub record IsFile (records : List (List ℕ)) (offset : ℕ) (file : List ℕ) : Type 0 where
   pub gate : ℕ
-  pub behind : List ℕ
+  pub suffix : List ℕ
   pub shut : gate ≢ 1
-  pub bytes : file ≡ front records ++ gate ∷ behind
-  pub place_is : place ≡ length (front records)
+  pub bytes : file ≡ prefix records ++ gate ∷ suffix
+  pub offset_is : offset ≡ length (prefix records)
   pub sizes : HaveSizes records
 
 -- The file has these records, or one more.
 abbrev pub MayHave : List (List ℕ) → List ℕ → ℕ → ℕ → List ℕ → Type 0
-MayHave records begun place next file = IsFile records place file ⊎ IsFile (records ++ begun ∷ []) next file
+MayHave records begun offset next file = IsFile records offset file ⊎ IsFile (records ++ begun ∷ []) next file

@@ -21,8 +21,8 @@ pub record MemState : Type 0 where
   pub memory_faults : ℕ
 
 -- it tells all that it holds
-abbrev pub told_by : MemState → Option History
-told_by disk = Some (record { found = disk.found; changes = disk.changes })
+abbrev pub reported_by : MemState → Option History
+reported_by disk = Some (record { found = disk.found; changes = disk.changes })
 
 -- whether the bytes of the next call are put where that call is a write that fails
 abbrev pub lands_next : MemState → Bool
@@ -61,7 +61,7 @@ Syncs before after (Err failed) =
     ((fails_next before.calls ≡ true) × (after ≡ tried before true before.changes))
     ⊎ (after ≡ starved before)
 
--- A write that ends at this place fails past the room; where its number is one of those that fail, and then it has put its
+-- A write that ends at this offset fails past the room; where its number is one of those that fail, and then it has put its
 -- bytes exactly where they land; and otherwise for want of memory alone.
 abbrev pub Writes : MemState → MemState → Change → ℕ → Result (Unit {0}) Failed → Type 0
 Writes before after write end (Ok done) = Succeeds before after write

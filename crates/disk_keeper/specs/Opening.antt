@@ -22,12 +22,12 @@ DiskFailed (Err (BadRecord disk number)) = ⊥
 
 -- Where no call failed, and the disk tells: the keeper has the records that the image lists; the mark is missing; or the
 -- record or gate of this number is the first that passes the end.
-abbrev pub OpensTold : {D : Type 0} → List ℕ → Result (DiskKeeperView D) (DiskFault D) → (D → Option History) → Type 0
-OpensTold file (Ok keeper) history = (records : List (List ℕ)) × Lists records file × (records_on (history keeper.disk) ≡ Some records)
-OpensTold file (Err (Failed disk)) history = Unit {0}
-OpensTold file (Err (BadMark disk)) history = has_mark file ≡ false
-OpensTold file (Err (BadRecord disk number)) history = (has_mark file ≡ true) × (found_in file ≡ Err number)
+abbrev pub OpensReported : {D : Type 0} → List ℕ → Result (DiskKeeperView D) (DiskFault D) → (D → Option History) → Type 0
+OpensReported file (Ok keeper) history = (records : List (List ℕ)) × Lists records file × (records_on (history keeper.disk) ≡ Some records)
+OpensReported file (Err (Failed disk)) history = Unit {0}
+OpensReported file (Err (BadMark disk)) history = has_mark file ≡ false
+OpensReported file (Err (BadRecord disk number)) history = (has_mark file ≡ true) × (found_in file ≡ Err number)
 
 abbrev pub Opens : {D : Type 0} → (D → Option History) → Option History → Result (DiskKeeperView D) (DiskFault D) → Type 0
 Opens history None result = ⊤
-Opens history (Some old) result = OpensTold (shown old) result history
+Opens history (Some old) result = OpensReported (shown old) result history

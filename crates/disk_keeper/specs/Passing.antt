@@ -1,6 +1,6 @@
 -- Gates between records.
 use Rattle.std.specs.Prelude.{◌≡◌, ℕ, List, ◌∷◌, ◌++◌, length}
-use Rattle.disk_keeper.specs.Layout.{front, HaveSizes}
+use Rattle.disk_keeper.specs.Layout.{prefix, HaveSizes}
 use Rattle.disk_keeper.specs.declared.reading.Gate.{Gate}
 
 -- A gate stands between two of these records, or at an end of them.
@@ -9,11 +9,11 @@ pub record Passed (records : List (List ℕ)) (gate : Gate) : Type 0 where
   pub rest : List (List ℕ)
   pub split : records ≡ passed ++ rest
   pub count : gate.records ≡ length passed
-  pub place : gate.place ≡ length (front passed)
+  pub offset : gate.offset ≡ length (prefix passed)
 
--- These records stand at the front of a file, and more bytes after them.
+-- These records stand at the start of a file, and more bytes after them.
 pub record Holds (records : List (List ℕ)) (file : List ℕ) : Type 0 where
-  pub behind : List ℕ
+  pub suffix : List ℕ
   pub some : ℕ
-  pub bytes : file ≡ front records ++ some ∷ behind
+  pub bytes : file ≡ prefix records ++ some ∷ suffix
   pub sizes : HaveSizes records

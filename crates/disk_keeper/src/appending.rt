@@ -1,10 +1,10 @@
-//! One append, as writes and syncs of the disk: the body behind the gate, and then the gate.
+//! One append, as writes and syncs of the disk: the body after the gate, and then the gate.
 
 ghost use Rattle.std.specs.Prelude.{◌≡◌, ℕ, ◌+◌, ◌<◌, ◌≤◌, ◌^◌, List, Some, None, length, IsErr, IfOk, OnOk};
 ghost use Rattle.ofx_ports.specs.Faults.{CountsFaults};
 ghost use Rattle.disk_keeper.specs.Disk.{History, overlaid, shown};
 ghost use Rattle.disk_keeper.specs.Layout.{IsFile};
-ghost use Rattle.disk_keeper.specs.Appending.{WritesBehind, HasImage, HasBody, IsSettled, Appends, IsNext, HasNext, Stopped};
+ghost use Rattle.disk_keeper.specs.Appending.{WritesAfter, HasImage, HasBody, IsSettled, Appends, IsNext, HasNext, Stopped};
 
 use crate::disk::Disk;
 use crate::reading::{HEAD, OPEN, SHUT};
@@ -13,17 +13,17 @@ use ofx_ports::Failed;
 /// How far an append came.
 #[derive(Clone, Copy, Drop)]
 pub enum Reached {
-    /// The record is kept, and the gate after it is at this place.
+    /// The record is kept, and the gate after it is at this offset.
     Acknowledged(u64),
     /// The body failed, or its sync.
     Body,
-    /// The gate failed, or its sync. The gate after the record is at this place.
+    /// The gate failed, or its sync. The gate after the record is at this offset.
     Gate(u64),
 }
 
-/// Appends a record behind the gate at this place, which isn't open.
+/// Appends a record after the gate at this offset, which isn't open.
 ///
-/// The body is on the disk before the gate is opened, so that behind a gate that is torn open a record stands whole.
+/// The body is on the disk before the gate is opened, so that after a gate that is torn open a record stands whole.
 pub fn append_record<D: Disk>(disk: &mut D, gate: u64, bytes: &[u8]) -> Reached
     requires within { gate < D.extent disk.old }
     requires most { gate < 2 ^ 63 }
@@ -31,7 +31,7 @@ pub fn append_record<D: Disk>(disk: &mut D, gate: u64, bytes: &[u8]) -> Reached
     ensures no_shorter { D.extent disk.old ≤ D.extent disk.new }
     ensures faults { CountsFaults (D.faults disk.old) (D.faults disk.new) (Stopped result) }
     ensures quiet { D.history disk.old ≡ None → D.history disk.new ≡ None }
-    ensures told { (h : History) (rs : List (List ℕ)) → D.history disk.old ≡ Some h → IsFile rs gate (shown h) → IsSettled h
+    ensures known { (h : History) (rs : List (List ℕ)) → D.history disk.old ≡ Some h → IsFile rs gate (shown h) → IsSettled h
         → Appends rs gate bytes.now result h (D.history disk.new) }
 {
     let Ok(next) = write_body(disk, gate, bytes) else {
@@ -49,7 +49,7 @@ pub fn append_record<D: Disk>(disk: &mut D, gate: u64, bytes: &[u8]) -> Reached
     Reached::Acknowledged(next)
 }
 
-/// Writes the length of a record, its bytes and a gate that is shut behind the gate at this place. The answer is the
+/// Writes the length of a record, its bytes and a gate that is shut after the gate at this offset. The answer is the
 /// place of the new gate.
 fn write_body<D: Disk>(disk: &mut D, gate: u64, bytes: &[u8]) -> Result<u64, Failed>
     requires within { gate < D.extent disk.old }
@@ -58,7 +58,7 @@ fn write_body<D: Disk>(disk: &mut D, gate: u64, bytes: &[u8]) -> Result<u64, Fai
     ensures no_shorter { D.extent disk.old ≤ D.extent disk.new }
     ensures faults { CountsFaults (D.faults disk.old) (D.faults disk.new) (IsErr result) }
     ensures quiet { D.history disk.old ≡ None → D.history disk.new ≡ None }
-    ensures behind { (h : History) → D.history disk.old ≡ Some h → WritesBehind (gate + 1) h (D.history disk.new) }
+    ensures suffix { (h : History) → D.history disk.old ≡ Some h → WritesAfter (gate + 1) h (D.history disk.new) }
     ensures written { OnOk result ((h : History) → D.history disk.old ≡ Some h → gate < length (shown h)
         → HasBody gate bytes.now (shown h) (D.history disk.new)) }
 {
@@ -71,16 +71,16 @@ fn write_body<D: Disk>(disk: &mut D, gate: u64, bytes: &[u8]) -> Result<u64, Fai
     Ok(next)
 }
 
-/// Writes bytes at a place. Of none there is nothing to write.
+/// Writes bytes at an offset. Of none there is nothing to write.
 fn write_some<D: Disk>(disk: &mut D, at: u64, bytes: &[u8]) -> Result<(), Failed>
-    requires place { at ≤ D.extent disk.old }
+    requires offset { at ≤ D.extent disk.old }
     requires most { at ≤ 2 ^ 63 }
     ensures within { OnOk result (at + length bytes.now ≤ D.extent disk.new) }
     ensures most { OnOk result (at + length bytes.now ≤ 2 ^ 63) }
     ensures no_shorter { D.extent disk.old ≤ D.extent disk.new }
     ensures faults { CountsFaults (D.faults disk.old) (D.faults disk.new) (IsErr result) }
     ensures quiet { D.history disk.old ≡ None → D.history disk.new ≡ None }
-    ensures behind { (h : History) → D.history disk.old ≡ Some h → WritesBehind at h (D.history disk.new) }
+    ensures suffix { (h : History) → D.history disk.old ≡ Some h → WritesAfter at h (D.history disk.new) }
     ensures written { OnOk result ((h : History) → D.history disk.old ≡ Some h → at ≤ length (shown h)
         → HasImage (D.history disk.new) (overlaid (shown h) at bytes.now)) }
 {

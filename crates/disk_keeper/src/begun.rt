@@ -11,14 +11,14 @@ pub enum Begun {
     Nothing,
     /// To its body.
     Body,
-    /// To its gate. The gate after the record is at this place.
+    /// To its gate. The gate after the record is at this offset.
     Opening(u64),
 }
 
 impl Begun {
     ghost use Rattle.disk_keeper.specs.Keeping.{opened_by};
 
-    /// The gate after the record, where the gate in front of it was found to be this one and the record stands.
+    /// The gate after the record, where the gate before it was found to be this one and the record is stored.
     pub fn opened(self, gate: u8) -> Option<u64>
         ensures { result ≡ opened_by self gate }
     {

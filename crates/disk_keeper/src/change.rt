@@ -40,7 +40,7 @@ impl Bytes {
 /// A call that changed a disk.
 #[derive(Drop)]
 pub enum Change {
-    /// A write at this place, of so many bytes, and what it put there: all of them, where it didn't fail.
+    /// A write at this offset, of so many bytes, and what it put there: all of them, where it didn't fail.
     Write(u64, u64, Bytes),
     /// All that was written before is on the disk.
     Sync,

@@ -25,29 +25,29 @@ pub trait Disk: Drop {
     fn size(&self) -> u64
         ensures size { result ≡ extent self.now }
         ensures most { result < 2 ^ 63 }
-        ensures told { HasSize (history self.now) (extent self.now) };
+        ensures known { HasSize (history self.now) (extent self.now) };
 
-    /// Fills `into` with the bytes from a place on.
+    /// Fills `into` with the bytes from an offset on.
     ///
     /// `Failed` only where the count of faults rose in this call.
     fn read_at(&mut self, at: u64, into: &mut [u8]) -> Result<(), Failed>
         requires { at + length into.old ≤ extent self.old }
         ensures shown { OnOk result (Shows (history self.old) at into.new) }
-        ensures told { HasSize (history self.old) (extent self.old) }
+        ensures known { HasSize (history self.old) (extent self.old) }
         ensures history { history self.new ≡ history self.old }
         ensures extent { extent self.new ≡ extent self.old }
         ensures faults { CountsFaults (faults self.old) (faults self.new) (IsErr result) };
 
-    /// Writes bytes from a place on, over those that are there and past the end.
+    /// Writes bytes from an offset on, over those that are there and past the end.
     ///
     /// `Failed` only where the count of faults rose in this call. A write past 2^63 - 1 bytes fails.
     fn write_at(&mut self, at: u64, bytes: &[u8]) -> Result<(), Failed>
-        requires place { at ≤ extent self.old }
+        requires offset { at ≤ extent self.old }
         requires some { 0 < length bytes.now }
         ensures written { OnOk result (GoesOn (history self.old) (history self.new) (write_of at bytes.now ∷ [])) }
         ensures broken { OnErr result (Breaks at (length bytes.now) (history self.old) (history self.new)) }
         ensures quiet { history self.old ≡ None → history self.new ≡ None }
-        ensures told { HasSize (history self.old) (extent self.old) }
+        ensures known { HasSize (history self.old) (extent self.old) }
         ensures extent { OnOk result (extent self.new ≡ max (extent self.old) (at + length bytes.now)) }
         ensures no_shorter { extent self.old ≤ extent self.new }
         ensures most { OnOk result (at + length bytes.now < 2 ^ 63) }
@@ -63,7 +63,7 @@ pub trait Disk: Drop {
         ensures extent { extent self.new ≡ extent self.old }
         ensures faults { CountsFaults (faults self.old) (faults self.new) (IsErr result) };
 
-    /// How many calls failed so far. The count stands still at 2^64 - 1.
+    /// How many calls failed so far. The count stays at 2^64 - 1.
     fn faults(&self) -> u64
         ensures { result ≡ faults self.now };
 }

@@ -14,10 +14,10 @@ use std::os::unix::fs::{FileExt, OpenOptionsExt};
 /// Whom a new file is for: its owner alone.
 const MODE: u32 = 0o600;
 
-/// The place after the last byte that a file can have.
+/// The offset after the last byte that a file can have.
 const END: u64 = i64::MAX as u64;
 
-/// A file on a real disk, open and locked. It tells nothing of what the disk holds.
+/// A file on a real disk, open and locked. It says nothing of what the disk holds.
 ///
 /// After a sync that failed each later one fails too: the system may have dropped what was written, and report no
 /// further error. Whoever goes on opens the file again.

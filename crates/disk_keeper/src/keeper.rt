@@ -2,9 +2,9 @@
 
 ghost use Rattle.std.specs.Prelude.{◌≡◌, ℕ, ◌+◌, ◌-◌, ◌<◌, ◌≤◌, ◌⊎◌, false, true, List, [], ◌∷◌, ◌++◌, Some, length, slice_get, is_ok, IfOk, IfSome, OnOk, OnErr, IsErr, IsErrOf, if◌then◌else◌};
 ghost use Rattle.ofx_ports.specs.Faults.{CountsFaults};
-ghost use Rattle.ofx_ports.specs.Told.{Stays};
-ghost use Rattle.ofx_ports.specs.Kept.{Appended, TellsLanding, counted};
-ghost use Rattle.disk_keeper.specs.Disk.{AtMostSynced, LeavesOnly, TellsOn};
+ghost use Rattle.ofx_ports.specs.Known.{Stays};
+ghost use Rattle.ofx_ports.specs.Kept.{Appended, KnowsLanding, counted};
+ghost use Rattle.disk_keeper.specs.Disk.{AtMostSynced, LeavesOnly, ReportsOn};
 ghost use Rattle.disk_keeper.specs.DiskKeeperView.{records_on, landed_on, acknowledged, Lists, ListsWith, NowLeaves, SettlesWith};
 
 use crate::appending::{Reached, append_record};
@@ -15,7 +15,7 @@ use crate::reading::{FIRST, Found, Gate, find_end, find_gate, read_gate, read_re
 use ofx_ports::{Failed, FetchFault, Keeper, PutFault};
 use std::marker::Model;
 
-/// The gate that was read last where it stands in front of the record of this number, and otherwise the first.
+/// The gate that was read last where it is before the record of this number, and otherwise the first.
 fn gate_before(last: Gate, number: u64) -> Gate
     requires { 1 ≤ number }
     ensures before { result.records < number }
@@ -77,7 +77,7 @@ impl<D: Disk> DiskKeeper<D> {
         ensures made { IfOk result (λ k. (k.size ≡ 0) × (k.unsettled ≡ false)) }
         ensures opens { IfOk result (λ k. IfSome (D.history k.disk) (λ h. records_on (Some h) ≡ Some [])) }
         ensures leaves { IfOk result (λ k. NowLeaves (Lists []) (D.history k.disk)) }
-        ensures tells { IfOk result (λ k. TellsOn (D.history disk) (D.history k.disk)) }
+        ensures reports { IfOk result (λ k. ReportsOn (D.history disk) (D.history k.disk)) }
         ensures faults { CountsFaults (D.faults disk) (D.faults (disk_of result)) (DiskFailed result) }
     {
         let Ok(()) = disk.write_at(0, &EMPTY) else {
@@ -160,11 +160,11 @@ impl<D: Disk + Send> Keeper for DiskKeeper<D> {
         ensures awaits { OnErr result (NowLeaves (ListsWith (acknowledged D.history self.new) rec.now) (D.history self.new.disk)) }
         ensures kept { OnErr result (acknowledged D.history self.new ≡ acknowledged D.history self.old) }
     {
-        match append_record(&mut self.disk, self.end.place, rec) {
+        match append_record(&mut self.disk, self.end.offset, rec) {
             Reached::Acknowledged(next) => {
                 self.end = Gate {
                     records: self.end.records + 1,
-                    place: next,
+                    offset: next,
                 };
                 Ok(())
             }
@@ -181,35 +181,35 @@ impl<D: Disk + Send> Keeper for DiskKeeper<D> {
 
     fn settle(&mut self) -> Result<bool, Failed>
         ensures list { Stays (records_on (D.history self.old.disk)) (records_on (D.history self.new.disk)) }
-        ensures answer { IfOk result (TellsLanding self.old.unsettled (landed_on self.old.size (records_on (D.history self.old.disk)))) }
+        ensures answer { IfOk result (KnowsLanding self.old.unsettled (landed_on self.old.size (records_on (D.history self.old.disk)))) }
         ensures settled { OnOk result (self.new.unsettled ≡ false) }
-        ensures size { IfOk result (λ stands. self.new.size ≡ counted self.old.size stands) }
+        ensures size { IfOk result (λ holds. self.new.size ≡ counted self.old.size holds) }
         ensures open { OnErr result (self.new.unsettled ≡ self.old.unsettled) }
         ensures kept { OnErr result ((landed_on self.new.size (records_on (D.history self.new.disk)) ≡ landed_on self.old.size (records_on (D.history self.old.disk)))
             × (self.new.size ≡ self.old.size)) }
         ensures faults { CountsFaults (D.faults self.old.disk) (D.faults self.new.disk) (IsErr result) }
 
         // Where a crash leaves the acknowledged records, or these and the one that was begun, it leaves them at any moment of
-        // the call, and after an error. After an answer it leaves the acknowledged ones, with that one where it stands.
+        // the call, and after an error. After an answer it leaves the acknowledged ones, with that one where it is.
         ensures moments { (begun : List ℕ) → NowLeaves (ListsWith (acknowledged D.history self.old) begun) (D.history self.old.disk)
             → LeavesOnly (ListsWith (acknowledged D.history self.old) begun) (D.history self.old.disk) (D.history self.new.disk) }
         ensures awaits { OnErr result ((begun : List ℕ) → NowLeaves (ListsWith (acknowledged D.history self.old) begun) (D.history self.old.disk)
             → NowLeaves (ListsWith (acknowledged D.history self.new) begun) (D.history self.new.disk)) }
         ensures leaves { OnOk result (NowLeaves (Lists (acknowledged D.history self.new)) (D.history self.new.disk)) }
-        ensures stands { IfOk result (λ stands. (begun : List ℕ) → NowLeaves (ListsWith (acknowledged D.history self.old) begun) (D.history self.old.disk)
-            → SettlesWith (acknowledged D.history self.old) begun stands (D.history self.old.disk) (acknowledged D.history self.new)) }
+        ensures holds { IfOk result (λ holds. (begun : List ℕ) → NowLeaves (ListsWith (acknowledged D.history self.old) begun) (D.history self.old.disk)
+            → SettlesWith (acknowledged D.history self.old) begun holds (D.history self.old.disk) (acknowledged D.history self.new)) }
     {
         let Ok(()) = self.disk.sync() else {
             return Err(Failed);
         };
-        let Ok(gate) = read_gate(&mut self.disk, self.end.place) else {
+        let Ok(gate) = read_gate(&mut self.disk, self.end.offset) else {
             return Err(Failed);
         };
         match self.begun.opened(gate) {
             Some(next) => {
                 self.end = Gate {
                     records: self.end.records + 1,
-                    place: next,
+                    offset: next,
                 };
                 self.begun = Begun::Nothing;
                 Ok(true)
@@ -243,7 +243,7 @@ impl<D: Disk + Send> Keeper for DiskKeeper<D> {
             Err(fault) => return Err(fault),
         };
         self.last = gate;
-        read_record(&mut self.disk, gate.place, into)
+        read_record(&mut self.disk, gate.offset, into)
     }
 
     fn len(&self) -> u64 {

@@ -4,7 +4,7 @@ ghost use Rattle.std.specs.Prelude.{◌≡◌, ◌+◌, ◌-◌, ◌^◌, ◌<�
 ghost use Rattle.ofx_ports.specs.Faults.{CountsFaults, Rose};
 ghost use Rattle.ofx_ports.specs.Calls.{fails_next, one_more};
 ghost use Rattle.disk_keeper.specs.Disk.{image, overlaid, GoesOn, Breaks, Shows, HasSize, write_of};
-ghost use Rattle.disk_keeper.specs.Memory.{told_by, tried, starved, Syncs, Writes};
+ghost use Rattle.disk_keeper.specs.Memory.{reported_by, tried, starved, Syncs, Writes};
 ghost use Rattle.disk_keeper.specs.declared.change.Change.TheVariants.{Sync};
 
 use crate::change::{Bytes, Change};
@@ -16,7 +16,7 @@ use std::marker::Model;
 
 mod crash;
 
-/// A disk in memory, which tells all that was done to it. It can be told which of its calls fail, and which of the
+/// A disk in memory, which tells all that was done to it. It can be set which of its calls fail, and which of the
 /// writes that fail have put their bytes all the same.
 pub struct MemDisk {
     found: Vec<u8>,
@@ -87,7 +87,7 @@ impl MemDisk {
     }
 
     /// A disk with these bytes and room for so many, whose calls of the numbers in `failing` fail. Reads, writes and
-    /// syncs are counted together, from 1. A write that fails puts its bytes where its number stands in `landing`
+    /// syncs are counted together, from 1. A write that fails puts its bytes where its number is in `landing`
     /// too. A write past the room is a fault, and so is one for which there is no memory.
     pub fn failing(
         alloc: Global,
@@ -151,7 +151,7 @@ impl MemDisk {
         Failed
     }
 
-    // Puts bytes at a place.
+    // Puts bytes at an offset.
     fn put(&mut self, at: u64, bytes: &[u8]) -> Result<(), AllocError>
         requires within { at ≤ length (image self.old.found self.old.changes) }
         requires room { at + length bytes.now ≤ self.old.room }
@@ -188,7 +188,7 @@ fn is_lost(fails: bool, lands: bool) -> bool
     fails && !lands
 }
 
-// Bytes with others in their place from a place on.
+// Bytes with others in their place from an offset on.
 fn overlay(alloc: Global, old: &[u8], at: u64, bytes: &[u8]) -> Result<Vec<u8>, AllocError>
     ensures { IfOk result (λ new. new.items ≡ overlaid old.now at bytes.now) }
 {
@@ -202,7 +202,7 @@ fn overlay(alloc: Global, old: &[u8], at: u64, bytes: &[u8]) -> Result<Vec<u8>, 
 }
 
 impl Disk for MemDisk {
-    ghost history = { told_by };
+    ghost history = { reported_by };
 
     ghost extent = { λ d. length (image d.found d.changes) };
 
@@ -214,9 +214,9 @@ impl Disk for MemDisk {
 
     fn read_at(&mut self, at: u64, into: &mut [u8]) -> Result<(), Failed>
         requires { at + length into.old ≤ length (image self.old.found self.old.changes) }
-        ensures shown { OnOk result (Shows (told_by self.old) at into.new) }
-        ensures told { HasSize (told_by self.old) (length (image self.old.found self.old.changes)) }
-        ensures history { told_by self.new ≡ told_by self.old }
+        ensures shown { OnOk result (Shows (reported_by self.old) at into.new) }
+        ensures known { HasSize (reported_by self.old) (length (image self.old.found self.old.changes)) }
+        ensures history { reported_by self.new ≡ reported_by self.old }
         ensures extent { length (image self.new.found self.new.changes) ≡ length (image self.old.found self.old.changes) }
         ensures faults { CountsFaults self.old.calls.faults self.new.calls.faults (IsErr result) }
 
@@ -234,12 +234,12 @@ impl Disk for MemDisk {
     }
 
     fn write_at(&mut self, at: u64, bytes: &[u8]) -> Result<(), Failed>
-        requires place { at ≤ length (image self.old.found self.old.changes) }
+        requires offset { at ≤ length (image self.old.found self.old.changes) }
         requires some { 0 < length bytes.now }
-        ensures written { OnOk result (GoesOn (told_by self.old) (told_by self.new) (write_of at bytes.now ∷ [])) }
-        ensures broken { OnErr result (Breaks at (length bytes.now) (told_by self.old) (told_by self.new)) }
-        ensures quiet { told_by self.old ≡ None → told_by self.new ≡ None }
-        ensures told { HasSize (told_by self.old) (length (image self.old.found self.old.changes)) }
+        ensures written { OnOk result (GoesOn (reported_by self.old) (reported_by self.new) (write_of at bytes.now ∷ [])) }
+        ensures broken { OnErr result (Breaks at (length bytes.now) (reported_by self.old) (reported_by self.new)) }
+        ensures quiet { reported_by self.old ≡ None → reported_by self.new ≡ None }
+        ensures known { HasSize (reported_by self.old) (length (image self.old.found self.old.changes)) }
         ensures extent { OnOk result (length (image self.new.found self.new.changes)
             ≡ max (length (image self.old.found self.old.changes)) (at + length bytes.now)) }
         ensures no_shorter { length (image self.old.found self.old.changes) ≤ length (image self.new.found self.new.changes) }
@@ -271,9 +271,9 @@ impl Disk for MemDisk {
     }
 
     fn sync(&mut self) -> Result<(), Failed>
-        ensures synced { OnOk result (GoesOn (told_by self.old) (told_by self.new) (Sync ∷ [])) }
-        ensures refused { OnErr result (told_by self.new ≡ told_by self.old) }
-        ensures quiet { told_by self.old ≡ None → told_by self.new ≡ None }
+        ensures synced { OnOk result (GoesOn (reported_by self.old) (reported_by self.new) (Sync ∷ [])) }
+        ensures refused { OnErr result (reported_by self.new ≡ reported_by self.old) }
+        ensures quiet { reported_by self.old ≡ None → reported_by self.new ≡ None }
         ensures extent { length (image self.new.found self.new.changes) ≡ length (image self.old.found self.old.changes) }
         ensures faults { CountsFaults self.old.calls.faults self.new.calls.faults (IsErr result) }
 

@@ -11,10 +11,10 @@ ghost use Rattle.disk_keeper.specs.Bounds.{IsWithin, StepsWithin, FoundWithin};
 use crate::disk::Disk;
 use ofx_ports::{Failed, FetchFault};
 
-/// The mark at the front of a file of records.
+/// The mark at the start of a file of records.
 pub const MARK: [u8; 8] = *b"OFXKEEP1";
 
-/// The gate in front of a record.
+/// The gate before a record.
 pub const OPEN: u8 = 1;
 
 /// The gate after the last record.
@@ -23,22 +23,22 @@ pub const SHUT: u8 = 0;
 /// The bytes of a gate and a length.
 pub const HEAD: u64 = 9;
 
-/// A gate, by the number of records in front of it and its place.
+/// A gate, by the number of records before it and its offset.
 #[derive(Clone, Copy)]
 pub struct Gate {
     pub records: u64,
-    pub place: u64,
+    pub offset: u64,
 }
 
 /// The first gate, after the mark.
 pub const FIRST: Gate = Gate {
     records: 0,
-    place: 8,
+    offset: 8,
 };
 
-/// What stands at a gate.
+/// What is at a gate.
 #[derive(Clone, Copy)]
-pub enum Step {
+pub enum ScanStep {
     /// A record, and the next gate.
     Next(Gate),
     /// The end of the records.
@@ -61,7 +61,7 @@ pub enum Found {
 /// Reads all gates of a file, from the first one on.
 pub fn find_end<D: Disk>(disk: &mut D) -> Result<Found, Failed>
     ensures within { IfOk result (FoundWithin (D.extent disk.new)) }
-    ensures told { (h : History) → D.history disk.old ≡ Some h → IfOk result (IsFound (shown h)) }
+    ensures known { (h : History) → D.history disk.old ≡ Some h → IfOk result (IsFound (shown h)) }
     ensures history { D.history disk.new ≡ D.history disk.old }
     ensures extent { D.extent disk.new ≡ D.extent disk.old }
     ensures faults { CountsFaults (D.faults disk.old) (D.faults disk.new) (IsErr result) }
@@ -71,11 +71,11 @@ pub fn find_end<D: Disk>(disk: &mut D) -> Result<Found, Failed>
     }
     let size = disk.size();
     let mut gate = FIRST;
-    while gate.place < size {
+    while gate.offset < size {
         match pass(disk, gate)? {
-            Step::Next(next) => gate = next,
-            Step::Last => return Ok(Found::End(gate)),
-            Step::Cut => return Ok(Found::Past(gate.records + 1)),
+            ScanStep::Next(next) => gate = next,
+            ScanStep::Last => return Ok(Found::End(gate)),
+            ScanStep::Cut => return Ok(Found::Past(gate.records + 1)),
         }
     }
     Ok(Found::Past(gate.records + 1))
@@ -84,7 +84,7 @@ pub fn find_end<D: Disk>(disk: &mut D) -> Result<Found, Failed>
 /// Whether the first eight bytes are the mark.
 fn has_mark<D: Disk>(disk: &mut D) -> Result<bool, Failed>
     ensures long { IfOk result (λ marked. marked ≡ true → 8 ≤ D.extent disk.new) }
-    ensures told { (h : History) → D.history disk.old ≡ Some h → IfOk result (λ marked. marked ≡ is_marked (shown h)) }
+    ensures known { (h : History) → D.history disk.old ≡ Some h → IfOk result (λ marked. marked ≡ is_marked (shown h)) }
     ensures history { D.history disk.new ≡ D.history disk.old }
     ensures extent { D.extent disk.new ≡ D.extent disk.old }
     ensures faults { CountsFaults (D.faults disk.old) (D.faults disk.new) (IsErr result) }
@@ -97,57 +97,57 @@ fn has_mark<D: Disk>(disk: &mut D) -> Result<bool, Failed>
     Ok(bytes == MARK)
 }
 
-/// Reads what stands at a gate.
-fn pass<D: Disk>(disk: &mut D, gate: Gate) -> Result<Step, Failed>
-    requires within { gate.place < D.extent disk.old }
-    requires few { gate.records + 8 ≤ gate.place }
+/// Reads what is at a gate.
+fn pass<D: Disk>(disk: &mut D, gate: Gate) -> Result<ScanStep, Failed>
+    requires within { gate.offset < D.extent disk.old }
+    requires few { gate.records + 8 ≤ gate.offset }
     ensures within { IfOk result (StepsWithin gate (D.extent disk.new)) }
-    ensures told { (h : History) → D.history disk.old ≡ Some h → IfOk result (IsStep gate (shown h)) }
+    ensures known { (h : History) → D.history disk.old ≡ Some h → IfOk result (IsStep gate (shown h)) }
     ensures history { D.history disk.new ≡ D.history disk.old }
     ensures extent { D.extent disk.new ≡ D.extent disk.old }
     ensures faults { CountsFaults (D.faults disk.old) (D.faults disk.new) (IsErr result) }
 {
-    if read_gate(disk, gate.place)? != OPEN {
-        return Ok(Step::Last);
+    if read_gate(disk, gate.offset)? != OPEN {
+        return Ok(ScanStep::Last);
     }
-    match read_size(disk, gate.place)? {
-        Some(size) => Ok(Step::Next(Gate {
+    match read_size(disk, gate.offset)? {
+        Some(size) => Ok(ScanStep::Next(Gate {
             records: gate.records + 1,
-            place: gate.place + HEAD + size,
+            offset: gate.offset + HEAD + size,
         })),
-        None => Ok(Step::Cut),
+        None => Ok(ScanStep::Cut),
     }
 }
 
-/// Reads the gate at this place.
-pub fn read_gate<D: Disk>(disk: &mut D, place: u64) -> Result<u8, Failed>
-    requires { place < D.extent disk.old }
-    ensures told { (h : History) → D.history disk.old ≡ Some h → IfOk result (λ gate. gate ≡ slice_index (shown h) place) }
+/// Reads the gate at this offset.
+pub fn read_gate<D: Disk>(disk: &mut D, offset: u64) -> Result<u8, Failed>
+    requires { offset < D.extent disk.old }
+    ensures known { (h : History) → D.history disk.old ≡ Some h → IfOk result (λ gate. gate ≡ slice_index (shown h) offset) }
     ensures history { D.history disk.new ≡ D.history disk.old }
     ensures extent { D.extent disk.new ≡ D.extent disk.old }
     ensures faults { CountsFaults (D.faults disk.old) (D.faults disk.new) (IsErr result) }
 {
     let mut byte = [0];
-    disk.read_at(place, &mut byte)?;
+    disk.read_at(offset, &mut byte)?;
     Ok(byte[0])
 }
 
-/// Reads the length of the record behind the gate at this place. None where the record passes the end of the file.
-pub fn read_size<D: Disk>(disk: &mut D, place: u64) -> Result<Option<u64>, Failed>
-    requires { place ≤ D.extent disk.old }
-    ensures within { IfOk result (λ found. IfSome found (λ size. (place + 9 + size ≤ D.extent disk.new) × (D.extent disk.new < 2 ^ 63))) }
-    ensures told { (h : History) → D.history disk.old ≡ Some h → place < length (shown h)
-        → IfOk result (IsSize (drop (place + 1) (shown h))) }
+/// Reads the length of the record after the gate at this offset. None where the record passes the end of the file.
+pub fn read_size<D: Disk>(disk: &mut D, offset: u64) -> Result<Option<u64>, Failed>
+    requires { offset ≤ D.extent disk.old }
+    ensures within { IfOk result (λ found. IfSome found (λ size. (offset + 9 + size ≤ D.extent disk.new) × (D.extent disk.new < 2 ^ 63))) }
+    ensures known { (h : History) → D.history disk.old ≡ Some h → offset < length (shown h)
+        → IfOk result (IsSize (drop (offset + 1) (shown h))) }
     ensures history { D.history disk.new ≡ D.history disk.old }
     ensures extent { D.extent disk.new ≡ D.extent disk.old }
     ensures faults { CountsFaults (D.faults disk.old) (D.faults disk.new) (IsErr result) }
 {
-    let left = disk.size() - place;
+    let left = disk.size() - offset;
     if left < HEAD {
         return Ok(None);
     }
     let mut bytes = [0; 8];
-    disk.read_at(place + 1, &mut bytes)?;
+    disk.read_at(offset + 1, &mut bytes)?;
     let size = size_in(&bytes);
     if size > left - HEAD {
         return Ok(None);
@@ -155,13 +155,13 @@ pub fn read_size<D: Disk>(disk: &mut D, place: u64) -> Result<Option<u64>, Faile
     Ok(Some(size))
 }
 
-/// The gate in front of the record of this number, by the lengths of those behind a gate before it. Where one passes the
-/// end, which is so of no file that is told, no memory could hold it.
+/// The gate before the record of this number, by the lengths of those after a gate before it. Where one passes the
+/// end, which is so of no file that is reported, no memory could hold it.
 pub fn find_gate<D: Disk>(disk: &mut D, from: Gate, number: u64) -> Result<Gate, FetchFault>
-    requires within { from.place ≤ D.extent disk.old }
+    requires within { from.offset ≤ D.extent disk.old }
     requires before { from.records < number }
-    ensures within { IfOk result (λ gate. (gate.place ≤ D.extent disk.new) × (gate.records + 1 ≡ number)) }
-    ensures told { (h : History) (rs : List (List ℕ)) → D.history disk.old ≡ Some h → Holds rs (shown h) → Passed rs from
+    ensures within { IfOk result (λ gate. (gate.offset ≤ D.extent disk.new) × (gate.records + 1 ≡ number)) }
+    ensures known { (h : History) (rs : List (List ℕ)) → D.history disk.old ≡ Some h → Holds rs (shown h) → Passed rs from
         → number ≤ length rs → IfOk result (Passed rs) }
     ensures history { D.history disk.new ≡ D.history disk.old }
     ensures extent { D.extent disk.new ≡ D.extent disk.old }
@@ -169,48 +169,48 @@ pub fn find_gate<D: Disk>(disk: &mut D, from: Gate, number: u64) -> Result<Gate,
 {
     let mut gate = from;
     while gate.records + 1 < number {
-        let size = whole_size(disk, gate.place)?;
+        let size = whole_size(disk, gate.offset)?;
         gate = Gate {
             records: gate.records + 1,
-            place: gate.place + HEAD + size,
+            offset: gate.offset + HEAD + size,
         };
     }
     Ok(gate)
 }
 
-/// Reads the record behind the gate at this place into an empty buffer. A refusal leaves it empty.
-pub fn read_record<D: Disk>(disk: &mut D, place: u64, into: &mut Vec<u8>) -> Result<(), FetchFault>
-    requires within { place ≤ D.extent disk.old }
+/// Reads the record after the gate at this offset into an empty buffer. A refusal leaves it empty.
+pub fn read_record<D: Disk>(disk: &mut D, offset: u64, into: &mut Vec<u8>) -> Result<(), FetchFault>
+    requires within { offset ≤ D.extent disk.old }
     requires empty { into.old.items ≡ [] }
-    ensures found { (h : History) → D.history disk.old ≡ Some h → place < length (shown h)
-        → OnOk result (IsRecord (drop (place + 1) (shown h)) into.new.items) }
+    ensures found { (h : History) → D.history disk.old ≡ Some h → offset < length (shown h)
+        → OnOk result (IsRecord (drop (offset + 1) (shown h)) into.new.items) }
     ensures refused { OnErr result (into.new.items ≡ []) }
     ensures history { D.history disk.new ≡ D.history disk.old }
     ensures extent { D.extent disk.new ≡ D.extent disk.old }
     ensures faults { CountsFaults (D.faults disk.old) (D.faults disk.new) (IsErrOf result FetchFault.Failed) }
 {
-    let size = whole_size(disk, place)?;
+    let size = whole_size(disk, offset)?;
     let Ok(()) = into.resize(size as usize, 0) else {
         return Err(FetchFault::OutOfMemory);
     };
-    let Ok(()) = disk.read_at(place + HEAD, into) else {
+    let Ok(()) = disk.read_at(offset + HEAD, into) else {
         into.clear();
         return Err(FetchFault::Failed);
     };
     Ok(())
 }
 
-/// Reads the length of the record behind the gate at this place, which no memory could hold where it passes the end.
-fn whole_size<D: Disk>(disk: &mut D, place: u64) -> Result<u64, FetchFault>
-    requires { place ≤ D.extent disk.old }
-    ensures within { IfOk result (λ size. (place + 9 + size ≤ D.extent disk.new) × (D.extent disk.new < 2 ^ 63)) }
-    ensures told { (h : History) → D.history disk.old ≡ Some h → place < length (shown h)
-        → IfOk result (λ size. IsSize (drop (place + 1) (shown h)) (Some size)) }
+/// Reads the length of the record after the gate at this offset, which no memory could hold where it passes the end.
+fn whole_size<D: Disk>(disk: &mut D, offset: u64) -> Result<u64, FetchFault>
+    requires { offset ≤ D.extent disk.old }
+    ensures within { IfOk result (λ size. (offset + 9 + size ≤ D.extent disk.new) × (D.extent disk.new < 2 ^ 63)) }
+    ensures known { (h : History) → D.history disk.old ≡ Some h → offset < length (shown h)
+        → IfOk result (λ size. IsSize (drop (offset + 1) (shown h)) (Some size)) }
     ensures history { D.history disk.new ≡ D.history disk.old }
     ensures extent { D.extent disk.new ≡ D.extent disk.old }
     ensures faults { CountsFaults (D.faults disk.old) (D.faults disk.new) (IsErrOf result FetchFault.Failed) }
 {
-    let Ok(found) = read_size(disk, place) else {
+    let Ok(found) = read_size(disk, offset) else {
         return Err(FetchFault::Failed);
     };
     match found {

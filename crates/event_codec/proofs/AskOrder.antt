@@ -6,8 +6,8 @@ use Rattle.event_codec.proofs.SyncLaws.{IsAllowed}
 
 -- each ask is allowed after those before it
 abbrev pub AreInOrder : Bool → List Ask → Type 0
-AreInOrder is_behind_mail [] = Unit {0}
-AreInOrder is_behind_mail (ask ∷ asks) = IsAllowed is_behind_mail (is_mail_ask ask) × AreInOrder (is_behind_mail || is_mail_ask ask) asks
+AreInOrder is_after_mail [] = Unit {0}
+AreInOrder is_after_mail (ask ∷ asks) = IsAllowed is_after_mail (is_mail_ask ask) × AreInOrder (is_after_mail || is_mail_ask ask) asks
 
 abbrev is_bank_ask : Ask → Bool
 is_bank_ask ask = not (is_mail_ask ask)
@@ -36,8 +36,8 @@ bank_first (x ∷ xs) h = by_cases (is_mail_ask x) refl (λ before. bank_first x
   where
     by_cases : (b : Bool) → is_mail_ask x ≡ b → (AreInOrder false xs → HasBankFirst xs) → HasBankFirst (x ∷ xs)
     by_cases true is further =
-        let behind : AreInOrder true xs = subst (λ (b : Bool). AreInOrder b xs) is h.1 in
-        let rest = mail_alone xs behind in
+        let suffix : AreInOrder true xs = subst (λ (b : Bool). AreInOrder b xs) is h.1 in
+        let rest = mail_alone xs suffix in
         let bank : filter is_bank_ask (x ∷ xs) ≡ [] = filter_no is_bank_ask x xs (ap not is) ∙ rest.0 in
         let mail : filter is_mail_ask (x ∷ xs) ≡ x ∷ xs = filter_yes is_mail_ask x xs is ∙ ap (λ (l : List Ask). x ∷ l) rest.1 in
         sym mail ∙ ap (λ (l : List Ask). l ++ filter is_mail_ask (x ∷ xs)) (sym bank)
@@ -57,7 +57,7 @@ AreMail (x ∷ xs) = (is_mail_ask x ≡ true) × AreMail xs
 
 mail_in_order : (asks : List Ask) → AreMail asks → AreInOrder true asks
 mail_in_order [] h = tt
-mail_in_order (x ∷ xs) h = ((λ behind. h.0), mail_in_order xs h.1)
+mail_in_order (x ∷ xs) h = ((λ suffix. h.0), mail_in_order xs h.1)
 
 filtered_mail : (asks : List Ask) → AreMail (filter is_mail_ask asks)
 filtered_mail [] = tt
@@ -82,8 +82,8 @@ filtered_bank (x ∷ xs) = by_cases (is_mail_ask x) refl (filtered_bank xs)
 
 parts_in_order : (bank mail : List Ask) → AreBank bank → AreMail mail → AreInOrder false (bank ++ mail)
 parts_in_order [] [] h k = tt
-parts_in_order [] (x ∷ xs) h k = ((λ behind. absurd cc), subst (λ (b : Bool). AreInOrder b xs) (sym k.0) (mail_in_order xs k.1))
-parts_in_order (x ∷ xs) mail h k = ((λ behind. absurd cc), subst (λ (b : Bool). AreInOrder b (xs ++ mail)) (sym h.0) (parts_in_order xs mail h.1 k))
+parts_in_order [] (x ∷ xs) h k = ((λ suffix. absurd cc), subst (λ (b : Bool). AreInOrder b xs) (sym k.0) (mail_in_order xs k.1))
+parts_in_order (x ∷ xs) mail h k = ((λ suffix. absurd cc), subst (λ (b : Bool). AreInOrder b (xs ++ mail)) (sym h.0) (parts_in_order xs mail h.1 k))
 
 pub in_order : (asks : List Ask) → HasBankFirst asks → AreInOrder false asks
 in_order asks h = subst (AreInOrder false) (sym h) (parts_in_order (filter is_bank_ask asks) (filter is_mail_ask asks) (filtered_bank asks) (filtered_mail asks))

@@ -10,7 +10,7 @@ use Rattle.bank_model.specs.Sound.{IsSoundDeed}
 use Rattle.record_fields.specs.FieldCoding.{u64_bytes, flag_bytes, acct_bytes, recur_bytes, info_bytes, mail_bytes}
 use Rattle.event_codec.specs.Coding.{deed_bytes}
 use Rattle.event_codec.specs.AskReading.{transfer_at, modify_transfer_at, cancel_transfer_at, model_at, modify_model_at, cancel_model_at, bank_mail_at, mail_deed_at, deed_of, is_kind_of, is_wanted, deed_at}
-use Rattle.record_fields.specs.Fields.{IsBytes, StandsAt, IsField}
+use Rattle.record_fields.specs.Fields.{IsBytes, IsCodedAt, IsField}
 use Rattle.record_fields.proofs.Steps.{ok_is, pass_ok, fork, joined, apart, step}
 use Rattle.record_fields.proofs.NumberLaws.{u8_field, flag_field}
 use Rattle.record_fields.proofs.BoundedLaws.{id_field}
@@ -86,94 +86,94 @@ wanted_of (Some family) deed h = subst (λ (f : Family). is_kind_of f (deed_kind
 
 -- ---- a deed after its kind
 
-record DeedStands (kind : ℕ) (rec : List ℕ) (at : ℕ) (found : Deed × ℕ) : Type 0 where
-  stands : StandsAt rec at (deed_bytes found.0) found.1
+record DeedHolds (kind : ℕ) (rec : List ℕ) (at : ℕ) (found : Deed × ℕ) : Type 0 where
+  holds : IsCodedAt rec at (deed_bytes found.0) found.1
   good : IsSoundDeed found.0
   is_kind : deed_kind found.0 ≡ kind
 
-transfer_stands : (rec : List ℕ) (at next : ℕ) (found : Deed × ℕ) → IsBytes rec → StandsAt rec at (1 ∷ []) next → transfer_at rec next ≡ Ok found → DeedStands 1 rec at found
+transfer_holds : (rec : List ℕ) (at next : ℕ) (found : Deed × ℕ) → IsBytes rec → IsCodedAt rec at (1 ∷ []) next → transfer_at rec next ≡ Ok found → DeedHolds 1 rec at found
 unfolding transfer_at deed_bytes
-transfer_stands rec at next found bytes lead e =
+transfer_holds rec at next found bytes lead e =
     let info = step info_field rec next _ found bytes lead.within e in
     let made : Deed × ℕ = (deeds.Transfer info.value, info.next) in
-    subst (DeedStands 1 rec at) {x = made} (ok_is made found info.rest) (record { stands = joined lead info.stands; good = info.fits; is_kind = refl })
+    subst (DeedHolds 1 rec at) {x = made} (ok_is made found info.rest) (record { holds = joined lead info.holds; good = info.fits; is_kind = refl })
 
-modify_transfer_stands : (rec : List ℕ) (at next : ℕ) (found : Deed × ℕ) → IsBytes rec → StandsAt rec at (2 ∷ []) next → modify_transfer_at rec next ≡ Ok found → DeedStands 2 rec at found
+modify_transfer_holds : (rec : List ℕ) (at next : ℕ) (found : Deed × ℕ) → IsBytes rec → IsCodedAt rec at (2 ∷ []) next → modify_transfer_at rec next ≡ Ok found → DeedHolds 2 rec at found
 unfolding modify_transfer_at deed_bytes
-modify_transfer_stands rec at next found bytes lead e =
+modify_transfer_holds rec at next found bytes lead e =
     let id = step id_field rec next _ found bytes lead.within e in
-    let info = step info_field rec id.next _ found bytes id.stands.within id.rest in
+    let info = step info_field rec id.next _ found bytes id.holds.within id.rest in
     let made : Deed × ℕ = (deeds.ModifyTransfer id.value info.value, info.next) in
-    subst (DeedStands 2 rec at) {x = made} (ok_is made found info.rest) (record { stands = joined (joined lead id.stands) info.stands; good = (id.fits, info.fits); is_kind = refl })
+    subst (DeedHolds 2 rec at) {x = made} (ok_is made found info.rest) (record { holds = joined (joined lead id.holds) info.holds; good = (id.fits, info.fits); is_kind = refl })
 
-cancel_transfer_stands : (rec : List ℕ) (at next : ℕ) (found : Deed × ℕ) → IsBytes rec → StandsAt rec at (3 ∷ []) next → cancel_transfer_at rec next ≡ Ok found → DeedStands 3 rec at found
+cancel_transfer_holds : (rec : List ℕ) (at next : ℕ) (found : Deed × ℕ) → IsBytes rec → IsCodedAt rec at (3 ∷ []) next → cancel_transfer_at rec next ≡ Ok found → DeedHolds 3 rec at found
 unfolding cancel_transfer_at deed_bytes
-cancel_transfer_stands rec at next found bytes lead e =
+cancel_transfer_holds rec at next found bytes lead e =
     let id = step id_field rec next _ found bytes lead.within e in
     let made : Deed × ℕ = (deeds.CancelTransfer id.value, id.next) in
-    subst (DeedStands 3 rec at) {x = made} (ok_is made found id.rest) (record { stands = joined lead id.stands; good = id.fits; is_kind = refl })
+    subst (DeedHolds 3 rec at) {x = made} (ok_is made found id.rest) (record { holds = joined lead id.holds; good = id.fits; is_kind = refl })
 
-model_stands : (rec : List ℕ) (at next : ℕ) (found : Deed × ℕ) → IsBytes rec → StandsAt rec at (4 ∷ []) next → model_at rec next ≡ Ok found → DeedStands 4 rec at found
+model_holds : (rec : List ℕ) (at next : ℕ) (found : Deed × ℕ) → IsBytes rec → IsCodedAt rec at (4 ∷ []) next → model_at rec next ≡ Ok found → DeedHolds 4 rec at found
 unfolding model_at deed_bytes
-model_stands rec at next found bytes lead e =
+model_holds rec at next found bytes lead e =
     let recur = step recur_field rec next _ found bytes lead.within e in
-    let info = step info_field rec recur.next _ found bytes recur.stands.within recur.rest in
+    let info = step info_field rec recur.next _ found bytes recur.holds.within recur.rest in
     let made : Deed × ℕ = (deeds.Model recur.value info.value, info.next) in
-    subst (DeedStands 4 rec at) {x = made} (ok_is made found info.rest) (record { stands = joined (joined lead recur.stands) info.stands; good = (recur.fits, info.fits); is_kind = refl })
+    subst (DeedHolds 4 rec at) {x = made} (ok_is made found info.rest) (record { holds = joined (joined lead recur.holds) info.holds; good = (recur.fits, info.fits); is_kind = refl })
 
-modify_model_stands : (rec : List ℕ) (at next : ℕ) (found : Deed × ℕ) → IsBytes rec → StandsAt rec at (5 ∷ []) next → modify_model_at rec next ≡ Ok found → DeedStands 5 rec at found
+modify_model_holds : (rec : List ℕ) (at next : ℕ) (found : Deed × ℕ) → IsBytes rec → IsCodedAt rec at (5 ∷ []) next → modify_model_at rec next ≡ Ok found → DeedHolds 5 rec at found
 unfolding modify_model_at deed_bytes
-modify_model_stands rec at next found bytes lead e =
+modify_model_holds rec at next found bytes lead e =
     let id = step id_field rec next _ found bytes lead.within e in
-    let recur = step recur_field rec id.next _ found bytes id.stands.within id.rest in
-    let info = step info_field rec recur.next _ found bytes recur.stands.within recur.rest in
-    let pending = step flag_field rec info.next _ found bytes info.stands.within info.rest in
+    let recur = step recur_field rec id.next _ found bytes id.holds.within id.rest in
+    let info = step info_field rec recur.next _ found bytes recur.holds.within recur.rest in
+    let pending = step flag_field rec info.next _ found bytes info.holds.within info.rest in
     let made : Deed × ℕ = (deeds.ModifyModel id.value recur.value info.value pending.value, pending.next) in
-    subst (DeedStands 5 rec at) {x = made} (ok_is made found pending.rest) (record { stands = joined (joined (joined (joined lead id.stands) recur.stands) info.stands) pending.stands; good = (id.fits, recur.fits, info.fits); is_kind = refl })
+    subst (DeedHolds 5 rec at) {x = made} (ok_is made found pending.rest) (record { holds = joined (joined (joined (joined lead id.holds) recur.holds) info.holds) pending.holds; good = (id.fits, recur.fits, info.fits); is_kind = refl })
 
-cancel_model_stands : (rec : List ℕ) (at next : ℕ) (found : Deed × ℕ) → IsBytes rec → StandsAt rec at (6 ∷ []) next → cancel_model_at rec next ≡ Ok found → DeedStands 6 rec at found
+cancel_model_holds : (rec : List ℕ) (at next : ℕ) (found : Deed × ℕ) → IsBytes rec → IsCodedAt rec at (6 ∷ []) next → cancel_model_at rec next ≡ Ok found → DeedHolds 6 rec at found
 unfolding cancel_model_at deed_bytes
-cancel_model_stands rec at next found bytes lead e =
+cancel_model_holds rec at next found bytes lead e =
     let id = step id_field rec next _ found bytes lead.within e in
-    let pending = step flag_field rec id.next _ found bytes id.stands.within id.rest in
+    let pending = step flag_field rec id.next _ found bytes id.holds.within id.rest in
     let made : Deed × ℕ = (deeds.CancelModel id.value pending.value, pending.next) in
-    subst (DeedStands 6 rec at) {x = made} (ok_is made found pending.rest) (record { stands = joined (joined lead id.stands) pending.stands; good = id.fits; is_kind = refl })
+    subst (DeedHolds 6 rec at) {x = made} (ok_is made found pending.rest) (record { holds = joined (joined lead id.holds) pending.holds; good = id.fits; is_kind = refl })
 
-bank_mail_stands : (rec : List ℕ) (at next : ℕ) (found : Deed × ℕ) → IsBytes rec → StandsAt rec at (7 ∷ []) next → bank_mail_at rec next ≡ Ok found → DeedStands 7 rec at found
+bank_mail_holds : (rec : List ℕ) (at next : ℕ) (found : Deed × ℕ) → IsBytes rec → IsCodedAt rec at (7 ∷ []) next → bank_mail_at rec next ≡ Ok found → DeedHolds 7 rec at found
 unfolding bank_mail_at deed_bytes
-bank_mail_stands rec at next found bytes lead e =
+bank_mail_holds rec at next found bytes lead e =
     let account = step acct_field rec next _ found bytes lead.within e in
-    let mail = step mail_field rec account.next _ found bytes account.stands.within account.rest in
+    let mail = step mail_field rec account.next _ found bytes account.holds.within account.rest in
     let made : Deed × ℕ = (deeds.BankMail account.value mail.value, mail.next) in
-    subst (DeedStands 7 rec at) {x = made} (ok_is made found mail.rest) (record { stands = joined (joined lead account.stands) mail.stands; good = (account.fits, mail.fits); is_kind = refl })
+    subst (DeedHolds 7 rec at) {x = made} (ok_is made found mail.rest) (record { holds = joined (joined lead account.holds) mail.holds; good = (account.fits, mail.fits); is_kind = refl })
 
-mail_deed_stands : (rec : List ℕ) (at next : ℕ) (found : Deed × ℕ) → IsBytes rec → StandsAt rec at (8 ∷ []) next → mail_deed_at rec next ≡ Ok found → DeedStands 8 rec at found
+mail_deed_holds : (rec : List ℕ) (at next : ℕ) (found : Deed × ℕ) → IsBytes rec → IsCodedAt rec at (8 ∷ []) next → mail_deed_at rec next ≡ Ok found → DeedHolds 8 rec at found
 unfolding mail_deed_at deed_bytes
-mail_deed_stands rec at next found bytes lead e =
+mail_deed_holds rec at next found bytes lead e =
     let mail = step mail_field rec next _ found bytes lead.within e in
     let made : Deed × ℕ = (deeds.Mail mail.value, mail.next) in
-    subst (DeedStands 8 rec at) {x = made} (ok_is made found mail.rest) (record { stands = joined lead mail.stands; good = mail.fits; is_kind = refl })
+    subst (DeedHolds 8 rec at) {x = made} (ok_is made found mail.rest) (record { holds = joined lead mail.holds; good = mail.fits; is_kind = refl })
 
-pub renumbered : (kind k : ℕ) (rec : List ℕ) (at next : ℕ) → nat_eq kind k ≡ true → StandsAt rec at (kind ∷ []) next → StandsAt rec at (k ∷ []) next
-renumbered kind k rec at next h p = subst (λ (n : ℕ). StandsAt rec at (n ∷ []) next) (eqb-true _ _ h) p
+pub renumbered : (kind k : ℕ) (rec : List ℕ) (at next : ℕ) → nat_eq kind k ≡ true → IsCodedAt rec at (kind ∷ []) next → IsCodedAt rec at (k ∷ []) next
+renumbered kind k rec at next h p = subst (λ (n : ℕ). IsCodedAt rec at (n ∷ []) next) (eqb-true _ _ h) p
 
-numbered : (kind k : ℕ) (rec : List ℕ) (at : ℕ) (found : Deed × ℕ) → nat_eq kind k ≡ true → DeedStands k rec at found → DeedStands kind rec at found
-numbered kind k rec at found h d = record { stands = d.stands; good = d.good; is_kind = d.is_kind ∙ sym (eqb-true _ _ h) }
+numbered : (kind k : ℕ) (rec : List ℕ) (at : ℕ) (found : Deed × ℕ) → nat_eq kind k ≡ true → DeedHolds k rec at found → DeedHolds kind rec at found
+numbered kind k rec at found h d = record { holds = d.holds; good = d.good; is_kind = d.is_kind ∙ sym (eqb-true _ _ h) }
 
-deed_of_stands : (kind : ℕ) (rec : List ℕ) (at next : ℕ) (found : Deed × ℕ) → IsBytes rec → StandsAt rec at (kind ∷ []) next → deed_of kind rec at next ≡ Ok found → DeedStands kind rec at found
+deed_of_holds : (kind : ℕ) (rec : List ℕ) (at next : ℕ) (found : Deed × ℕ) → IsBytes rec → IsCodedAt rec at (kind ∷ []) next → deed_of kind rec at next ≡ Ok found → DeedHolds kind rec at found
 unfolding deed_of
-deed_of_stands kind rec at next found bytes p e =
-    fork (nat_eq kind 1) e (λ h e. numbered kind 1 rec at found h (transfer_stands rec at next found bytes (renumbered kind 1 rec at next h p) e)) (λ _ e.
-    fork (nat_eq kind 2) e (λ h e. numbered kind 2 rec at found h (modify_transfer_stands rec at next found bytes (renumbered kind 2 rec at next h p) e)) (λ _ e.
-    fork (nat_eq kind 3) e (λ h e. numbered kind 3 rec at found h (cancel_transfer_stands rec at next found bytes (renumbered kind 3 rec at next h p) e)) (λ _ e.
-    fork (nat_eq kind 4) e (λ h e. numbered kind 4 rec at found h (model_stands rec at next found bytes (renumbered kind 4 rec at next h p) e)) (λ _ e.
-    fork (nat_eq kind 5) e (λ h e. numbered kind 5 rec at found h (modify_model_stands rec at next found bytes (renumbered kind 5 rec at next h p) e)) (λ _ e.
-    fork (nat_eq kind 6) e (λ h e. numbered kind 6 rec at found h (cancel_model_stands rec at next found bytes (renumbered kind 6 rec at next h p) e)) (λ _ e.
-    fork (nat_eq kind 7) e (λ h e. numbered kind 7 rec at found h (bank_mail_stands rec at next found bytes (renumbered kind 7 rec at next h p) e)) (λ _ e.
+deed_of_holds kind rec at next found bytes p e =
+    fork (nat_eq kind 1) e (λ h e. numbered kind 1 rec at found h (transfer_holds rec at next found bytes (renumbered kind 1 rec at next h p) e)) (λ _ e.
+    fork (nat_eq kind 2) e (λ h e. numbered kind 2 rec at found h (modify_transfer_holds rec at next found bytes (renumbered kind 2 rec at next h p) e)) (λ _ e.
+    fork (nat_eq kind 3) e (λ h e. numbered kind 3 rec at found h (cancel_transfer_holds rec at next found bytes (renumbered kind 3 rec at next h p) e)) (λ _ e.
+    fork (nat_eq kind 4) e (λ h e. numbered kind 4 rec at found h (model_holds rec at next found bytes (renumbered kind 4 rec at next h p) e)) (λ _ e.
+    fork (nat_eq kind 5) e (λ h e. numbered kind 5 rec at found h (modify_model_holds rec at next found bytes (renumbered kind 5 rec at next h p) e)) (λ _ e.
+    fork (nat_eq kind 6) e (λ h e. numbered kind 6 rec at found h (cancel_model_holds rec at next found bytes (renumbered kind 6 rec at next h p) e)) (λ _ e.
+    fork (nat_eq kind 7) e (λ h e. numbered kind 7 rec at found h (bank_mail_holds rec at next found bytes (renumbered kind 7 rec at next h p) e)) (λ _ e.
     let g = pass_ok (nat_eq kind 8) at (mail_deed_at rec next) found e in
-    numbered kind 8 rec at found g.0 (mail_deed_stands rec at next found bytes (renumbered kind 8 rec at next g.0 p) g.1))))))))
+    numbered kind 8 rec at found g.0 (mail_deed_holds rec at next found bytes (renumbered kind 8 rec at next g.0 p) g.1))))))))
 
-deed_again : (wanted : Option Family) (rec : List ℕ) (at : ℕ) (deed : Deed) (next : ℕ) → at ≤ length rec → StandsAt rec at (deed_bytes deed) next → IsSoundDeed deed → is_wanted wanted (deed_kind deed) ≡ true → deed_at wanted rec at ≡ Ok (deed, next)
+deed_again : (wanted : Option Family) (rec : List ℕ) (at : ℕ) (deed : Deed) (next : ℕ) → at ≤ length rec → IsCodedAt rec at (deed_bytes deed) next → IsSoundDeed deed → is_wanted wanted (deed_kind deed) ≡ true → deed_at wanted rec at ≡ Ok (deed, next)
 unfolding deed_at deed_of deed_bytes transfer_at modify_transfer_at cancel_transfer_at model_at modify_model_at cancel_model_at bank_mail_at mail_deed_at
 deed_again wanted rec at (deeds.Transfer info) next le p fits h =
     let p0 = apart rec at (1 ∷ []) (info_bytes info) next le p in
@@ -249,11 +249,11 @@ deed_again wanted rec at (deeds.Mail mail) next le p fits h =
 pub deed_field : (wanted : Option Family) → IsField (deed_at wanted) deed_bytes (λ deed. IsSoundDeed deed × IsOf wanted deed)
 unfolding deed_at
 deed_field wanted = record {
-  stands = λ rec at found bytes le e.
+  holds = λ rec at found bytes le e.
       let s = step u8_field rec at _ found bytes le e in
       let g = pass_ok (is_wanted wanted s.value) at (deed_of s.value rec at s.next) found s.rest in
-      let d = deed_of_stands s.value rec at s.next found bytes s.stands g.1 in
+      let d = deed_of_holds s.value rec at s.next found bytes s.holds g.1 in
       let wanted_kind : is_wanted wanted (deed_kind found.0) ≡ true = ap (is_wanted wanted) d.is_kind ∙ g.0 in
-      (d.stands, (d.good, of_wanted wanted found.0 wanted_kind));
+      (d.holds, (d.good, of_wanted wanted found.0 wanted_kind));
   again = λ rec at deed next le p fits. deed_again wanted rec at deed next le p fits.0 (wanted_of wanted deed fits.1);
 }

@@ -13,7 +13,7 @@ use Rattle.record_fields.specs.declared.fault.RecordFault.TheVariants as faults
 use Rattle.event_codec.specs.Coding.{coded, event_bytes, file_bytes}
 use Rattle.event_codec.specs.Records.{Codes, Reopens}
 use Rattle.bank_model.specs.Events.{IsSameEvent, without_signon}
-use Rattle.event_codec.specs.Reading.{behind_version, placed, record_read, fault_of, IsRecordFault}
+use Rattle.event_codec.specs.Reading.{after_version, located, record_read, fault_of, IsRecordFault}
 use Rattle.record_fields.specs.Answers.{ReadsRecord}
 use Rattle.record_fields.specs.Fields.{IsBytes}
 use Rattle.event_codec.proofs.RecordLaws.{record_codes, record_again}
@@ -53,7 +53,7 @@ pub kept_coded : (at : Moment) (event : Event) → coded at (without_signon even
 unfolding coded event_bytes file_bytes
 kept_coded at (File user file) = refl
 kept_coded at (Post id) = refl
-kept_coded at (Spawn model place) = refl
+kept_coded at (Spawn model offset) = refl
 kept_coded at (Letter user subject body) = refl
 
 -- ---- faults
@@ -85,28 +85,28 @@ coded_or_faulty rec bytes = by_cases (record_read rec) refl
 abbrev HasVersion : List ℕ → ℕ → Type 0
 HasVersion rec n = (rest : List ℕ) × (rec ≡ n ∷ rest) × (n ≢ 1)
 
-not_placed : (r : Result (Event × Moment) ℕ) (n : ℕ) → fault_of (placed r) ≡ Some (faults.Version n) → ⊥
-not_placed (Ok x) n h = cc
-not_placed (Err place) n h = cc
+not_located : (r : Result (Event × Moment) ℕ) (n : ℕ) → fault_of (located r) ≡ Some (faults.Version n) → ⊥
+not_located (Ok x) n h = cc
+not_located (Err offset) n h = cc
 
-pub version_told : (rec : List ℕ) (n : ℕ) → IsRecordFault rec (faults.Version n) → HasVersion rec n
+pub version_reported : (rec : List ℕ) (n : ℕ) → IsRecordFault rec (faults.Version n) → HasVersion rec n
 unfolding record_read
-version_told [] n h = absurd cc
-version_told (version ∷ rest) n h = by_cases (nat_eq version 1) refl
+version_reported [] n h = absurd cc
+version_reported (version ∷ rest) n h = by_cases (nat_eq version 1) refl
   where
     by_cases : (b : Bool) → nat_eq version 1 ≡ b → HasVersion (version ∷ rest) n
-    by_cases true is = absurd (not_placed (behind_version (version ∷ rest)) n (subst (λ (b : Bool). fault_of (cond b (placed (behind_version (version ∷ rest))) (Err (faults.Version version))) ≡ Some (faults.Version n)) is h))
+    by_cases true is = absurd (not_located (after_version (version ∷ rest)) n (subst (λ (b : Bool). fault_of (cond b (located (after_version (version ∷ rest))) (Err (faults.Version version))) ≡ Some (faults.Version n)) is h))
     by_cases false is =
-        let told : some_fault (faults.Version version) ≡ some_fault (faults.Version n) = subst (λ (b : Bool). fault_of (cond b (placed (behind_version (version ∷ rest))) (Err (faults.Version version))) ≡ Some (faults.Version n)) is h in
+        let reported : some_fault (faults.Version version) ≡ some_fault (faults.Version n) = subst (λ (b : Bool). fault_of (cond b (located (after_version (version ∷ rest))) (Err (faults.Version version))) ≡ Some (faults.Version n)) is h in
         let same : version ≡ n = cc in
         (rest, ap (λ (v : ℕ). v ∷ rest) same, λ one. eqb-false version 1 is (same ∙ one))
 
-pub version_is_told : (rec : List ℕ) (n : ℕ) → HasVersion rec n → IsRecordFault rec (faults.Version n)
+pub version_is_reported : (rec : List ℕ) (n : ℕ) → HasVersion rec n → IsRecordFault rec (faults.Version n)
 unfolding record_read
-version_is_told rec n h =
+version_is_reported rec n h =
     let other : nat_eq n 1 ≡ false = ne_eqb n 1 h.2 in
-    let told : record_read (n ∷ h.0) ≡ Err (faults.Version n) = rw other refl in
-    ap (λ (l : List ℕ). fault_of (record_read l)) h.1 ∙ ap fault_of told
+    let reported : record_read (n ∷ h.0) ≡ Err (faults.Version n) = rw other refl in
+    ap (λ (l : List ℕ). fault_of (record_read l)) h.1 ∙ ap fault_of reported
 
 -- ---- reopening
 
@@ -115,7 +115,7 @@ kept_after : (setup : Setup) (S : State) (at : Moment) (event : Event) → state
 unfolding file_outcome new_outcome reply_file
 kept_after setup S at (File user file) = refl
 kept_after setup S at (Post id) = refl
-kept_after setup S at (Spawn model place) = refl
+kept_after setup S at (Spawn model offset) = refl
 kept_after setup S at (Letter user subject body) = refl
 
 same_after : (setup : Setup) (S : State) (at to : Moment) (event other : Event) → at ≡ to → IsSameEvent event other → state_after setup S at event ≡ state_after setup S to other

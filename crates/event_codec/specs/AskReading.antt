@@ -83,7 +83,7 @@ mail_deed_at rec at = do
   mail ← mail_at rec at
   Ok (deeds.Mail mail.0, mail.1)
 
--- a deed of the kind that was read at a place
+-- a deed of the kind that was read at an offset
 unfoldable pub deed_of : ℕ → List ℕ → ℕ → ℕ → Result (Deed × ℕ) ℕ
 deed_of kind rec at next =
     if kind == 1 then transfer_at rec next
@@ -130,7 +130,7 @@ bank_mail_object_at rec at = do
   account ← acct_at rec at
   Ok (objects.BankMail account.0, account.1)
 
--- an object of the kind that was read at a place
+-- an object of the kind that was read at an offset
 unfoldable pub object_of : ℕ → List ℕ → ℕ → ℕ → Result (ObjectName × ℕ) ℕ
 object_of kind rec at next =
     if kind == 0 then intra_at rec next
@@ -141,9 +141,9 @@ object_of kind rec at next =
 
 -- After a mail ask an object of an account has no form from its kind on.
 unfoldable pub object_at : Bool → List ℕ → ℕ → Result (ObjectName × ℕ) ℕ
-object_at is_behind_mail rec at = do
+object_at is_after_mail rec at = do
   kind ← u8_at rec at
-  if is_behind_mail && nat_lt kind.0 3 then Err at else object_of kind.0 rec at kind.1
+  if is_after_mail && nat_lt kind.0 3 then Err at else object_of kind.0 rec at kind.1
 
 unfoldable pub after_at : List ℕ → ℕ → Result (SyncKind × ℕ) ℕ
 after_at rec at = do
@@ -178,8 +178,8 @@ pairs_at family rec at = do
   pairs_from count.0 family rec count.1
 
 unfoldable pub sync_at : Bool → List ℕ → ℕ → Result (SyncAsk × ℕ) ℕ
-sync_at is_behind_mail rec at = do
-  object ← object_at is_behind_mail rec at
+sync_at is_after_mail rec at = do
+  object ← object_at is_after_mail rec at
   kind ← sync_kind_at rec object.1
   reject ← flag_at rec kind.1
   pairs ← pairs_at (object_family object.0) rec reject.1
@@ -195,40 +195,40 @@ statement_at rec at = do
   Ok (asks.Statement uid.0 account.0 period.0, period.1)
 
 -- After a mail ask only mail may stand.
-abbrev pub wanted_behind : Bool → Option Family
-wanted_behind false = None
-wanted_behind true = Some families.Mail
+abbrev pub wanted_after : Bool → Option Family
+wanted_after false = None
+wanted_after true = Some families.Mail
 
 unfoldable pub one_at : Bool → List ℕ → ℕ → Result (Ask × ℕ) ℕ
-one_at is_behind_mail rec at = do
+one_at is_after_mail rec at = do
   uid ← given_uid_at rec at
-  deed ← deed_at (wanted_behind is_behind_mail) rec uid.1
+  deed ← deed_at (wanted_after is_after_mail) rec uid.1
   Ok (asks.One uid.0 deed.0, deed.1)
 
 unfoldable pub sync_ask_at : Bool → List ℕ → ℕ → Result (Ask × ℕ) ℕ
-sync_ask_at is_behind_mail rec at = do
-  ask ← sync_at is_behind_mail rec at
+sync_ask_at is_after_mail rec at = do
+  ask ← sync_at is_after_mail rec at
   Ok (asks.Sync ask.0, ask.1)
 
--- an ask of the kind that was read at a place
+-- an ask of the kind that was read at an offset
 unfoldable pub ask_of : ℕ → Bool → List ℕ → ℕ → ℕ → Result (Ask × ℕ) ℕ
-ask_of kind is_behind_mail rec at next =
-    if kind == 1 then (if is_behind_mail then Err at else statement_at rec next)
-    else (if kind == 2 then one_at is_behind_mail rec next
-    else (if kind == 3 then sync_ask_at is_behind_mail rec next
+ask_of kind is_after_mail rec at next =
+    if kind == 1 then (if is_after_mail then Err at else statement_at rec next)
+    else (if kind == 2 then one_at is_after_mail rec next
+    else (if kind == 3 then sync_ask_at is_after_mail rec next
     else Err at))
 
 unfoldable pub ask_at : Bool → List ℕ → ℕ → Result (Ask × ℕ) ℕ
-ask_at is_behind_mail rec at = do
+ask_at is_after_mail rec at = do
   kind ← u8_at rec at
-  ask_of kind.0 is_behind_mail rec at kind.1
+  ask_of kind.0 is_after_mail rec at kind.1
 
 -- this many asks, those to the bank before mail
 unfoldable pub asks_from : ℕ → Bool → List ℕ → ℕ → Result (List Ask × ℕ) ℕ
-asks_from zero is_behind_mail rec at = Ok ([], at)
-asks_from (suc n) is_behind_mail rec at = do
-  first ← ask_at is_behind_mail rec at
-  others ← asks_from n (is_behind_mail || is_mail_ask first.0) rec first.1
+asks_from zero is_after_mail rec at = Ok ([], at)
+asks_from (suc n) is_after_mail rec at = do
+  first ← ask_at is_after_mail rec at
+  others ← asks_from n (is_after_mail || is_mail_ask first.0) rec first.1
   Ok (first.0 ∷ others.0, others.1)
 
 unfoldable pub asks_at : List ℕ → ℕ → Result (List Ask × ℕ) ℕ

@@ -82,13 +82,13 @@ file_bytes file = u16_bytes file.version ++ file_uid_bytes file.older ++ file_ui
 abbrev pub kind_of_event : Event → ℕ
 kind_of_event (File user file) = 1
 kind_of_event (Post id) = 2
-kind_of_event (Spawn model place) = 3
+kind_of_event (Spawn model offset) = 3
 kind_of_event (Letter user subject body) = 4
 
 unfoldable pub event_bytes : Event → List ℕ
 event_bytes (File user file) = u32_bytes user.0 ++ file_bytes file
 event_bytes (Post id) = u64_bytes id
-event_bytes (Spawn model place) = u64_bytes model ++ u32_bytes place
+event_bytes (Spawn model offset) = u64_bytes model ++ u32_bytes offset
 event_bytes (Letter user subject body) = u32_bytes user.0 ++ text_bytes subject ++ text_bytes body
 
 -- A record is the version of the coding, the kind of the event, its moment, and what it needs. Nothing follows.

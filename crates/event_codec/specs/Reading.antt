@@ -32,8 +32,8 @@ post_at rec at = do
 unfoldable pub spawn_at : List ℕ → ℕ → Result (Event × ℕ) ℕ
 spawn_at rec at = do
   model ← id_at rec at
-  place ← u32_at rec model.1
-  Ok (Spawn model.0 place.0, place.1)
+  offset ← u32_at rec model.1
+  Ok (Spawn model.0 offset.0, offset.1)
 
 unfoldable pub letter_at : List ℕ → ℕ → Result (Event × ℕ) ℕ
 letter_at rec at = do
@@ -56,23 +56,23 @@ kind_at rec at = do
   kind ← u8_at rec at
   if nat_le 1 kind.0 && nat_le kind.0 4 then Ok kind else Err at
 
--- What stands after the version, with nothing after it.
-unfoldable pub behind_version : List ℕ → Result (Event × Moment) ℕ
-behind_version rec = do
+-- What follows the version, with nothing after it.
+unfoldable pub after_version : List ℕ → Result (Event × Moment) ℕ
+after_version rec = do
   kind ← kind_at rec 1
   at ← moment_at rec kind.1
   event ← event_of kind.0 rec at.1
   if event.1 == length rec then Ok (event.0, at.0) else Err event.1
 
-abbrev pub placed : {A : Type 0} → Result A ℕ → Result A RecordFault
-placed (Ok x) = Ok x
-placed (Err place) = Err (faults.Bad place)
+abbrev pub located : {A : Type 0} → Result A ℕ → Result A RecordFault
+located (Ok x) = Ok x
+located (Err offset) = Err (faults.Bad offset)
 
 -- The version is looked at before all else.
 unfoldable pub record_read : List ℕ → Result (Event × Moment) RecordFault
 record_read [] = Err (faults.Bad 0)
 record_read (version ∷ rest) =
-    if version == 1 then placed (behind_version (version ∷ rest)) else Err (faults.Version version)
+    if version == 1 then located (after_version (version ∷ rest)) else Err (faults.Version version)
 
 -- the fault of a record, if it has one
 abbrev pub fault_of : {A : Type 0} → Result A RecordFault → Option RecordFault
@@ -85,8 +85,8 @@ record_fault rec = fault_of (record_read rec)
 abbrev pub IsRecordFault : List ℕ → RecordFault → Type 0
 IsRecordFault rec fault = record_fault rec ≡ Some fault
 
--- The place that is told of a fault: of a version it is the first byte. Want of memory has none; 0 stands for it.
-abbrev pub fault_place : RecordFault → ℕ
-fault_place (faults.Version n) = 0
-fault_place (faults.Bad at) = at
-fault_place faults.OutOfMemory = 0
+-- The offset that is reported of a fault: of a version it is the first byte. Want of memory has none; 0 stands for it.
+abbrev pub fault_offset : RecordFault → ℕ
+fault_offset (faults.Version n) = 0
+fault_offset (faults.Bad at) = at
+fault_offset faults.OutOfMemory = 0

@@ -15,18 +15,18 @@ use Rattle.event_codec.specs.Coding.{coded}
 abbrev pub IsWithinBounds : Event → Type 0
 IsWithinBounds (File user file) = IsSound file
 IsWithinBounds (Post id) = IsId id
-IsWithinBounds (Spawn model place) = IsId model
+IsWithinBounds (Spawn model offset) = IsId model
 IsWithinBounds (Letter user subject body) = IsTextWithin 64 subject × IsTextWithin 10000 body
 
 -- a number of four bytes
 abbrev pub IsShort : ℕ → Type 0
 IsShort n = n < 2 ^ 32
 
--- What the types of the program keep of an event: the numbers of users and of places in a series have four bytes.
+-- What the types of the program keep of an event: the numbers of users and of offsets in a series have four bytes.
 abbrev pub IsTyped : Event → Type 0
 IsTyped (File user file) = IsShort user.0
 IsTyped (Post id) = Unit {0}
-IsTyped (Spawn model place) = IsShort place
+IsTyped (Spawn model offset) = IsShort offset
 IsTyped (Letter user subject body) = IsShort user.0
 
 -- A record codes an event at a moment of the years 1900 to 9999, all of whose values are within their bounds. Events that

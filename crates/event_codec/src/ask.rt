@@ -11,7 +11,7 @@ ghost use Rattle.record_fields.specs.Answers.{ReadsField};
 ghost use Rattle.record_fields.specs.FieldCoding.{optional_bytes, moment_bytes};
 ghost use Rattle.event_codec.specs.Coding.{period_bytes, ask_bytes, asks_bytes};
 ghost use Rattle.record_fields.specs.FieldReading.{optional_at, moment_at};
-ghost use Rattle.event_codec.specs.AskReading.{period_at, statement_at, wanted_behind, one_at, sync_ask_at, ask_of, ask_at, asks_from, asks_at};
+ghost use Rattle.event_codec.specs.AskReading.{period_at, statement_at, wanted_after, one_at, sync_ask_at, ask_of, ask_at, asks_from, asks_at};
 
 use crate::deed::{get_deed, put_deed};
 use crate::sync::{get_sync, put_sync};
@@ -140,10 +140,10 @@ fn statement(alloc: Global, rec: &[u8], at: usize) -> Result<(Ask, usize), Recor
 }
 
 /// The family of the deeds that may stand after a mail ask, or none where any may.
-fn wanted_behind(is_behind_mail: bool) -> Option<Family>
-    ensures { result ≡ wanted_behind is_behind_mail }
+fn wanted_after(is_after_mail: bool) -> Option<Family>
+    ensures { result ≡ wanted_after is_after_mail }
 {
-    if is_behind_mail {
+    if is_after_mail {
         Some(Family::Mail)
     } else {
         None
@@ -153,31 +153,31 @@ fn wanted_behind(is_behind_mail: bool) -> Option<Family>
 #[tactic(auto, unfolding(crate::specs::AskReading::one_at))]
 fn one(
     alloc: Global,
-    is_behind_mail: bool,
+    is_after_mail: bool,
     rec: &[u8],
     at: usize,
 ) -> Result<(Ask, usize), RecordFault>
     requires { at ≤ length rec.now }
-    ensures gives { ReadsField result (one_at is_behind_mail rec.now at) }
+    ensures gives { ReadsField result (one_at is_after_mail rec.now at) }
     ensures within { IfOk result (λ found. found.1 ≤ length rec.now) }
 {
     let (uid, next) = get_given_uid(rec, at)?;
-    let (deed, next) = get_deed(alloc, wanted_behind(is_behind_mail), rec, next)?;
+    let (deed, next) = get_deed(alloc, wanted_after(is_after_mail), rec, next)?;
     Ok((Ask::One(uid, deed), next))
 }
 
 #[tactic(auto, unfolding(crate::specs::AskReading::sync_ask_at))]
 fn sync(
     alloc: Global,
-    is_behind_mail: bool,
+    is_after_mail: bool,
     rec: &[u8],
     at: usize,
 ) -> Result<(Ask, usize), RecordFault>
     requires { at ≤ length rec.now }
-    ensures gives { ReadsField result (sync_ask_at is_behind_mail rec.now at) }
+    ensures gives { ReadsField result (sync_ask_at is_after_mail rec.now at) }
     ensures within { IfOk result (λ found. found.1 ≤ length rec.now) }
 {
-    let (ask, next) = get_sync(alloc, is_behind_mail, rec, at)?;
+    let (ask, next) = get_sync(alloc, is_after_mail, rec, at)?;
     Ok((Ask::Sync(ask), next))
 }
 
@@ -185,20 +185,20 @@ fn sync(
 fn ask_of(
     alloc: Global,
     kind: u8,
-    is_behind_mail: bool,
+    is_after_mail: bool,
     rec: &[u8],
     at: usize,
     next: usize,
 ) -> Result<(Ask, usize), RecordFault>
     requires { next ≤ length rec.now }
-    ensures gives { ReadsField result (ask_of kind is_behind_mail rec.now at next) }
+    ensures gives { ReadsField result (ask_of kind is_after_mail rec.now at next) }
     ensures within { IfOk result (λ found. found.1 ≤ length rec.now) }
 {
     match kind {
-        1 if is_behind_mail => Err(RecordFault::Bad(at as u64)),
+        1 if is_after_mail => Err(RecordFault::Bad(at as u64)),
         1 => statement(alloc, rec, next),
-        2 => one(alloc, is_behind_mail, rec, next),
-        3 => sync(alloc, is_behind_mail, rec, next),
+        2 => one(alloc, is_after_mail, rec, next),
+        3 => sync(alloc, is_after_mail, rec, next),
         _ => Err(RecordFault::Bad(at as u64)),
     }
 }
@@ -207,16 +207,16 @@ fn ask_of(
 #[tactic(auto, unfolding(crate::specs::AskReading::ask_at))]
 fn get_ask(
     alloc: Global,
-    is_behind_mail: bool,
+    is_after_mail: bool,
     rec: &[u8],
     at: usize,
 ) -> Result<(Ask, usize), RecordFault>
     requires { at ≤ length rec.now }
-    ensures gives { ReadsField result (ask_at is_behind_mail rec.now at) }
+    ensures gives { ReadsField result (ask_at is_after_mail rec.now at) }
     ensures within { IfOk result (λ found. found.1 ≤ length rec.now) }
 {
     let (kind, next) = get_u8(rec, at)?;
-    ask_of(alloc, kind, is_behind_mail, rec, at, next)
+    ask_of(alloc, kind, is_after_mail, rec, at, next)
 }
 
 /// This many asks, those to the bank before mail.
@@ -226,13 +226,13 @@ fn asks_from(alloc: Global, count: u16, rec: &[u8], at: usize) -> Result<(Asks, 
     ensures within { IfOk result (λ found. found.1 ≤ length rec.now) }
 {
     let mut asks = Sequence::new(alloc);
-    let mut is_behind_mail = false;
+    let mut is_after_mail = false;
     let mut next = at;
     for _ in 0..count {
-        let (ask, behind) = get_ask(alloc, is_behind_mail, rec, next)?;
-        is_behind_mail = is_behind_mail | is_mail(&ask);
+        let (ask, suffix) = get_ask(alloc, is_after_mail, rec, next)?;
+        is_after_mail = is_after_mail | is_mail(&ask);
         asks.push(ask)?;
-        next = behind;
+        next = suffix;
     }
     Ok((asks, next))
 }
@@ -276,7 +276,7 @@ fn put_ask(ask: &Ask, out: &mut Vec<u8>) -> Result<(), OutOfMemory>
 }
 
 /// Appends at most 65,535 asks that are within their bounds.
-#[tactic(auto, using(ofx_types::proofs::Bytes::front_of_front))]
+#[tactic(auto, using(ofx_types::proofs::Bytes::prefix_of_prefix))]
 pub fn put_asks(value: &Asks, out: &mut Vec<u8>) -> Result<(), OutOfMemory>
     requires few { length value.now ≤ 65535 }
     requires sound { AllByRecursion IsSoundAsk value.now }

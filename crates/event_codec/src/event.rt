@@ -11,7 +11,7 @@ ghost use Rattle.record_fields.specs.Answers.{ReadsField, ReadsRecord};
 ghost use Rattle.record_fields.specs.FieldCoding.{u32_bytes, u64_bytes, text_bytes};
 ghost use Rattle.event_codec.specs.Coding.{kind_of_event, file_bytes, event_bytes};
 ghost use Rattle.bank_model.specs.Events.{without_signon};
-ghost use Rattle.event_codec.specs.Reading.{IsRecordFault, version_at, file_event_at, post_at, spawn_at, letter_at, event_of, kind_at, behind_version, record_read};
+ghost use Rattle.event_codec.specs.Reading.{IsRecordFault, version_at, file_event_at, post_at, spawn_at, letter_at, event_of, kind_at, after_version, record_read};
 ghost use Rattle.event_codec.specs.Records.{Codes, IsWithinBounds, IsShort, IsTyped};
 
 use crate::ask::{get_asks, put_asks};
@@ -59,7 +59,7 @@ fn put_event(event: &Event, out: &mut Vec<u8>) -> Result<(), OutOfMemory>
     match event {
         Event::File(user, file) => put_file_of(*user, file, out),
         Event::Post(id) => put_u64(id, out),
-        Event::Spawn(model, place) => put_spawn(*model, *place, out),
+        Event::Spawn(model, offset) => put_spawn(*model, *offset, out),
         Event::Letter(user, subject, body) => put_letter(*user, subject, body, out),
     }
 }
@@ -74,13 +74,13 @@ fn put_file_of(user: UserId, file: &RequestFile, out: &mut Vec<u8>) -> Result<()
     put_file(file, out)
 }
 
-fn put_spawn(model: u64, place: u32, out: &mut Vec<u8>) -> Result<(), OutOfMemory>
-    ensures bytes { OnOk result (out.new.items ≡ out.old.items ++ (u64_bytes model ++ u32_bytes place)) }
-    ensures typed { OnOk result (IsShort place) }
+fn put_spawn(model: u64, offset: u32, out: &mut Vec<u8>) -> Result<(), OutOfMemory>
+    ensures bytes { OnOk result (out.new.items ≡ out.old.items ++ (u64_bytes model ++ u32_bytes offset)) }
+    ensures typed { OnOk result (IsShort offset) }
     ensures kept { StartsWith out.new.items out.old.items }
 {
     put_u64(&model, out)?;
-    put_u32(&place, out)
+    put_u32(&offset, out)
 }
 
 fn put_letter(
@@ -128,7 +128,7 @@ pub fn read_event(alloc: Global, rec: &[u8]) -> Result<(Event, Moment), RecordFa
     ensures fault { IfErr result (λ fault. fault ≢ RecordFault.OutOfMemory → IsRecordFault rec.now fault) }
     // A record with a fault is refused.
     ensures faulty { (fault : RecordFault) → IsRecordFault rec.now fault
-        → IsErrAnd result (λ told. (told ≡ fault) ⊎ (told ≡ RecordFault.OutOfMemory)) }
+        → IsErrAnd result (λ reported. (reported ≡ fault) ⊎ (reported ≡ RecordFault.OutOfMemory)) }
 {
     read_record(alloc, rec)
 }
@@ -139,15 +139,15 @@ fn read_record(alloc: Global, rec: &[u8]) -> Result<(Event, Moment), RecordFault
 {
     match rec {
         [] => Err(RecordFault::Bad(0)),
-        [1, ..] => read_behind_version(alloc, rec),
+        [1, ..] => read_after_version(alloc, rec),
         [version, ..] => Err(RecordFault::Version(*version)),
     }
 }
 
-#[tactic(auto, unfolding(crate::specs::Reading::behind_version))]
-fn read_behind_version(alloc: Global, rec: &[u8]) -> Result<(Event, Moment), RecordFault>
+#[tactic(auto, unfolding(crate::specs::Reading::after_version))]
+fn read_after_version(alloc: Global, rec: &[u8]) -> Result<(Event, Moment), RecordFault>
     requires { 1 ≤ length rec.now }
-    ensures { ReadsField result (behind_version rec.now) }
+    ensures { ReadsField result (after_version rec.now) }
 {
     let (kind, next) = get_kind(rec, 1)?;
     let (at, next) = get_moment(rec, next)?;
@@ -199,7 +199,7 @@ fn get_version(rec: &[u8], at: usize) -> Result<(u16, usize), RecordFault>
     }
 }
 
-/// The text that stands for what isn't kept.
+/// The text that is there for what isn't kept.
 fn nothing(alloc: Global) -> Result<Text, OutOfMemory>
     ensures { IfOk result (λ text. text ≡ []) }
 {
@@ -248,8 +248,8 @@ fn spawn(rec: &[u8], at: usize) -> Result<(Event, usize), RecordFault>
     ensures within { IfOk result (λ found. found.1 ≤ length rec.now) }
 {
     let (model, next) = get_id(rec, at)?;
-    let (place, next) = get_u32(rec, next)?;
-    Ok((Event::Spawn(model, place), next))
+    let (offset, next) = get_u32(rec, next)?;
+    Ok((Event::Spawn(model, offset), next))
 }
 
 #[tactic(auto, unfolding(crate::specs::Reading::letter_at))]

@@ -28,23 +28,23 @@ pub fn get_object(alloc: Global, rec: &[u8], at: usize) -> Result<(ObjectName, u
     ensures gives { ReadsField result (object_at false rec.now at) }
     ensures within { IfOk result (λ found. found.1 ≤ length rec.now) }
 {
-    get_object_behind(alloc, false, rec, at)
+    get_object_after(alloc, false, rec, at)
 }
 
 /// The object at `at`, which may not be an account's after a mail ask.
 #[tactic(auto, unfolding(crate::specs::AskReading::object_at))]
-fn get_object_behind(
+fn get_object_after(
     alloc: Global,
-    is_behind_mail: bool,
+    is_after_mail: bool,
     rec: &[u8],
     at: usize,
 ) -> Result<(ObjectName, usize), RecordFault>
     requires { at ≤ length rec.now }
-    ensures gives { ReadsField result (object_at is_behind_mail rec.now at) }
+    ensures gives { ReadsField result (object_at is_after_mail rec.now at) }
     ensures within { IfOk result (λ found. found.1 ≤ length rec.now) }
 {
     let (kind, next) = get_u8(rec, at)?;
-    if is_behind_mail && kind < 3 {
+    if is_after_mail && kind < 3 {
         return Err(RecordFault::Bad(at as u64));
     }
     object_of(alloc, kind, rec, at, next)
@@ -198,9 +198,9 @@ fn pairs_from(
     let mut pairs = Sequence::new(alloc);
     let mut next = at;
     for _ in 0..count {
-        let (pair, behind) = get_pair(alloc, family, rec, next)?;
+        let (pair, suffix) = get_pair(alloc, family, rec, next)?;
         pairs.push(pair)?;
-        next = behind;
+        next = suffix;
     }
     Ok((pairs, next))
 }
@@ -229,7 +229,7 @@ fn put_pair(pair: &(TrnUid, Deed), family: Family, out: &mut Vec<u8>) -> Result<
     put_deed(&pair.1, out)
 }
 
-#[tactic(auto, using(ofx_types::proofs::Bytes::front_of_front))]
+#[tactic(auto, using(ofx_types::proofs::Bytes::prefix_of_prefix))]
 fn put_pairs(pairs: &[(TrnUid, Deed)], family: Family, out: &mut Vec<u8>) -> Result<(), OutOfMemory>
     requires few { length pairs.now ≤ 65535 }
     requires sound { AllByRecursion (IsSoundPair family) pairs.now }
@@ -247,15 +247,15 @@ fn put_pairs(pairs: &[(TrnUid, Deed)], family: Family, out: &mut Vec<u8>) -> Res
 #[tactic(auto, unfolding(crate::specs::AskReading::sync_at))]
 pub(crate) fn get_sync(
     alloc: Global,
-    is_behind_mail: bool,
+    is_after_mail: bool,
     rec: &[u8],
     at: usize,
 ) -> Result<(SyncAsk, usize), RecordFault>
     requires { at ≤ length rec.now }
-    ensures gives { ReadsField result (sync_at is_behind_mail rec.now at) }
+    ensures gives { ReadsField result (sync_at is_after_mail rec.now at) }
     ensures within { IfOk result (λ found. found.1 ≤ length rec.now) }
 {
-    let (object, next) = get_object_behind(alloc, is_behind_mail, rec, at)?;
+    let (object, next) = get_object_after(alloc, is_after_mail, rec, at)?;
     let (kind, next) = get_sync_kind(alloc, rec, next)?;
     let (reject, next) = get_flag(rec, next)?;
     let (deeds, next) = get_pairs(alloc, object.family(), rec, next)?;

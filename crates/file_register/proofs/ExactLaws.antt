@@ -7,7 +7,7 @@ use Rattle.ofx_types.specs.declared.reply.ReplyFile.{ReplyFile}
 use Rattle.file_register.specs.Order.{line_cmp, line_total, IsSameEntry, Clash}
 use Rattle.file_register.specs.Lines.{lines_of}
 use Rattle.file_register.specs.Registers.{register, HasNoClash, HaveSameMembers}
-use Rattle.file_register.specs.Importing.{IsFirstClash, Takes}
+use Rattle.file_register.specs.Importing.{IsFirstClash, Accepts}
 use Rattle.file_register.specs.Exact.{SignonsAreTold, ClashesAreTold, FullIsTold, OthersAreTaken, lines_of_all, AreImported, ImportsAddUp, NoneIsRefused}
 use Rattle.file_register.specs.declared.line.Line.{Line}
 use Rattle.file_register.specs.declared.import.Imported.{Imported}
@@ -66,7 +66,7 @@ abbrev clash_of : Line → Line → ImportFault
 clash_of kept other = faults.Clash kept other
 
 one_first : (old lines : List Line) (kept other kept' other' : Line) → IsFirstClash old lines kept other → IsFirstClash old lines kept' other' → clash_of kept other ≡ clash_of kept' other'
-one_first old lines kept other kept' other' p q = by (parted p.before other p.behind q.before other' q.behind (sym p.parts ∙ q.parts))
+one_first old lines kept other kept' other' p q = by (parted p.before other p.rest q.before other' q.rest (sym p.parts ∙ q.parts))
   where
     by : Parted p.before other q.before other' → clash_of kept other ≡ clash_of kept' other'
     by (together same one) =
@@ -80,18 +80,18 @@ one_first old lines kept other kept' other' p q = by (parted p.before other p.be
 -- a list with a first clash has a clash
 is_not_clean : (old lines : List Line) (kept other : Line) → IsFirstClash old lines kept other → HasNoClash (old ++ lines) → ⊥
 is_not_clean old lines kept other p clean =
-    let own : (z : Line) → Contains p.before z → Contains lines z = λ z h. subst (λ (l : List Line). Contains l z) (sym p.parts) (Contains-append_left p.before (other ∷ p.behind) z h) in
-    let it : Contains lines other = subst (λ (l : List Line). Contains l other) (sym p.parts) (Contains-append_right p.before (other ∷ p.behind) other (first_in other p.behind)) in
+    let own : (z : Line) → Contains p.before z → Contains lines z = λ z h. subst (λ (l : List Line). Contains l z) (sym p.parts) (Contains-append_left p.before (other ∷ p.rest) z h) in
+    let it : Contains lines other = subst (λ (l : List Line). Contains l other) (sym p.parts) (Contains-append_right p.before (other ∷ p.rest) other (first_in other p.rest)) in
     no_clash (old ++ lines) kept other clean (wider old p.before lines own kept p.is_there) (Contains-append_right old lines other it) p.clash
 
 -- ---- exact refusals
 
-abbrev told : ImportFault → Result Imported ImportFault
-told fault = Err fault
+abbrev reported : ImportFault → Result Imported ImportFault
+reported fault = Err fault
 
 pub signons_are_told : SignonsAreTold
 signons_are_told old reply (Ok counts) new is failed = absurd (failed is.0)
-signons_are_told old reply (Err (faults.Signon code)) new is failed = inl (ap (λ (n : ℕ). told (faults.Signon n)) is.0.1)
+signons_are_told old reply (Err (faults.Signon code)) new is failed = inl (ap (λ (n : ℕ). reported (faults.Signon n)) is.0.1)
 signons_are_told old reply (Err (faults.Clash kept other)) new is failed = absurd (failed is.0.0)
 signons_are_told old reply (Err faults.Full) new is failed = absurd (failed is.0.0)
 signons_are_told old reply (Err faults.OutOfMemory) new is failed = inr refl
@@ -99,11 +99,11 @@ signons_are_told old reply (Err faults.OutOfMemory) new is failed = inr refl
 pub clashes_are_told : ClashesAreTold
 clashes_are_told old reply (Ok counts) new kept other is passed first = absurd (is_not_clean old (lines_of reply) kept other first is.1.clean)
 clashes_are_told old reply (Err (faults.Signon code)) new kept other is passed first = absurd (is.0.0 passed)
-clashes_are_told old reply (Err (faults.Clash kept' other')) new kept other is passed first = inl (ap told (one_first old (lines_of reply) kept' other' kept other is.0.1 first))
+clashes_are_told old reply (Err (faults.Clash kept' other')) new kept other is passed first = inl (ap reported (one_first old (lines_of reply) kept' other' kept other is.0.1 first))
 clashes_are_told old reply (Err faults.Full) new kept other is passed first = absurd (is_not_clean old (lines_of reply) kept other first is.0.1.clean)
 clashes_are_told old reply (Err faults.OutOfMemory) new kept other is passed first = inr refl
 
-too_many : (old lines : List Line) (counts : Imported) (new : List Line) → Takes old lines counts new → length (register (old ++ lines)) ≤ 500000
+too_many : (old lines : List Line) (counts : Imported) (new : List Line) → Accepts old lines counts new → length (register (old ++ lines)) ≤ 500000
 too_many old lines counts new takes = subst (λ (l : List Line). length l ≤ 500000) takes.register_is takes.few
 
 pub full_is_told : FullIsTold
@@ -165,28 +165,28 @@ pub imports_add_up : ImportsAddUp
 imports_add_up files new h = (adds_up [] files new nothing_clashes (subst (λ (l : List Line). AreImported l files new) (sym none_registered) h)).0
 
 -- the lines of the first files are among all
-first_files : (before : List ReplyFile) (file : ReplyFile) (behind : List ReplyFile) (z : Line) → Contains (lines_of_all before) z ⊎ Contains (lines_of file) z
-    → Contains (lines_of_all (before ++ file ∷ behind)) z
-first_files [] file behind z (inl h) = absurd (none_in z h)
-first_files [] file behind z (inr h) =
-    subst (λ (l : List Line). Contains l z) (sym (flat_map-cons lines_of file behind)) (Contains-append_left (lines_of file) (lines_of_all behind) z h)
-first_files (one ∷ before) file behind z (inl h) =
-    subst (λ (l : List Line). Contains l z) (sym (flat_map-cons lines_of one (before ++ file ∷ behind)))
+first_files : (before : List ReplyFile) (file : ReplyFile) (rest : List ReplyFile) (z : Line) → Contains (lines_of_all before) z ⊎ Contains (lines_of file) z
+    → Contains (lines_of_all (before ++ file ∷ rest)) z
+first_files [] file rest z (inl h) = absurd (none_in z h)
+first_files [] file rest z (inr h) =
+    subst (λ (l : List Line). Contains l z) (sym (flat_map-cons lines_of file rest)) (Contains-append_left (lines_of file) (lines_of_all rest) z h)
+first_files (one ∷ before) file rest z (inl h) =
+    subst (λ (l : List Line). Contains l z) (sym (flat_map-cons lines_of one (before ++ file ∷ rest)))
     (elim (Contains-append_cases (lines_of one) (lines_of_all before) z (subst (λ (l : List Line). Contains l z) (flat_map-cons lines_of one before) h)) [
-      | inl own ↦ Contains-append_left (lines_of one) (lines_of_all (before ++ file ∷ behind)) z own
-      | inr others ↦ Contains-append_right (lines_of one) (lines_of_all (before ++ file ∷ behind)) z (first_files before file behind z (inl others))
+      | inl own ↦ Contains-append_left (lines_of one) (lines_of_all (before ++ file ∷ rest)) z own
+      | inr others ↦ Contains-append_right (lines_of one) (lines_of_all (before ++ file ∷ rest)) z (first_files before file rest z (inl others))
     ])
-first_files (one ∷ before) file behind z (inr h) =
-    subst (λ (l : List Line). Contains l z) (sym (flat_map-cons lines_of one (before ++ file ∷ behind)))
-    (Contains-append_right (lines_of one) (lines_of_all (before ++ file ∷ behind)) z (first_files before file behind z (inr h)))
+first_files (one ∷ before) file rest z (inr h) =
+    subst (λ (l : List Line). Contains l z) (sym (flat_map-cons lines_of one (before ++ file ∷ rest)))
+    (Contains-append_right (lines_of one) (lines_of_all (before ++ file ∷ rest)) z (first_files before file rest z (inr h)))
 
 pub none_is_refused : NoneIsRefused
-none_is_refused before file behind old result new clean few imported passed is =
-    let all = lines_of_all (before ++ file ∷ behind) in
+none_is_refused before file rest old result new clean few imported passed is =
+    let all = lines_of_all (before ++ file ∷ rest) in
     let old_is : old ≡ register (lines_of_all before) = imports_add_up before old imported in
     let among : (z : Line) → Contains (old ++ lines_of file) z → Contains all z = λ z h. elim (Contains-append_cases old (lines_of file) z h) [
-      | inl in_old ↦ first_files before file behind z (inl (register_from (lines_of_all before) z (subst (λ (l : List Line). Contains l z) old_is in_old)))
-      | inr own ↦ first_files before file behind z (inr own)
+      | inl in_old ↦ first_files before file rest z (inl (register_from (lines_of_all before) z (subst (λ (l : List Line). Contains l z) old_is in_old)))
+      | inr own ↦ first_files before file rest z (inr own)
     ] in
     let whole : HasNoClash (old ++ lines_of file) = still_clean all (old ++ lines_of file) clean among in
     let short : length (register (old ++ lines_of file)) ≤ length (register all) =

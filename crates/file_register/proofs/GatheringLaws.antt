@@ -13,7 +13,7 @@ use Rattle.std.proofs.lemmas.Map.Keys.{IsDistinct-from_sorted, IsDistinct-IsPerm
 use Rattle.file_register.specs.Order.{line_cmp, line_total, Clash}
 use Rattle.file_register.specs.Lines.{IsSoundLine}
 use Rattle.file_register.specs.Registers.{register, put_line, IsRising, IsRegister, HasNoClash}
-use Rattle.file_register.specs.Importing.{IsFirstClash, Takes, IsFull}
+use Rattle.file_register.specs.Importing.{IsFirstClash, Accepts, IsFull}
 use Rattle.file_register.specs.Gathering.{IsNewTo, Gathered, AddsOne, ClashesWith}
 use Rattle.file_register.specs.declared.line.Line.{Line}
 use Rattle.file_register.specs.declared.import.Imported.{Imported}
@@ -112,12 +112,12 @@ pub gathered_more : (old lines fresh : List Line) (line : Line) (after : List Li
 gathered_more old lines fresh line after so_far (inl there) = subst (Gathered old (lines ++ line ∷ [])) (sym there.1) (known old lines fresh line so_far there.0)
 gathered_more old lines fresh line after so_far (inr adds) = subst (Gathered old (lines ++ line ∷ [])) (sym adds.after_is) (added old lines fresh line so_far adds.is_new)
 
-pub first_clash : (old all lines fresh behind : List Line) (line kept other : Line) → all ≡ lines ++ line ∷ behind → Gathered old lines fresh
+pub first_clash : (old all lines fresh rest : List Line) (line kept other : Line) → all ≡ lines ++ line ∷ rest → Gathered old lines fresh
     → ClashesWith old fresh line kept other → IsFirstClash old all kept other
-first_clash old all lines fresh behind line kept other parts so_far clashes = record {
+first_clash old all lines fresh rest line kept other parts so_far clashes = record {
   before = lines;
-  behind = behind;
-  parts = parts ∙ ap (λ (l : Line). lines ++ l ∷ behind) (sym clashes.other_is);
+  rest = rest;
+  parts = parts ∙ ap (λ (l : Line). lines ++ l ∷ rest) (sym clashes.other_is);
   clean = so_far.clean;
   is_there = (so_far.same kept).1 clashes.is_there;
   clash = subst (Clash kept) (sym clashes.other_is) clashes.clash;
@@ -170,7 +170,7 @@ is_placed old lines fresh new is of_file gathered few moved sorted = record {
 
 pub is_taken : (old lines fresh new : List Line) (counts : Imported) → IsRising old → Gathered old lines fresh → length old + length fresh ≤ 500000
     → IsPermutation (old ++ fresh) new → IsSortedBy (λ x y. is_lt (line_cmp x y)) new → counts.new ≡ length fresh → counts.new + counts.known ≡ length lines
-    → Takes old lines counts new
+    → Accepts old lines counts new
 is_taken old lines fresh new counts rising gathered few moved sorted count sums = record {
   clean = gathered.clean;
   register_is = placed_register old lines fresh new rising gathered moved sorted;

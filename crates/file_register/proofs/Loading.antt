@@ -1,4 +1,4 @@
--- What is told of a text that is loaded.
+-- What is reported of a text that is loaded.
 use Rattle.std.proofs.Common.{◌≡◌, ◌≢◌, ℕ, List, [], ◌∷◌, Result, Ok, Err, refl, sym, ap, subst, ◌∙◌, ◌⊎◌, inl, inr}
 use Rattle.std.specs.Prelude.{IfOk, IsErrAnd}
 use Rattle.record_fields.specs.Fields.{IsBytes}
@@ -22,8 +22,8 @@ refused fault = Err fault
 abbrev read : List Line → Result (List Line) ℕ
 read lines = Ok lines
 
-abbrev placed : ℕ → Result (List Line) ℕ
-placed at = Err at
+abbrev located : ℕ → Result (List Line) ℕ
+located at = Err at
 
 -- what a call answers for a text
 pub record Loads (text : List ℕ) (r : Result (List Line) RegisterFault) : Type 0 where
@@ -44,7 +44,7 @@ found_text (b ∷ text) (Ok lines) bytes h = inr (read_was_saved (b ∷ text) li
 
 gives : (r : Result (List Line) RegisterFault) (lines : List Line) → GivesLines r (Ok lines) → (r ≡ Ok lines) ⊎ (r ≡ Err faults.OutOfMemory)
 gives (Ok others) lines h = let e : read lines ≡ read others = h in inl (let same : others ≡ lines = cc in ap given same)
-gives (Err (faults.Bad at)) lines h = let e : read lines ≡ placed at = h in absurd cc
+gives (Err (faults.Bad at)) lines h = let e : read lines ≡ located at = h in absurd cc
 gives (Err faults.OutOfMemory) lines h = inr refl
 
 pub text_found : (text : List ℕ) (r : Result (List Line) RegisterFault) (lines : List Line) → Loads text r → IsTextOf text lines → (r ≡ Ok lines) ⊎ (r ≡ Err faults.OutOfMemory)
@@ -58,9 +58,9 @@ refused_at [] r at h is = let e : refused (faults.Bad at) ≡ given [] = sym is 
 refused_at (b ∷ text) r at h is = (some_byte b text, subst (λ (q : Outcome). GivesLines q (register_read (b ∷ text))) is (h.some (some_byte b text)))
 
 pub fault_refused : (text : List ℕ) (r : Result (List Line) RegisterFault) (at : ℕ) → Loads text r → IsFirstFault text at
-    → IsErrAnd r (λ told. (told ≡ faults.Bad at) ⊎ (told ≡ faults.OutOfMemory))
-fault_refused text (Ok lines) at h fault = let e : read lines ≡ placed at = sym (h.some fault.0) ∙ fault.1 in absurd cc
-fault_refused text (Err (faults.Bad place)) at h fault = let e : placed place ≡ placed at = sym (h.some fault.0) ∙ fault.1 in let same : place ≡ at = cc in inl (ap faults.Bad same)
+    → IsErrAnd r (λ reported. (reported ≡ faults.Bad at) ⊎ (reported ≡ faults.OutOfMemory))
+fault_refused text (Ok lines) at h fault = let e : read lines ≡ located at = sym (h.some fault.0) ∙ fault.1 in absurd cc
+fault_refused text (Err (faults.Bad offset)) at h fault = let e : located offset ≡ located at = sym (h.some fault.0) ∙ fault.1 in let same : offset ≡ at = cc in inl (ap faults.Bad same)
 fault_refused text (Err faults.OutOfMemory) at h fault = inr refl
 
 -- ---- one register, or one fault
@@ -72,11 +72,11 @@ one_register_text text lines others (inr p) (inl q) = absurd (no_text lines (sym
 one_register_text text lines others (inr p) (inr q) = let e : read lines ≡ read others = sym (saved_is_read text lines p) ∙ saved_is_read text others q in cc
 
 pub one_fault : (text : List ℕ) (at other : ℕ) → IsFirstFault text at → IsFirstFault text other → at ≡ other
-one_fault text at other p q = let e : placed at ≡ placed other = sym p.1 ∙ q.1 in cc
+one_fault text at other p q = let e : located at ≡ located other = sym p.1 ∙ q.1 in cc
 
 pub faults_save_nothing : (text : List ℕ) (at : ℕ) (lines : List Line) → IsFirstFault text at → IsTextOf text lines → ⊥
 faults_save_nothing text at lines p (inl q) = p.0 q.0
-faults_save_nothing text at lines p (inr q) = let e : placed at ≡ read lines = sym p.1 ∙ saved_is_read text lines q in cc
+faults_save_nothing text at lines p (inr q) = let e : located at ≡ read lines = sym p.1 ∙ saved_is_read text lines q in cc
 
 abbrev IsSavedOrFaulty : List ℕ → Type 0
 IsSavedOrFaulty text = ((lines : List Line) × IsTextOf text lines) ⊎ ((at : ℕ) × IsFirstFault text at)

@@ -4,7 +4,7 @@ use Rattle.std.specs.List.{flat_map}
 use Rattle.ofx_types.specs.declared.reply.ReplyFile.{ReplyFile}
 use Rattle.file_register.specs.Lines.{lines_of}
 use Rattle.file_register.specs.Registers.{register, HasNoClash}
-use Rattle.file_register.specs.Importing.{IsFirstClash, IsFull, Takes, Imports}
+use Rattle.file_register.specs.Importing.{IsFirstClash, IsFull, Accepts, Imports}
 use Rattle.file_register.specs.declared.line.Line.{Line}
 use Rattle.file_register.specs.declared.import.Imported.{Imported}
 use Rattle.file_register.specs.declared.import.ImportFault.{ImportFault}
@@ -33,7 +33,7 @@ FullIsTold = (old : List Line) (reply : ReplyFile) (result : Result Imported Imp
 pub record IsTaken (old lines : List Line) (result : Result Imported ImportFault) (new : List Line) : Type 0 where
   pub counts : Imported
   pub result_is : result ≡ Ok counts
-  pub takes : Takes old lines counts new
+  pub takes : Accepts old lines counts new
 
 -- No other file is refused but for memory.
 abbrev pub OthersAreTaken : Type 0
@@ -59,6 +59,6 @@ ImportsAddUp = (files : List ReplyFile) (new : List Line) → AreImported [] fil
 -- After some files of a list in which no two lines clash and of which the register isn't too long, no other of them is refused but
 -- for its signon or for memory.
 abbrev pub NoneIsRefused : Type 0
-NoneIsRefused = (before : List ReplyFile) (file : ReplyFile) (behind : List ReplyFile) (old : List Line) (result : Result Imported ImportFault) (new : List Line)
-    → HasNoClash (lines_of_all (before ++ file ∷ behind)) → length (register (lines_of_all (before ++ file ∷ behind))) ≤ 500000
+NoneIsRefused = (before : List ReplyFile) (file : ReplyFile) (rest : List ReplyFile) (old : List Line) (result : Result Imported ImportFault) (new : List Line)
+    → HasNoClash (lines_of_all (before ++ file ∷ rest)) → length (register (lines_of_all (before ++ file ∷ rest))) ≤ 500000
     → AreImported [] before old → file.signon ≡ 0 → Imports old file result new → IsTaken old (lines_of file) result new ⊎ (result ≡ Err faults.OutOfMemory)

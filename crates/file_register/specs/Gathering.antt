@@ -12,7 +12,7 @@ use Rattle.file_register.specs.declared.import.ImportFault.TheVariants as faults
 abbrev pub IsNewTo : List Line → Line → Type 0
 IsNewTo lines line = (other : Line) → Contains lines other → line_cmp line other ≢ Equal
 
--- The line that stands there is of the same account and FITID.
+-- The line that is there is of the same account and FITID.
 pub record IsFoundAt (lines : List Line) (line : Line) (at : ℕ) : Type 0 where
   pub within : at < length lines
   pub tied : (d : Line) → line_cmp (slice_index_or lines at d) line ≡ Equal

@@ -13,15 +13,15 @@ use Rattle.file_register.specs.declared.import.ImportFault.TheVariants as faults
 -- that is the one with which it clashes.
 pub record IsFirstClash (old lines : List Line) (kept other : Line) : Type 0 where
   pub before : List Line
-  pub behind : List Line
-  pub parts : lines ≡ before ++ other ∷ behind
+  pub rest : List Line
+  pub parts : lines ≡ before ++ other ∷ rest
   pub clean : HasNoClash (old ++ before)
   pub is_there : Contains (old ++ before) kept
   pub clash : Clash kept other
 
 -- The register is then that of the old lines followed by the file's. The lines of the file that were not there are counted,
 -- and all others, a repeat inside the file among them.
-pub record Takes (old lines : List Line) (counts : Imported) (new : List Line) : Type 0 where
+pub record Accepts (old lines : List Line) (counts : Imported) (new : List Line) : Type 0 where
   pub clean : HasNoClash (old ++ lines)
   pub register_is : new ≡ register (old ++ lines)
   pub few : length new ≤ 500000
@@ -41,5 +41,5 @@ Refuses old reply faults.Full = (reply.signon ≡ 0) × IsFull old (lines_of rep
 Refuses old reply faults.OutOfMemory = Unit {0}
 
 abbrev pub Imports : List Line → ReplyFile → Result Imported ImportFault → List Line → Type 0
-Imports old reply (Ok counts) new = (reply.signon ≡ 0) × Takes old (lines_of reply) counts new
+Imports old reply (Ok counts) new = (reply.signon ≡ 0) × Accepts old (lines_of reply) counts new
 Imports old reply (Err fault) new = Refuses old reply fault × (new ≡ old)

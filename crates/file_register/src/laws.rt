@@ -9,7 +9,7 @@ ghost use Rattle.file_register.specs.Reading.{register_read};
 ghost use Rattle.file_register.specs.SavedText.{IsTextOf, IsFirstFault};
 ghost use Rattle.file_register.specs.declared.line.Line.{Line};
 
-/// The register of a list without a clash has the members of the list, and its lines rise, so that none stands twice.
+/// The register of a list without a clash has the members of the list, and its lines rise, so that none occurs twice.
 pub fn registers_rise()
     ensures rising { (lines : List Line) → IsRising (register lines) }
     ensures same { (lines : List Line) → HasNoClash lines → HaveSameMembers (register lines) lines }

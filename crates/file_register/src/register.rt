@@ -115,7 +115,7 @@ impl Register {
         // A refusal is at the first fault, or memory was refused.
         ensures fault { (at : ℕ) → result ≡ Err (RegisterFault.Bad at) → IsFirstFault bytes.now at }
         // A text with a fault is refused.
-        ensures faulty { (at : ℕ) → IsFirstFault bytes.now at → IsErrAnd result (λ told. (told ≡ RegisterFault.Bad at) ⊎ (told ≡ RegisterFault.OutOfMemory)) }
+        ensures faulty { (at : ℕ) → IsFirstFault bytes.now at → IsErrAnd result (λ reported. (reported ≡ RegisterFault.Bad at) ⊎ (reported ≡ RegisterFault.OutOfMemory)) }
     {
         load(alloc, bytes)
     }

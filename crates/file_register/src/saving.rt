@@ -182,9 +182,9 @@ fn lines_from(
     let mut lines = Sequence::new(alloc);
     let mut next = at;
     for _ in 0..count {
-        let (line, behind) = get_line(alloc, lines.items().last(), text, next)?;
+        let (line, rest) = get_line(alloc, lines.items().last(), text, next)?;
         lines.push(line)?;
-        next = behind;
+        next = rest;
     }
     Ok((lines, next))
 }

@@ -1,4 +1,4 @@
-//! Headers, written and read, and the places of faults.
+//! Headers, written and read, and the offsets of faults.
 
 use ofx_header::{Header, HeaderFault, read_header, write_header};
 use ofx_types::FileUid;
@@ -21,7 +21,7 @@ fn uid_of(uid: &Option<FileUid>) -> &[u8] {
     }
 }
 
-fn behind_six(rt: &impl Abort, alloc: Global, lines: &[u8]) -> Vec<u8> {
+fn after_six(rt: &impl Abort, alloc: Global, lines: &[u8]) -> Vec<u8> {
     let mut bytes = Vec::from_slice(alloc, SIX_LINES).expect(rt, "room");
     bytes.extend_from_slice(lines).expect(rt, "room");
     bytes
@@ -44,7 +44,7 @@ fn a_header_is_written(rt: HostRuntime) {
         \r\n";
     assert_eq!(rt;
         written.as_slice(),
-        behind_six(&rt, rt.alloc(), tail).as_slice()
+        after_six(&rt, rt.alloc(), tail).as_slice()
     );
 }
 
@@ -106,7 +106,7 @@ fn the_first_fault_is_answered(rt: HostRuntime) {
         assert!(rt; read_header(bytes).err() == Some(*fault));
     }
     for (lines, fault) in LATER_FAULTS.iter() {
-        let bytes = behind_six(&rt, rt.alloc(), lines);
+        let bytes = after_six(&rt, rt.alloc(), lines);
         assert!(rt; read_header(bytes.as_slice()).err() == Some(*fault));
     }
 }

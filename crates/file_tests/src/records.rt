@@ -54,7 +54,7 @@ const FAULTS: &[(&[u8], RecordFault)] = &[
 ];
 
 #[test]
-fn faults_have_their_places(rt: HostRuntime) {
+fn faults_have_their_offsets(rt: HostRuntime) {
     for (rec, fault) in FAULTS.iter() {
         assert!(rt; read_event(rt.alloc(), rec).err() == Some(*fault));
     }

@@ -1,4 +1,4 @@
-//! Tapes: a body's nodes, the fault of each kind at its place, and values.
+//! Tapes: a body's nodes, the fault of each kind at its offset, and values.
 
 use ofx_tape::{Node, SHORT_VALUE, Tape, TapeFault, short_value, value_eq, value_into};
 use ofx_types::TextFault;
@@ -64,7 +64,7 @@ const FAULTS: &[(&[u8], TapeFault)] = &[
 ];
 
 #[test]
-fn each_fault_has_its_place(rt: HostRuntime) {
+fn each_fault_has_its_offset(rt: HostRuntime) {
     for (body, fault) in FAULTS.iter() {
         assert!(rt; Tape::read(rt.alloc(), body).err() == Some(*fault));
     }

@@ -1,4 +1,4 @@
-//! Trees: bodies that are written, their children by name, and the places of faults.
+//! Trees: bodies that are written, their children by name, and the offsets of faults.
 
 ghost use Rattle.ofx_tree.specs.Root.{AreRead};
 
@@ -22,7 +22,7 @@ const BODY: &[u8; 153] = b"\
     <TOKEN>2\r\n\
     </OFX>\r\n";
 
-/// Values of each kind, one of them with an entity in it, one that is no date, and one that stands twice.
+/// Values of each kind, one of them with an entity in it, one that is no date, and one that occurs twice.
 const VALUES: &[u8; 127] = b"\
     <OFX>\r\n\
     <TRNAMT>-12,5\r\n\
@@ -75,11 +75,11 @@ fn reads_children(rt: HostRuntime) {
     assert_eq!(rt; ofx.name(), b"OFX".as_slice());
     let mut last = 0;
     for child in ofx.children() {
-        last = child.place();
+        last = child.offset();
     }
     assert_eq!(rt; last, 135);
     let status = ofx.one(b"STATUS").expect(&rt, "the status");
-    assert_eq!(rt; status.place(), 7);
+    assert_eq!(rt; status.offset(), 7);
     let code = status.one(b"CODE").expect(&rt, "the code");
     assert!(rt; code.value_eq(b"2000"));
     assert!(rt; ofx.maybe(b"CODE").expect(&rt, "no code").is_none());
@@ -151,7 +151,7 @@ fn finds_one_of_three(rt: HostRuntime) {
     let only = ofx
         .one_of(b"INTRARQ", b"INTRACANRS", b"INTRAMODRS")
         .expect(&rt, "one of three");
-    assert_eq!(rt; only.place(), 31);
+    assert_eq!(rt; only.offset(), 31);
     assert_eq!(rt;
         ofx.one_of(b"INTRACANRS", b"INTRAMODRS", b"INTRARS").err(),
         Some(TreeFault::Repeated(31))

@@ -159,7 +159,7 @@ fn numbers_are_digits_up_to_a_limit(rt: HostRuntime) {
     }
 }
 
-/// Each is printed after what stands, the widest ones too.
+/// Each is printed after what is there, the widest ones too.
 #[test]
 fn numbers_and_amounts_are_printed(rt: HostRuntime) {
     let mut out = Vec::new(rt.alloc());

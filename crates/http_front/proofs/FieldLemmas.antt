@@ -25,9 +25,9 @@ pub values_cons : (name : List ℕ) (field : List ℕ × List ℕ) (fields : Lis
     values_of name (field ∷ fields) ≡ cond (is_named name field) (field.1 ∷ []) [] ++ values_of name fields
 values_cons name field fields = of_one (is_named name field) field.1 field (filter (is_named name) fields)
 
-joined : (front : List (List ℕ)) (a b c : List (List ℕ)) → a ≡ b ++ c → front ++ a ≡ (front ++ b) ++ c
+joined : (prefix : List (List ℕ)) (a b c : List (List ℕ)) → a ≡ b ++ c → prefix ++ a ≡ (prefix ++ b) ++ c
 joined [] a b c e = e
-joined (x ∷ front) a b c e = ap (λ (l : List (List ℕ)). x ∷ l) (joined front a b c e)
+joined (x ∷ prefix) a b c e = ap (λ (l : List (List ℕ)). x ∷ l) (joined prefix a b c e)
 
 pub values_append : {S : Type 0} (name : List ℕ) (f : S → List ℕ × List ℕ) (xs ys : List S) →
     values_of name (map f (xs ++ ys)) ≡ values_of name (map f xs) ++ values_of name (map f ys)
@@ -53,10 +53,10 @@ values_more name f xs i d h =
 pub values_twice : {S : Type 0} (name : List ℕ) (f : S → List ℕ × List ℕ) (xs : List S) (i : ℕ) (d : S) (value : List ℕ) → i < length xs →
     values_of name (map f (take i xs)) ≡ value ∷ [] → is_named name (f (get_or xs i d)) ≡ true → only (values_of name (map f xs)) ≡ None
 values_twice name f xs i d value h one named =
-    let front : values_of name (map f (take (i + 1) xs)) ≡ value ∷ (f (get_or xs i d)).1 ∷ [] =
+    let prefix : values_of name (map f (take (i + 1) xs)) ≡ value ∷ (f (get_or xs i d)).1 ∷ [] =
     values_more name f xs i d h ∙ rw (one, named) refl in
     let whole : values_of name (map f xs) ≡ value ∷ (f (get_or xs i d)).1 ∷ values_of name (map f (drop (i + 1) xs)) =
-    ap (λ (l : List _). values_of name (map f l)) (sym (take-append-drop (i + 1) xs)) ∙ values_append name f (take (i + 1) xs) (drop (i + 1) xs) ∙ rw front refl in
+    ap (λ (l : List _). values_of name (map f l)) (sym (take-append-drop (i + 1) xs)) ∙ values_append name f (take (i + 1) xs) (drop (i + 1) xs) ∙ rw prefix refl in
     rw whole refl
 
 -- ---- digits

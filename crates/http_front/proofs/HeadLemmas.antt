@@ -13,23 +13,23 @@ use Rattle.http_front.specs.Heads.{BeginsRequest, BeginsResponse, AwaitsRequest,
 
 -- ---- answers by their cases exclude each other
 
-pub judged_found : {H A : Type 0} (begins : H → Type 0) (told : H → A) (awaits : Type 0) (r : Result A HeadFault) → Judges begins told awaits r →
-    ((g h : H) → begins g → begins h → g ≡ h) → ((h : H) → begins h → ¬ awaits) → (h : H) → begins h → r ≡ Ok (told h)
-judged_found begins told awaits (Ok head) (g, at, is) one none h here = ap Ok (is ∙ ap told (one g h at here))
-judged_found begins told awaits (Err NotYet) judged one none h here = absurd (none h here judged)
-judged_found begins told awaits (Err Bad) judged one none h here = absurd (judged.0 h here)
+pub judged_found : {H A : Type 0} (begins : H → Type 0) (head_of : H → A) (awaits : Type 0) (r : Result A HeadFault) → Judges begins head_of awaits r →
+    ((g h : H) → begins g → begins h → g ≡ h) → ((h : H) → begins h → ¬ awaits) → (h : H) → begins h → r ≡ Ok (head_of h)
+judged_found begins head_of awaits (Ok head) (g, at, is) one none h here = ap Ok (is ∙ ap head_of (one g h at here))
+judged_found begins head_of awaits (Err NotYet) judged one none h here = absurd (none h here judged)
+judged_found begins head_of awaits (Err Bad) judged one none h here = absurd (judged.0 h here)
 
-pub judged_bad : {H A : Type 0} (begins : H → Type 0) (told : H → A) (awaits : Type 0) (r : Result A HeadFault) → Judges begins told awaits r →
+pub judged_bad : {H A : Type 0} (begins : H → Type 0) (head_of : H → A) (awaits : Type 0) (r : Result A HeadFault) → Judges begins head_of awaits r →
     (r ≡ Err Bad) ↔ (((h : H) → ¬ (begins h)) × ¬ awaits)
-judged_bad begins told awaits (Ok head) (g, at, is) = (λ e. absurd cc, λ none. absurd (none.0 g at))
-judged_bad begins told awaits (Err NotYet) judged = (λ e. absurd cc, λ none. absurd (none.1 judged))
-judged_bad begins told awaits (Err Bad) judged = (λ e. judged, λ none. refl)
+judged_bad begins head_of awaits (Ok head) (g, at, is) = (λ e. absurd cc, λ none. absurd (none.0 g at))
+judged_bad begins head_of awaits (Err NotYet) judged = (λ e. absurd cc, λ none. absurd (none.1 judged))
+judged_bad begins head_of awaits (Err Bad) judged = (λ e. judged, λ none. refl)
 
--- a head at the front, its size and the bytes
-pub judged_within : {H A : Type 0} (begins : H → Type 0) (told : H → A) (awaits : Type 0) (size : A → ℕ) (most : ℕ) (r : Result A HeadFault) → Judges begins told awaits r →
-    ((h : H) → begins h → (0 < size (told h)) × (size (told h) ≤ most) × (size (told h) ≤ 8192)) → IfOk r (λ head. (0 < size head) × (size head ≤ most) × (size head ≤ 8192))
-judged_within begins told awaits size most (Ok head) (g, at, is) sized = rw is (sized g at)
-judged_within begins told awaits size most (Err e) judged sized = tt
+-- a head at the start, its size and the bytes
+pub judged_within : {H A : Type 0} (begins : H → Type 0) (head_of : H → A) (awaits : Type 0) (size : A → ℕ) (most : ℕ) (r : Result A HeadFault) → Judges begins head_of awaits r →
+    ((h : H) → begins h → (0 < size (head_of h)) × (size (head_of h) ≤ most) × (size (head_of h) ≤ 8192)) → IfOk r (λ head. (0 < size head) × (size head ≤ most) × (size head ≤ 8192))
+judged_within begins head_of awaits size most (Ok head) (g, at, is) sized = rw is (sized g at)
+judged_within begins head_of awaits size most (Err e) judged sized = tt
 
 -- ---- each field takes three bytes
 
@@ -54,8 +54,8 @@ request_long h is = simp length-append (omega (arith, fields_long h.fields is.fi
 
 -- 2,731 fields don't stand in fewer than 8,192 bytes
 crowded : (buf : List ℕ) (room : ℕ) → length buf < 8192 → 2730 ≤ room → ¬ (RequestExceeds room buf)
-crowded buf room short wide (front, rest, split, h, reads, many) =
-    omega (arith, request_long h reads.0, ap length split, ap length reads.1, length-append front rest, length-append front (print_end lf), length-append (print_request h) [])
+crowded buf room short wide (prefix, rest, split, h, reads, many) =
+    omega (arith, request_long h reads.0, ap length split, ap length reads.1, length-append prefix rest, length-append prefix (print_end lf), length-append (print_request h) [])
 
 which : (e : Error) → (e ≡ TooManyHeaders) ⊎ (e ≢ TooManyHeaders)
 which HeaderName = inr (λ e. cc)
@@ -93,8 +93,8 @@ unfolding print_response
 response_long h is = simp length-append (omega (arith, fields_long h.fields is.fields))
 
 crowded_response : (buf : List ℕ) (room : ℕ) → length buf < 8192 → 2730 ≤ room → ¬ (ResponseExceeds room buf)
-crowded_response buf room short wide (front, rest, split, h, reads, many) =
-    omega (arith, response_long h reads.0, ap length split, ap length reads.1, length-append front rest, length-append front (print_end lf), length-append (print_response h) [])
+crowded_response buf room short wide (prefix, rest, split, h, reads, many) =
+    omega (arith, response_long h reads.0, ap length split, ap length reads.1, length-append prefix rest, length-append prefix (print_end lf), length-append (print_response h) [])
 
 pub refused_response : {A : Type 0} (r : Result A Error) (buf : List ℕ) (room : ℕ) (e : Error) → length buf < 8192 → 2730 ≤ room →
     (e ≢ TooManyHeaders → NeverHasResponse buf) → r ≡ Err e → (r ≡ Err TooManyHeaders → ResponseExceeds room buf) → ¬ (AwaitsResponse buf)

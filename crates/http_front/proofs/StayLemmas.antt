@@ -7,7 +7,7 @@ use Rattle.httparse.specs.Grammar.{RequestHead, print_request, HasNoRequest, Res
 use Rattle.httparse.proofs.GrammarLemmas.{request_prefix_free, response_prefix_free}
 use Rattle.http_front.specs.Heads.{BeginsNoRequest, AwaitsRequest, BeginsNoResponse, AwaitsResponse}
 
--- what stands at the front of the bytes and more, against the bytes alone: it ends in them, or they end in it
+-- what is at the prefix of the bytes and more, against the bytes alone: it ends in them, or they end in it
 pub record EndsWithin (bytes text : List ℕ) : Type 0 where
   pub rest : List ℕ
   pub split : bytes ≡ text ++ rest
@@ -22,13 +22,13 @@ parted bytes more text rest e = by (cases_lt (length bytes) (length text))
   where
     by : (length bytes < length text) ⊎ (length text ≤ length bytes) → EndsWithin bytes text ⊎ GoesOn bytes text
     by (inr longer) =
-        let front : text ≡ take (length text) bytes =
+        let prefix : text ≡ take (length text) bytes =
         sym (take-append_seam text rest) ∙ ap (λ (l : List ℕ). take (length text) l) (sym e) ∙ take-append-le (length text) bytes more longer in
-        inl (record { rest = drop (length text) bytes; split = sym (take-append-drop (length text) bytes) ∙ ap (λ (l : List ℕ). l ++ drop (length text) bytes) (sym front) })
+        inl (record { rest = drop (length text) bytes; split = sym (take-append-drop (length text) bytes) ∙ ap (λ (l : List ℕ). l ++ drop (length text) bytes) (sym prefix) })
     by (inl shorter) =
-        let front : bytes ≡ take (length bytes) text =
+        let prefix : bytes ≡ take (length bytes) text =
         sym (take-append_seam bytes more) ∙ ap (λ (l : List ℕ). take (length bytes) l) e ∙ take-append-le (length bytes) text rest (omega arith) in
-        inr (record { shorter = shorter; more = drop (length bytes) text; split = ap (λ (l : List ℕ). l ++ drop (length bytes) text) front ∙ take-append-drop (length bytes) text })
+        inr (record { shorter = shorter; more = drop (length bytes) text; split = ap (λ (l : List ℕ). l ++ drop (length bytes) text) prefix ∙ take-append-drop (length bytes) text })
 
 pub bad_request : (bytes more : List ℕ) → BeginsNoRequest bytes → ¬ (AwaitsRequest bytes) → BeginsNoRequest (bytes ++ more)
 bad_request bytes more none not_awaited h rest (reads, taken) = by (parted bytes more (print_request h) rest reads.1)

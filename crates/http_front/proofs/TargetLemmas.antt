@@ -1,4 +1,4 @@
--- Bytes that end within a request target, against the places that the code finds in them.
+-- Bytes that end within a request target, against the offsets that the code finds in them.
 use Rattle.std.proofs.Common.{◌≡◌, ℕ, ◌+◌, ◌-◌, true, false, ltb, List, [], ◌∷◌, ◌++◌, length, get_or, take, drop, Some, None, refl, sym, ap, subst, ◌∙◌, arith, append_assoc, length-append, length-drop}
 use Rattle.std.specs.List.{list_all, position, position_or_len}
 use Rattle.std.proofs.Math.Seq.{take-append_seam, drop-append-add}
@@ -10,7 +10,7 @@ use Rattle.std.proofs.lemmas.List.Quantifiers.{position-Some}
 use Rattle.httparse.specs.Grammar.{is_token_byte, is_token, is_uri_byte, AllPass, IsToken, LineEnd, crlf, lf, print_end, print_blank, EndsInTarget}
 use Rattle.httparse.specs.Pieces.{is_newline}
 use Rattle.httparse.proofs.PieceLemmas.{space_ends_token, token_is_no_newline}
-use Rattle.http_front.specs.Targets.{is_space, BeginsNoLine, StandsBehindBlank, OpensTarget}
+use Rattle.http_front.specs.Targets.{is_space, BeginsNoLine, HoldsAfterBlank, OpensTarget}
 
 -- ---- the method ends at the first space
 
@@ -36,16 +36,16 @@ token_test method token = and_from _ _ (lt-ltb _ _ token.0) (list_all-from_AllPa
 pub token_from : (method : List ℕ) → is_token method ≡ true → IsToken method
 token_from method test = let both = and_parts _ _ test in (ltb-true _ _ both.0, AllPass-from_list_all is_token_byte method both.1)
 
-behind : (method target : List ℕ) → drop (length method + 1) (method ++ 32 ∷ target) ≡ target
-behind method target = drop-append-add method (32 ∷ target) 1
+rest : (method target : List ℕ) → drop (length method + 1) (method ++ 32 ∷ target) ≡ target
+rest method target = drop-append-add method (32 ∷ target) 1
 
 pub opened : (line : List ℕ) (end : ℕ) → position is_space line ≡ Some end → OpensTarget line →
     (is_token (take end line) ≡ true) × (list_all is_uri_byte (drop (end + 1) line) ≡ true)
 opened line end at (method, target, token, all, split) =
     let same : end ≡ length method = cc (space_is method target token.1, ap (position is_space) split) in
-    let front : take end line ≡ method = rw (same, split) (take-append_seam method (32 ∷ target)) in
-    let back : drop (end + 1) line ≡ target = rw (same, split) (behind method target) in
-    (ap is_token front ∙ token_test method token, ap (list_all is_uri_byte) back ∙ list_all-from_AllPass is_uri_byte target all)
+    let prefix : take end line ≡ method = rw (same, split) (take-append_seam method (32 ∷ target)) in
+    let back : drop (end + 1) line ≡ target = rw (same, split) (rest method target) in
+    (ap is_token prefix ∙ token_test method token, ap (list_all is_uri_byte) back ∙ list_all-from_AllPass is_uri_byte target all)
 
 pub opens : (line : List ℕ) (end : ℕ) → position is_space line ≡ Some end → is_token (take end line) ≡ true →
     list_all is_uri_byte (drop (end + 1) line) ≡ true → OpensTarget line
@@ -92,18 +92,18 @@ print_more (x ∷ blank) end text =
     append_assoc (print_end x) (print_blank (blank ++ end ∷ [])) text ∙ ap (λ (l : List ℕ). print_end x ++ l) (print_more blank end text)
     ∙ sym (append_assoc (print_end x) (print_blank blank) (print_end end ++ text))
 
-pub line_more : (bytes text rest : List ℕ) → StandsBehindBlank bytes text → (end : LineEnd) → text ≡ print_end end ++ rest → StandsBehindBlank bytes rest
+pub line_more : (bytes text rest : List ℕ) → HoldsAfterBlank bytes text → (end : LineEnd) → text ≡ print_end end ++ rest → HoldsAfterBlank bytes rest
 line_more bytes text rest (blank, split) end e =
     (blank ++ end ∷ [], split ∙ ap (λ (l : List ℕ). print_blank blank ++ l) e ∙ sym (print_more blank end rest))
 
-pub ends : (bytes text : List ℕ) → StandsBehindBlank bytes text → OpensTarget text → EndsInTarget bytes
+pub ends : (bytes text : List ℕ) → HoldsAfterBlank bytes text → OpensTarget text → EndsInTarget bytes
 ends bytes text (blank, split) (method, target, token, all, e) =
     (blank, method, target, token, all, split ∙ ap (λ (l : List ℕ). print_blank blank ++ l) e ∙ sym (append_assoc (print_blank blank) method (32 ∷ target)))
 
-pub ended : (bytes text : List ℕ) → StandsBehindBlank bytes text → BeginsNoLine text → EndsInTarget bytes → OpensTarget text
+pub ended : (bytes text : List ℕ) → HoldsAfterBlank bytes text → BeginsNoLine text → EndsInTarget bytes → OpensTarget text
 ended bytes text (blank, split) none (lines, method, target, token, all, e) =
     (method, target, token, all, blank_same blank lines text (method ++ 32 ∷ target) none (no_line method (32 ∷ target) token) (sym split ∙ e ∙ append_assoc (print_blank lines) method (32 ∷ target)))
 
--- the bytes from a place on
+-- the bytes from an offset on
 pub rest_is : (line : List ℕ) (n : ℕ) → drop n line ≡ take (length line - n) (drop n line)
 rest_is line n = sym (take_all _ (drop n line) (omega (arith, length-drop n line)))

@@ -22,7 +22,7 @@ use Rattle.ofx_types.specs.NumberReading.{number_at}
 use Rattle.ofx_types.proofs.Numbers.{decimal_digits}
 use Rattle.http_front.specs.Fields.{usable_length, says_close}
 use Rattle.http_front.proofs.TargetLemmas.{token_from}
-use Rattle.http_front.specs.Heads.{BeginsResponse, response_told, BeginsRequest, request_told}
+use Rattle.http_front.specs.Heads.{BeginsResponse, head_of_response, BeginsRequest, head_of_request}
 use Rattle.http_front.specs.HeadText.{IsReplyCode, phrase, media_type, field_line, ending, status_line, reply_head, post_head}
 
 -- ---- numbers
@@ -276,7 +276,7 @@ reply_head_is code size last = refl
 
 pub reply_read : (code size : ℕ) (last : Bool) (rest : List ℕ) → IsReplyCode code → size < 10 ^ 9 →
     let text = reply_head code size last in
-    (h : ResponseHead) × BeginsResponse (text ++ rest) h rest × (response_told h ≡ record { code = code; length = Some size; size = length text })
+    (h : ResponseHead) × BeginsResponse (text ++ rest) h rest × (head_of_response h ≡ record { code = code; length = Some size; size = length text })
 reply_read code size last rest is small =
     let facts = known code is in
     let methods = eqb code 405 in
@@ -294,10 +294,10 @@ reply_read code size last rest is small =
       fields = reply_fields_are methods (media_type code) (decimal size) (ending last) (clean_text (media_type code) (media_clean code)) (number_clean size (omega arith)) (clean_text (ending last) (ending_clean last));
     } in
     let fits : length (print_response tree) ≤ 8192 = rw (printed, reply_head_is code size last) short in
-    let told_code : digits_value 10 (decimal code) ≡ code = (decimal_is_IsNumeral code (omega (arith, facts.small))).1 in
-    let told_length : usable_length (map name_and_value tree.fields) ≡ Some size =
+    let reported_code : digits_value 10 (decimal code) ≡ code = (decimal_is_IsNumeral code (omega (arith, facts.small))).1 in
+    let reported_length : usable_length (map name_and_value tree.fields) ≡ Some size =
     reply_length methods (media_type code) (decimal size) (ending last) ∙ ap (number_at 9) (trimmed size (omega arith)) ∙ length_again size small in
-    (tree, ((is_head, ap (λ (l : List ℕ). l ++ rest) (sym printed)), (fits, reply_fields_few methods (media_type code) (decimal size) (ending last))), λ i. record { code = told_code i; length = told_length i; size = length (printed i) })
+    (tree, ((is_head, ap (λ (l : List ℕ). l ++ rest) (sym printed)), (fits, reply_fields_few methods (media_type code) (decimal size) (ending last))), λ i. record { code = reported_code i; length = reported_length i; size = length (printed i) })
 
 -- ---- the client's request
 
@@ -357,13 +357,13 @@ post_short size short = simp length-append (omega arith)
 pub post_read : (size : ℕ) (rest : List ℕ) → size < 10 ^ 9 →
     let text = post_head size in
     (h : RequestHead) × BeginsRequest (text ++ rest) h rest
-    × (request_told h ≡ record { method_is_post = true; path_is_ofx = true; length = Some size; last = false; size = length text })
+    × (head_of_request h ≡ record { method_is_post = true; path_is_ofx = true; length = Some size; last = false; size = length text })
 post_read size rest small =
     let tree = post_tree (decimal size) in
     let printed = post_printed size in
     let number_short = length-decimal-le 9 size (omega arith) (omega arith) (omega arith) in
     let fits : length (print_request tree) ≤ 8192 = rw printed (post_short size (omega (arith, number_short))) in
-    let told_length : usable_length (map name_and_value tree.fields) ≡ Some size =
+    let reported_length : usable_length (map name_and_value tree.fields) ≡ Some size =
     post_length (decimal size) ∙ ap (number_at 9) (trimmed size (omega arith)) ∙ length_again size small in
-    let told_last = post_goes_on (decimal size) in
-    (tree, ((post_is (decimal size) (number_clean size (omega arith)), ap (λ (l : List ℕ). l ++ rest) (sym printed)), (fits, lit≤ tt)), λ i. record { method_is_post = true; path_is_ofx = true; length = told_length i; last = told_last i; size = length (printed i) })
+    let reported_last = post_goes_on (decimal size) in
+    (tree, ((post_is (decimal size) (number_clean size (omega arith)), ap (λ (l : List ℕ). l ++ rest) (sym printed)), (fits, lit≤ tt)), λ i. record { method_is_post = true; path_is_ofx = true; length = reported_length i; last = reported_last i; size = length (printed i) })

@@ -1,7 +1,7 @@
 -- What holds of heads, beyond one reading.
 use Rattle.std.specs.Prelude.{◌≡◌, ℕ, ◌^◌, ◌<◌, Bool, true, false, List, ◌++◌, length, Some}
 use Rattle.httparse.specs.Grammar.{RequestHead, ResponseHead}
-use Rattle.http_front.specs.Heads.{BeginsRequest, BeginsNoRequest, AwaitsRequest, request_told, BeginsResponse, BeginsNoResponse, AwaitsResponse, response_told}
+use Rattle.http_front.specs.Heads.{BeginsRequest, BeginsNoRequest, AwaitsRequest, head_of_request, BeginsResponse, BeginsNoResponse, AwaitsResponse, head_of_response}
 use Rattle.http_front.specs.HeadText.{IsReplyCode, reply_head, post_head}
 
 -- No bytes begin with two heads.
@@ -30,7 +30,7 @@ abbrev pub WrittenReplyIsRead : Type 0
 WrittenReplyIsRead =
     (code size : ℕ) (last : Bool) (rest : List ℕ) → IsReplyCode code → size < 10 ^ 9 →
     let text = reply_head code size last in
-    (h : ResponseHead) × BeginsResponse (text ++ rest) h rest × (response_told h ≡ record { code = code; length = Some size; size = length text })
+    (h : ResponseHead) × BeginsResponse (text ++ rest) h rest × (head_of_response h ≡ record { code = code; length = Some size; size = length text })
 
 -- The head of the client's request that was written is one head, whatever follows, and tells that it is a POST to `/ofx` with this length, and not the last.
 abbrev pub WrittenPostIsRead : Type 0
@@ -38,4 +38,4 @@ WrittenPostIsRead =
     (size : ℕ) (rest : List ℕ) → size < 10 ^ 9 →
     let text = post_head size in
     (h : RequestHead) × BeginsRequest (text ++ rest) h rest
-    × (request_told h ≡ record { method_is_post = true; path_is_ofx = true; length = Some size; last = false; size = length text })
+    × (head_of_request h ≡ record { method_is_post = true; path_is_ofx = true; length = Some size; last = false; size = length text })

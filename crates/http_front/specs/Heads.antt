@@ -1,4 +1,4 @@
--- Which heads are taken, what they tell, and where more of a head is awaited. What a head is stands in the grammar of `httparse`.
+-- Which heads are taken, what they tell, and where more of a head is awaited. What a head is is in the grammar of `httparse`.
 use Rattle.std.specs.Prelude.{◌≡◌, ℕ, ◌<◌, ◌≤◌, List, length, map, codes, bytes_eq, Result, Ok, Err}
 use Rattle.httparse.specs.Grammar.{RequestHead, print_request, ReadsRequest, HasNoRequest, MayBecomeRequest, ResponseHead, print_response, ReadsResponse, HasNoResponse, MayBecomeResponse, status_code}
 use Rattle.httparse.specs.Spans.{name_and_value}
@@ -27,8 +27,8 @@ pub record AwaitsRequest (bytes : List ℕ) : Type 0 where
   pub may : MayBecomeRequest bytes
 
 -- What a request's head tells: whether the method is POST and the target `/ofx`, byte for byte; the usable length of the body; whether the connection ends after it; and its number of bytes.
-abbrev pub request_told : RequestHead → Head
-request_told h =
+abbrev pub head_of_request : RequestHead → Head
+head_of_request h =
     let fields = map name_and_value h.fields in
     record {
       method_is_post = bytes_eq h.method (codes "POST");
@@ -51,8 +51,8 @@ pub record AwaitsResponse (bytes : List ℕ) : Type 0 where
   pub may : MayBecomeResponse bytes
 
 -- What a reply's head tells: its status code, the usable length of the body, and its number of bytes.
-abbrev pub response_told : ResponseHead → ReplyHead
-response_told h = record {
+abbrev pub head_of_response : ResponseHead → ReplyHead
+head_of_response h = record {
   code = status_code h;
   length = usable_length (map name_and_value h.fields);
   size = length (print_response h);
@@ -60,6 +60,6 @@ response_told h = record {
 
 -- an answer by its cases: what some head tells, or why there is none
 abbrev pub Judges : {H A : Type 0} → (H → Type 0) → (H → A) → Type 0 → Result A HeadFault → Type 0
-Judges {H} begins told awaits (Ok head) = (h : H) × begins h × (head ≡ told h)
-Judges begins told awaits (Err NotYet) = awaits
-Judges {H} begins told awaits (Err Bad) = ((h : H) → ¬ (begins h)) × ¬ awaits
+Judges {H} begins head_of awaits (Ok head) = (h : H) × begins h × (head ≡ head_of h)
+Judges begins head_of awaits (Err NotYet) = awaits
+Judges {H} begins head_of awaits (Err Bad) = ((h : H) → ¬ (begins h)) × ¬ awaits

@@ -6,13 +6,13 @@ use Rattle.httparse.specs.Grammar.{is_uri_byte, AllPass, IsToken, LineEnd, print
 abbrev pub is_space : ℕ → Bool
 is_space b = b == 32
 
--- no empty line stands at the front
+-- no empty line is at the start
 abbrev pub BeginsNoLine : List ℕ → Type 0
 BeginsNoLine text = (end : LineEnd) (rest : List ℕ) → ¬ (text ≡ print_end end ++ rest)
 
--- the text is what stands after all empty lines at the front of the bytes
-abbrev pub StandsBehindBlank : List ℕ → List ℕ → Type 0
-StandsBehindBlank bytes text = (blank : List LineEnd) × (bytes ≡ print_blank blank ++ text)
+-- the text is what follows all empty lines at the start of the bytes
+abbrev pub HoldsAfterBlank : List ℕ → List ℕ → Type 0
+HoldsAfterBlank bytes text = (blank : List LineEnd) × (bytes ≡ print_blank blank ++ text)
 
 -- the text is a method, a space, and then only bytes of a target
 abbrev pub OpensTarget : List ℕ → Type 0

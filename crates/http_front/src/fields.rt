@@ -93,7 +93,7 @@ fn is_same_word(word: &[u8], other: &[u8]) -> bool
 }
 
 /// The most digits of a length.
-const MOST_DIGITS: usize = 9;
+const MAX_DIGITS: usize = 9;
 
 /// The number that 1 to 9 digits stand for. Leading zeros are let pass.
 #[tactic(auto, unfolding(ofx_types::specs::NumberReading::number_at))]
@@ -111,7 +111,7 @@ fn number_in(text: &[u8]) -> Option<u64>
 fn is_number(text: &[u8]) -> bool
     ensures { result ≡ is_number_within 9 text.now }
 {
-    !text.is_empty() && text.len() <= MOST_DIGITS && are_digits(text)
+    !text.is_empty() && text.len() <= MAX_DIGITS && are_digits(text)
 }
 
 /// Whether all of the bytes are digits.

@@ -11,7 +11,7 @@ pub struct Head {
     pub length: Option<u64>,
     /// The connection ends after this request: it is HTTP/1.0, or a Connection field says `close`.
     pub last: bool,
-    /// The head's number of bytes. The body stands after them.
+    /// The head's number of bytes. The body comes after them.
     pub size: usize,
 }
 
@@ -22,7 +22,7 @@ pub struct ReplyHead {
     pub code: u16,
     /// The body's number of bytes, where the head states it in a form that is taken.
     pub length: Option<u64>,
-    /// The head's number of bytes. The body stands after them.
+    /// The head's number of bytes. The body comes after them.
     pub size: usize,
 }
 
@@ -36,10 +36,10 @@ pub enum HeadFault {
 }
 
 /// The most bytes of a head.
-pub(crate) const MOST_BYTES: usize = 8192;
+pub(crate) const MAX_BYTES: usize = 8192;
 
 /// The most fields of a head.
-pub(crate) const MOST_FIELDS: usize = 64;
+pub(crate) const MAX_FIELDS: usize = 64;
 
 /// More fields than fewer than 8,192 bytes can have: each has a byte of its name, a colon and a line feed at least.
 pub(crate) const FIELDS_IN_ALL: usize = 2730;

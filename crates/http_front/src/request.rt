@@ -4,21 +4,21 @@ ghost use Rattle.std.specs.Prelude.{◌≡◌, ◌<◌, ◌≤◌, ◌↔◌, �
 ghost use Rattle.std.specs.List.{list_all};
 ghost use Rattle.httparse.specs.Grammar.{RequestHead, EndsInTarget, LineEnd, print_end, is_uri_byte};
 ghost use Rattle.httparse.specs.Spans.{IsRequestWithin, IsRequestAt};
-ghost use Rattle.http_front.specs.Targets.{is_space, BeginsNoLine, StandsBehindBlank, OpensTarget};
-ghost use Rattle.http_front.specs.Heads.{BeginsRequest, BeginsNoRequest, AwaitsRequest, request_told, Judges};
+ghost use Rattle.http_front.specs.Targets.{is_space, BeginsNoLine, HoldsAfterBlank, OpensTarget};
+ghost use Rattle.http_front.specs.Heads.{BeginsRequest, BeginsNoRequest, AwaitsRequest, head_of_request, Judges};
 
 use crate::fields::{says_close, usable_length};
-use crate::head::{FIELDS_IN_ALL, Head, HeadFault, MOST_BYTES, MOST_FIELDS};
+use crate::head::{FIELDS_IN_ALL, Head, HeadFault, MAX_BYTES, MAX_FIELDS};
 use httparse::spans::{EMPTY_HEADER_SPAN, HeaderSpan, RequestSpans, parse_request};
 use httparse::{Status, is_token, is_uri_token};
 
-/// What the request's head at the front of the bytes tells. It takes no memory.
+/// What the request's head at the start of the bytes tells. It takes no memory.
 pub fn read_request(buf: &[u8]) -> Result<Head, HeadFault>
-    // What is told is told by a head at the front that is taken.
-    ensures head { IfOk result (λ head. (h : RequestHead) × (rest : List ℕ) × BeginsRequest buf.now h rest × (head ≡ request_told h)) }
+    // What is told is told by a head at the start that is taken.
+    ensures head { IfOk result (λ head. (h : RequestHead) × (rest : List ℕ) × BeginsRequest buf.now h rest × (head ≡ head_of_request h)) }
     ensures within { IfOk result (λ head. (0 < head.size) × (head.size ≤ length buf.now) × (head.size ≤ 8192)) }
-    // Such a head is told.
-    ensures found { (h : RequestHead) (rest : List ℕ) → BeginsRequest buf.now h rest → result ≡ Ok (request_told h) }
+    // Such a head is reported.
+    ensures found { (h : RequestHead) (rest : List ℕ) → BeginsRequest buf.now h rest → result ≡ Ok (head_of_request h) }
     // `NotYet` comes exactly where more bytes are awaited.
     ensures not_yet { (result ≡ Err HeadFault.NotYet) ↔ AwaitsRequest buf.now }
     // `Bad` comes exactly where neither is so.
@@ -29,21 +29,21 @@ pub fn read_request(buf: &[u8]) -> Result<Head, HeadFault>
 
 /// The same, by its cases.
 fn judge(buf: &[u8]) -> Result<Head, HeadFault>
-    ensures { Judges (λ (h : RequestHead). (rest : List ℕ) × BeginsRequest buf.now h rest) request_told (AwaitsRequest buf.now) result }
+    ensures { Judges (λ (h : RequestHead). (rest : List ℕ) × BeginsRequest buf.now h rest) head_of_request (AwaitsRequest buf.now) result }
 {
-    let mut fields = [EMPTY_HEADER_SPAN; MOST_FIELDS];
+    let mut fields = [EMPTY_HEADER_SPAN; MAX_FIELDS];
     match parse_request(buf, &mut fields) {
-        Ok(Status::Complete(spans)) if spans.len <= MOST_BYTES => Ok(told(buf, spans, &fields)),
-        Ok(Status::Partial) if buf.len() < MOST_BYTES => Err(HeadFault::NotYet),
+        Ok(Status::Complete(spans)) if spans.len <= MAX_BYTES => Ok(head_of(buf, spans, &fields)),
+        Ok(Status::Partial) if buf.len() < MAX_BYTES => Err(HeadFault::NotYet),
         Err(_) if awaits(buf) => Err(HeadFault::NotYet),
         _ => Err(HeadFault::Bad),
     }
 }
 
-/// What the head at these places tells.
-fn told(buf: &[u8], spans: RequestSpans, fields: &[HeaderSpan]) -> Head
+/// What the head at these offsets tells.
+fn head_of(buf: &[u8], spans: RequestSpans, fields: &[HeaderSpan]) -> Head
     requires { IsRequestWithin buf.now fields.now spans }
-    ensures { (h : RequestHead) → IsRequestAt buf.now fields.now spans h → result ≡ request_told h }
+    ensures { (h : RequestHead) → IsRequestAt buf.now fields.now spans h → result ≡ head_of_request h }
 {
     let fields = &fields[..spans.headers];
     Head {
@@ -61,7 +61,7 @@ fn told(buf: &[u8], spans: RequestSpans, fields: &[HeaderSpan]) -> Head
 fn awaits(buf: &[u8]) -> bool
     ensures { IsTrue result ↔ AwaitsRequest buf.now }
 {
-    if buf.len() >= MOST_BYTES {
+    if buf.len() >= MAX_BYTES {
         return false;
     }
     let mut fields = [EMPTY_HEADER_SPAN; FIELDS_IN_ALL];
@@ -76,7 +76,7 @@ fn awaits(buf: &[u8]) -> bool
 fn ends_in_target(buf: &[u8]) -> bool
     ensures { IsTrue result ↔ EndsInTarget buf.now }
 {
-    opens_target(behind_empty_lines(buf))
+    opens_target(after_empty_lines(buf))
 }
 
 /// Whether the bytes are a method, a space, and then only bytes of a target.
@@ -101,20 +101,20 @@ fn are_target_bytes(bytes: &[u8]) -> bool
     bytes.iter().all(|b| is_uri_token(*b))
 }
 
-/// The bytes after all empty lines at the front.
-fn behind_empty_lines(buf: &[u8]) -> &[u8]
-    ensures split { StandsBehindBlank buf.now result.now }
+/// The bytes after all empty lines at the start.
+fn after_empty_lines(buf: &[u8]) -> &[u8]
+    ensures split { HoldsAfterBlank buf.now result.now }
     ensures all { BeginsNoLine result.now }
 {
     let mut rest = buf;
-    while let Some(tail) = behind_empty_line(rest) {
+    while let Some(tail) = after_empty_line(rest) {
         rest = tail;
     }
     rest
 }
 
-/// The bytes after the empty line at the front, if there is one.
-fn behind_empty_line(text: &[u8]) -> Option<&[u8]>
+/// The bytes after the empty line at the start, if there is one.
+fn after_empty_line(text: &[u8]) -> Option<&[u8]>
     ensures split { IfSome result (λ rest. (end : LineEnd) × (text.now ≡ print_end end ++ rest.now)) }
     ensures none { IfNone result (BeginsNoLine text.now) }
 {

@@ -3,20 +3,20 @@
 ghost use Rattle.std.specs.Prelude.{◌≡◌, ◌<◌, ◌≤◌, ◌↔◌, ℕ, List, Err, Ok, IfOk, IsTrue, length};
 ghost use Rattle.httparse.specs.Grammar.{ResponseHead};
 ghost use Rattle.httparse.specs.Spans.{IsResponseWithin, IsResponseAt};
-ghost use Rattle.http_front.specs.Heads.{BeginsResponse, BeginsNoResponse, AwaitsResponse, response_told, Judges};
+ghost use Rattle.http_front.specs.Heads.{BeginsResponse, BeginsNoResponse, AwaitsResponse, head_of_response, Judges};
 
 use crate::fields::usable_length;
-use crate::head::{FIELDS_IN_ALL, HeadFault, MOST_BYTES, MOST_FIELDS, ReplyHead};
+use crate::head::{FIELDS_IN_ALL, HeadFault, MAX_BYTES, MAX_FIELDS, ReplyHead};
 use httparse::Status;
 use httparse::spans::{EMPTY_HEADER_SPAN, HeaderSpan, ResponseSpans, parse_response};
 
-/// What the reply's head at the front of the bytes tells. It takes no memory.
+/// What the reply's head at the start of the bytes tells. It takes no memory.
 pub fn read_response(buf: &[u8]) -> Result<ReplyHead, HeadFault>
-    // What is told is told by a head at the front that is taken.
-    ensures head { IfOk result (λ head. (h : ResponseHead) × (rest : List ℕ) × BeginsResponse buf.now h rest × (head ≡ response_told h)) }
+    // What is told is told by a head at the start that is taken.
+    ensures head { IfOk result (λ head. (h : ResponseHead) × (rest : List ℕ) × BeginsResponse buf.now h rest × (head ≡ head_of_response h)) }
     ensures within { IfOk result (λ head. (0 < head.size) × (head.size ≤ length buf.now) × (head.size ≤ 8192)) }
-    // Such a head is told.
-    ensures found { (h : ResponseHead) (rest : List ℕ) → BeginsResponse buf.now h rest → result ≡ Ok (response_told h) }
+    // Such a head is reported.
+    ensures found { (h : ResponseHead) (rest : List ℕ) → BeginsResponse buf.now h rest → result ≡ Ok (head_of_response h) }
     // `NotYet` comes exactly where more bytes are awaited.
     ensures not_yet { (result ≡ Err HeadFault.NotYet) ↔ AwaitsResponse buf.now }
     // `Bad` comes exactly where neither is so.
@@ -27,21 +27,21 @@ pub fn read_response(buf: &[u8]) -> Result<ReplyHead, HeadFault>
 
 /// The same, by its cases.
 fn judge(buf: &[u8]) -> Result<ReplyHead, HeadFault>
-    ensures { Judges (λ (h : ResponseHead). (rest : List ℕ) × BeginsResponse buf.now h rest) response_told (AwaitsResponse buf.now) result }
+    ensures { Judges (λ (h : ResponseHead). (rest : List ℕ) × BeginsResponse buf.now h rest) head_of_response (AwaitsResponse buf.now) result }
 {
-    let mut fields = [EMPTY_HEADER_SPAN; MOST_FIELDS];
+    let mut fields = [EMPTY_HEADER_SPAN; MAX_FIELDS];
     match parse_response(buf, &mut fields) {
-        Ok(Status::Complete(spans)) if spans.len <= MOST_BYTES => Ok(told(buf, spans, &fields)),
-        Ok(Status::Partial) if buf.len() < MOST_BYTES => Err(HeadFault::NotYet),
+        Ok(Status::Complete(spans)) if spans.len <= MAX_BYTES => Ok(head_of(buf, spans, &fields)),
+        Ok(Status::Partial) if buf.len() < MAX_BYTES => Err(HeadFault::NotYet),
         Err(_) if awaits(buf) => Err(HeadFault::NotYet),
         _ => Err(HeadFault::Bad),
     }
 }
 
-/// What the head at these places tells.
-fn told(buf: &[u8], spans: ResponseSpans, fields: &[HeaderSpan]) -> ReplyHead
+/// What the head at these offsets tells.
+fn head_of(buf: &[u8], spans: ResponseSpans, fields: &[HeaderSpan]) -> ReplyHead
     requires { IsResponseWithin buf.now fields.now spans }
-    ensures { (h : ResponseHead) → IsResponseAt buf.now fields.now spans h → result ≡ response_told h }
+    ensures { (h : ResponseHead) → IsResponseAt buf.now fields.now spans h → result ≡ head_of_response h }
 {
     ReplyHead {
         code: spans.code,
@@ -56,7 +56,7 @@ fn told(buf: &[u8], spans: ResponseSpans, fields: &[HeaderSpan]) -> ReplyHead
 fn awaits(buf: &[u8]) -> bool
     ensures { IsTrue result ↔ AwaitsResponse buf.now }
 {
-    if buf.len() >= MOST_BYTES {
+    if buf.len() >= MAX_BYTES {
         return false;
     }
     let mut fields = [EMPTY_HEADER_SPAN; FIELDS_IN_ALL];

@@ -5,21 +5,21 @@ use Rattle.std.specs.Io.KnownBytes.{IsAtEnd}
 use Rattle.httparse.specs.Grammar.{print_response}
 use Rattle.http_front.specs.declared.head.ReplyHead.{ReplyHead}
 use Rattle.http_link.specs.Incoming.{HasNoBody}
-use Rattle.http_link.specs.Answers.{HasReplyHead, LacksReplyBody, HoldsReply, HasNoReply, call_fault}
-use Rattle.http_link.specs.declared.answer.Answer.{Answer}
+use Rattle.http_link.specs.Responses.{HasReplyHead, LacksReplyBody, HoldsReply, HasNoReply, call_fault}
+use Rattle.http_link.specs.declared.response.Response.{Response}
 use Rattle.http_link.specs.declared.served.ServeError.{ServeError}
 use Rattle.http_link.specs.declared.served.ServeError.TheVariants.{ReadFault, WriteFault, Cut, OutOfMemory}
 
--- a head's bytes and what stands after them
+-- a head's bytes and what follows them
 parts : (bytes : List ℕ) (head : ReplyHead) (rest : List ℕ) → (has : HasReplyHead bytes head rest) → (bytes ≡ print_response has.h ++ rest) × (head.size ≡ length (print_response has.h))
-parts bytes head rest has = (has.begins.0.1, ap (λ (h : ReplyHead). h.size) has.told_is)
+parts bytes head rest has = (has.begins.0.1, ap (λ (h : ReplyHead). h.size) has.reported_is)
 
 -- a head stays when more bytes come
 pub reply_head-more : (bytes more : List ℕ) (head : ReplyHead) (rest : List ℕ) → HasReplyHead bytes head rest → HasReplyHead (bytes ++ more) head (rest ++ more)
 reply_head-more bytes more head rest has = record {
   h = has.h;
   begins = ((has.begins.0.0, ap (λ (l : List ℕ). l ++ more) has.begins.0.1 ∙ append_assoc (print_response has.h) rest more), has.begins.1);
-  told_is = has.told_is;
+  reported_is = has.reported_is;
 }
 
 -- and when bytes after it are cut
@@ -35,24 +35,24 @@ head-cut bytes head rest size has low =
     record {
       h = has.h;
       begins = ((has.begins.0.0, cut ∙ ap (λ (l : List ℕ). text ++ take over l) (sym body)), has.begins.1);
-      told_is = has.told_is;
+      reported_is = has.reported_is;
     }
 
 pub whole_reply : (bytes : List ℕ) (head : ReplyHead) (rest : List ℕ) (size : ℕ) → HasReplyHead bytes head rest → head.size ≤ size
     → size - head.size ≤ 67108864 → head.length ≡ Some (size - head.size) → size ≤ length bytes
     → HoldsReply bytes (record { code = head.code; head = head.size; size = size })
-whole_reply bytes head rest size has low small told within =
+whole_reply bytes head rest size has low small reported within =
     let counted : length (take (size - head.size) (drop head.size bytes)) ≡ size - head.size =
     length-take-le (size - head.size) (drop head.size bytes) (omega (arith, length-drop head.size bytes, within)) in
     record {
       head = head;
       code_is = refl;
       head_is = refl;
-      behind_head = low;
+      after_head = low;
       within = within;
       whole = record {
         has_head = head-cut bytes head rest size has low;
-        length_is = told ∙ ap Some (sym counted);
+        length_is = reported ∙ ap Some (sym counted);
         small = omega (arith, counted, small);
       };
     }
@@ -60,7 +60,7 @@ whole_reply bytes head rest size has low small told within =
 -- a body is lacking
 lacks_body : (bytes : List ℕ) (head : ReplyHead) (rest : List ℕ) (size : ℕ) → HasReplyHead bytes head rest → head.size ≤ size
     → size - head.size ≤ 67108864 → head.length ≡ Some (size - head.size) → length bytes < size → LacksReplyBody bytes
-lacks_body bytes head rest size has low small told short =
+lacks_body bytes head rest size has low small reported short =
     let p = parts bytes head rest has in
     let counted : length bytes ≡ head.size + length rest = ap length p.0 ∙ (length-append (print_response has.h) rest ∙ ap (λ (n : ℕ). n + length rest) (sym p.1)) in
     record {
@@ -68,7 +68,7 @@ lacks_body bytes head rest size has low small told short =
       came = rest;
       size = size - head.size;
       has_head = has;
-      length_is = told;
+      length_is = reported;
       small = small;
       short = omega (arith, counted, short, low);
     }
@@ -77,8 +77,8 @@ lacks_body bytes head rest size has low small told short =
 pub no_reply : (bytes : List ℕ) (head : ReplyHead) (rest : List ℕ) (size : ℕ) (left : Option (List ℕ)) (before now : ℕ) (fault : ServeError) → HasReplyHead bytes head rest
     → head.size ≤ size → size - head.size ≤ 67108864 → head.length ≡ Some (size - head.size) → HasNoBody size bytes left before now fault
     → HasNoReply bytes left before now (call_fault fault)
-no_reply bytes head rest size left before now ReadFault has low small told is = (inr (lacks_body bytes head rest size has low small told is.0), is.1)
-no_reply bytes head rest size left before now WriteFault has low small told is = absurd is
-no_reply bytes head rest size left before now (Cut count) has low small told is =
-    (is.0, inr (lacks_body bytes head rest size has low small told is.1), is.2)
-no_reply bytes head rest size left before now OutOfMemory has low small told is = tt
+no_reply bytes head rest size left before now ReadFault has low small reported is = (inr (lacks_body bytes head rest size has low small reported is.0), is.1)
+no_reply bytes head rest size left before now WriteFault has low small reported is = absurd is
+no_reply bytes head rest size left before now (Cut count) has low small reported is =
+    (is.0, inr (lacks_body bytes head rest size has low small reported is.1), is.2)
+no_reply bytes head rest size left before now OutOfMemory has low small reported is = tt

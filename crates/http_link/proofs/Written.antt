@@ -5,16 +5,16 @@ use Rattle.std.proofs.KnownBytes.{Appends-trans}
 use Rattle.std.proofs.Math.Seq.{take-append-add}
 use Rattle.ofx_ports.specs.Writes.{AppendsPart}
 
--- the first of two texts and a front of the second are a front of both
-pub front_of_second : (before mid after : Option (List ℕ)) (first second : List ℕ) → Appends before mid first → AppendsPart mid after second → AppendsPart before after (first ++ second)
-front_of_second before mid after first second whole part = record {
+-- the first of two texts and a prefix of the second are a prefix of both
+pub prefix_of_second : (before mid after : Option (List ℕ)) (first second : List ℕ) → Appends before mid first → AppendsPart mid after second → AppendsPart before after (first ++ second)
+prefix_of_second before mid after first second whole part = record {
   count = length first + part.count;
   within = omega (arith, part.within, length-append first second);
   appended = subst (Appends before after) (sym (take-append-add first second part.count)) (Appends-trans before mid after first (take part.count second) whole part.appended);
 }
 
--- where the second of two texts wasn't written whole, a front of both is
-pub part_behind : {E : Type 0} (result : Result (Unit {0}) E) (before mid after : Option (List ℕ)) (first second : List ℕ) → Appends before mid first
+-- where the second of two texts wasn't written whole, a prefix of both is
+pub part_after : {E : Type 0} (result : Result (Unit {0}) E) (before mid after : Option (List ℕ)) (first second : List ℕ) → Appends before mid first
     → OnErr result (AppendsPart mid after second) → OnErr result (AppendsPart before after (first ++ second))
-part_behind (Ok done) before mid after first second whole part = part
-part_behind (Err fault) before mid after first second whole part = front_of_second before mid after first second whole part
+part_after (Ok done) before mid after first second whole part = part
+part_after (Err fault) before mid after first second whole part = prefix_of_second before mid after first second whole part

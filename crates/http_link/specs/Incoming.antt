@@ -4,8 +4,8 @@ use Rattle.std.specs.Io.KnownBytes.{IsAtEnd}
 use Rattle.ofx_ports.specs.Faults.{Rose}
 use Rattle.http_front.specs.declared.head.Head.{Head}
 use Rattle.http_link.specs.Requests.{HasHead, HasBadHead, IsRefusedByHead, IsWhole, IsUnfinished}
-use Rattle.http_link.specs.declared.request.Front.{Front}
-use Rattle.http_link.specs.declared.request.Front.TheVariants as fronts
+use Rattle.http_link.specs.declared.request.Prefix.{Prefix}
+use Rattle.http_link.specs.declared.request.Prefix.TheVariants as prefixes
 use Rattle.http_link.specs.declared.request.Next.{Next}
 use Rattle.http_link.specs.declared.request.Next.TheVariants as nexts
 use Rattle.http_link.specs.declared.served.ServeError.{ServeError}
@@ -22,17 +22,17 @@ IsDry before now OutOfMemory = Unit {0}
 IsDry before now WriteFault = ⊥
 IsDry before now (Cut count) = ⊥
 
--- What stands in front of the bytes: nothing, after which nothing comes; a head, or no head whatever comes.
-abbrev pub IsFront : List ℕ → Option (List ℕ) → Front → Type 0
-IsFront bytes left fronts.End = (bytes ≡ []) × IsAtEnd left
-IsFront bytes left fronts.Bad = HasBadHead bytes
-IsFront bytes left (fronts.Told head) = (0 < head.size) × (head.size ≤ 8192) × (head.size ≤ length bytes) × ((rest : List ℕ) × HasHead bytes head rest)
+-- What comes before the bytes: nothing, after which nothing comes; a head, or no head whatever comes.
+abbrev pub IsPrefix : List ℕ → Option (List ℕ) → Prefix → Type 0
+IsPrefix bytes left prefixes.End = (bytes ≡ []) × IsAtEnd left
+IsPrefix bytes left prefixes.Bad = HasBadHead bytes
+IsPrefix bytes left (prefixes.Told head) = (0 < head.size) × (head.size ≤ 8192) × (head.size ≤ length bytes) × ((rest : List ℕ) × HasHead bytes head rest)
 
 -- A link that ended after so many bytes of a head ended where a request had, or in one.
-abbrev pub LinkEnds : ℕ → Result Front ServeError → Type 0
-LinkEnds count (Ok fronts.End) = count ≡ 0
-LinkEnds count (Ok fronts.Bad) = ⊥
-LinkEnds count (Ok (fronts.Told head)) = ⊥
+abbrev pub LinkEnds : ℕ → Result Prefix ServeError → Type 0
+LinkEnds count (Ok prefixes.End) = count ≡ 0
+LinkEnds count (Ok prefixes.Bad) = ⊥
+LinkEnds count (Ok (prefixes.Told head)) = ⊥
 LinkEnds count (Err (Cut cut)) = (cut ≡ count) × (0 < count)
 LinkEnds count (Err ReadFault) = ⊥
 LinkEnds count (Err WriteFault) = ⊥
@@ -41,7 +41,7 @@ LinkEnds count (Err OutOfMemory) = ⊥
 -- The first bytes are a whole request, of so many bytes.
 pub record HoldsWhole (bytes : List ℕ) (head : Head) (size : ℕ) : Type 0 where
   pub within : size ≤ length bytes
-  pub behind_head : head.size ≤ size
+  pub after_head : head.size ≤ size
   pub small : size - head.size ≤ 262144
   pub whole : IsWhole (take size bytes) head (take (size - head.size) (drop head.size bytes))
 

@@ -1,4 +1,4 @@
 pub mod Requests
 pub mod Incoming
 pub mod Replies
-pub mod Answers
+pub mod Responses

@@ -1,16 +1,16 @@
 -- The bytes of requests: which of them are whole, and which are refused by their heads alone.
 use Rattle.std.specs.Prelude.{◌≡◌, ℕ, ◌<◌, ◌⊎◌, nat_lt, not, List, [], length, Option, None, Some, if◌then◌else◌}
 use Rattle.httparse.specs.Grammar.{RequestHead}
-use Rattle.http_front.specs.Heads.{BeginsRequest, BeginsNoRequest, AwaitsRequest, request_told}
+use Rattle.http_front.specs.Heads.{BeginsRequest, BeginsNoRequest, AwaitsRequest, head_of_request}
 use Rattle.http_front.specs.declared.head.Head.{Head}
 use Rattle.http_link.specs.declared.refusal.Refusal.{Refusal}
 use Rattle.http_link.specs.declared.refusal.Refusal.TheVariants.{BadHead, NotPost, NotFound, NoLength, TooLarge}
 
--- A head that is taken begins the bytes and tells this, and the rest stands after it.
+-- A head that is taken begins the bytes and tells this, and the rest comes after it.
 pub record HasHead (bytes : List ℕ) (head : Head) (rest : List ℕ) : Type 0 where
   pub h : RequestHead
   pub begins : BeginsRequest bytes h rest
-  pub told_is : head ≡ request_told h
+  pub reported_is : head ≡ head_of_request h
 
 -- No head comes of the bytes, whatever follows them.
 pub record HasBadHead (bytes : List ℕ) : Type 0 where
@@ -39,7 +39,7 @@ IsRefusedByHead bytes refusal = (head : Head) × HasHead bytes head [] × (head_
 
 -- ---- bodies
 
--- A whole request is a head that isn't refused, and after it the body, which has the length that the head tells.
+-- A whole request is a head that isn't refused, and after it the body, which has the length that the head says.
 pub record IsWhole (bytes : List ℕ) (head : Head) (body : List ℕ) : Type 0 where
   pub has_head : HasHead bytes head body
   pub unrefused : head_refusal head ≡ None

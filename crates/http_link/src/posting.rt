@@ -5,7 +5,7 @@ ghost use Rattle.std.specs.Io.KnownBytes.{Keeps, Appends};
 ghost use Rattle.ofx_ports.specs.Faults.{CountsFaults};
 ghost use Rattle.ofx_ports.specs.Writes.{AppendsPart};
 ghost use Rattle.http_front.specs.HeadText.{post_head};
-ghost use Rattle.http_link.specs.Answers.{request_of};
+ghost use Rattle.http_link.specs.Responses.{request_of};
 
 use crate::reply::{write_all, write_both};
 use http_front::write_post;

@@ -9,7 +9,7 @@ pub enum Refusal {
     NotPost,
     /// The path isn't `/ofx`.
     NotFound,
-    /// The head tells no usable length of the body.
+    /// The head says no usable length of the body.
     NoLength,
     /// The body is longer than 262,144 bytes.
     TooLarge,

@@ -40,7 +40,7 @@ impl Refusal {
     }
 }
 
-/// Writes all of the bytes, in as many calls as the link takes. Where a write fails a front of them is written.
+/// Writes all of the bytes, in as many calls as the link takes. Where a write fails a prefix of them is written.
 pub(crate) fn write_all<L: Link>(link: &mut L, bytes: &[u8]) -> Result<(), Failed>
     ensures whole { OnOk result (Appends (L.held link.old) (L.held link.new) bytes.now) }
     ensures part { OnErr result (AppendsPart (L.held link.old) (L.held link.new) bytes.now) }

@@ -3,7 +3,7 @@
 ghost use Rattle.std.specs.Prelude.{◌≡◌, ◌-◌, ◌<◌, ◌≤◌, ℕ, List, length, Some, None, IfOk, IfErr, OnOk};
 ghost use Rattle.std.specs.Io.KnownBytes.{Keeps, prepend_known};
 ghost use Rattle.http_link.specs.Requests.{HasHead, head_refusal};
-ghost use Rattle.http_link.specs.Incoming.{GrowsOn, IsFront, LinkEnds, IsNext, HasNoNext, HasNoBody};
+ghost use Rattle.http_link.specs.Incoming.{GrowsOn, IsPrefix, LinkEnds, IsNext, HasNoNext, HasNoBody};
 
 use crate::incoming::Incoming;
 use crate::refusal::Refusal;
@@ -12,11 +12,11 @@ use http_front::{Head, HeadFault, read_request};
 use ofx_ports::Link;
 
 /// The most bytes of a body.
-const MOST_BODY: u64 = 262_144;
+const MAX_BODY: u64 = 262_144;
 
-/// What stands in front of the bytes that have come.
+/// What comes before the bytes that have come.
 #[derive(Clone, Copy)]
-enum Front {
+enum Prefix {
     /// Nothing, and the link has ended.
     End,
     /// No head, whatever comes.
@@ -52,7 +52,7 @@ fn size_of(head: &Head) -> Result<usize, Refusal>
     match head.length {
         None => Err(Refusal::NoLength),
         Some(length) => {
-            if length > MOST_BODY {
+            if length > MAX_BODY {
                 Err(Refusal::TooLarge)
             } else {
                 Ok(head.size + length as usize)
@@ -61,10 +61,10 @@ fn size_of(head: &Head) -> Result<usize, Refusal>
     }
 }
 
-/// Reads on until a head stands in front, or none can come.
-fn read_head<L: Link>(incoming: &mut Incoming, link: &mut L) -> Result<Front, ServeError>
+/// Reads on until a head comes first, or none can come.
+fn read_head<L: Link>(incoming: &mut Incoming, link: &mut L) -> Result<Prefix, ServeError>
     ensures kept { Keeps (prepend_known incoming.old (L.left link.old)) (prepend_known incoming.new (L.left link.new)) }
-    ensures front { IfOk result (IsFront incoming.new (L.left link.new)) }
+    ensures prefix { IfOk result (IsPrefix incoming.new (L.left link.new)) }
     ensures none { IfErr result (HasNoNext incoming.new (L.left link.new) (L.read_faults link.old) (L.read_faults link.new)) }
     ensures reads { L.read_faults link.old ≤ L.read_faults link.new }
     ensures unwritten { Keeps (L.held link.old) (L.held link.new) }
@@ -72,8 +72,8 @@ fn read_head<L: Link>(incoming: &mut Incoming, link: &mut L) -> Result<Front, Se
 {
     loop {
         match read_request(incoming.bytes()) {
-            Ok(head) => return Ok(Front::Told(head)),
-            Err(HeadFault::Bad) => return Ok(Front::Bad),
+            Ok(head) => return Ok(Prefix::Told(head)),
+            Err(HeadFault::Bad) => return Ok(Prefix::Bad),
             Err(HeadFault::NotYet) => {
                 if incoming.read_more(link)? == 0 {
                     return link_end(incoming.bytes().len());
@@ -84,11 +84,11 @@ fn read_head<L: Link>(incoming: &mut Incoming, link: &mut L) -> Result<Front, Se
 }
 
 /// What a link that has ended after so many bytes of a head is.
-fn link_end(count: usize) -> Result<Front, ServeError>
+fn link_end(count: usize) -> Result<Prefix, ServeError>
     ensures { LinkEnds count result }
 {
     if count == 0 {
-        Ok(Front::End)
+        Ok(Prefix::End)
     } else {
         Err(ServeError::Cut(count as u64))
     }
@@ -126,13 +126,13 @@ pub fn next_request<L: Link>(incoming: &mut Incoming, link: &mut L) -> Result<Ne
     ensures writes { L.write_faults link.new ≡ L.write_faults link.old }
 {
     match read_head(incoming, link)? {
-        Front::End => Ok(Next::End),
-        Front::Bad => Ok(Next::Refused(Refusal::BadHead, incoming.bytes().len())),
-        Front::Told(head) => next_body(incoming, link, head),
+        Prefix::End => Ok(Next::End),
+        Prefix::Bad => Ok(Next::Refused(Refusal::BadHead, incoming.bytes().len())),
+        Prefix::Told(head) => next_body(incoming, link, head),
     }
 }
 
-/// Reads the body after the head that stands in front, unless the head refuses the request.
+/// Reads the body after the head that comes first, unless the head refuses the request.
 fn next_body<L: Link>(incoming: &mut Incoming, link: &mut L, head: Head) -> Result<Next, ServeError>
     requires head { (rest : List ℕ) × HasHead incoming.old head rest }
     requires within { head.size ≤ length incoming.old }

@@ -18,7 +18,7 @@ pub enum ServeError {
     /// A read of the link failed.
     #[error("the link could not be read")]
     ReadFault,
-    /// A write of a reply failed. A front of it may be written.
+    /// A write of a reply failed. A prefix of it may be written.
     #[error("the link could not be written")]
     WriteFault,
     /// The link ended so many bytes into a request.

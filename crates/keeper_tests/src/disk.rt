@@ -2,7 +2,7 @@
 
 ghost use Rattle.std.specs.Prelude.{◌≡◌, ◌+◌, ◌≤◌, false, length, IfOk};
 
-use crate::places::{folder, removed, same};
+use crate::offsets::{folder, removed, same};
 use disk_keeper::{Disk, DiskFault, DiskKeeper, FileDisk, MemDisk};
 use ofx_ports::{Failed, FetchFault, Keeper, PutFault};
 use std::alloc::Global;
@@ -121,21 +121,21 @@ fn a_file_that_is_cut_is_refused(rt: HostRuntime) {
     }
 }
 
-/// Appends a record over a disk of which one call fails, settles it, and answers whether it stands. The calls are counted from
+/// Appends a record over a disk of which one call fails, settles it, and answers whether it is there. The calls are counted from
 /// the making of the file, which has two.
 fn settled(rt: &impl Abort, alloc: Global, failing: u64, landing: &[u64]) -> bool {
     let mut keeper = made(rt, alloc, &[failing], landing);
     same(rt, keeper.append(b"\xaa"), Err(PutFault::Failed));
-    let stands = keeper.settle().expect(rt, "an answer");
+    let holds = keeper.settle().expect(rt, "an answer");
     keep(rt, &mut keeper, b"\xbb");
     let number = keeper.len();
-    same(rt, number, 1 + u64::from(stands));
+    same(rt, number, 1 + u64::from(holds));
     let mut into = Vec::new(alloc);
     fetches(rt, &mut keeper, number, &mut into, Ok(b"\xbb"));
-    stands
+    holds
 }
 
-/// The call that fails, whether its bytes land, and whether the record stands.
+/// The call that fails, whether its bytes land, and whether the record is stored.
 const STOPS: &[(u64, &[u64], bool)] = &[
     (3, &[], false),
     (3, &[3], false),
@@ -151,8 +151,8 @@ const STOPS: &[(u64, &[u64], bool)] = &[
 
 #[test]
 fn a_stop_at_each_call_is_settled(rt: HostRuntime) {
-    for (failing, landing, stands) in STOPS {
-        same(&rt, settled(&rt, rt.alloc(), *failing, landing), *stands);
+    for (failing, landing, holds) in STOPS {
+        same(&rt, settled(&rt, rt.alloc(), *failing, landing), *holds);
     }
 }
 

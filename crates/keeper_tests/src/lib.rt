@@ -7,6 +7,6 @@ mod crashes;
 #[cfg(test)]
 mod disk;
 #[cfg(test)]
-mod places;
+mod offsets;
 #[cfg(test)]
 mod sqlite_file;

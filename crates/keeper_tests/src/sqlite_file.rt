@@ -1,9 +1,9 @@
 //! A keeper over an SQLite file: records outlive it, what is no file of records is refused and left alone, and an append that
-//! failed is settled by what stands in the file.
+//! failed is settled by what is in the file.
 
 ghost use Rattle.std.specs.Prelude.{◌≡◌, ◌+◌, ◌≤◌, false};
 
-use crate::places::{folder, removed, same};
+use crate::offsets::{folder, removed, same};
 use ofx_ports::{Failed, FetchFault, Keeper, PutFault};
 use sqlite::Connection;
 use sqlite_keeper::{RECORDS_TABLE, SqliteKeeper};

@@ -1,4 +1,4 @@
--- The request of a deed has its form exactly where reading finds it, and its faults have places.
+-- The request of a deed has its form exactly where reading finds it, and its faults have offsets.
 use Rattle.std.proofs.Common.{◌≡◌, ℕ, inl, inr, true, false, List, Ok, codes, refl, sym, ap, subst, ◌∙◌}
 use Rattle.ofx_types.specs.TagNames.{is_one_of}
 use Rattle.ofx_types.specs.Nodes.{Item}
@@ -14,11 +14,11 @@ use Rattle.ofx_types.specs.declared.transfer.Family.{Family}
 use Rattle.ofx_types.specs.declared.transfer.Family.TheVariants.{Intra, RecIntra, BankMail, Mail}
 use Rattle.ofx_types.specs.declared.transfer.Deed.TheVariants as deeds
 use Rattle.ofx_types.proofs.Bytes.{bytes_eq_is, went}
-use Rattle.ofx_tree.specs.Placed.{Stands, Any, IsWithin}
+use Rattle.ofx_tree.specs.Located.{Holds, Any, IsWithin}
 use Rattle.ofx_tree.proofs.FormLaws.{bind_ok, bind_to, one_value, one_of_found, one_of_again, has_one_of}
-use Rattle.ofx_tree.proofs.FormPlaces.{bound, either, one_of_within}
+use Rattle.ofx_tree.proofs.FormOffsets.{bound, either, one_of_within}
 use Rattle.msg_parts.proofs.PartLaws.{trnuid_found, trnuid_again}
-use Rattle.msg_parts.proofs.PartPlaces.{trnuid_within}
+use Rattle.msg_parts.proofs.PartOffsets.{trnuid_within}
 use Rattle.msg_parts.proofs.Named.{third_name, none_of_three, other_name, two_named}
 use Rattle.msg_deed.proofs.TransferRequests.{IsRequestOf, transfer_found, modify_found, cancel_found, transfer_again, modify_again, cancel_again, transfer_within, modify_within, cancel_within}
 use Rattle.msg_deed.proofs.ModelRequests.{model_found, modify_model_found, cancel_model_found, model_again, modify_model_again, cancel_model_again, model_within, modify_model_within, cancel_model_within}
@@ -44,7 +44,7 @@ model_request : (request : Item) (deed : Deed) → is_one_of model_requests requ
 unfolding request_of
 model_request request deed named h = elim (went (has_name (codes "INTRARQ") request) _ _ _ h) [
   | inl (is, read) ↦ absurd (other_name model_requests request.node.name (codes "INTRARQ") refl named (bytes_eq_is request.node.name (codes "INTRARQ") is))
-  | inr (_, behind) ↦ elim (went (has_name (codes "INTRAMODRQ") request) _ _ _ behind) [
+  | inr (_, rest) ↦ elim (went (has_name (codes "INTRAMODRQ") request) _ _ _ rest) [
     | inl (is, read) ↦ absurd (other_name model_requests request.node.name (codes "INTRAMODRQ") refl named (bytes_eq_is request.node.name (codes "INTRAMODRQ") is))
     | inr (_, next) ↦ elim (went (has_name (codes "INTRACANRQ") request) _ _ _ next) [
       | inl (is, read) ↦ absurd (other_name model_requests request.node.name (codes "INTRACANRQ") refl named (bytes_eq_is request.node.name (codes "INTRACANRQ") is))
@@ -103,7 +103,7 @@ request_again request (CancelModel id pending) r =
 request_again request (deeds.BankMail account mail) r = absurd r
 request_again request (deeds.Mail mail) r = absurd r
 
-request_within : (most : ℕ) (request : Item) → IsWithin most request → Stands most Any (request_of request)
+request_within : (most : ℕ) (request : Item) → IsWithin most request → Holds most Any (request_of request)
 unfolding request_of
 request_within most request h =
     either most Any (has_name (codes "INTRARQ") request) _ _ (transfer_within most request h)
@@ -115,7 +115,7 @@ request_within most request h =
 
 -- ---- the transaction
 
--- its name tells what the deed belongs to
+-- its name says what the deed belongs to
 asked_again : (transaction request : Item) (deed : Deed) → IsDeedRequest request deed → transaction.node.name ≡ request_name (family_of deed) → family_asked transaction ≡ Ok (family_of deed)
 asked_again transaction request (Transfer info) is name = rw name refl
 asked_again transaction request (ModifyTransfer id info) is name = rw name refl
@@ -126,9 +126,9 @@ asked_again transaction request (CancelModel id pending) is name = rw name refl
 asked_again transaction request (deeds.BankMail account mail) is name = absurd is
 asked_again transaction request (deeds.Mail mail) is name = absurd is
 
-asked_within : (most : ℕ) (transaction : Item) → IsWithin most transaction → Stands most Any (family_asked transaction)
+asked_within : (most : ℕ) (transaction : Item) → IsWithin most transaction → Holds most Any (family_asked transaction)
 asked_within most transaction h =
-    either most Any (has_name (codes "INTRATRNRQ") transaction) _ _ tt (either most Any (has_name (codes "RECINTRATRNRQ") transaction) _ _ tt h.place)
+    either most Any (has_name (codes "INTRATRNRQ") transaction) _ _ tt (either most Any (has_name (codes "RECINTRATRNRQ") transaction) _ _ tt h.offset)
 
 pub deed_found : (transaction : Item) (trnuid : List ℕ) (deed : Deed) → deed_of transaction ≡ Ok (trnuid, deed) → IsDeed transaction trnuid deed
 unfolding deed_of
@@ -163,7 +163,7 @@ deed_again transaction trnuid deed d =
     ∙ bind_to _ _ d.request request
     ∙ bind_to _ _ deed (request_again d.request deed d.is_request)
 
-pub deed_within : (most : ℕ) (transaction : Item) → IsWithin most transaction → Stands most Any (deed_of transaction)
+pub deed_within : (most : ℕ) (transaction : Item) → IsWithin most transaction → Holds most Any (deed_of transaction)
 unfolding deed_of
 deed_within most transaction h =
     bound most Any Any (trnuid_of transaction) _ (trnuid_within most transaction h) (λ trnuid _.

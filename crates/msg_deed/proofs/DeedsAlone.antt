@@ -17,11 +17,11 @@ deeds_alone printed trnuid deed d =
     read_alone (request_name (family_of deed)) (deed_text trnuid deed) (deed_documents trnuid deed) deed_of (trnuid, deed)
     (printed trnuid deed empty ∙ append-nil (deed_text trnuid deed))
     (deeds_lawful 15 trnuid deed empty (omega arith) d tt)
-    (λ place index. deeds_back place index trnuid deed d)
+    (λ offset index. deeds_back offset index trnuid deed d)
 
 pub deed_replies_alone : DeedRepliesAreDocuments → DeedRepliesReadBackAlone
 deed_replies_alone printed reply r =
     read_alone (reply_name reply.family) (deed_reply_text reply) (deed_reply_documents reply.trnuid reply.code reply.change) deed_reply_of (wire reply)
     (printed reply empty ∙ append-nil (deed_reply_text reply))
     (deed_replies_lawful 15 reply empty (omega arith) r tt)
-    (λ place index. deed_replies_back place index reply r)
+    (λ offset index. deed_replies_back offset index reply r)

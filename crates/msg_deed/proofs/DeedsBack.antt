@@ -33,7 +33,7 @@ use Rattle.ofx_tree.proofs.Leaves.{text_of_leaf, amount_of_leaf, moment_of_leaf,
 use Rattle.msg_parts.specs.DeedDocuments.{due_document, info_documents, recur_documents, each_documents, asked_name, request_documents, deed_documents}
 use Rattle.msg_parts.proofs.PartLaws.{account_found}
 use Rattle.msg_parts.proofs.ReadBack.{account_back}
-use Rattle.msg_parts.proofs.Transactions.{only_in_front, deed_item, own_trnuid_stands}
+use Rattle.msg_parts.proofs.Transactions.{only_in_prefix, deed_item, own_trnuid_holds}
 use Rattle.msg_parts.proofs.Lawful as lawful
 use Rattle.msg_deed.specs.DeedsReadBack.{DeedsReadBack}
 use Rattle.msg_deed.specs.SoundDeeds.{IsId, IsSoundInfo, IsSoundRecur, IsSoundDeed}
@@ -42,44 +42,44 @@ use Rattle.msg_deed.proofs.Deeds.{deed_again}
 use Rattle.msg_deed.proofs.Lawful.{id_leaf, freq_leaf, info_lawful, recur_lawful, each_lawful, request_lawful, deed_lawful}
 
 -- What is printed of an id is read as that id.
-pub is_id_of_leaf : (name : List ℕ) (id place index : ℕ) (parent : Item) → IsElementName name → IsId id →
-    IsOnly name parent (leaf_item place index name (decimal id)) → IsIdIn name parent id
-is_id_of_leaf name id place index parent named h only =
+pub is_id_of_leaf : (name : List ℕ) (id offset index : ℕ) (parent : Item) → IsElementName name → IsId id →
+    IsOnly name parent (leaf_item offset index name (decimal id)) → IsIdIn name parent id
+is_id_of_leaf name id offset index parent named h only =
     let short : length (decimal id) ≤ 64 = omega (arith, length-decimal-le 20 id (omega arith) (omega arith) (omega (arith, h))) in
     record {
       text = decimal id;
-      has_text = text_in_found name 64 parent (decimal id) (text_of_leaf name (decimal id) 64 place index parent (id_leaf name id named h) short only);
+      has_text = text_in_found name 64 parent (decimal id) (text_of_leaf name (decimal id) 64 offset index parent (id_leaf name id named h) short only);
       is_id = sym (ap (λ (read : Option ℕ). unwrap_or read 0) (number_printed 10 id (omega arith) (omega (arith, h)) (omega (arith, h))));
     }
 
 -- ---- what is said of a transfer
 
-other_due : (name : List ℕ) → bytes_eq (codes "DTDUE") name ≡ false → (due : Option Day) (place index : ℕ) →
-    filter (λ item. has_name name item) (items_of place index (due_document due)) ≡ []
-other_due name other None place index = refl
-other_due name other (Some day) place index = rw other refl
+other_due : (name : List ℕ) → bytes_eq (codes "DTDUE") name ≡ false → (due : Option Day) (offset index : ℕ) →
+    filter (λ item. has_name name item) (items_of offset index (due_document due)) ≡ []
+other_due name other None offset index = refl
+other_due name other (Some day) offset index = rw other refl
 
-due_stands : (place index : ℕ) (from to : AcctName) (amount : Cents) (due : Option Day) → IsSoundInfo (info_with from to amount due) →
-    IsMaybeDue (branch_item place index (codes "XFERINFO") (info_documents (info_with from to amount due))) due
-due_stands place index from to amount None i =
+due_holds : (offset index : ℕ) (from to : AcctName) (amount : Cents) (due : Option Day) → IsSoundInfo (info_with from to amount due) →
+    IsMaybeDue (branch_item offset index (codes "XFERINFO") (info_documents (info_with from to amount due))) due
+due_holds offset index from to amount None i =
     let info = info_with from to amount None in
-    named_of_branch place index 1 (codes "XFERINFO") (codes "DTDUE") (info_documents info) (info_lawful 1 info (omega arith) i)
-due_stands place index from to amount (Some day) i =
+    named_of_branch offset index 1 (codes "XFERINFO") (codes "DTDUE") (info_documents info) (info_lawful 1 info (omega arith) i)
+due_holds offset index from to amount (Some day) i =
     let info = info_with from to amount (Some day) in
-    let item = branch_item place index (codes "XFERINFO") (info_documents info) in
-    let only = named_of_branch place index 1 (codes "XFERINFO") (codes "DTDUE") (info_documents info) (info_lawful 1 info (omega arith) i) in
+    let item = branch_item offset index (codes "XFERINFO") (info_documents info) in
+    let only = named_of_branch offset index 1 (codes "XFERINFO") (codes "DTDUE") (info_documents info) (info_lawful 1 info (omega arith) i) in
     let at : Moment = record { 0 = midnight day.0 } in
     (at, moment_in_found (codes "DTDUE") item at (moment_of_leaf (codes "DTDUE") at _ _ item (lawful.named (codes "DTDUE") refl refl) (IsMoment-midnight day.0 i.due) only), day_of-midnight day.0)
 
-pub info_stands : (place index : ℕ) (info : XferInfo) → IsSoundInfo info →
-    IsXferInfo (branch_item place index (codes "XFERINFO") (info_documents info)) info
-info_stands place index info i =
+pub info_holds : (offset index : ℕ) (info : XferInfo) → IsSoundInfo info →
+    IsXferInfo (branch_item offset index (codes "XFERINFO") (info_documents info)) info
+info_holds offset index info i =
     let inner = info_documents info in
-    let item = branch_item place index (codes "XFERINFO") inner in
+    let item = branch_item offset index (codes "XFERINFO") inner in
     let sound = info_lawful 1 info (omega arith) i in
-    let from = only_in_front (codes "BANKACCTFROM") item _ (due_document info.due) _ _ (other_due (codes "BANKACCTFROM") refl info.due _ _) (named_of_branch place index 1 (codes "XFERINFO") (codes "BANKACCTFROM") inner sound) in
-    let to = only_in_front (codes "BANKACCTTO") item _ (due_document info.due) _ _ (other_due (codes "BANKACCTTO") refl info.due _ _) (named_of_branch place index 1 (codes "XFERINFO") (codes "BANKACCTTO") inner sound) in
-    let amount = only_in_front (codes "TRNAMT") item _ (due_document info.due) _ _ (other_due (codes "TRNAMT") refl info.due _ _) (named_of_branch place index 1 (codes "XFERINFO") (codes "TRNAMT") inner sound) in
+    let from = only_in_prefix (codes "BANKACCTFROM") item _ (due_document info.due) _ _ (other_due (codes "BANKACCTFROM") refl info.due _ _) (named_of_branch offset index 1 (codes "XFERINFO") (codes "BANKACCTFROM") inner sound) in
+    let to = only_in_prefix (codes "BANKACCTTO") item _ (due_document info.due) _ _ (other_due (codes "BANKACCTTO") refl info.due _ _) (named_of_branch offset index 1 (codes "XFERINFO") (codes "BANKACCTTO") inner sound) in
+    let amount = only_in_prefix (codes "TRNAMT") item _ (due_document info.due) _ _ (other_due (codes "TRNAMT") refl info.due _ _) (named_of_branch offset index 1 (codes "XFERINFO") (codes "TRNAMT") inner sound) in
     record {
       bankacctfrom = _;
       has_from = from;
@@ -88,7 +88,7 @@ info_stands place index info i =
       has_to = to;
       is_to = account_found _ info.to (account_back _ _ (codes "BANKACCTTO") info.to i.to);
       amount = amount_in_found (codes "TRNAMT") item info.amount (amount_of_leaf (codes "TRNAMT") info.amount _ _ item (lawful.named (codes "TRNAMT") refl refl) i.amount amount);
-      due = due_stands place index info.from info.to info.amount info.due (record { from = i.from; to = i.to; amount = i.amount; due = i.due });
+      due = due_holds offset index info.from info.to info.amount info.due (record { from = i.from; to = i.to; amount = i.amount; due = i.due });
     }
 
 -- ---- how a transfer recurs
@@ -96,82 +96,82 @@ info_stands place index info i =
 abbrev recur_with : Option ℕ → Freq → Recur
 recur_with count freq = record { count = count; freq = freq }
 
-recur_is : (place index : ℕ) (count : Option ℕ) (freq : Freq) → IsSoundRecur (recur_with count freq) →
-    IsRecur (branch_item place index (codes "RECURRINST") (recur_documents (recur_with count freq))) (recur_with count freq)
-recur_is place index None freq r =
+recur_is : (offset index : ℕ) (count : Option ℕ) (freq : Freq) → IsSoundRecur (recur_with count freq) →
+    IsRecur (branch_item offset index (codes "RECURRINST") (recur_documents (recur_with count freq))) (recur_with count freq)
+recur_is offset index None freq r =
     let inner = recur_documents (recur_with None freq) in
     let sound = recur_lawful 0 (recur_with None freq) r in
     record {
-      count = named_of_branch place index 0 (codes "RECURRINST") (codes "NINSTS") inner sound;
+      count = named_of_branch offset index 0 (codes "RECURRINST") (codes "NINSTS") inner sound;
       word = _;
-      has_word = named_of_branch place index 0 (codes "RECURRINST") (codes "FREQ") inner sound;
+      has_word = named_of_branch offset index 0 (codes "RECURRINST") (codes "FREQ") inner sound;
       is_word = (value_of_leaf 0 0 (codes "FREQ") (freq_word freq) (freq_leaf freq)).0;
     }
-recur_is place index (Some count) freq r =
+recur_is offset index (Some count) freq r =
     let inner = recur_documents (recur_with (Some count) freq) in
     let sound = recur_lawful 0 (recur_with (Some count) freq) r in
-    let item = branch_item place index (codes "RECURRINST") inner in
+    let item = branch_item offset index (codes "RECURRINST") inner in
     let small : count ≤ 999 = r.1 in
-    let only = named_of_branch place index 0 (codes "RECURRINST") (codes "NINSTS") inner sound in
+    let only = named_of_branch offset index 0 (codes "RECURRINST") (codes "NINSTS") inner sound in
     record {
       count = (number_in_found (codes "NINSTS") 3 item count (number_of_leaf (codes "NINSTS") 3 count _ _ item (lawful.named (codes "NINSTS") refl refl) (omega arith) (omega arith) (omega arith) only), r.0);
       word = _;
-      has_word = named_of_branch place index 0 (codes "RECURRINST") (codes "FREQ") inner sound;
+      has_word = named_of_branch offset index 0 (codes "RECURRINST") (codes "FREQ") inner sound;
       is_word = (value_of_leaf 0 0 (codes "FREQ") (freq_word freq) (freq_leaf freq)).0;
     }
 
-pub recur_stands : (place index : ℕ) (recur : Recur) → IsSoundRecur recur →
-    IsRecur (branch_item place index (codes "RECURRINST") (recur_documents recur)) recur
-recur_stands place index recur r = recur_is place index recur.count recur.freq r
+pub recur_holds : (offset index : ℕ) (recur : Recur) → IsSoundRecur recur →
+    IsRecur (branch_item offset index (codes "RECURRINST") (recur_documents recur)) recur
+recur_holds offset index recur r = recur_is offset index recur.count recur.freq r
 
-each_stands : (place index : ℕ) (info : XferInfo) → IsSoundInfo info → HasXferInfo (branch_item place index (codes "INTRARQ") (each_documents info)) info
-each_stands place index info i =
-    (_, named_of_branch place index 2 (codes "INTRARQ") (codes "XFERINFO") (each_documents info) (each_lawful 2 info (omega arith) i), info_stands _ _ info i)
+each_holds : (offset index : ℕ) (info : XferInfo) → IsSoundInfo info → HasXferInfo (branch_item offset index (codes "INTRARQ") (each_documents info)) info
+each_holds offset index info i =
+    (_, named_of_branch offset index 2 (codes "INTRARQ") (codes "XFERINFO") (each_documents info) (each_lawful 2 info (omega arith) i), info_holds _ _ info i)
 
 -- ---- the six requests
 
-request_stands : (place index : ℕ) (deed : Deed) → IsSoundDeed deed → IsDeedRequest (branch_item place index (asked_name deed) (request_documents deed)) deed
-request_stands place index (Transfer info) d = (refl, each_stands place index info d)
-request_stands place index (ModifyTransfer id info) d =
+request_holds : (offset index : ℕ) (deed : Deed) → IsSoundDeed deed → IsDeedRequest (branch_item offset index (asked_name deed) (request_documents deed)) deed
+request_holds offset index (Transfer info) d = (refl, each_holds offset index info d)
+request_holds offset index (ModifyTransfer id info) d =
     let inner = request_documents (ModifyTransfer id info) in
     let sound = request_lawful 3 (ModifyTransfer id info) (omega arith) d in
-    let item = branch_item place index (codes "INTRAMODRQ") inner in (
+    let item = branch_item offset index (codes "INTRAMODRQ") inner in (
       refl,
-      is_id_of_leaf (codes "SRVRTID") id _ _ item (lawful.named (codes "SRVRTID") refl refl) d.0 (named_of_branch place index 3 (codes "INTRAMODRQ") (codes "SRVRTID") inner sound),
-      (_, named_of_branch place index 3 (codes "INTRAMODRQ") (codes "XFERINFO") inner sound, info_stands _ _ info d.1),
+      is_id_of_leaf (codes "SRVRTID") id _ _ item (lawful.named (codes "SRVRTID") refl refl) d.0 (named_of_branch offset index 3 (codes "INTRAMODRQ") (codes "SRVRTID") inner sound),
+      (_, named_of_branch offset index 3 (codes "INTRAMODRQ") (codes "XFERINFO") inner sound, info_holds _ _ info d.1),
     )
-request_stands place index (CancelTransfer id) d =
+request_holds offset index (CancelTransfer id) d =
     let inner = request_documents (CancelTransfer id) in
     let sound = request_lawful 3 (CancelTransfer id) (omega arith) d in
-    let item = branch_item place index (codes "INTRACANRQ") inner in
-    (refl, is_id_of_leaf (codes "SRVRTID") id _ _ item (lawful.named (codes "SRVRTID") refl refl) d (named_of_branch place index 3 (codes "INTRACANRQ") (codes "SRVRTID") inner sound))
-request_stands place index (Model recur info) d =
+    let item = branch_item offset index (codes "INTRACANRQ") inner in
+    (refl, is_id_of_leaf (codes "SRVRTID") id _ _ item (lawful.named (codes "SRVRTID") refl refl) d (named_of_branch offset index 3 (codes "INTRACANRQ") (codes "SRVRTID") inner sound))
+request_holds offset index (Model recur info) d =
     let inner = request_documents (Model recur info) in
     let sound = request_lawful 3 (Model recur info) (omega arith) d in (
       refl,
-      (_, named_of_branch place index 3 (codes "RECINTRARQ") (codes "RECURRINST") inner sound, recur_stands _ _ recur d.0),
-      (_, named_of_branch place index 3 (codes "RECINTRARQ") (codes "INTRARQ") inner sound, each_stands _ _ info d.1),
+      (_, named_of_branch offset index 3 (codes "RECINTRARQ") (codes "RECURRINST") inner sound, recur_holds _ _ recur d.0),
+      (_, named_of_branch offset index 3 (codes "RECINTRARQ") (codes "INTRARQ") inner sound, each_holds _ _ info d.1),
     )
-request_stands place index (ModifyModel id recur info pending) d =
+request_holds offset index (ModifyModel id recur info pending) d =
     let inner = request_documents (ModifyModel id recur info pending) in
     let sound = request_lawful 3 (ModifyModel id recur info pending) (omega arith) d in
-    let item = branch_item place index (codes "RECINTRAMODRQ") inner in (
+    let item = branch_item offset index (codes "RECINTRAMODRQ") inner in (
       refl,
-      is_id_of_leaf (codes "RECSRVRTID") id _ _ item (lawful.named (codes "RECSRVRTID") refl refl) d.0 (named_of_branch place index 3 (codes "RECINTRAMODRQ") (codes "RECSRVRTID") inner sound),
-      (_, named_of_branch place index 3 (codes "RECINTRAMODRQ") (codes "RECURRINST") inner sound, recur_stands _ _ recur d.1),
-      (_, named_of_branch place index 3 (codes "RECINTRAMODRQ") (codes "INTRARQ") inner sound, each_stands _ _ info d.2),
-      is_flag_of_leaf (codes "MODPENDING") pending _ _ item (lawful.named (codes "MODPENDING") refl refl) (named_of_branch place index 3 (codes "RECINTRAMODRQ") (codes "MODPENDING") inner sound),
+      is_id_of_leaf (codes "RECSRVRTID") id _ _ item (lawful.named (codes "RECSRVRTID") refl refl) d.0 (named_of_branch offset index 3 (codes "RECINTRAMODRQ") (codes "RECSRVRTID") inner sound),
+      (_, named_of_branch offset index 3 (codes "RECINTRAMODRQ") (codes "RECURRINST") inner sound, recur_holds _ _ recur d.1),
+      (_, named_of_branch offset index 3 (codes "RECINTRAMODRQ") (codes "INTRARQ") inner sound, each_holds _ _ info d.2),
+      is_flag_of_leaf (codes "MODPENDING") pending _ _ item (lawful.named (codes "MODPENDING") refl refl) (named_of_branch offset index 3 (codes "RECINTRAMODRQ") (codes "MODPENDING") inner sound),
     )
-request_stands place index (CancelModel id pending) d =
+request_holds offset index (CancelModel id pending) d =
     let inner = request_documents (CancelModel id pending) in
     let sound = request_lawful 3 (CancelModel id pending) (omega arith) d in
-    let item = branch_item place index (codes "RECINTRACANRQ") inner in (
+    let item = branch_item offset index (codes "RECINTRACANRQ") inner in (
       refl,
-      is_id_of_leaf (codes "RECSRVRTID") id _ _ item (lawful.named (codes "RECSRVRTID") refl refl) d (named_of_branch place index 3 (codes "RECINTRACANRQ") (codes "RECSRVRTID") inner sound),
-      is_flag_of_leaf (codes "CANPENDING") pending _ _ item (lawful.named (codes "CANPENDING") refl refl) (named_of_branch place index 3 (codes "RECINTRACANRQ") (codes "CANPENDING") inner sound),
+      is_id_of_leaf (codes "RECSRVRTID") id _ _ item (lawful.named (codes "RECSRVRTID") refl refl) d (named_of_branch offset index 3 (codes "RECINTRACANRQ") (codes "RECSRVRTID") inner sound),
+      is_flag_of_leaf (codes "CANPENDING") pending _ _ item (lawful.named (codes "CANPENDING") refl refl) (named_of_branch offset index 3 (codes "RECINTRACANRQ") (codes "CANPENDING") inner sound),
     )
-request_stands place index (deeds.BankMail account mail) d = absurd d
-request_stands place index (deeds.Mail mail) d = absurd d
+request_holds offset index (deeds.BankMail account mail) d = absurd d
+request_holds offset index (deeds.Mail mail) d = absurd d
 
 -- ---- the transaction
 
@@ -179,30 +179,30 @@ request_stands place index (deeds.Mail mail) d = absurd d
 abbrev requests_among : Family → List Item → List Item
 requests_among family items = filter (λ child. is_one_of (requests_in family) child.node.name && not (is_absent child.node)) items
 
-only_request : (place index : ℕ) (trnuid : List ℕ) (deed : Deed) → IsSoundDeed deed →
-    (request : Item) × IsOnlyOf (requests_in (family_of deed)) (deed_item place index trnuid deed) request × IsDeedRequest request deed
-only_request place index trnuid (Transfer info) d =
-    (_, ap (requests_among Intra) (children_of_branch place index (codes "INTRATRNRQ") (deed_documents trnuid (Transfer info))), request_stands _ _ (Transfer info) d)
-only_request place index trnuid (ModifyTransfer id info) d =
-    (_, ap (requests_among Intra) (children_of_branch place index (codes "INTRATRNRQ") (deed_documents trnuid (ModifyTransfer id info))), request_stands _ _ (ModifyTransfer id info) d)
-only_request place index trnuid (CancelTransfer id) d =
-    (_, ap (requests_among Intra) (children_of_branch place index (codes "INTRATRNRQ") (deed_documents trnuid (CancelTransfer id))), request_stands _ _ (CancelTransfer id) d)
-only_request place index trnuid (Model recur info) d =
-    (_, ap (requests_among RecIntra) (children_of_branch place index (codes "RECINTRATRNRQ") (deed_documents trnuid (Model recur info))), request_stands _ _ (Model recur info) d)
-only_request place index trnuid (ModifyModel id recur info pending) d =
-    (_, ap (requests_among RecIntra) (children_of_branch place index (codes "RECINTRATRNRQ") (deed_documents trnuid (ModifyModel id recur info pending))), request_stands _ _ (ModifyModel id recur info pending) d)
-only_request place index trnuid (CancelModel id pending) d =
-    (_, ap (requests_among RecIntra) (children_of_branch place index (codes "RECINTRATRNRQ") (deed_documents trnuid (CancelModel id pending))), request_stands _ _ (CancelModel id pending) d)
-only_request place index trnuid (deeds.BankMail account mail) d = absurd d
-only_request place index trnuid (deeds.Mail mail) d = absurd d
+only_request : (offset index : ℕ) (trnuid : List ℕ) (deed : Deed) → IsSoundDeed deed →
+    (request : Item) × IsOnlyOf (requests_in (family_of deed)) (deed_item offset index trnuid deed) request × IsDeedRequest request deed
+only_request offset index trnuid (Transfer info) d =
+    (_, ap (requests_among Intra) (children_of_branch offset index (codes "INTRATRNRQ") (deed_documents trnuid (Transfer info))), request_holds _ _ (Transfer info) d)
+only_request offset index trnuid (ModifyTransfer id info) d =
+    (_, ap (requests_among Intra) (children_of_branch offset index (codes "INTRATRNRQ") (deed_documents trnuid (ModifyTransfer id info))), request_holds _ _ (ModifyTransfer id info) d)
+only_request offset index trnuid (CancelTransfer id) d =
+    (_, ap (requests_among Intra) (children_of_branch offset index (codes "INTRATRNRQ") (deed_documents trnuid (CancelTransfer id))), request_holds _ _ (CancelTransfer id) d)
+only_request offset index trnuid (Model recur info) d =
+    (_, ap (requests_among RecIntra) (children_of_branch offset index (codes "RECINTRATRNRQ") (deed_documents trnuid (Model recur info))), request_holds _ _ (Model recur info) d)
+only_request offset index trnuid (ModifyModel id recur info pending) d =
+    (_, ap (requests_among RecIntra) (children_of_branch offset index (codes "RECINTRATRNRQ") (deed_documents trnuid (ModifyModel id recur info pending))), request_holds _ _ (ModifyModel id recur info pending) d)
+only_request offset index trnuid (CancelModel id pending) d =
+    (_, ap (requests_among RecIntra) (children_of_branch offset index (codes "RECINTRATRNRQ") (deed_documents trnuid (CancelModel id pending))), request_holds _ _ (CancelModel id pending) d)
+only_request offset index trnuid (deeds.BankMail account mail) d = absurd d
+only_request offset index trnuid (deeds.Mail mail) d = absurd d
 
 pub deeds_back : DeedsReadBack
-deeds_back place index trnuid deed d =
-    let item = deed_item place index trnuid deed in
-    let request = only_request place index trnuid deed d.is_deed in
+deeds_back offset index trnuid deed d =
+    let item = deed_item offset index trnuid deed in
+    let request = only_request offset index trnuid deed d.is_deed in
     deed_again item trnuid deed (record {
       is_named = refl;
-      has_trnuid = own_trnuid_stands place index 4 trnuid deed d.is_uid d.is_own (deed_lawful 4 trnuid deed (omega arith) d);
+      has_trnuid = own_trnuid_holds offset index 4 trnuid deed d.is_uid d.is_own (deed_lawful 4 trnuid deed (omega arith) d);
       request = request.0;
       has_request = request.1;
       is_request = request.2;

@@ -65,10 +65,10 @@ info_lawful room info some i = (
   ),
 )
 
--- XFERINFO in front of more
-pub info_in_lawful : (room : ℕ) (info : XferInfo) (behind : Documents) → 1 < room → IsSoundInfo info → AreLawful room behind →
-    AreLawful room (branch (codes "XFERINFO") (info_documents info) behind)
-info_in_lawful room info behind some i more =
+-- XFERINFO before more
+pub info_in_lawful : (room : ℕ) (info : XferInfo) (rest : Documents) → 1 < room → IsSoundInfo info → AreLawful room rest →
+    AreLawful room (branch (codes "XFERINFO") (info_documents info) rest)
+info_in_lawful room info rest some i more =
     (is_branch (codes "XFERINFO") refl refl refl, omega arith, info_lawful (room - 1) info (omega arith) i, more)
 
 pub freq_leaf : (freq : Freq) → IsLeaf (codes "FREQ") (freq_word freq)
@@ -82,27 +82,27 @@ freq_leaf Quarterly = record { has_name = named (codes "FREQ") refl refl; is_tex
 freq_leaf Semiannually = record { has_name = named (codes "FREQ") refl refl; is_text = record { is_trimmed = refl; is_clean = refl; is_short = omega arith }; is_there = omega arith }
 freq_leaf Annually = record { has_name = named (codes "FREQ") refl refl; is_text = record { is_trimmed = refl; is_clean = refl; is_short = omega arith }; is_there = omega arith }
 
-count_lawful : (room : ℕ) (count : Option ℕ) (behind : Documents) → IfSome count (λ (n : ℕ). (0 < n) × (n ≤ 999)) → AreLawful room behind →
-    AreLawful room (count_document count behind)
-count_lawful room None behind h more = more
-count_lawful room (Some count) behind h more =
+count_lawful : (room : ℕ) (count : Option ℕ) (rest : Documents) → IfSome count (λ (n : ℕ). (0 < n) × (n ≤ 999)) → AreLawful room rest →
+    AreLawful room (count_document count rest)
+count_lawful room None rest h more = more
+count_lawful room (Some count) rest h more =
     let small : count ≤ 999 = h.1 in (number_leaf (codes "NINSTS") count (named (codes "NINSTS") refl refl) (omega arith), more)
 
 pub recur_lawful : (room : ℕ) (recur : Recur) → IsSoundRecur recur → AreLawful room (recur_documents recur)
 recur_lawful room recur r = count_lawful room recur.count _ r (freq_leaf recur.freq, tt)
 
--- RECURRINST in front of more
-recur_in_lawful : (room : ℕ) (recur : Recur) (behind : Documents) → 0 < room → IsSoundRecur recur → AreLawful room behind →
-    AreLawful room (branch (codes "RECURRINST") (recur_documents recur) behind)
-recur_in_lawful room recur behind some r more = (is_branch (codes "RECURRINST") refl refl refl, some, recur_lawful (room - 1) recur r, more)
+-- RECURRINST before more
+recur_in_lawful : (room : ℕ) (recur : Recur) (rest : Documents) → 0 < room → IsSoundRecur recur → AreLawful room rest →
+    AreLawful room (branch (codes "RECURRINST") (recur_documents recur) rest)
+recur_in_lawful room recur rest some r more = (is_branch (codes "RECURRINST") refl refl refl, some, recur_lawful (room - 1) recur r, more)
 
 pub each_lawful : (room : ℕ) (info : XferInfo) → 1 < room → IsSoundInfo info → AreLawful room (each_documents info)
 each_lawful room info some i = info_in_lawful room info empty some i tt
 
--- the inner INTRARQ in front of more
-each_in_lawful : (room : ℕ) (info : XferInfo) (behind : Documents) → 2 < room → IsSoundInfo info → AreLawful room behind →
-    AreLawful room (branch (codes "INTRARQ") (each_documents info) behind)
-each_in_lawful room info behind some i more =
+-- the inner INTRARQ before more
+each_in_lawful : (room : ℕ) (info : XferInfo) (rest : Documents) → 2 < room → IsSoundInfo info → AreLawful room rest →
+    AreLawful room (branch (codes "INTRARQ") (each_documents info) rest)
+each_in_lawful room info rest some i more =
     (is_branch (codes "INTRARQ") refl refl refl, omega arith, each_lawful (room - 1) info (omega arith) i, more)
 
 flag_lawful : (room : ℕ) (name : List ℕ) (flag : Bool) → IsElementName name → AreLawful room (leaf name (flag_word flag) empty)
@@ -133,7 +133,7 @@ deed_lawful room trnuid deed some d = (
 )
 
 pub deeds_lawful : DeedsAreLawful
-deeds_lawful room trnuid deed behind some d more =
+deeds_lawful room trnuid deed rest some d more =
     (transaction_branch (family_of deed), omega arith, deed_lawful (room - 1) trnuid deed (omega arith) d, more)
 
 pub processing_lawful : (room : ℕ) (code : XferCode) (stamp : Moment) → IsSoundMoment stamp → AreLawful room (processing_documents code stamp)
@@ -145,10 +145,10 @@ processing_in_lawful : (room : ℕ) (row : TransferRow) → 0 < room → IsSound
 processing_in_lawful room row some r =
     (is_branch (codes "XFERPRCSTS") refl refl refl, some, processing_lawful (room - 1) row.code row.stamp r.stamp, tt)
 
-model_lawful : (room : ℕ) (is_none : Bool) (model : ℕ) (behind : Documents) → IsId model → AreLawful room behind →
-    AreLawful room (model_with is_none model behind)
-model_lawful room true model behind h more = more
-model_lawful room false model behind h more = (id_leaf (codes "RECSRVRTID") model (named (codes "RECSRVRTID") refl refl) h, more)
+model_lawful : (room : ℕ) (is_none : Bool) (model : ℕ) (rest : Documents) → IsId model → AreLawful room rest →
+    AreLawful room (model_with is_none model rest)
+model_lawful room true model rest h more = more
+model_lawful room false model rest h more = (id_leaf (codes "RECSRVRTID") model (named (codes "RECSRVRTID") refl refl) h, more)
 
 pub new_lawful : (room : ℕ) (is_none : Bool) (row : TransferRow) → 1 < room → IsSoundRow row → IsId row.model → AreLawful room (new_with is_none row)
 new_lawful room is_none row some r m = (
@@ -170,12 +170,12 @@ first_lawful room row some r = (
   ),
 )
 
--- what is said of a recurring transfer, in front of more
-model_in_lawful : (room : ℕ) (row : ModelRow) (behind : Documents) → 2 < room → IsSoundModelRow row → AreLawful room behind →
-    AreLawful room (model_documents row behind)
-model_in_lawful room row behind some r more = (
+-- what is said of a recurring transfer, before more
+model_in_lawful : (room : ℕ) (row : ModelRow) (rest : Documents) → 2 < room → IsSoundModelRow row → AreLawful room rest →
+    AreLawful room (model_documents row rest)
+model_in_lawful room row rest some r more = (
   id_leaf (codes "RECSRVRTID") row.id (named (codes "RECSRVRTID") refl refl) r.id,
-  recur_in_lawful room row.recur (branch (codes "INTRARS") (first_documents row) behind) (omega arith) r.recur
+  recur_in_lawful room row.recur (branch (codes "INTRARS") (first_documents row) rest) (omega arith) r.recur
       (is_branch (codes "INTRARS") refl refl refl, omega arith, first_lawful (room - 1) row (omega arith) r, more),
 )
 
@@ -204,5 +204,5 @@ deed_reply_lawful room reply some r = (
 )
 
 pub deed_replies_lawful : DeedRepliesAreLawful
-deed_replies_lawful room reply behind some r more =
+deed_replies_lawful room reply rest some r more =
     (answer_branch reply.family, omega arith, deed_reply_lawful (room - 1) reply (omega arith) r, more)

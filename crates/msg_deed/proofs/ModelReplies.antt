@@ -1,4 +1,4 @@
--- The three replies about recurring transfers: each has its form exactly where reading finds it, and its faults have places.
+-- The three replies about recurring transfers: each has its form exactly where reading finds it, and its faults have offsets.
 use Rattle.std.proofs.Common.{◌≡◌, ℕ, Bool, codes, Ok, refl, subst, ◌∙◌}
 use Rattle.ofx_types.specs.Nodes.{Item}
 use Rattle.ofx_types.specs.FormWords.{flag_in, id_in}
@@ -7,9 +7,9 @@ use Rattle.ofx_types.specs.RecurringReading.{model_row_of, new_model_of, set_mod
 use Rattle.ofx_types.specs.declared.recurring.ModelRow.{ModelRow}
 use Rattle.ofx_types.specs.declared.transfer.Change.{Change}
 use Rattle.ofx_types.specs.declared.transfer.Change.TheVariants.{NewModel, SetModel, DropModel}
-use Rattle.ofx_tree.specs.Placed.{Stands, Any, IsWithin}
+use Rattle.ofx_tree.specs.Located.{Holds, Any, IsWithin}
 use Rattle.ofx_tree.proofs.FormLaws.{bind_ok, bind_to, one_value, flag_in_found, flag_in_again, id_in_found, id_in_again}
-use Rattle.ofx_tree.proofs.FormPlaces.{bound, flag_within, id_within}
+use Rattle.ofx_tree.proofs.FormOffsets.{bound, flag_within, id_within}
 use Rattle.msg_deed.proofs.RecurringParts.{row_found, row_again, row_within}
 
 pub new_model_found : (reply : Item) (change : Change) → reply.node.name ≡ codes "RECINTRARS" → new_model_of reply ≡ Ok change → IsChange reply change
@@ -51,17 +51,17 @@ drop_model_again reply id pending (name, has_id, has_flag) =
     bind_to _ _ id (id_in_again (codes "RECSRVRTID") reply id has_id)
     ∙ bind_to _ _ pending (flag_in_again (codes "CANPENDING") reply pending has_flag)
 
-pub new_model_within : (most : ℕ) (reply : Item) → IsWithin most reply → Stands most Any (new_model_of reply)
+pub new_model_within : (most : ℕ) (reply : Item) → IsWithin most reply → Holds most Any (new_model_of reply)
 unfolding new_model_of
 new_model_within most reply h = bound most Any Any (model_row_of reply) _ (row_within most reply h) (λ row _. tt)
 
-pub set_model_within : (most : ℕ) (reply : Item) → IsWithin most reply → Stands most Any (set_model_of reply)
+pub set_model_within : (most : ℕ) (reply : Item) → IsWithin most reply → Holds most Any (set_model_of reply)
 unfolding set_model_of
 set_model_within most reply h =
     bound most Any Any (model_row_of reply) _ (row_within most reply h) (λ row _.
     bound most Any Any (flag_in (codes "MODPENDING") reply) _ (flag_within most (codes "MODPENDING") reply h) (λ pending _. tt))
 
-pub drop_model_within : (most : ℕ) (reply : Item) → IsWithin most reply → Stands most Any (drop_model_of reply)
+pub drop_model_within : (most : ℕ) (reply : Item) → IsWithin most reply → Holds most Any (drop_model_of reply)
 unfolding drop_model_of
 drop_model_within most reply h =
     bound most Any Any (id_in (codes "RECSRVRTID") reply) _ (id_within most (codes "RECSRVRTID") reply h) (λ id _.

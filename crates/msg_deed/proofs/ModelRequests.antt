@@ -1,4 +1,4 @@
--- The three requests of recurring transfers: each has its form exactly where reading finds it, and its faults have places.
+-- The three requests of recurring transfers: each has its form exactly where reading finds it, and its faults have offsets.
 use Rattle.std.proofs.Common.{◌≡◌, ℕ, Bool, codes, Ok, refl, subst, ◌∙◌}
 use Rattle.ofx_types.specs.Nodes.{Item}
 use Rattle.ofx_types.specs.FormWords.{flag_in, id_in}
@@ -9,9 +9,9 @@ use Rattle.ofx_types.specs.declared.transfer.XferInfo.{XferInfo}
 use Rattle.ofx_types.specs.declared.transfer.Deed.{Deed}
 use Rattle.ofx_types.specs.declared.transfer.Deed.TheVariants.{Model, ModifyModel, CancelModel}
 use Rattle.ofx_types.specs.declared.transfer.Family.TheVariants.{RecIntra}
-use Rattle.ofx_tree.specs.Placed.{Stands, Any, IsWithin}
+use Rattle.ofx_tree.specs.Located.{Holds, Any, IsWithin}
 use Rattle.ofx_tree.proofs.FormLaws.{bind_ok, bind_to, one_value, flag_in_found, flag_in_again, id_in_found, id_in_again}
-use Rattle.ofx_tree.proofs.FormPlaces.{bound, flag_within, id_within}
+use Rattle.ofx_tree.proofs.FormOffsets.{bound, flag_within, id_within}
 use Rattle.msg_deed.proofs.RecurringParts.{recur_in_found, recur_in_again, recur_in_within, each_found, each_again, each_within}
 use Rattle.msg_deed.proofs.TransferRequests.{IsRequestOf}
 
@@ -75,13 +75,13 @@ cancel_model_again request id pending (name, has_id, has_flag) =
     bind_to _ _ id (id_in_again (codes "RECSRVRTID") request id has_id)
     ∙ bind_to _ _ pending (flag_in_again (codes "CANPENDING") request pending has_flag)
 
-pub model_within : (most : ℕ) (request : Item) → IsWithin most request → Stands most Any (model_of request)
+pub model_within : (most : ℕ) (request : Item) → IsWithin most request → Holds most Any (model_of request)
 unfolding model_of
 model_within most request h =
     bound most Any Any (recur_in request) _ (recur_in_within most request h) (λ recur _.
     bound most Any Any (each_info_in request) _ (each_within most request h) (λ info _. tt))
 
-pub modify_model_within : (most : ℕ) (request : Item) → IsWithin most request → Stands most Any (modify_model_of request)
+pub modify_model_within : (most : ℕ) (request : Item) → IsWithin most request → Holds most Any (modify_model_of request)
 unfolding modify_model_of
 modify_model_within most request h =
     bound most Any Any (id_in (codes "RECSRVRTID") request) _ (id_within most (codes "RECSRVRTID") request h) (λ id _.
@@ -89,7 +89,7 @@ modify_model_within most request h =
     bound most Any Any (each_info_in request) _ (each_within most request h) (λ info _.
     bound most Any Any (flag_in (codes "MODPENDING") request) _ (flag_within most (codes "MODPENDING") request h) (λ pending _. tt))))
 
-pub cancel_model_within : (most : ℕ) (request : Item) → IsWithin most request → Stands most Any (cancel_model_of request)
+pub cancel_model_within : (most : ℕ) (request : Item) → IsWithin most request → Holds most Any (cancel_model_of request)
 unfolding cancel_model_of
 cancel_model_within most request h =
     bound most Any Any (id_in (codes "RECSRVRTID") request) _ (id_within most (codes "RECSRVRTID") request h) (λ id _.

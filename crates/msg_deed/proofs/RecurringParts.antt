@@ -1,5 +1,5 @@
--- How a transfer recurs, what each of its transfers is like, and what is told of it: each has its form exactly where reading
--- finds it, and its faults have places.
+-- How a transfer recurs, what each of its transfers is like, and what is reported of it: each has its form exactly where reading
+-- finds it, and its faults have offsets.
 use Rattle.std.proofs.Common.{◌≡◌, if◌then◌else◌, inl, inr, ℕ, ◌<◌, ◌≤◌, Bool, true, false, nat_eq, List, [], ◌∷◌, Option, None, Some, Result, Ok, codes, refl, sym, ap, subst, ◌∙◌, arith}
 use Rattle.std.proofs.lemmas.Grind.{common_steps}
 use Rattle.std.specs.List.{find}
@@ -18,9 +18,9 @@ use Rattle.ofx_types.specs.declared.recurring.Recur.{Recur}
 use Rattle.ofx_types.specs.declared.recurring.ModelRow.{ModelRow}
 use Rattle.ofx_types.specs.declared.transfer.XferInfo.{XferInfo}
 use Rattle.ofx_types.proofs.Bytes.{bytes_eq_is, went}
-use Rattle.ofx_tree.specs.Placed.{Stands, Any, IsWithin}
+use Rattle.ofx_tree.specs.Located.{Holds, Any, IsWithin}
 use Rattle.ofx_tree.proofs.FormLaws.{bind_ok, bind_to, one_value, one_found, one_again, maybe_none, maybe_some, none_again, some_again, number_in_found, id_in_found, id_in_again, maybe_id_in_found, maybe_id_in_again}
-use Rattle.ofx_tree.proofs.FormPlaces.{bound, either, one_within, maybe_within, id_within, maybe_id_within, number_or_within}
+use Rattle.ofx_tree.proofs.FormOffsets.{bound, either, one_within, maybe_within, id_within, maybe_id_within, number_or_within}
 use Rattle.msg_deed.proofs.TransferParts.{info_in_found, info_in_again, info_in_within, due_info_found, due_info_again, due_info_within}
 
 -- ---- the count
@@ -28,8 +28,8 @@ use Rattle.msg_deed.proofs.TransferParts.{info_in_found, info_in_again, info_in_
 abbrev read_number : ℕ → Result ℕ TreeFault
 read_number n = Ok n
 
-not_zero_found : (place count read : ℕ) → not_zero place count ≡ Ok read → (count ≡ read) × (0 < read)
-not_zero_found place count read h = elim (went (nat_eq count 0) _ _ _ h) [
+not_zero_found : (offset count read : ℕ) → not_zero offset count ≡ Ok read → (count ≡ read) × (0 < read)
+not_zero_found offset count read h = elim (went (nat_eq count 0) _ _ _ h) [
   | inl (is, fault) ↦ cc
   | inr (other, found) ↦
       let same : count ≡ read = one_value (Ok count) count read refl found in
@@ -37,8 +37,8 @@ not_zero_found place count read h = elim (went (nat_eq count 0) _ _ _ h) [
       (same, subst (λ (n : ℕ). 0 < n) same some)
 ]
 
-not_zero_again : (place count : ℕ) → 0 < count → not_zero place count ≡ Ok count
-not_zero_again place count some = let other : nat_eq count 0 ≡ false = grind (arith, common_steps, some) in rw other refl
+not_zero_again : (offset count : ℕ) → 0 < count → not_zero offset count ≡ Ok count
+not_zero_again offset count some = let other : nat_eq count 0 ≡ false = grind (arith, common_steps, some) in rw other refl
 
 abbrev read_as : Option ℕ → Result (Option ℕ) TreeFault
 read_as count = Ok count
@@ -55,8 +55,8 @@ count_found recurrinst (Some child) None h i =
     never n e = cc
 count_found recurrinst (Some child) (Some count) h i =
     let read = bind_ok (count_at child.node) (λ n. Ok (Some n)) (Some count) i in
-    let number = bind_ok (number_of 3 child.node) (not_zero child.node.place) read.0 read.1 in
-    let some = not_zero_found child.node.place number.0 read.0 number.2 in
+    let number = bind_ok (number_of 3 child.node) (not_zero child.node.offset) read.0 read.1 in
+    let some = not_zero_found child.node.offset number.0 read.0 number.2 in
     let same : number.0 ≡ count = some.0 ∙ one_some read.0 read.2 in
     let only = one_again (codes "NINSTS") recurrinst child (maybe_some (codes "NINSTS") recurrinst child h) in (
       number_in_found (codes "NINSTS") 3 recurrinst count (bind_to _ (λ c. number_of 3 c.node) child only ∙ number.1 ∙ ap read_number same),
@@ -73,19 +73,19 @@ count_again recurrinst (Some count) (there, some) = (
   Some there.child,
   some_again (codes "NINSTS") recurrinst there.child there.is_only,
   bind_to (count_at there.child.node) (λ n. Ok (Some n)) count
-      (bind_to (number_of 3 there.child.node) _ count (ap (number_or there.child.node.place) there.stands)
-      ∙ not_zero_again there.child.node.place count some),
+      (bind_to (number_of 3 there.child.node) _ count (ap (number_or there.child.node.offset) there.holds)
+      ∙ not_zero_again there.child.node.offset count some),
 )
 
-not_zero_within : (most place count : ℕ) → place ≤ most → Stands most Any (not_zero place count)
-not_zero_within most place count h = either most Any (nat_eq count 0) _ _ h tt
+not_zero_within : (most offset count : ℕ) → offset ≤ most → Holds most Any (not_zero offset count)
+not_zero_within most offset count h = either most Any (nat_eq count 0) _ _ h tt
 
-count_within : (most : ℕ) (found : Option Item) → IfSome found (IsWithin most) → Stands most Any (count_if_any found)
+count_within : (most : ℕ) (found : Option Item) → IfSome found (IsWithin most) → Holds most Any (count_if_any found)
 count_within most None h = tt
 count_within most (Some child) h =
     bound most Any Any (count_at child.node) (λ n. Ok (Some n))
-    (bound most Any Any (number_of 3 child.node) _ (number_or_within most child.node.place _ h.place)
-    (λ n _. not_zero_within most child.node.place n h.place))
+    (bound most Any Any (number_of 3 child.node) _ (number_or_within most child.node.offset _ h.offset)
+    (λ n _. not_zero_within most child.node.offset n h.offset))
     (λ n _. tt)
 
 -- ---- the frequency
@@ -96,17 +96,17 @@ found_passes p [] x h = cc
 found_passes {A} p (y ∷ xs) x h = tested (p y) refl h (λ e. found_passes p xs x e)
   where
     tested : (b : Bool) → p y ≡ b → (if b then Some y else find p xs) ≡ Some x → (find p xs ≡ Some x → p x ≡ true) → p x ≡ true
-    tested true is e behind = let same : y ≡ x = cc in rw same at is
-    tested false other e behind = behind e
+    tested true is e rest = let same : y ≡ x = cc in rw same at is
+    tested false other e rest = rest e
 
-freq_given : (place : ℕ) (named : Option Freq) (freq : Freq) → freq_or place named ≡ Ok freq → named ≡ Some freq
-freq_given place None freq h = cc
-freq_given place (Some f) freq h = ap (λ (g : Freq). Some g) (one_value (Ok f) f freq refl h)
+freq_given : (offset : ℕ) (named : Option Freq) (freq : Freq) → freq_or offset named ≡ Ok freq → named ≡ Some freq
+freq_given offset None freq h = cc
+freq_given offset (Some f) freq h = ap (λ (g : Freq). Some g) (one_value (Ok f) f freq refl h)
 
-freq_found : (word : List ℕ) (place : ℕ) (freq : Freq) → freq_or place (freq_named word) ≡ Ok freq → word ≡ freq_word freq
-freq_found word place freq h =
+freq_found : (word : List ℕ) (offset : ℕ) (freq : Freq) → freq_or offset (freq_named word) ≡ Ok freq → word ≡ freq_word freq
+freq_found word offset freq h =
     sym (bytes_eq_is (freq_word freq) word
-    (found_passes (λ (f : Freq). bytes_eq (freq_word f) word) freqs freq (freq_given place (freq_named word) freq h)))
+    (found_passes (λ (f : Freq). bytes_eq (freq_word f) word) freqs freq (freq_given offset (freq_named word) freq h)))
 
 freq_named-word : (freq : Freq) → freq_named (freq_word freq) ≡ Some freq
 freq_named-word Weekly = refl
@@ -119,12 +119,12 @@ freq_named-word Quarterly = refl
 freq_named-word Semiannually = refl
 freq_named-word Annually = refl
 
-freq_again : (word : List ℕ) (place : ℕ) (freq : Freq) → word ≡ freq_word freq → freq_or place (freq_named word) ≡ Ok freq
-freq_again word place freq same = ap (λ (w : List ℕ). freq_or place (freq_named w)) same ∙ ap (freq_or place) (freq_named-word freq)
+freq_again : (word : List ℕ) (offset : ℕ) (freq : Freq) → word ≡ freq_word freq → freq_or offset (freq_named word) ≡ Ok freq
+freq_again word offset freq same = ap (λ (w : List ℕ). freq_or offset (freq_named w)) same ∙ ap (freq_or offset) (freq_named-word freq)
 
-freq_within : (most place : ℕ) (named : Option Freq) → place ≤ most → Stands most Any (freq_or place named)
-freq_within most place None h = h
-freq_within most place (Some freq) h = tt
+freq_within : (most offset : ℕ) (named : Option Freq) → offset ≤ most → Holds most Any (freq_or offset named)
+freq_within most offset None h = h
+freq_within most offset (Some freq) h = tt
 
 -- ---- RECURRINST
 
@@ -139,7 +139,7 @@ recur_found recurrinst recur h =
       count = count_found recurrinst ninsts.0 count.0 ninsts.1 count.1;
       word = word.0;
       has_word = one_found (codes "FREQ") recurrinst word.0 word.1;
-      is_word = freq_found (value_of word.0.node.text) word.0.node.place freq.0 freq.1;
+      is_word = freq_found (value_of word.0.node.text) word.0.node.offset freq.0 freq.1;
     })
 
 recur_again : (recurrinst : Item) (recur : Recur) → IsRecur recurrinst recur → recur_of recurrinst ≡ Ok recur
@@ -149,15 +149,15 @@ recur_again recurrinst recur r =
     bind_to _ _ count.0 count.1
     ∙ bind_to _ _ recur.count count.2
     ∙ bind_to _ _ r.word (one_again (codes "FREQ") recurrinst r.word r.has_word)
-    ∙ bind_to _ _ recur.freq (freq_again (value_of r.word.node.text) r.word.node.place recur.freq r.is_word)
+    ∙ bind_to _ _ recur.freq (freq_again (value_of r.word.node.text) r.word.node.offset recur.freq r.is_word)
 
-recur_within : (most : ℕ) (recurrinst : Item) → IsWithin most recurrinst → Stands most Any (recur_of recurrinst)
+recur_within : (most : ℕ) (recurrinst : Item) → IsWithin most recurrinst → Holds most Any (recur_of recurrinst)
 unfolding recur_of
 recur_within most recurrinst h =
     bound most (λ found. IfSome found (IsWithin most)) Any (maybe (codes "NINSTS") recurrinst) _ (maybe_within most (codes "NINSTS") recurrinst h) (λ ninsts n.
     bound most Any Any (count_if_any ninsts) _ (count_within most ninsts n) (λ count _.
     bound most (IsWithin most) Any (one (codes "FREQ") recurrinst) _ (one_within most (codes "FREQ") recurrinst h) (λ word w.
-    bound most Any Any (freq_at word.node) _ (freq_within most word.node.place _ w.place) (λ freq _. tt))))
+    bound most Any Any (freq_at word.node) _ (freq_within most word.node.offset _ w.offset) (λ freq _. tt))))
 
 pub recur_in_found : (parent : Item) (recur : Recur) → recur_in parent ≡ Ok recur → HasRecur parent recur
 unfolding recur_in
@@ -170,7 +170,7 @@ unfolding recur_in
 recur_in_again parent recur (recurrinst, only, is) =
     bind_to _ recur_of recurrinst (one_again (codes "RECURRINST") parent recurrinst only) ∙ recur_again recurrinst recur is
 
-pub recur_in_within : (most : ℕ) (parent : Item) → IsWithin most parent → Stands most Any (recur_in parent)
+pub recur_in_within : (most : ℕ) (parent : Item) → IsWithin most parent → Holds most Any (recur_in parent)
 unfolding recur_in
 recur_in_within most parent h =
     bound most (IsWithin most) Any (one (codes "RECURRINST") parent) recur_of (one_within most (codes "RECURRINST") parent h) (λ recurrinst r. recur_within most recurrinst r)
@@ -188,7 +188,7 @@ unfolding each_info_in
 each_again parent info (intrarq, only, has) =
     bind_to _ info_in intrarq (one_again (codes "INTRARQ") parent intrarq only) ∙ info_in_again intrarq info has
 
-pub each_within : (most : ℕ) (parent : Item) → IsWithin most parent → Stands most Any (each_info_in parent)
+pub each_within : (most : ℕ) (parent : Item) → IsWithin most parent → Holds most Any (each_info_in parent)
 unfolding each_info_in
 each_within most parent h =
     bound most (IsWithin most) Any (one (codes "INTRARQ") parent) info_in (one_within most (codes "INTRARQ") parent h) (λ intrarq i. info_in_within most intrarq i)
@@ -239,7 +239,7 @@ row_again reply row is =
     ∙ bind_to _ _ row.recur (recur_in_again reply row.recur is.recur)
     ∙ bind_to _ _ (asked_of row) (first_again reply row is.is_first)
 
-first_within : (most : ℕ) (reply : Item) → IsWithin most reply → Stands most Any (first_in reply)
+first_within : (most : ℕ) (reply : Item) → IsWithin most reply → Holds most Any (first_in reply)
 unfolding first_in first_of
 first_within most reply h =
     bound most (IsWithin most) Any (one (codes "INTRARS") reply) first_of (one_within most (codes "INTRARS") reply h) (λ intrars i.
@@ -247,7 +247,7 @@ first_within most reply h =
     bound most Any Any (due_info_in intrars) _ (due_info_within most intrars i) (λ asked _.
     bound most Any Any (maybe_id_in (codes "RECSRVRTID") intrars) _ (maybe_id_within most (codes "RECSRVRTID") intrars i) (λ model _. tt))))
 
-pub row_within : (most : ℕ) (reply : Item) → IsWithin most reply → Stands most Any (model_row_of reply)
+pub row_within : (most : ℕ) (reply : Item) → IsWithin most reply → Holds most Any (model_row_of reply)
 unfolding model_row_of
 row_within most reply h =
     bound most Any Any (id_in (codes "RECSRVRTID") reply) _ (id_within most (codes "RECSRVRTID") reply h) (λ id _.

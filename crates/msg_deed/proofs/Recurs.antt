@@ -16,16 +16,16 @@ use Rattle.ofx_types.proofs.Bytes.{bytes_eq_is}
 
 -- ---- three digits stay below 1,000
 
-number_below : (place : ℕ) (text : List ℕ) (n : ℕ) → number_or place (number_at 3 text) ≡ Ok n → n < 1000
+number_below : (offset : ℕ) (text : List ℕ) (n : ℕ) → number_or offset (number_at 3 text) ≡ Ok n → n < 1000
 unfolding number_at
-number_below place text n h = by_test (is_number_within 3 text) (digits_within 3 text) h
+number_below offset text n h = by_test (is_number_within 3 text) (digits_within 3 text) h
   where
-    by_test : (b : Bool) → (b ≡ true → digits_value 10 text < 1000) → number_or place (cond b (Some (digits_value 10 text)) None) ≡ Ok n → n < 1000
+    by_test : (b : Bool) → (b ≡ true → digits_value 10 text < 1000) → number_or offset (cond b (Some (digits_value 10 text)) None) ≡ Ok n → n < 1000
     by_test true small e = let below : digits_value 10 text < 1000 = small refl in let same : digits_value 10 text ≡ n = cc in rw (← same) below
     by_test false small e = cc
 
 pub count_below : (node : TagNode) (n : ℕ) → number_of 3 node ≡ Ok n → n < 1000
-count_below node n h = number_below node.place (value_of node.text) n h
+count_below node n h = number_below node.offset (value_of node.text) n h
 
 -- ---- the one whose word it is
 

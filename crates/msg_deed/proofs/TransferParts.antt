@@ -1,5 +1,5 @@
 -- What is said of a transfer, and how far it is: each has its form exactly where reading finds it, and its faults have
--- places.
+-- offsets.
 use Rattle.std.proofs.Common.{◌≡◌, ◌≢◌, ℕ, ◌≤◌, ℤ, inl, inr, List, Option, None, Some, Result, Ok, codes, refl, sym, ap, subst, ◌∙◌}
 use Rattle.std.specs.Str.{bytes_eq}
 use Rattle.ofx_types.specs.ValueForm.{value_of}
@@ -15,11 +15,11 @@ use Rattle.ofx_types.specs.declared.transfer.XferInfo.{XferInfo}
 use Rattle.ofx_types.specs.declared.transfer.XferCode.{XferCode}
 use Rattle.ofx_types.specs.declared.transfer.XferCode.TheVariants.{Waiting, Posted, NoFunds, Cancelled}
 use Rattle.ofx_types.proofs.Bytes.{bytes_eq_is, went}
-use Rattle.ofx_tree.specs.Placed.{Stands, Any, IsWithin}
+use Rattle.ofx_tree.specs.Located.{Holds, Any, IsWithin}
 use Rattle.ofx_tree.proofs.FormLaws.{bind_ok, bind_to, one_value, ok_guarded, one_found, one_again, amount_in_found, amount_in_again, moment_in_found, moment_in_again, maybe_moment_in_found, maybe_moment_in_again}
-use Rattle.ofx_tree.proofs.FormPlaces.{bound, either, one_within, amount_within, moment_within, maybe_moment_within}
+use Rattle.ofx_tree.proofs.FormOffsets.{bound, either, one_within, amount_within, moment_within, maybe_moment_within}
 use Rattle.msg_parts.proofs.PartLaws.{account_found, account_again}
-use Rattle.msg_parts.proofs.PartPlaces.{account_within}
+use Rattle.msg_parts.proofs.PartOffsets.{account_within}
 
 -- ---- the due day
 
@@ -77,7 +77,7 @@ info_again xferinfo info i =
     ∙ bind_to _ _ due.0 due.1
     ∙ ap (read_as info) due.2
 
-info_within : (most : ℕ) (xferinfo : Item) → IsWithin most xferinfo → Stands most Any (info_of xferinfo)
+info_within : (most : ℕ) (xferinfo : Item) → IsWithin most xferinfo → Holds most Any (info_of xferinfo)
 unfolding info_of
 info_within most xferinfo h =
     bound most (IsWithin most) Any (one (codes "BANKACCTFROM") xferinfo) _ (one_within most (codes "BANKACCTFROM") xferinfo h) (λ from f.
@@ -98,16 +98,16 @@ unfolding info_in
 info_in_again parent info (xferinfo, only, is) =
     bind_to _ info_of xferinfo (one_again (codes "XFERINFO") parent xferinfo only) ∙ info_again xferinfo info is
 
-pub info_in_within : (most : ℕ) (parent : Item) → IsWithin most parent → Stands most Any (info_in parent)
+pub info_in_within : (most : ℕ) (parent : Item) → IsWithin most parent → Holds most Any (info_in parent)
 unfolding info_in
 info_in_within most parent h =
     bound most (IsWithin most) Any (one (codes "XFERINFO") parent) info_of (one_within most (codes "XFERINFO") parent h) (λ xferinfo x. info_within most xferinfo x)
 
 -- ---- XFERINFO with a due day
 
-day_found : (place : ℕ) (due : Option Day) (day : Day) → day_or place due ≡ Ok day → due ≡ Some day
-day_found place None day h = cc
-day_found place (Some due) day h = ap (λ (d : Day). Some d) (one_value (Ok due) due day refl h)
+day_found : (offset : ℕ) (due : Option Day) (day : Day) → day_or offset due ≡ Ok day → due ≡ Some day
+day_found offset None day h = cc
+day_found offset (Some due) day h = ap (λ (d : Day). Some d) (one_value (Ok due) due day refl h)
 
 abbrev due_info : DueInfo → XferInfo
 due_info asked = with_due asked.info (Some asked.due)
@@ -117,67 +117,67 @@ unfolding due_info_in due_info_of
 due_info_found parent asked h =
     let xferinfo = bind_ok (one (codes "XFERINFO") parent) due_info_of asked h in
     let info = bind_ok (info_of xferinfo.0) _ asked xferinfo.2 in
-    let due = bind_ok (day_or xferinfo.0.node.place info.0.due) _ asked info.2 in
+    let due = bind_ok (day_or xferinfo.0.node.offset info.0.due) _ asked info.2 in
     let P : Option Day → Type 0 = λ d. IsXferInfo xferinfo.0 (with_due info.0 d) in
     let Q : DueInfo → Type 0 = λ a. HasXferInfo parent (due_info a) in
-    let is = subst P (day_found xferinfo.0.node.place info.0.due due.0 due.1) (info_found xferinfo.0 info.0 info.1) in
+    let is = subst P (day_found xferinfo.0.node.offset info.0.due due.0 due.1) (info_found xferinfo.0 info.0 info.1) in
     subst Q (one_value _ _ asked refl due.2) (xferinfo.0, one_found (codes "XFERINFO") parent xferinfo.0 xferinfo.1, is)
 
 pub due_info_again : (parent : Item) (asked : DueInfo) → asked.info.due ≡ Some asked.due → HasXferInfo parent asked.info →
     due_info_in parent ≡ Ok asked
 unfolding due_info_in due_info_of
-due_info_again parent asked stands (xferinfo, only, is) =
+due_info_again parent asked holds (xferinfo, only, is) =
     bind_to _ due_info_of xferinfo (one_again (codes "XFERINFO") parent xferinfo only)
     ∙ bind_to _ _ asked.info (info_again xferinfo asked.info is)
-    ∙ bind_to _ _ asked.due (ap (day_or xferinfo.node.place) stands)
+    ∙ bind_to _ _ asked.due (ap (day_or xferinfo.node.offset) holds)
 
-day_or_within : (most place : ℕ) (due : Option Day) → place ≤ most → Stands most Any (day_or place due)
-day_or_within most place None h = h
-day_or_within most place (Some day) h = tt
+day_or_within : (most offset : ℕ) (due : Option Day) → offset ≤ most → Holds most Any (day_or offset due)
+day_or_within most offset None h = h
+day_or_within most offset (Some day) h = tt
 
-pub due_info_within : (most : ℕ) (parent : Item) → IsWithin most parent → Stands most Any (due_info_in parent)
+pub due_info_within : (most : ℕ) (parent : Item) → IsWithin most parent → Holds most Any (due_info_in parent)
 unfolding due_info_in due_info_of
 due_info_within most parent h =
     bound most (IsWithin most) Any (one (codes "XFERINFO") parent) due_info_of (one_within most (codes "XFERINFO") parent h) (λ xferinfo x.
     bound most Any Any (info_of xferinfo) _ (info_within most xferinfo x) (λ info _.
-    bound most Any Any (day_or xferinfo.node.place info.due) _ (day_or_within most xferinfo.node.place info.due x.place) (λ due _. tt)))
+    bound most Any Any (day_or xferinfo.node.offset info.due) _ (day_or_within most xferinfo.node.offset info.due x.offset) (λ due _. tt)))
 
 -- ---- XFERPRCSTS
 
 abbrev Told : List ℕ → XferCode → Type 0
 Told word code = (word ≡ code_word code) × (code ≢ Cancelled)
 
-told_waiting : Waiting ≢ Cancelled
-told_waiting e = cc
+reported_waiting : Waiting ≢ Cancelled
+reported_waiting e = cc
 
-told_posted : Posted ≢ Cancelled
-told_posted e = cc
+reported_posted : Posted ≢ Cancelled
+reported_posted e = cc
 
-told_no_funds : NoFunds ≢ Cancelled
-told_no_funds e = cc
+reported_no_funds : NoFunds ≢ Cancelled
+reported_no_funds e = cc
 
-code_found : (word : List ℕ) (place : ℕ) (code : XferCode) → code_named word place ≡ Ok code → Told word code
-code_found word place code h = elim (went (bytes_eq word (codes "WILLPROCESSON")) _ _ _ h) [
-  | inl (same, is) ↦ subst (Told word) (one_value (Ok Waiting) Waiting code refl is) (bytes_eq_is word _ same, told_waiting)
+code_found : (word : List ℕ) (offset : ℕ) (code : XferCode) → code_named word offset ≡ Ok code → Told word code
+code_found word offset code h = elim (went (bytes_eq word (codes "WILLPROCESSON")) _ _ _ h) [
+  | inl (same, is) ↦ subst (Told word) (one_value (Ok Waiting) Waiting code refl is) (bytes_eq_is word _ same, reported_waiting)
   | inr (other, second) ↦ elim (went (bytes_eq word (codes "POSTEDON")) _ _ _ second) [
-    | inl (same, is) ↦ subst (Told word) (one_value (Ok Posted) Posted code refl is) (bytes_eq_is word _ same, told_posted)
+    | inl (same, is) ↦ subst (Told word) (one_value (Ok Posted) Posted code refl is) (bytes_eq_is word _ same, reported_posted)
     | inr (other, last) ↦
         let is = ok_guarded (bytes_eq word (codes "NOFUNDSON")) NoFunds code _ last in
-        subst (Told word) is.1 (bytes_eq_is word _ is.0, told_no_funds)
+        subst (Told word) is.1 (bytes_eq_is word _ is.0, reported_no_funds)
   ]
 ]
 
-code_named-word : (code : XferCode) (place : ℕ) → code ≢ Cancelled → code_named (code_word code) place ≡ Ok code
-code_named-word Waiting place told = refl
-code_named-word Posted place told = refl
-code_named-word NoFunds place told = refl
-code_named-word Cancelled place told = absurd (told refl)
+code_named-word : (code : XferCode) (offset : ℕ) → code ≢ Cancelled → code_named (code_word code) offset ≡ Ok code
+code_named-word Waiting offset reported = refl
+code_named-word Posted offset reported = refl
+code_named-word NoFunds offset reported = refl
+code_named-word Cancelled offset reported = absurd (reported refl)
 
-code_again : (word : List ℕ) (place : ℕ) (code : XferCode) → Told word code → code_named word place ≡ Ok code
-code_again word place code (same, told) = rw same (code_named-word code place told)
+code_again : (word : List ℕ) (offset : ℕ) (code : XferCode) → Told word code → code_named word offset ≡ Ok code
+code_again word offset code (same, reported) = rw same (code_named-word code offset reported)
 
-code_within : (most place : ℕ) (word : List ℕ) → place ≤ most → Stands most Any (code_named word place)
-code_within most place word h =
+code_within : (most offset : ℕ) (word : List ℕ) → offset ≤ most → Holds most Any (code_named word offset)
+code_within most offset word h =
     either most Any (bytes_eq word (codes "WILLPROCESSON")) _ _ tt
     (either most Any (bytes_eq word (codes "POSTEDON")) _ _ tt (either most Any (bytes_eq word (codes "NOFUNDSON")) _ _ tt h))
 
@@ -188,15 +188,15 @@ processing_found parent said h =
     let word = bind_ok (one (codes "XFERPRCCODE") xferprcsts.0) _ said xferprcsts.2 in
     let code = bind_ok (code_at word.0.node) _ said word.2 in
     let stamp = bind_ok (moment_in (codes "DTXFERPRC") xferprcsts.0) _ said code.2 in
-    let told = code_found (value_of word.0.node.text) word.0.node.place code.0 code.1 in
+    let reported = code_found (value_of word.0.node.text) word.0.node.offset code.0 code.1 in
     let P : XferCode × Moment → Type 0 = λ s. IsProcessing parent s.0 s.1 in
     subst P (one_value _ _ said refl stamp.2) (record {
       xferprcsts = xferprcsts.0;
       has_xferprcsts = one_found (codes "XFERPRCSTS") parent xferprcsts.0 xferprcsts.1;
       word = word.0;
       has_word = one_found (codes "XFERPRCCODE") xferprcsts.0 word.0 word.1;
-      is_word = told.0;
-      is_told = told.1;
+      is_word = reported.0;
+      is_reported = reported.1;
       has_stamp = moment_in_found (codes "DTXFERPRC") xferprcsts.0 stamp.0 stamp.1;
     })
 
@@ -205,13 +205,13 @@ unfolding processing_in processing_of
 processing_again parent code stamp p =
     bind_to _ processing_of p.xferprcsts (one_again (codes "XFERPRCSTS") parent p.xferprcsts p.has_xferprcsts)
     ∙ bind_to _ _ p.word (one_again (codes "XFERPRCCODE") p.xferprcsts p.word p.has_word)
-    ∙ bind_to _ _ code (code_again (value_of p.word.node.text) p.word.node.place code (p.is_word, p.is_told))
+    ∙ bind_to _ _ code (code_again (value_of p.word.node.text) p.word.node.offset code (p.is_word, p.is_reported))
     ∙ bind_to _ _ stamp (moment_in_again (codes "DTXFERPRC") p.xferprcsts stamp p.has_stamp)
 
-pub processing_within : (most : ℕ) (parent : Item) → IsWithin most parent → Stands most Any (processing_in parent)
+pub processing_within : (most : ℕ) (parent : Item) → IsWithin most parent → Holds most Any (processing_in parent)
 unfolding processing_in processing_of
 processing_within most parent h =
     bound most (IsWithin most) Any (one (codes "XFERPRCSTS") parent) processing_of (one_within most (codes "XFERPRCSTS") parent h) (λ xferprcsts x.
     bound most (IsWithin most) Any (one (codes "XFERPRCCODE") xferprcsts) _ (one_within most (codes "XFERPRCCODE") xferprcsts x) (λ word w.
-    bound most Any Any (code_at word.node) _ (code_within most word.node.place (value_of word.node.text) w.place) (λ code _.
+    bound most Any Any (code_at word.node) _ (code_within most word.node.offset (value_of word.node.text) w.offset) (λ code _.
     bound most Any Any (moment_in (codes "DTXFERPRC") xferprcsts) _ (moment_within most (codes "DTXFERPRC") xferprcsts x) (λ stamp _. tt))))

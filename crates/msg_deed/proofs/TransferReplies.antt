@@ -1,4 +1,4 @@
--- The three replies about transfers: each has its form exactly where reading finds it, and its faults have places.
+-- The three replies about transfers: each has its form exactly where reading finds it, and its faults have offsets.
 use Rattle.std.proofs.Common.{◌≡◌, ℕ, Result, Ok, codes, refl, sym, ap, subst, ◌∙◌}
 use Rattle.ofx_types.specs.Nodes.{Item}
 use Rattle.ofx_types.specs.FormWords.{id_in, maybe_id_in}
@@ -9,9 +9,9 @@ use Rattle.ofx_types.specs.declared.fault.TreeFault.{TreeFault}
 use Rattle.ofx_types.specs.declared.transfer.TransferRow.{TransferRow}
 use Rattle.ofx_types.specs.declared.transfer.Change.{Change}
 use Rattle.ofx_types.specs.declared.transfer.Change.TheVariants.{NewTransfer, SetTransfer, DropTransfer}
-use Rattle.ofx_tree.specs.Placed.{Stands, Any, IsWithin}
+use Rattle.ofx_tree.specs.Located.{Holds, Any, IsWithin}
 use Rattle.ofx_tree.proofs.FormLaws.{bind_ok, bind_to, one_value, id_in_found, id_in_again, maybe_id_in_found, maybe_id_in_again}
-use Rattle.ofx_tree.proofs.FormPlaces.{bound, id_within, maybe_id_within}
+use Rattle.ofx_tree.proofs.FormOffsets.{bound, id_within, maybe_id_within}
 use Rattle.msg_deed.proofs.TransferParts.{due_info_found, due_info_again, due_info_within, processing_found, processing_again, processing_within}
 
 pub new_found : (reply : Item) (change : Change) → reply.node.name ≡ codes "INTRARS" → new_of reply ≡ Ok change → IsChange reply change
@@ -74,7 +74,7 @@ pub drop_again : (reply : Item) (id : ℕ) → IsChange reply (DropTransfer id) 
 unfolding drop_of
 drop_again reply id (name, is) = bind_to _ _ id (id_in_again (codes "SRVRTID") reply id is)
 
-pub new_within : (most : ℕ) (reply : Item) → IsWithin most reply → Stands most Any (new_of reply)
+pub new_within : (most : ℕ) (reply : Item) → IsWithin most reply → Holds most Any (new_of reply)
 unfolding new_of
 new_within most reply h =
     bound most Any Any (id_in (codes "SRVRTID") reply) _ (id_within most (codes "SRVRTID") reply h) (λ id _.
@@ -82,14 +82,14 @@ new_within most reply h =
     bound most Any Any (maybe_id_in (codes "RECSRVRTID") reply) _ (maybe_id_within most (codes "RECSRVRTID") reply h) (λ model _.
     bound most Any Any (processing_in reply) _ (processing_within most reply h) (λ processing _. tt))))
 
-pub set_within : (most : ℕ) (reply : Item) → IsWithin most reply → Stands most Any (set_of reply)
+pub set_within : (most : ℕ) (reply : Item) → IsWithin most reply → Holds most Any (set_of reply)
 unfolding set_of
 set_within most reply h =
     bound most Any Any (id_in (codes "SRVRTID") reply) _ (id_within most (codes "SRVRTID") reply h) (λ id _.
     bound most Any Any (due_info_in reply) _ (due_info_within most reply h) (λ asked _.
     bound most Any Any (processing_in reply) _ (processing_within most reply h) (λ processing _. tt)))
 
-pub drop_within : (most : ℕ) (reply : Item) → IsWithin most reply → Stands most Any (drop_of reply)
+pub drop_within : (most : ℕ) (reply : Item) → IsWithin most reply → Holds most Any (drop_of reply)
 unfolding drop_of
 drop_within most reply h =
     bound most Any Any (id_in (codes "SRVRTID") reply) _ (id_within most (codes "SRVRTID") reply h) (λ id _. tt)

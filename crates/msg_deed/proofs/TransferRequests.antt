@@ -1,4 +1,4 @@
--- The three requests of transfers: each has its form exactly where reading finds it, and its faults have places.
+-- The three requests of transfers: each has its form exactly where reading finds it, and its faults have offsets.
 use Rattle.std.proofs.Common.{◌≡◌, ℕ, codes, Ok, refl, subst, ◌∙◌}
 use Rattle.ofx_types.specs.Nodes.{Item}
 use Rattle.ofx_types.specs.FormWords.{id_in}
@@ -10,9 +10,9 @@ use Rattle.ofx_types.specs.declared.transfer.Deed.{Deed}
 use Rattle.ofx_types.specs.declared.transfer.Deed.TheVariants.{Transfer, ModifyTransfer, CancelTransfer}
 use Rattle.ofx_types.specs.declared.transfer.Family.{Family}
 use Rattle.ofx_types.specs.declared.transfer.Family.TheVariants.{Intra}
-use Rattle.ofx_tree.specs.Placed.{Stands, Any, IsWithin}
+use Rattle.ofx_tree.specs.Located.{Holds, Any, IsWithin}
 use Rattle.ofx_tree.proofs.FormLaws.{bind_ok, bind_to, one_value, id_in_found, id_in_again}
-use Rattle.ofx_tree.proofs.FormPlaces.{bound, id_within}
+use Rattle.ofx_tree.proofs.FormOffsets.{bound, id_within}
 use Rattle.msg_deed.proofs.TransferParts.{info_in_found, info_in_again, info_in_within}
 
 -- a request of a deed of this family
@@ -52,17 +52,17 @@ pub cancel_again : (request : Item) (id : ℕ) → IsDeedRequest request (Cancel
 unfolding cancel_of
 cancel_again request id (name, has_id) = bind_to _ _ id (id_in_again (codes "SRVRTID") request id has_id)
 
-pub transfer_within : (most : ℕ) (request : Item) → IsWithin most request → Stands most Any (transfer_of request)
+pub transfer_within : (most : ℕ) (request : Item) → IsWithin most request → Holds most Any (transfer_of request)
 unfolding transfer_of
 transfer_within most request h = bound most Any Any (info_in request) _ (info_in_within most request h) (λ info _. tt)
 
-pub modify_within : (most : ℕ) (request : Item) → IsWithin most request → Stands most Any (modify_of request)
+pub modify_within : (most : ℕ) (request : Item) → IsWithin most request → Holds most Any (modify_of request)
 unfolding modify_of
 modify_within most request h =
     bound most Any Any (id_in (codes "SRVRTID") request) _ (id_within most (codes "SRVRTID") request h) (λ id _.
     bound most Any Any (info_in request) _ (info_in_within most request h) (λ info _. tt))
 
-pub cancel_within : (most : ℕ) (request : Item) → IsWithin most request → Stands most Any (cancel_of request)
+pub cancel_within : (most : ℕ) (request : Item) → IsWithin most request → Holds most Any (cancel_of request)
 unfolding cancel_of
 cancel_within most request h =
     bound most Any Any (id_in (codes "SRVRTID") request) _ (id_within most (codes "SRVRTID") request h) (λ id _. tt)

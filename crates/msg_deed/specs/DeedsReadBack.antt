@@ -14,15 +14,15 @@ use Rattle.msg_deed.specs.SoundDeeds.{IsSoundDeedRequest, IsSoundDeedReply}
 -- The documents of a sound deed are lawful.
 abbrev pub DeedsAreLawful : Type 0
 DeedsAreLawful =
-    (room : ℕ) (trnuid : List ℕ) (deed : Deed) (behind : Documents)
-    → 4 < room → IsSoundDeedRequest trnuid deed → AreLawful room behind
-    → AreLawful room (branch (request_name (family_of deed)) (deed_documents trnuid deed) behind)
+    (room : ℕ) (trnuid : List ℕ) (deed : Deed) (rest : Documents)
+    → 4 < room → IsSoundDeedRequest trnuid deed → AreLawful room rest
+    → AreLawful room (branch (request_name (family_of deed)) (deed_documents trnuid deed) rest)
 
--- Wherever they stand, the uid and the deed are read from them.
+-- Wherever they are, the uid and the deed are read from them.
 abbrev pub DeedsReadBack : Type 0
 DeedsReadBack =
-    (place index : ℕ) (trnuid : List ℕ) (deed : Deed) → IsSoundDeedRequest trnuid deed
-    → deed_of (branch_item place index (request_name (family_of deed)) (deed_documents trnuid deed)) ≡ Ok (trnuid, deed)
+    (offset index : ℕ) (trnuid : List ℕ) (deed : Deed) → IsSoundDeedRequest trnuid deed
+    → deed_of (branch_item offset index (request_name (family_of deed)) (deed_documents trnuid deed)) ≡ Ok (trnuid, deed)
 
 -- So a sound deed that is written alone reads back.
 abbrev pub DeedsReadBackAlone : Type 0
@@ -32,14 +32,14 @@ DeedsReadBackAlone =
 
 abbrev pub DeedRepliesAreLawful : Type 0
 DeedRepliesAreLawful =
-    (room : ℕ) (reply : DeedReply) (behind : Documents)
-    → 4 < room → IsSoundDeedReply reply → AreLawful room behind
-    → AreLawful room (branch (reply_name reply.family) (deed_reply_documents reply.trnuid reply.code reply.change) behind)
+    (room : ℕ) (reply : DeedReply) (rest : Documents)
+    → 4 < room → IsSoundDeedReply reply → AreLawful room rest
+    → AreLawful room (branch (reply_name reply.family) (deed_reply_documents reply.trnuid reply.code reply.change) rest)
 
 abbrev pub DeedRepliesReadBack : Type 0
 DeedRepliesReadBack =
-    (place index : ℕ) (reply : DeedReply) → IsSoundDeedReply reply
-    → deed_reply_of (branch_item place index (reply_name reply.family) (deed_reply_documents reply.trnuid reply.code reply.change))
+    (offset index : ℕ) (reply : DeedReply) → IsSoundDeedReply reply
+    → deed_reply_of (branch_item offset index (reply_name reply.family) (deed_reply_documents reply.trnuid reply.code reply.change))
     ≡ Ok (wire reply)
 
 abbrev pub DeedRepliesReadBackAlone : Type 0

@@ -53,7 +53,7 @@ pub record IsSoundDeedRequest (trnuid : List ℕ) (deed : Deed) : Type 0 where
 pub record IsSoundRow (row : TransferRow) : Type 0 where
   pub id : IsId row.id
   pub info : IsSoundInfo (info_of row)
-  pub told : row.code ≢ Cancelled
+  pub reported : row.code ≢ Cancelled
   pub stamp : IsSoundMoment row.stamp
 
 pub record IsSoundModelRow (row : ModelRow) : Type 0 where

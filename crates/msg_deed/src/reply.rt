@@ -22,15 +22,15 @@ use ofx_types::{Change, DeedReply, Family, OutOfMemory, TreeFault};
 use std::alloc::Global;
 
 /// The answer that the reply to a transfer (INTRATRNRS) or to a recurring one (RECINTRATRNRS) is: with code 0 just one of
-/// the three replies of its name stands in it. With any other code no change is looked for.
+/// the three replies of its name is in it. With any other code no change is looked for.
 ///
-/// The first fault of its form, with its place, which is its own where it has another name; `OutOfMemory` where memory
+/// The first fault of its form, with its offset, which is its own where it has another name; `OutOfMemory` where memory
 /// for its texts is refused.
 #[tactic(auto, unfolding(ofx_types::specs::DeedReading::deed_reply_of))]
 pub fn read_reply(alloc: Global, c: &Cursor<'_>) -> Result<DeedReply, TreeFault>
     ensures { ReadsForm result (deed_reply_of c.now) }
 {
-    let family = family_told(c)?;
+    let family = family_reported(c)?;
     let trnuid = read_trnuid(alloc, c)?;
     let code = read_status(c)?;
     let change = read_change_by_code(alloc, code, c)?;
@@ -43,8 +43,8 @@ pub fn read_reply(alloc: Global, c: &Cursor<'_>) -> Result<DeedReply, TreeFault>
 }
 
 /// What a transaction belongs to, by its name.
-fn family_told(c: &Cursor<'_>) -> Result<Family, TreeFault>
-    ensures { result ≡ reading.family_told c.now }
+fn family_reported(c: &Cursor<'_>) -> Result<Family, TreeFault>
+    ensures { result ≡ reading.family_reported c.now }
 {
     if c.name() == b"INTRATRNRS".as_slice() {
         return Ok(Family::Intra);
@@ -52,7 +52,7 @@ fn family_told(c: &Cursor<'_>) -> Result<Family, TreeFault>
     if c.name() == b"RECINTRATRNRS".as_slice() {
         return Ok(Family::RecIntra);
     }
-    Err(TreeFault::Value(c.place() as u64))
+    Err(TreeFault::Value(c.offset() as u64))
 }
 
 /// What was done, where the code is 0.
@@ -71,7 +71,7 @@ fn read_change_by_code(
     Ok(None)
 }
 
-/// The one reply that stands in a transaction.
+/// The one reply that is in a transaction.
 fn reply_in<'t>(c: &Cursor<'t>) -> Result<Cursor<'t>, TreeFault>
     ensures { result ≡ reading.reply_in c.now }
 {
@@ -81,7 +81,7 @@ fn reply_in<'t>(c: &Cursor<'t>) -> Result<Cursor<'t>, TreeFault>
     if c.name() == b"RECINTRATRNRS".as_slice() {
         return c.one_of(b"RECINTRARS", b"RECINTRAMODRS", b"RECINTRACANRS");
     }
-    Err(TreeFault::Value(c.place() as u64))
+    Err(TreeFault::Value(c.offset() as u64))
 }
 
 /// The change that one of the six replies is, by its name.

@@ -22,9 +22,9 @@ use ofx_types::{Deed, OutOfMemory, TreeFault, TrnUid};
 use std::alloc::Global;
 
 /// The uid and the deed that a request of a transfer (INTRATRNRQ) or of a recurring one (RECINTRATRNRQ) is: just one of
-/// the three requests of its name stands in it.
+/// the three requests of its name is in it.
 ///
-/// The first fault of its form, with its place, which is its own where it has another name; `OutOfMemory` where memory
+/// The first fault of its form, with its offset, which is its own where it has another name; `OutOfMemory` where memory
 /// for its texts is refused.
 #[tactic(auto, unfolding(ofx_types::specs::DeedReading::deed_of))]
 pub fn read_deed(alloc: Global, c: &Cursor<'_>) -> Result<(TrnUid, Deed), TreeFault>
@@ -36,7 +36,7 @@ pub fn read_deed(alloc: Global, c: &Cursor<'_>) -> Result<(TrnUid, Deed), TreeFa
     Ok((trnuid, deed))
 }
 
-/// The one request that stands in a transaction.
+/// The one request that is in a transaction.
 fn request_in<'t>(c: &Cursor<'t>) -> Result<Cursor<'t>, TreeFault>
     ensures { result ≡ reading.request_in c.now }
 {
@@ -46,7 +46,7 @@ fn request_in<'t>(c: &Cursor<'t>) -> Result<Cursor<'t>, TreeFault>
     if c.name() == b"RECINTRATRNRQ".as_slice() {
         return c.one_of(b"RECINTRARQ", b"RECINTRAMODRQ", b"RECINTRACANRQ");
     }
-    Err(TreeFault::Value(c.place() as u64))
+    Err(TreeFault::Value(c.offset() as u64))
 }
 
 /// The deed that one of the six requests is, by its name.

@@ -66,7 +66,7 @@ deed_lawful room trnuid deed some d = (
 )
 
 pub mails_lawful : MailsAreLawful
-mails_lawful room trnuid deed behind some d more =
+mails_lawful room trnuid deed rest some d more =
     (transaction_branch (family_of deed), omega arith, deed_lawful (room - 1) trnuid deed (omega arith) d, more)
 
 -- ---- replies
@@ -88,5 +88,5 @@ reply_lawful room reply some r = (
 )
 
 pub mail_replies_lawful : MailRepliesAreLawful
-mail_replies_lawful room reply behind some r more =
+mail_replies_lawful room reply rest some r more =
     (answer_branch reply.family, omega arith, reply_lawful (room - 1) reply (omega arith) r, more)

@@ -7,11 +7,11 @@ use Rattle.ofx_types.specs.MailReading.{account_in, mail_text_of, mail_in, mail_
 use Rattle.ofx_types.specs.RequestReading.{account_of}
 use Rattle.ofx_types.specs.declared.account.AcctName.{AcctName}
 use Rattle.ofx_types.specs.declared.mail.MailText.{MailText}
-use Rattle.ofx_tree.specs.Placed.{Stands, Any, IsWithin}
+use Rattle.ofx_tree.specs.Located.{Holds, Any, IsWithin}
 use Rattle.ofx_tree.proofs.FormLaws.{bind_ok, bind_to, one_value, one_found, one_again, text_in_found, text_in_again, moment_in_found, moment_in_again}
-use Rattle.ofx_tree.proofs.FormPlaces.{bound, one_within, text_within, moment_within}
+use Rattle.ofx_tree.proofs.FormOffsets.{bound, one_within, text_within, moment_within}
 use Rattle.msg_parts.proofs.PartLaws.{account_found, account_again}
-use Rattle.msg_parts.proofs.PartPlaces.{account_within}
+use Rattle.msg_parts.proofs.PartOffsets.{account_within}
 
 -- ---- the account
 
@@ -26,7 +26,7 @@ unfolding account_in
 account_in_again parent account h =
     bind_to (one (codes "BANKACCTFROM") parent) account_of h.0 (one_again (codes "BANKACCTFROM") parent h.0 h.1) ∙ account_again h.0 account h.2
 
-pub account_in_within : (most : ℕ) (parent : Item) → IsWithin most parent → Stands most Any (account_in parent)
+pub account_in_within : (most : ℕ) (parent : Item) → IsWithin most parent → Holds most Any (account_in parent)
 unfolding account_in
 account_in_within most parent h =
     bound most (IsWithin most) Any (one (codes "BANKACCTFROM") parent) _ (one_within most (codes "BANKACCTFROM") parent h) (λ from f. account_within most from f)
@@ -58,7 +58,7 @@ mail_text_again mail text m =
     ∙ bind_to _ _ text.subject (text_in_again (codes "SUBJECT") 64 mail text.subject m.subject)
     ∙ bind_to _ _ text.body (text_in_again (codes "MSGBODY") 10000 mail text.body m.body)
 
-pub mail_text_within : (most : ℕ) (mail : Item) → IsWithin most mail → Stands most Any (mail_text_of mail)
+pub mail_text_within : (most : ℕ) (mail : Item) → IsWithin most mail → Holds most Any (mail_text_of mail)
 unfolding mail_text_of
 mail_text_within most mail h =
     bound most Any Any (moment_in (codes "DTCREATED") mail) _ (moment_within most (codes "DTCREATED") mail h) (λ created _.
@@ -78,7 +78,7 @@ unfolding mail_in
 mail_in_again parent text h =
     bind_to (one (codes "MAIL") parent) mail_text_of h.0 (one_again (codes "MAIL") parent h.0 h.1) ∙ mail_text_again h.0 text h.2
 
-pub mail_in_within : (most : ℕ) (parent : Item) → IsWithin most parent → Stands most Any (mail_in parent)
+pub mail_in_within : (most : ℕ) (parent : Item) → IsWithin most parent → Holds most Any (mail_in parent)
 unfolding mail_in
 mail_in_within most parent h =
     bound most (IsWithin most) Any (one (codes "MAIL") parent) _ (one_within most (codes "MAIL") parent h) (λ mail m. mail_text_within most mail m)
@@ -100,7 +100,7 @@ unfolding mail_of_user
 user_mail_again mail user text u m =
     bind_to _ _ user (text_in_again (codes "USERID") 32 mail user u) ∙ bind_to _ _ text (mail_text_again mail text m)
 
-user_mail_within : (most : ℕ) (mail : Item) → IsWithin most mail → Stands most Any (mail_of_user mail)
+user_mail_within : (most : ℕ) (mail : Item) → IsWithin most mail → Holds most Any (mail_of_user mail)
 unfolding mail_of_user
 user_mail_within most mail h =
     bound most Any Any (text_in (codes "USERID") 32 mail) _ (text_within most (codes "USERID") 32 mail h) (λ user _.
@@ -118,7 +118,7 @@ unfolding mail_of_user_in
 user_mail_in_again parent user text h =
     bind_to (one (codes "MAIL") parent) mail_of_user h.0 (one_again (codes "MAIL") parent h.0 h.1) ∙ user_mail_again h.0 user text h.2 h.3
 
-pub user_mail_in_within : (most : ℕ) (parent : Item) → IsWithin most parent → Stands most Any (mail_of_user_in parent)
+pub user_mail_in_within : (most : ℕ) (parent : Item) → IsWithin most parent → Holds most Any (mail_of_user_in parent)
 unfolding mail_of_user_in
 user_mail_in_within most parent h =
     bound most (IsWithin most) Any (one (codes "MAIL") parent) _ (one_within most (codes "MAIL") parent h) (λ mail m. user_mail_within most mail m)

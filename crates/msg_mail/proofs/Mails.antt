@@ -1,4 +1,4 @@
--- The request of a mail has its form exactly where reading finds it, and its faults have places.
+-- The request of a mail has its form exactly where reading finds it, and its faults have offsets.
 use Rattle.std.proofs.Common.{◌≡◌, ℕ, inl, inr, true, false, List, Ok, codes, refl, subst, ◌∙◌}
 use Rattle.ofx_types.specs.Nodes.{Item}
 use Rattle.ofx_types.specs.FormWords.{has_name, one}
@@ -8,11 +8,11 @@ use Rattle.ofx_types.specs.RequestReading.{trnuid_of}
 use Rattle.ofx_types.specs.declared.transfer.Deed.{Deed}
 use Rattle.ofx_types.specs.declared.transfer.Deed.TheVariants as deeds
 use Rattle.ofx_types.proofs.Bytes.{bytes_eq_is, went}
-use Rattle.ofx_tree.specs.Placed.{Stands, Any, IsWithin}
+use Rattle.ofx_tree.specs.Located.{Holds, Any, IsWithin}
 use Rattle.ofx_tree.proofs.FormLaws.{bind_ok, bind_to, one_value, one_found, one_again}
-use Rattle.ofx_tree.proofs.FormPlaces.{bound, either, one_within}
+use Rattle.ofx_tree.proofs.FormOffsets.{bound, either, one_within}
 use Rattle.msg_parts.proofs.PartLaws.{trnuid_found, trnuid_again}
-use Rattle.msg_parts.proofs.PartPlaces.{trnuid_within}
+use Rattle.msg_parts.proofs.PartOffsets.{trnuid_within}
 use Rattle.msg_mail.proofs.MailParts.{account_in_found, account_in_again, account_in_within, mail_in_found, mail_in_again, mail_in_within}
 
 -- ---- the two requests
@@ -66,24 +66,24 @@ request_again transaction (deeds.Mail text) r =
     )
 request_again transaction deed r = absurd r
 
-bank_mail_within : (most : ℕ) (transaction : Item) → IsWithin most transaction → Stands most Any (bank_mail_of transaction)
+bank_mail_within : (most : ℕ) (transaction : Item) → IsWithin most transaction → Holds most Any (bank_mail_of transaction)
 unfolding bank_mail_of
 bank_mail_within most transaction h =
     bound most (IsWithin most) Any (one (codes "BANKMAILRQ") transaction) _ (one_within most (codes "BANKMAILRQ") transaction h) (λ request r.
     bound most Any Any (account_in request) _ (account_in_within most request r) (λ account _.
     bound most Any Any (mail_in request) _ (mail_in_within most request r) (λ text _. tt)))
 
-plain_mail_within : (most : ℕ) (transaction : Item) → IsWithin most transaction → Stands most Any (plain_mail_of transaction)
+plain_mail_within : (most : ℕ) (transaction : Item) → IsWithin most transaction → Holds most Any (plain_mail_of transaction)
 unfolding plain_mail_of
 plain_mail_within most transaction h =
     bound most (IsWithin most) Any (one (codes "MAILRQ") transaction) _ (one_within most (codes "MAILRQ") transaction h) (λ request r.
     bound most Any Any (mail_in request) _ (mail_in_within most request r) (λ text _. tt))
 
-request_within : (most : ℕ) (transaction : Item) → IsWithin most transaction → Stands most Any (mail_request_of transaction)
+request_within : (most : ℕ) (transaction : Item) → IsWithin most transaction → Holds most Any (mail_request_of transaction)
 unfolding mail_request_of
 request_within most transaction h =
     either most Any (has_name (codes "BANKMAILTRNRQ") transaction) _ _ (bank_mail_within most transaction h)
-    (either most Any (has_name (codes "MAILTRNRQ") transaction) _ _ (plain_mail_within most transaction h) h.place)
+    (either most Any (has_name (codes "MAILTRNRQ") transaction) _ _ (plain_mail_within most transaction h) h.offset)
 
 -- ---- the transaction
 
@@ -104,7 +104,7 @@ mail_again transaction trnuid deed d =
     bind_to _ _ trnuid (trnuid_again transaction trnuid d.has_trnuid)
     ∙ bind_to _ _ deed (request_again transaction deed d.is_request)
 
-pub mail_within : (most : ℕ) (transaction : Item) → IsWithin most transaction → Stands most Any (mail_deed_of transaction)
+pub mail_within : (most : ℕ) (transaction : Item) → IsWithin most transaction → Holds most Any (mail_deed_of transaction)
 unfolding mail_deed_of
 mail_within most transaction h =
     bound most Any Any (trnuid_of transaction) _ (trnuid_within most transaction h) (λ trnuid _.

@@ -1,14 +1,14 @@
--- The answer to a signon has its form exactly where it is read, and its faults have places.
+-- The answer to a signon has its form exactly where it is read, and its faults have offsets.
 use Rattle.std.proofs.Common.{◌≡◌, ℕ, Ok, codes, refl, subst, ◌∙◌}
 use Rattle.ofx_types.specs.Nodes.{Item}
 use Rattle.ofx_types.specs.FormWords.{moment_in}
 use Rattle.ofx_types.specs.ReplyGrammar.{IsSignonReply}
 use Rattle.ofx_types.specs.ReplyReading.{status_of, signon_reply_of}
 use Rattle.ofx_types.specs.declared.number.Moment.{Moment}
-use Rattle.ofx_tree.specs.Placed.{IsWithin, Stands, Any}
+use Rattle.ofx_tree.specs.Located.{IsWithin, Holds, Any}
 use Rattle.ofx_tree.proofs.FormLaws.{bind_ok, bind_to, one_value, moment_in_found, moment_in_again}
-use Rattle.ofx_tree.proofs.FormPlaces.{bound, moment_within}
-use Rattle.msg_parts.specs.StatusLaws.{StatusesAreFound, StatusFaultsHavePlaces}
+use Rattle.ofx_tree.proofs.FormOffsets.{bound, moment_within}
+use Rattle.msg_parts.specs.StatusLaws.{StatusesAreFound, StatusFaultsHaveOffsets}
 
 pub signon_reply_again : StatusesAreFound → (sonrs : Item) (code : ℕ) (moment : Moment) → IsSignonReply sonrs code moment → signon_reply_of sonrs ≡ Ok (code, moment)
 unfolding signon_reply_of
@@ -27,7 +27,7 @@ signon_reply_found statuses sonrs code moment h =
       has_moment = moment_in_found (codes "DTSERVER") sonrs server.0 server.1;
     })
 
-pub signon_reply_within : StatusFaultsHavePlaces → (most : ℕ) (sonrs : Item) → IsWithin most sonrs → Stands most Any (signon_reply_of sonrs)
+pub signon_reply_within : StatusFaultsHaveOffsets → (most : ℕ) (sonrs : Item) → IsWithin most sonrs → Holds most Any (signon_reply_of sonrs)
 unfolding signon_reply_of
 signon_reply_within statuses most sonrs h =
     bound most Any Any (status_of sonrs) _ (statuses most sonrs h) (λ code _.

@@ -1,12 +1,12 @@
--- A signon has its form exactly where it is read, and its faults have places.
+-- A signon has its form exactly where it is read, and its faults have offsets.
 use Rattle.std.proofs.Common.{◌≡◌, ℕ, List, Ok, codes, refl, subst, ◌∙◌}
 use Rattle.ofx_types.specs.Nodes.{Item}
 use Rattle.ofx_types.specs.FormWords.{text_in}
 use Rattle.ofx_types.specs.RequestForm.{IsSignon}
 use Rattle.ofx_types.specs.RequestReading.{signon_of}
-use Rattle.ofx_tree.specs.Placed.{IsWithin, Stands, Any}
+use Rattle.ofx_tree.specs.Located.{IsWithin, Holds, Any}
 use Rattle.ofx_tree.proofs.FormLaws.{bind_ok, bind_to, one_value, text_in_found, text_in_again}
-use Rattle.ofx_tree.proofs.FormPlaces.{bound, text_within}
+use Rattle.ofx_tree.proofs.FormOffsets.{bound, text_within}
 
 pub signon_again : (sonrq : Item) (user pass : List ℕ) → IsSignon sonrq user pass → signon_of sonrq ≡ Ok (user, pass)
 unfolding signon_of
@@ -25,7 +25,7 @@ signon_found sonrq user pass h =
       has_pass = text_in_found (codes "USERPASS") 64 sonrq word.0 word.1;
     })
 
-pub signon_within : (most : ℕ) (sonrq : Item) → IsWithin most sonrq → Stands most Any (signon_of sonrq)
+pub signon_within : (most : ℕ) (sonrq : Item) → IsWithin most sonrq → Holds most Any (signon_of sonrq)
 unfolding signon_of
 signon_within most sonrq h =
     bound most Any Any (text_in (codes "USERID") 32 sonrq) _ (text_within most (codes "USERID") 32 sonrq h) (λ user _.

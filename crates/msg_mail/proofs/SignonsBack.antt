@@ -50,21 +50,21 @@ signon_lawful room user pass at s = (
 
 pub signons_printed : SignonsAreDocuments
 unfolding signon_request
-signons_printed user pass at behind = rw (append-nil (element (codes "APPVER") (codes "0100"))) refl
+signons_printed user pass at rest = rw (append-nil (element (codes "APPVER") (codes "0100"))) refl
 
 sonrq_branch : IsBranch (codes "SONRQ")
 sonrq_branch = record { has_name = record { has_name = refl; is_free = refl }; is_known = refl }
 
 pub signons_lawful : SignonsAreLawful
-signons_lawful room user pass at behind some s more = (sonrq_branch, some, signon_lawful (room - 1) user pass at s, more)
+signons_lawful room user pass at rest some s more = (sonrq_branch, some, signon_lawful (room - 1) user pass at s, more)
 
 pub signons_back : SignonsReadBack
 unfolding signon_of
-signons_back place index user pass at s =
+signons_back offset index user pass at s =
     let inner = signon_documents user pass at in
     let lawful = signon_lawful 0 user pass at s in
-    let item = branch_item place index (codes "SONRQ") inner in
+    let item = branch_item offset index (codes "SONRQ") inner in
     bind_to _ _ user
-    (text_of_leaf (codes "USERID") user 32 _ _ item lawful.1.0 s.is_user.is_within (named_of_branch place index 0 (codes "SONRQ") (codes "USERID") inner lawful))
+    (text_of_leaf (codes "USERID") user 32 _ _ item lawful.1.0 s.is_user.is_within (named_of_branch offset index 0 (codes "SONRQ") (codes "USERID") inner lawful))
     ∙ bind_to _ _ pass
-    (text_of_leaf (codes "USERPASS") pass 64 _ _ item lawful.1.1.0 s.is_pass.is_within (named_of_branch place index 0 (codes "SONRQ") (codes "USERPASS") inner lawful))
+    (text_of_leaf (codes "USERPASS") pass 64 _ _ item lawful.1.1.0 s.is_pass.is_within (named_of_branch offset index 0 (codes "SONRQ") (codes "USERPASS") inner lawful))

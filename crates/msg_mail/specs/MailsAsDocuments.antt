@@ -14,15 +14,15 @@ use Rattle.msg_mail.specs.SoundMails.{IsSoundMailRequest, IsSoundMailReply}
 -- The documents of a sound mail are lawful.
 abbrev pub MailsAreLawful : Type 0
 MailsAreLawful =
-    (room : ℕ) (trnuid : List ℕ) (deed : Deed) (behind : Documents)
-    → 2 < room → IsSoundMailRequest trnuid deed → AreLawful room behind
-    → AreLawful room (branch (request_name (family_of deed)) (deed_documents trnuid deed) behind)
+    (room : ℕ) (trnuid : List ℕ) (deed : Deed) (rest : Documents)
+    → 2 < room → IsSoundMailRequest trnuid deed → AreLawful room rest
+    → AreLawful room (branch (request_name (family_of deed)) (deed_documents trnuid deed) rest)
 
--- Wherever they stand, the uid and the mail are read from them.
+-- Wherever they are, the uid and the mail are read from them.
 abbrev pub MailsReadBack : Type 0
 MailsReadBack =
-    (place index : ℕ) (trnuid : List ℕ) (deed : Deed) → IsSoundMailRequest trnuid deed
-    → mail_deed_of (branch_item place index (request_name (family_of deed)) (deed_documents trnuid deed)) ≡ Ok (trnuid, deed)
+    (offset index : ℕ) (trnuid : List ℕ) (deed : Deed) → IsSoundMailRequest trnuid deed
+    → mail_deed_of (branch_item offset index (request_name (family_of deed)) (deed_documents trnuid deed)) ≡ Ok (trnuid, deed)
 
 -- So a sound mail that is written alone reads back.
 abbrev pub MailsReadBackAlone : Type 0
@@ -33,14 +33,14 @@ MailsReadBackAlone =
 -- The same of the answers to mails.
 abbrev pub MailRepliesAreLawful : Type 0
 MailRepliesAreLawful =
-    (room : ℕ) (reply : DeedReply) (behind : Documents)
-    → 2 < room → IsSoundMailReply reply → AreLawful room behind
-    → AreLawful room (branch (reply_name reply.family) (deed_reply_documents reply.trnuid reply.code reply.change) behind)
+    (room : ℕ) (reply : DeedReply) (rest : Documents)
+    → 2 < room → IsSoundMailReply reply → AreLawful room rest
+    → AreLawful room (branch (reply_name reply.family) (deed_reply_documents reply.trnuid reply.code reply.change) rest)
 
 abbrev pub MailRepliesReadBack : Type 0
 MailRepliesReadBack =
-    (place index : ℕ) (reply : DeedReply) → IsSoundMailReply reply
-    → mail_reply_of (branch_item place index (reply_name reply.family) (deed_reply_documents reply.trnuid reply.code reply.change))
+    (offset index : ℕ) (reply : DeedReply) → IsSoundMailReply reply
+    → mail_reply_of (branch_item offset index (reply_name reply.family) (deed_reply_documents reply.trnuid reply.code reply.change))
     ≡ Ok reply
 
 abbrev pub MailRepliesReadBackAlone : Type 0

@@ -22,7 +22,7 @@ pub record IsSoundSignonReply (code : ℕ) (at : Moment) : Type 0 where
   pub is_code : code ≤ 65535
   pub moment : IsMoment at.0
 
--- what stands in SONRQ
+-- what is in SONRQ
 abbrev pub signon_documents : List ℕ → List ℕ → Moment → Documents
 signon_documents user pass at =
     leaf (codes "DTCLIENT") (moment_text at.0)
@@ -30,7 +30,7 @@ signon_documents user pass at =
     (leaf (codes "USERPASS") pass
     (leaf (codes "LANGUAGE") (codes "ENG") (leaf (codes "APPID") (codes "OFXC") (leaf (codes "APPVER") (codes "0100") empty)))))
 
--- what stands in SONRS
+-- what is in SONRS
 abbrev pub signon_reply_documents : ℕ → Moment → Documents
 signon_reply_documents code at =
     branch (codes "STATUS") (status_documents code)
@@ -39,35 +39,35 @@ signon_reply_documents code at =
 -- What is written of a signon are its documents.
 abbrev pub SignonsAreDocuments : Type 0
 SignonsAreDocuments =
-    (user pass : List ℕ) (at : Moment) (behind : Documents)
-    → printed (branch (codes "SONRQ") (signon_documents user pass at) behind) ≡ signon_request user pass at ++ printed behind
+    (user pass : List ℕ) (at : Moment) (rest : Documents)
+    → printed (branch (codes "SONRQ") (signon_documents user pass at) rest) ≡ signon_request user pass at ++ printed rest
 
 -- Those of a sound signon are lawful.
 abbrev pub SignonsAreLawful : Type 0
 SignonsAreLawful =
-    (room : ℕ) (user pass : List ℕ) (at : Moment) (behind : Documents)
-    → 0 < room → IsSoundSignon user pass at → AreLawful room behind
-    → AreLawful room (branch (codes "SONRQ") (signon_documents user pass at) behind)
+    (room : ℕ) (user pass : List ℕ) (at : Moment) (rest : Documents)
+    → 0 < room → IsSoundSignon user pass at → AreLawful room rest
+    → AreLawful room (branch (codes "SONRQ") (signon_documents user pass at) rest)
 
--- Wherever they stand, that name and that password are read from them.
+-- Wherever they are, that name and that password are read from them.
 abbrev pub SignonsReadBack : Type 0
 SignonsReadBack =
-    (place index : ℕ) (user pass : List ℕ) (at : Moment) → IsSoundSignon user pass at
-    → signon_of (branch_item place index (codes "SONRQ") (signon_documents user pass at)) ≡ Ok (user, pass)
+    (offset index : ℕ) (user pass : List ℕ) (at : Moment) → IsSoundSignon user pass at
+    → signon_of (branch_item offset index (codes "SONRQ") (signon_documents user pass at)) ≡ Ok (user, pass)
 
 -- The same of the answers to signons.
 abbrev pub SignonRepliesAreDocuments : Type 0
 SignonRepliesAreDocuments =
-    (code : ℕ) (at : Moment) (behind : Documents)
-    → printed (branch (codes "SONRS") (signon_reply_documents code at) behind) ≡ signon_reply code at ++ printed behind
+    (code : ℕ) (at : Moment) (rest : Documents)
+    → printed (branch (codes "SONRS") (signon_reply_documents code at) rest) ≡ signon_reply code at ++ printed rest
 
 abbrev pub SignonRepliesAreLawful : Type 0
 SignonRepliesAreLawful =
-    (room code : ℕ) (at : Moment) (behind : Documents)
-    → 1 < room → IsSoundSignonReply code at → AreLawful room behind
-    → AreLawful room (branch (codes "SONRS") (signon_reply_documents code at) behind)
+    (room code : ℕ) (at : Moment) (rest : Documents)
+    → 1 < room → IsSoundSignonReply code at → AreLawful room rest
+    → AreLawful room (branch (codes "SONRS") (signon_reply_documents code at) rest)
 
 abbrev pub SignonRepliesReadBack : Type 0
 SignonRepliesReadBack =
-    (place index code : ℕ) (at : Moment) → IsSoundSignonReply code at
-    → signon_reply_of (branch_item place index (codes "SONRS") (signon_reply_documents code at)) ≡ Ok (code, at)
+    (offset index code : ℕ) (at : Moment) → IsSoundSignonReply code at
+    → signon_reply_of (branch_item offset index (codes "SONRS") (signon_reply_documents code at)) ≡ Ok (code, at)

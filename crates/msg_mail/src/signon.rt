@@ -16,22 +16,22 @@ use ofx_types::{Moment, OutOfMemory, Text, TreeFault};
 use std::alloc::Global;
 
 /// The most bytes of a user's name.
-const MOST_OF_USER: u32 = 32;
+const MAX_USER: u32 = 32;
 
 /// The most bytes of a password.
-const MOST_OF_PASS: u32 = 64;
+const MAX_PASS: u32 = 64;
 
 /// Who signs on, as a SONRQ says: the user's name and the password.
 ///
-/// The first fault of USERID and then USERPASS, each of which stands once, with a text of at most 32 and 64 bytes:
+/// The first fault of USERID and then USERPASS, each of which occurs once, with a text of at most 32 and 64 bytes:
 /// `Missing` at the SONRQ, `Repeated` at the second one, `Value` at one that is no such text; `OutOfMemory` where memory
-/// for a text is refused. Places count from the first byte of the body.
+/// for a text is refused. Offsets count from the first byte of the body.
 #[tactic(auto, unfolding(ofx_types::specs::RequestReading::signon_of))]
 pub fn read_signon(alloc: Global, c: &Cursor<'_>) -> Result<(Text, Text), TreeFault>
     ensures { ReadsForm result (signon_of c.now) }
 {
-    let user = c.text(alloc, b"USERID", MOST_OF_USER)?;
-    let pass = c.text(alloc, b"USERPASS", MOST_OF_PASS)?;
+    let user = c.text(alloc, b"USERID", MAX_USER)?;
+    let pass = c.text(alloc, b"USERPASS", MAX_PASS)?;
     Ok((user, pass))
 }
 
@@ -81,8 +81,8 @@ pub fn print_signon_reply(code: u16, at: Moment, out: &mut Sheet) -> Result<(), 
 
 /// The code and the moment that a SONRS says. It takes no memory.
 ///
-/// The first fault of its STATUS and then of DTSERVER, each of which stands once: `Missing` at the aggregate, `Repeated`
-/// at the second one, `Value` at a CODE or DTSERVER that is no number up to 65,535 and no date. Places count from the
+/// The first fault of its STATUS and then of DTSERVER, each of which occurs once: `Missing` at the aggregate, `Repeated`
+/// at the second one, `Value` at a CODE or DTSERVER that is no number up to 65,535 and no date. Offsets count from the
 /// first byte of the body.
 #[tactic(auto, unfolding(ofx_types::specs::ReplyReading::signon_reply_of))]
 pub fn read_signon_reply(c: &Cursor<'_>) -> Result<(u16, Moment), TreeFault>

@@ -11,10 +11,10 @@ use Rattle.ofx_tree.proofs.DocumentItems.{named_of_branch}
 use Rattle.ofx_tree.proofs.DocumentTrees.{documents_of_body}
 use Rattle.msg_parts.specs.PartDocuments.{IsReadAlone}
 
--- what is read of a branch wherever it stands is read of a body that has nothing else
+-- what is read of a branch wherever it is is read of a body that has nothing else
 pub read_alone : {A : Type 0} (name lines : List ℕ) (inner : Documents) (read : Item → Result A TreeFault) (message : A) →
     printed (branch name inner empty) ≡ lines → AreLawful 15 (branch name inner empty) →
-    ((place index : ℕ) → read (branch_item place index name inner) ≡ Ok message) → IsReadAlone name lines read message
+    ((offset index : ℕ) → read (branch_item offset index name inner) ≡ Ok message) → IsReadAlone name lines read message
 read_alone name lines inner read message same lawful reads white blank =
     let documents = branch name inner empty in
     let ofx = branch_item (length white) 0 (codes "OFX") documents in

@@ -1,4 +1,4 @@
--- The names of the transactions of deeds, and of what stands in them, are names of aggregates.
+-- The names of the transactions of deeds, and of what is there in them, are names of aggregates.
 use Rattle.std.proofs.Common.{codes, Option, None, Some, refl}
 use Rattle.ofx_types.specs.DeedForm.{request_name, reply_name}
 use Rattle.ofx_types.specs.declared.account.AcctName.{AcctName}

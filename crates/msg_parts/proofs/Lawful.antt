@@ -53,4 +53,4 @@ status_lawful room code h =
     (number_leaf (codes "CODE") code (named (codes "CODE") refl refl) (omega arith), (severity_leaf (nat_eq code 0), tt))
 
 pub statuses_lawful : StatusesAreLawful
-statuses_lawful room code behind some h more = (is_branch (codes "STATUS") refl refl refl, some, status_lawful (room - 1) code h, more)
+statuses_lawful room code rest some h more = (is_branch (codes "STATUS") refl refl refl, some, status_lawful (room - 1) code h, more)

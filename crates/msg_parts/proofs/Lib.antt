@@ -2,7 +2,7 @@ pub mod Named
 pub mod Joined
 pub mod AccountLaws
 pub mod PartLaws
-pub mod PartPlaces
+pub mod PartOffsets
 mod Uids
 pub mod Statuses
 pub mod Lawful

@@ -32,6 +32,6 @@ other_name names name word not_there there same =
 pub two_named : (P : Family → Type 0) (name first second : List ℕ) (f g family : Family) (fault : TreeFault) → (name ≡ first → P f) → (name ≡ second → P g) →
     (if bytes_eq name first then Ok f else (if bytes_eq name second then Ok g else Err fault)) ≡ Ok family → P family
 two_named P name first second f g family fault is_f is_g h = elim (went (bytes_eq name first) (Ok f) (if bytes_eq name second then Ok g else Err fault) (Ok family) h) [
-  | inl (is, told) ↦ subst P (one_value (Ok f) f family refl told) (is_f (bytes_eq_is name first is))
+  | inl (is, reported) ↦ subst P (one_value (Ok f) f family refl reported) (is_f (bytes_eq_is name first is))
   | inr (_, more) ↦ let is = ok_guarded (bytes_eq name second) g family fault more in subst P is.1 (is_g (bytes_eq_is name second is.0))
 ]

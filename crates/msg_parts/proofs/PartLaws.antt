@@ -15,7 +15,7 @@ unfolding trnuid_of
 trnuid_found wrapper trnuid h =
     let text = bind_ok (text_in (codes "TRNUID") 36 wrapper) _ trnuid h in
     let child = bind_ok (one (codes "TRNUID") wrapper) _ trnuid text.2 in
-    let own = unless_zero_found child.0.node.place text.0 trnuid child.2 in
+    let own = unless_zero_found child.0.node.offset text.0 trnuid child.2 in
     record { text = rw own.0 at (text_in_found (codes "TRNUID") 36 wrapper text.0 text.1); is_own = own.1 }
 
 pub trnuid_again : (wrapper : Item) (trnuid : List ℕ) → IsTrnUidOf wrapper trnuid → trnuid_of wrapper ≡ Ok trnuid
@@ -23,7 +23,7 @@ unfolding trnuid_of
 trnuid_again wrapper trnuid t =
     bind_to _ _ trnuid (text_in_again (codes "TRNUID") 36 wrapper trnuid t.text)
     ∙ bind_to _ _ t.text.child (one_again (codes "TRNUID") wrapper t.text.child t.text.is_only)
-    ∙ unless_zero_again t.text.child.node.place trnuid t.is_own
+    ∙ unless_zero_again t.text.child.node.offset trnuid t.is_own
 
 -- ---- accounts
 
@@ -40,7 +40,7 @@ account_found aggregate account h =
       number = text_in_found (codes "ACCTID") 32 aggregate number.0 number.1;
       kind = child.0;
       has_kind = one_found (codes "ACCTTYPE") aggregate child.0 child.1;
-      is_kind = kind_found _ child.0.node.place kind.0 kind.1;
+      is_kind = kind_found _ child.0.node.offset kind.0 kind.1;
     })
 
 pub account_again : (aggregate : Item) (account : AcctName) → IsAccount aggregate account → account_of aggregate ≡ Ok account
@@ -49,4 +49,4 @@ account_again aggregate account a =
     bind_to _ _ account.bank (text_in_again (codes "BANKID") 32 aggregate account.bank a.bank)
     ∙ bind_to _ _ account.number (text_in_again (codes "ACCTID") 32 aggregate account.number a.number)
     ∙ bind_to _ _ a.kind (one_again (codes "ACCTTYPE") aggregate a.kind a.has_kind)
-    ∙ bind_to _ _ account.kind (kind_again _ a.kind.node.place account.kind a.is_kind)
+    ∙ bind_to _ _ account.kind (kind_again _ a.kind.node.offset account.kind a.is_kind)

@@ -19,4 +19,4 @@ unfolding common.status
 status_printed code = rw append-nil refl
 
 pub statuses_printed : StatusesAreDocuments
-statuses_printed code behind = rw (status_printed code) refl
+statuses_printed code rest = rw (status_printed code) refl

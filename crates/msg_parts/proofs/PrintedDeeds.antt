@@ -33,7 +33,7 @@ use Rattle.msg_parts.proofs.Printed.{account_printed, status_printed}
 -- ---- with a recurring transfer or with none
 
 abbrev pub model_with : (is_none : Bool) → ℕ → Documents → Documents
-model_with is_none model behind = cond is_none behind (leaf (codes "RECSRVRTID") (decimal model) behind)
+model_with is_none model rest = cond is_none rest (leaf (codes "RECSRVRTID") (decimal model) rest)
 
 -- the documents of a new transfer, by whether its model is 0
 abbrev pub new_with : (is_none : Bool) → TransferRow → Documents
@@ -58,11 +58,11 @@ info_printed : (info : XferInfo) → sheet.aggregate (codes "XFERINFO") (printed
 unfolding text.info_text
 info_printed info = rw (account_printed info.from, account_to_printed info.to, due_printed info.due) refl
 
--- a count in front of more
-count_printed : (count : Option ℕ) (behind : Documents) → printed (count_document count behind) ≡ deeds.count_text count ++ printed behind
+-- a count before more
+count_printed : (count : Option ℕ) (rest : Documents) → printed (count_document count rest) ≡ deeds.count_text count ++ printed rest
 unfolding deeds.count_text
-count_printed None behind = refl
-count_printed (Some count) behind = refl
+count_printed None rest = refl
+count_printed (Some count) rest = refl
 
 recur_printed : (recur : Recur) → sheet.aggregate (codes "RECURRINST") (printed (recur_documents recur)) ≡ deeds.recur_text recur
 unfolding deeds.recur_text
@@ -106,29 +106,29 @@ request_printed (kinds.Mail mail) = plain_mail_printed mail
 
 pub deeds_printed : DeedsAreDocuments
 unfolding deeds.deed_text
-deeds_printed trnuid deed behind = rw (append-nil (sheet.aggregate (asked_name deed) (printed (request_documents deed))), request_printed deed) refl
+deeds_printed trnuid deed rest = rw (append-nil (sheet.aggregate (asked_name deed) (printed (request_documents deed))), request_printed deed) refl
 
 processing_printed : (code : XferCode) (stamp : Moment) → sheet.aggregate (codes "XFERPRCSTS") (printed (processing_documents code stamp)) ≡ text.processing_text code stamp
 unfolding text.processing_text
 processing_printed code stamp = rw append-nil refl
 
-model_with-printed : (is_none : Bool) (model : ℕ) (behind : Documents) →
-    printed (model_with is_none model behind) ≡ cond is_none [] (text.id_text (codes "RECSRVRTID") model) ++ printed behind
-model_with-printed true model behind = refl
-model_with-printed false model behind = refl
+model_with-printed : (is_none : Bool) (model : ℕ) (rest : Documents) →
+    printed (model_with is_none model rest) ≡ cond is_none [] (text.id_text (codes "RECSRVRTID") model) ++ printed rest
+model_with-printed true model rest = refl
+model_with-printed false model rest = refl
 
-model_printed : (model : ℕ) (behind : Documents) → printed (model_document model behind) ≡ text.model_text model ++ printed behind
+model_printed : (model : ℕ) (rest : Documents) → printed (model_document model rest) ≡ text.model_text model ++ printed rest
 unfolding text.model_text
-model_printed model behind = model_with-printed (nat_eq model 0) model behind
+model_printed model rest = model_with-printed (nat_eq model 0) model rest
 
 first_printed : (row : ModelRow) → sheet.aggregate (codes "INTRARS") (printed (first_documents row)) ≡ deeds.first_text row
 unfolding deeds.first_text
 first_printed row = rw (info_printed (first_info row), append-nil) refl
 
-model_row_printed : (row : ModelRow) (behind : Documents) → printed (model_documents row behind) ≡ deeds.model_row_text row ++ printed behind
+model_row_printed : (row : ModelRow) (rest : Documents) → printed (model_documents row rest) ≡ deeds.model_row_text row ++ printed rest
 unfolding deeds.model_row_text
-model_row_printed row behind =
-    rw (recur_printed row.recur, first_printed row, append_assoc, append_assoc (deeds.recur_text row.recur) (deeds.first_text row) (printed behind)) refl
+model_row_printed row rest =
+    rw (recur_printed row.recur, first_printed row, append_assoc, append_assoc (deeds.recur_text row.recur) (deeds.first_text row) (printed rest)) refl
 
 mail_row_printed : (about : Option AcctName) (row : MailRow) →
     sheet.aggregate (mail_reply_name about) (printed (mail_about about row.user row.mail)) ≡ mails.mail_row_about about row
@@ -154,4 +154,4 @@ maybe_change_printed (Some change) = append-nil _ ∙ change_printed change
 
 pub deed_replies_printed : DeedRepliesAreDocuments
 unfolding deeds.deed_reply_text
-deed_replies_printed reply behind = rw (status_printed reply.code, maybe_change_printed reply.change) refl
+deed_replies_printed reply rest = rw (status_printed reply.code, maybe_change_printed reply.change) refl

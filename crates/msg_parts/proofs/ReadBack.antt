@@ -16,27 +16,27 @@ use Rattle.msg_parts.proofs.Statuses.{bounded_again}
 
 -- ---- accounts, in an aggregate of any name
 
-pub account_back : (place index : ℕ) (name : List ℕ) (account : AcctName) → IsSoundAccount account →
-    account_of (branch_item place index name (account_documents account)) ≡ Ok account
+pub account_back : (offset index : ℕ) (name : List ℕ) (account : AcctName) → IsSoundAccount account →
+    account_of (branch_item offset index name (account_documents account)) ≡ Ok account
 unfolding account_of
-account_back place index name account a =
+account_back offset index name account a =
     let inner = account_documents account in
     let lawful = account_lawful 0 account a in
-    let item = branch_item place index name inner in
+    let item = branch_item offset index name inner in
     bind_to _ _ account.bank
-    (text_of_leaf (codes "BANKID") account.bank 32 _ _ item lawful.0 a.bank.is_within (named_of_branch place index 0 name (codes "BANKID") inner lawful))
+    (text_of_leaf (codes "BANKID") account.bank 32 _ _ item lawful.0 a.bank.is_within (named_of_branch offset index 0 name (codes "BANKID") inner lawful))
     ∙ bind_to _ _ account.number
-    (text_of_leaf (codes "ACCTID") account.number 32 _ _ item lawful.1.0 a.number.is_within (named_of_branch place index 0 name (codes "ACCTID") inner lawful))
-    ∙ bind_to _ _ _ (one_again (codes "ACCTTYPE") item _ (named_of_branch place index 0 name (codes "ACCTTYPE") inner lawful))
+    (text_of_leaf (codes "ACCTID") account.number 32 _ _ item lawful.1.0 a.number.is_within (named_of_branch offset index 0 name (codes "ACCTID") inner lawful))
+    ∙ bind_to _ _ _ (one_again (codes "ACCTTYPE") item _ (named_of_branch offset index 0 name (codes "ACCTTYPE") inner lawful))
     ∙ bind_to _ _ account.kind (kind_again _ _ account.kind (value_of_leaf 0 0 (codes "ACCTTYPE") (kind_word account.kind) lawful.1.1.0).0)
 
 -- ---- status
 
 pub statuses_back : StatusesReadBack
 unfolding code_of
-statuses_back place index code h =
-    let item = branch_item place index (codes "STATUS") (status_documents code) in
-    let only = named_of_branch place index 0 (codes "STATUS") (codes "CODE") (status_documents code) (status_lawful 0 code h) in
+statuses_back offset index code h =
+    let item = branch_item offset index (codes "STATUS") (status_documents code) in
+    let only = named_of_branch offset index 0 (codes "STATUS") (codes "CODE") (status_documents code) (status_lawful 0 code h) in
     bind_to _ _ code (number_of_leaf (codes "CODE") 5 code _ _ item (named (codes "CODE") refl refl) (omega arith) (omega arith) (omega arith) only)
     ∙ bind_to _ _ _ (one_again (codes "CODE") item _ only)
     ∙ bounded_again _ code h

@@ -1,23 +1,23 @@
--- A status has its form exactly where it is read, and its faults have places.
+-- A status has its form exactly where it is read, and its faults have offsets.
 use Rattle.std.proofs.Common.{◌≡◌, ℕ, ◌≤◌, true, nat_le, Ok, codes, refl, subst, ◌∙◌, arith}
 use Rattle.std.proofs.lemmas.Grind.{common_steps}
 use Rattle.ofx_types.specs.Nodes.{Item}
 use Rattle.ofx_types.specs.FormWords.{one, number_in}
 use Rattle.ofx_types.specs.ReplyGrammar.{IsStatus}
 use Rattle.ofx_types.specs.ReplyReading.{bounded_code, code_of, status_of}
-use Rattle.ofx_tree.specs.Placed.{IsWithin, Stands, Any}
+use Rattle.ofx_tree.specs.Located.{IsWithin, Holds, Any}
 use Rattle.ofx_tree.proofs.FormLaws.{bind_ok, bind_to, ok_guarded, one_found, one_again, number_in_found, number_in_again}
-use Rattle.ofx_tree.proofs.FormPlaces.{bound, either, one_within, number_within}
+use Rattle.ofx_tree.proofs.FormOffsets.{bound, either, one_within, number_within}
 
-pub bounded_again : (place code : ℕ) → code ≤ 65535 → bounded_code place code ≡ Ok code
-bounded_again place code h = let fits : nat_le code 65535 ≡ true = grind (arith, common_steps) in rw fits refl
+pub bounded_again : (offset code : ℕ) → code ≤ 65535 → bounded_code offset code ≡ Ok code
+bounded_again offset code h = let fits : nat_le code 65535 ≡ true = grind (arith, common_steps) in rw fits refl
 
 code_again : (parent : Item) (code : ℕ) (s : IsStatus parent code) → code_of s.status ≡ Ok code
 unfolding code_of
 code_again parent code s =
     bind_to _ _ code (number_in_again (codes "CODE") 5 s.status code s.has_code)
     ∙ bind_to _ _ s.has_code.child (one_again (codes "CODE") s.status s.has_code.child s.has_code.is_only)
-    ∙ bounded_again s.has_code.child.node.place code s.is_bounded
+    ∙ bounded_again s.has_code.child.node.offset code s.is_bounded
 
 pub status_again : (parent : Item) (code : ℕ) → IsStatus parent code → status_of parent ≡ Ok code
 unfolding status_of
@@ -40,14 +40,14 @@ status_found parent code h =
       is_bounded = fits;
     })
 
-code_within : (most : ℕ) (status : Item) → IsWithin most status → Stands most Any (code_of status)
+code_within : (most : ℕ) (status : Item) → IsWithin most status → Holds most Any (code_of status)
 unfolding code_of
 code_within most status h =
     bound most Any Any (number_in (codes "CODE") 5 status) _ (number_within most (codes "CODE") 5 status h) (λ code _.
     bound most (IsWithin most) Any (one (codes "CODE") status) _ (one_within most (codes "CODE") status h) (λ child c.
-    either most Any (nat_le code 65535) _ _ tt c.place))
+    either most Any (nat_le code 65535) _ _ tt c.offset))
 
-pub status_within : (most : ℕ) (parent : Item) → IsWithin most parent → Stands most Any (status_of parent)
+pub status_within : (most : ℕ) (parent : Item) → IsWithin most parent → Holds most Any (status_of parent)
 unfolding status_of
 status_within most parent h =
     bound most (IsWithin most) Any (one (codes "STATUS") parent) _ (one_within most (codes "STATUS") parent h) (λ status s. code_within most status s)

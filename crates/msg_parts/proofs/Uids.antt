@@ -26,21 +26,21 @@ uid_or_fault (suc n) fault =
 within_is : (text : List ℕ) → is_text_within 36 text ≡ is_none (trnuid_fault text)
 within_is text = uid_or_fault (length text) (text_fault is_refused_in_text 36 text)
 
-pub trnuid_at-none : (place : ℕ) (text : List ℕ) → trnuid_fault text ≡ None → trnuid_at place text ≡ Ok text
+pub trnuid_at-none : (offset : ℕ) (text : List ℕ) → trnuid_fault text ≡ None → trnuid_at offset text ≡ Ok text
 unfolding trnuid_at
-trnuid_at-none place text h = ap (λ b. cond b (Ok text) (Err (Value place))) (within_is text ∙ ap is_none h)
+trnuid_at-none offset text h = ap (λ b. cond b (Ok text) (Err (Value offset))) (within_is text ∙ ap is_none h)
 
-pub trnuid_at-some : (place : ℕ) (text : List ℕ) (e : TextFault) → trnuid_fault text ≡ Some e → trnuid_at place text ≡ Err (Value place)
+pub trnuid_at-some : (offset : ℕ) (text : List ℕ) (e : TextFault) → trnuid_fault text ≡ Some e → trnuid_at offset text ≡ Err (Value offset)
 unfolding trnuid_at
-trnuid_at-some place text e h = ap (λ b. cond b (Ok text) (Err (Value place))) (within_is text ∙ ap is_none h)
+trnuid_at-some offset text e h = ap (λ b. cond b (Ok text) (Err (Value offset))) (within_is text ∙ ap is_none h)
 
 no_text : (a b : Bool) (x : Result (List ℕ) TreeFault) (e : TreeFault) → b ≡ false → cond (a && b) x (Err e) ≡ Err e
 no_text true b x e h = rw h refl
 no_text false b x e h = refl
 
-pub trnuid_at-no_text : (place : ℕ) (text : List ℕ) (e : TextFault) → text_fault is_refused_in_text 36 text ≡ Some e → trnuid_at place text ≡ Err (Value place)
+pub trnuid_at-no_text : (offset : ℕ) (text : List ℕ) (e : TextFault) → text_fault is_refused_in_text 36 text ≡ Some e → trnuid_at offset text ≡ Err (Value offset)
 unfolding trnuid_at
-trnuid_at-no_text place text e h = no_text (nat_lt 0 (length text)) _ _ _ (ap is_none h)
+trnuid_at-no_text offset text e h = no_text (nat_lt 0 (length text)) _ _ _ (ap is_none h)
 
 pub ruleset plain_uids = (trnuid_at-none, trnuid_at-some)
 
@@ -59,13 +59,13 @@ gives_same (Err OutOfMemory) s h = tt
 
 -- the uid is that of the only child with the name
 one_then : (r : Result Item TreeFault) →
-    ((r >>= λ c. text_at 36 c.node) >>= λ text. r >>= λ child. unless_zero child.node.place text)
-    ≡ (r >>= λ child. trnuid_at child.node.place (value_of child.node.text) >>= unless_zero child.node.place)
+    ((r >>= λ c. text_at 36 c.node) >>= λ text. r >>= λ child. unless_zero child.node.offset text)
+    ≡ (r >>= λ child. trnuid_at child.node.offset (value_of child.node.text) >>= unless_zero child.node.offset)
 unfolding trnuid_at
 one_then (Ok child) = refl
 one_then (Err e) = refl
 
 pub trnuid_is : (wrapper : Item) →
-    trnuid_of wrapper ≡ (one (codes "TRNUID") wrapper >>= λ child. trnuid_at child.node.place (value_of child.node.text) >>= unless_zero child.node.place)
+    trnuid_of wrapper ≡ (one (codes "TRNUID") wrapper >>= λ child. trnuid_at child.node.offset (value_of child.node.text) >>= unless_zero child.node.offset)
 unfolding trnuid_of text_in
 trnuid_is wrapper = one_then (one (codes "TRNUID") wrapper)

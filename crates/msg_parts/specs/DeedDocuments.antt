@@ -32,27 +32,27 @@ abbrev pub due_document : Option Day → Documents
 due_document None = empty
 due_document (Some day) = leaf (codes "DTDUE") (moment_text (midnight day.0)) empty
 
--- what stands in XFERINFO
+-- what is in XFERINFO
 abbrev pub info_documents : XferInfo → Documents
 info_documents info =
     branch (codes "BANKACCTFROM") (account_documents info.from)
     (branch (codes "BANKACCTTO") (account_documents info.to)
     (leaf (codes "TRNAMT") (amount_text info.amount.0) (due_document info.due)))
 
--- A count that may be left out, in front of more.
+-- A count that may be left out, before more.
 abbrev pub count_document : Option ℕ → Documents → Documents
-count_document None behind = behind
-count_document (Some count) behind = leaf (codes "NINSTS") (decimal count) behind
+count_document None rest = rest
+count_document (Some count) rest = leaf (codes "NINSTS") (decimal count) rest
 
--- what stands in RECURRINST
+-- what is in RECURRINST
 abbrev pub recur_documents : Recur → Documents
 recur_documents recur = count_document recur.count (leaf (codes "FREQ") (freq_word recur.freq) empty)
 
--- what stands in INTRARQ, also in the one inside the request of a recurring transfer
+-- what is in INTRARQ, also in the one inside the request of a recurring transfer
 abbrev pub each_documents : XferInfo → Documents
 each_documents info = branch (codes "XFERINFO") (info_documents info) empty
 
--- the request that stands in the transaction of a deed, and what stands in it
+-- the request that is in the transaction of a deed, and what is in it
 abbrev pub asked_name : Deed → List ℕ
 asked_name (Transfer info) = codes "INTRARQ"
 asked_name (ModifyTransfer id info) = codes "INTRAMODRQ"
@@ -78,22 +78,22 @@ request_documents (CancelModel id pending) =
 request_documents (BankMail account mail) = mail_about (Some account) mail.sender mail
 request_documents (Mail mail) = mail_about None mail.sender mail
 
--- what stands in INTRATRNRQ, RECINTRATRNRQ, BANKMAILTRNRQ and MAILTRNRQ
+-- what is in INTRATRNRQ, RECINTRATRNRQ, BANKMAILTRNRQ and MAILTRNRQ
 abbrev pub deed_documents : List ℕ → Deed → Documents
 deed_documents trnuid deed = leaf (codes "TRNUID") trnuid (branch (asked_name deed) (request_documents deed) empty)
 
 -- ---- replies
 
--- what stands in XFERPRCSTS
+-- what is in XFERPRCSTS
 abbrev pub processing_documents : XferCode → Moment → Documents
 processing_documents code stamp =
     leaf (codes "XFERPRCCODE") (code_word code) (leaf (codes "DTXFERPRC") (moment_text stamp.0) empty)
 
 -- The recurring transfer that made it, where one did.
 abbrev pub model_document : ℕ → Documents → Documents
-model_document model behind = if model == 0 then behind else leaf (codes "RECSRVRTID") (decimal model) behind
+model_document model rest = if model == 0 then rest else leaf (codes "RECSRVRTID") (decimal model) rest
 
--- what stands in INTRARS
+-- what is in INTRARS
 abbrev pub new_documents : TransferRow → Documents
 new_documents row =
     leaf (codes "CURDEF") (codes "USD")
@@ -101,27 +101,27 @@ new_documents row =
     (branch (codes "XFERINFO") (info_documents (info_of row))
     (model_document row.model (branch (codes "XFERPRCSTS") (processing_documents row.code row.stamp) empty))))
 
--- what stands in INTRAMODRS
+-- what is in INTRAMODRS
 abbrev pub set_documents : TransferRow → Documents
 set_documents row =
     leaf (codes "SRVRTID") (decimal row.id)
     (branch (codes "XFERINFO") (info_documents (info_of row))
     (branch (codes "XFERPRCSTS") (processing_documents row.code row.stamp) empty))
 
--- what stands in the INTRARS inside the reply of a recurring transfer
+-- what is in the INTRARS inside the reply of a recurring transfer
 abbrev pub first_documents : ModelRow → Documents
 first_documents row =
     leaf (codes "CURDEF") (codes "USD")
     (leaf (codes "SRVRTID") (decimal row.id)
     (branch (codes "XFERINFO") (info_documents (first_info row)) (leaf (codes "RECSRVRTID") (decimal row.id) empty)))
 
--- what a reply says of a recurring transfer, in front of more
+-- what a reply says of a recurring transfer, before more
 abbrev pub model_documents : ModelRow → Documents → Documents
-model_documents row behind =
+model_documents row rest =
     leaf (codes "RECSRVRTID") (decimal row.id)
-    (branch (codes "RECURRINST") (recur_documents row.recur) (branch (codes "INTRARS") (first_documents row) behind))
+    (branch (codes "RECURRINST") (recur_documents row.recur) (branch (codes "INTRARS") (first_documents row) rest))
 
--- the reply that stands in the transaction of an answer, and what stands in it
+-- the reply that is in the transaction of an answer, and what is in it
 abbrev pub change_name : Change → List ℕ
 change_name (NewTransfer row) = codes "INTRARS"
 change_name (SetTransfer row) = codes "INTRAMODRS"
@@ -145,7 +145,7 @@ abbrev pub change_document : Option Change → Documents
 change_document None = empty
 change_document (Some change) = branch (change_name change) (change_documents change) empty
 
--- what stands in INTRATRNRS, RECINTRATRNRS, BANKMAILTRNRS and MAILTRNRS
+-- what is in INTRATRNRS, RECINTRATRNRS, BANKMAILTRNRS and MAILTRNRS
 abbrev pub deed_reply_documents : List ℕ → ℕ → Option Change → Documents
 deed_reply_documents trnuid code change =
     leaf (codes "TRNUID") trnuid (branch (codes "STATUS") (status_documents code) (change_document change))
@@ -155,12 +155,12 @@ deed_reply_documents trnuid code change =
 -- What is written of a deed, a mail too, are its documents.
 abbrev pub DeedsAreDocuments : Type 0
 DeedsAreDocuments =
-    (trnuid : List ℕ) (deed : Deed) (behind : Documents)
-    → printed (branch (request_name (family_of deed)) (deed_documents trnuid deed) behind) ≡ deed_text trnuid deed ++ printed behind
+    (trnuid : List ℕ) (deed : Deed) (rest : Documents)
+    → printed (branch (request_name (family_of deed)) (deed_documents trnuid deed) rest) ≡ deed_text trnuid deed ++ printed rest
 
 -- The same of the answers to deeds, of which a changed transfer is read with model 0.
 abbrev pub DeedRepliesAreDocuments : Type 0
 DeedRepliesAreDocuments =
-    (reply : DeedReply) (behind : Documents)
-    → printed (branch (reply_name reply.family) (deed_reply_documents reply.trnuid reply.code reply.change) behind)
-    ≡ deed_reply_text reply ++ printed behind
+    (reply : DeedReply) (rest : Documents)
+    → printed (branch (reply_name reply.family) (deed_reply_documents reply.trnuid reply.code reply.change) rest)
+    ≡ deed_reply_text reply ++ printed rest

@@ -6,7 +6,7 @@ use Rattle.ofx_types.specs.declared.mail.MailText.{MailText}
 use Rattle.ofx_tree.specs.Documents.{Documents, empty, leaf, branch}
 use Rattle.msg_parts.specs.PartDocuments.{account_documents}
 
--- what stands in MAIL
+-- what is in MAIL
 abbrev pub mail_documents : List ℕ → MailText → Documents
 mail_documents user text =
     leaf (codes "USERID") user
@@ -17,7 +17,7 @@ mail_documents user text =
     (leaf (codes "MSGBODY") text.body
     (leaf (codes "INCIMAGES") (codes "N") (leaf (codes "USEHTML") (codes "N") empty)))))))
 
--- what stands in MAILRQ and MAILRS, and with an account in BANKMAILRQ and BANKMAILRS
+-- what is in MAILRQ and MAILRS, and with an account in BANKMAILRQ and BANKMAILRS
 abbrev pub mail_about : Option AcctName → List ℕ → MailText → Documents
 mail_about None user text = branch (codes "MAIL") (mail_documents user text) empty
 mail_about (Some account) user text =

@@ -15,7 +15,7 @@ use Rattle.ofx_tree.specs.Documents.{Documents, empty, leaf, branch, printed, Ar
 
 -- ---- requests
 
--- what stands in BANKACCTFROM
+-- what is in BANKACCTFROM
 abbrev pub account_documents : AcctName → Documents
 account_documents account =
     leaf (codes "BANKID") account.bank
@@ -23,7 +23,7 @@ account_documents account =
 
 -- ---- replies
 
--- what stands in STATUS
+-- what is in STATUS
 abbrev pub status_documents : ℕ → Documents
 status_documents code =
     leaf (codes "CODE") (decimal code) (leaf (codes "SEVERITY") (if code == 0 then codes "INFO" else codes "ERROR") empty)
@@ -41,13 +41,13 @@ IsReadAlone name lines read message =
 -- What is written of a status are its documents, which are lawful and read back: a code is at most 65,535.
 abbrev pub StatusesAreDocuments : Type 0
 StatusesAreDocuments =
-    (code : ℕ) (behind : Documents) → printed (branch (codes "STATUS") (status_documents code) behind) ≡ status code ++ printed behind
+    (code : ℕ) (rest : Documents) → printed (branch (codes "STATUS") (status_documents code) rest) ≡ status code ++ printed rest
 
 abbrev pub StatusesAreLawful : Type 0
 StatusesAreLawful =
-    (room code : ℕ) (behind : Documents) → 0 < room → code ≤ 65535 → AreLawful room behind
-    → AreLawful room (branch (codes "STATUS") (status_documents code) behind)
+    (room code : ℕ) (rest : Documents) → 0 < room → code ≤ 65535 → AreLawful room rest
+    → AreLawful room (branch (codes "STATUS") (status_documents code) rest)
 
 abbrev pub StatusesReadBack : Type 0
 StatusesReadBack =
-    (place index code : ℕ) → code ≤ 65535 → code_of (branch_item place index (codes "STATUS") (status_documents code)) ≡ Ok code
+    (offset index code : ℕ) → code ≤ 65535 → code_of (branch_item offset index (codes "STATUS") (status_documents code)) ≡ Ok code

@@ -7,11 +7,11 @@ use Rattle.ofx_types.specs.declared.fault.TreeFault.{TreeFault}
 use Rattle.ofx_types.specs.declared.fault.TreeFault.TheVariants.{Value}
 use Rattle.ofx_types.specs.declared.account.AcctName.{AcctName}
 
--- The uid that bytes are, which stand at this place: 1 to 36 of them.
+-- The uid that bytes are, which stand at this offset: 1 to 36 of them.
 unfoldable pub trnuid_at : ℕ → List ℕ → Result (List ℕ) TreeFault
-trnuid_at place text = if is_text_within 36 text then Ok text else Err (Value place)
+trnuid_at offset text = if is_text_within 36 text then Ok text else Err (Value offset)
 
--- what stands in the aggregate of an account
+-- what is in the aggregate of an account
 abbrev pub account_parts : AcctName → List ℕ
 account_parts account =
     element (codes "BANKID") account.bank

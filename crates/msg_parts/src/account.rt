@@ -16,11 +16,11 @@ use ofx_types::{AcctKind, AcctName, OutOfMemory, TreeFault};
 use std::alloc::Global;
 
 /// The most bytes of a bank's id and of an account's number.
-const MOST: u32 = 32;
+const MAX_BYTES: u32 = 32;
 
-/// The account that a message is about (BANKACCTFROM), which stands once in it.
+/// The account that a message is about (BANKACCTFROM), which occurs once in it.
 ///
-/// The first fault of its form, with its place; `OutOfMemory` where memory for its texts is refused.
+/// The first fault of its form, with its offset; `OutOfMemory` where memory for its texts is refused.
 #[tactic(auto, unfolding(ofx_types::specs::MailReading::account_in))]
 pub fn read_account_in(alloc: Global, message: &Cursor<'_>) -> Result<AcctName, TreeFault>
     ensures { ReadsForm result (account_in message.now) }
@@ -31,13 +31,13 @@ pub fn read_account_in(alloc: Global, message: &Cursor<'_>) -> Result<AcctName, 
 
 /// The account that an aggregate names: BANKID and ACCTID, each a text of at most 32 bytes, and ACCTTYPE.
 ///
-/// The first fault of its form, with its place; `OutOfMemory` where memory for its texts is refused.
+/// The first fault of its form, with its offset; `OutOfMemory` where memory for its texts is refused.
 #[tactic(auto, unfolding(ofx_types::specs::RequestReading::account_of))]
 pub fn read_account(alloc: Global, aggregate: &Cursor<'_>) -> Result<AcctName, TreeFault>
     ensures { ReadsForm result (reading.account_of aggregate.now) }
 {
-    let bank = aggregate.text(alloc, b"BANKID", MOST)?;
-    let number = aggregate.text(alloc, b"ACCTID", MOST)?;
+    let bank = aggregate.text(alloc, b"BANKID", MAX_BYTES)?;
+    let number = aggregate.text(alloc, b"ACCTID", MAX_BYTES)?;
     let kind = kind_at(&aggregate.one(b"ACCTTYPE")?)?;
     Ok(AcctName { bank, number, kind })
 }
@@ -58,7 +58,7 @@ fn kind_at(child: &Cursor<'_>) -> Result<AcctKind, TreeFault>
     if child.value_eq(b"CREDITLINE") {
         return Ok(AcctKind::CreditLine);
     }
-    Err(TreeFault::Value(child.place() as u64))
+    Err(TreeFault::Value(child.offset() as u64))
 }
 
 /// Writes the account that a message is about, or from which a transfer takes its amount (BANKACCTFROM).

@@ -2,7 +2,7 @@
 //! accounts, statuses, the uids of transactions, flags, and the names of transactions (OFX 1.6, "Common Aggregates,
 //! Elements, and Data Types").
 //!
-//! What is read is the part that stands there, or the first fault of its form with that fault's place. What is written is
+//! What is read is the part that is there, or the first fault of its form with that fault's offset. What is written is
 //! the part's one printed form.
 #![tactic(auto)]
 

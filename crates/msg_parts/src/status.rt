@@ -9,12 +9,12 @@ use ofx_tree::{Cursor, Sheet};
 use ofx_types::{OutOfMemory, TreeFault};
 
 /// The most digits of a code.
-const MOST: usize = 5;
+const MAX_BYTES: usize = 5;
 
-/// The code of the STATUS that stands once among these children: 1 to 5 digits, at most 65,535. It takes no memory.
+/// The code of the STATUS that occurs once among these children: 1 to 5 digits, at most 65,535. It takes no memory.
 ///
 /// `Missing` at the aggregate's place where STATUS or its CODE doesn't stand, `Repeated` at the second one's where either
-/// stands more than once, `Value` at the place of a CODE that is no such number.
+/// stands more than once, `Value` at the offset of a CODE that is no such number.
 #[tactic(auto, unfolding(ofx_types::specs::ReplyReading::status_of))]
 pub fn read_status(c: &Cursor<'_>) -> Result<u16, TreeFault>
     ensures { result ≡ reading.status_of c.now }
@@ -27,16 +27,16 @@ pub fn read_status(c: &Cursor<'_>) -> Result<u16, TreeFault>
 fn code_of(status: &Cursor<'_>) -> Result<u16, TreeFault>
     ensures { result ≡ reading.code_of status.now }
 {
-    let code = status.number(b"CODE", MOST)?;
+    let code = status.number(b"CODE", MAX_BYTES)?;
     let child = status.one(b"CODE")?;
-    bounded_code(code, child.place() as u64)
+    bounded_code(code, child.offset() as u64)
 }
 
-fn bounded_code(code: u64, place: u64) -> Result<u16, TreeFault>
-    ensures { result ≡ reading.bounded_code place code }
+fn bounded_code(code: u64, offset: u64) -> Result<u16, TreeFault>
+    ensures { result ≡ reading.bounded_code offset code }
 {
     if code > 65_535 {
-        return Err(TreeFault::Value(place));
+        return Err(TreeFault::Value(offset));
     }
     Ok(code as u16)
 }

@@ -15,61 +15,61 @@ use ofx_types::{OutOfMemory, TextFault, TreeFault, TrnUid};
 use std::alloc::Global;
 
 /// The most bytes of a uid.
-const MOST: u32 = 36;
+const MAX_BYTES: u32 = 36;
 
 /// The uid of a request's wrapper, 1 to 36 bytes. `0` marks what the bank does by itself, and is a fault.
 ///
-/// `Missing`, `Repeated` or `Value` with its place; `OutOfMemory` where memory to decode its entities is refused.
+/// `Missing`, `Repeated` or `Value` with its offset; `OutOfMemory` where memory to decode its entities is refused.
 pub fn read_own_trnuid(alloc: Global, wrapper: &Cursor<'_>) -> Result<TrnUid, TreeFault>
     ensures { ReadsForm result (reading.trnuid_of wrapper.now) }
 {
     let child = wrapper.one(b"TRNUID")?;
-    let place = child.place() as u64;
-    unless_zero(trnuid_at(alloc, child.value(), place)?, place)
+    let offset = child.offset() as u64;
+    unless_zero(trnuid_at(alloc, child.value(), offset)?, offset)
 }
 
 /// The uid of a reply's wrapper, 1 to 36 bytes.
 ///
-/// `Missing`, `Repeated` or `Value` with its place; `OutOfMemory` where memory to decode its entities is refused.
+/// `Missing`, `Repeated` or `Value` with its offset; `OutOfMemory` where memory to decode its entities is refused.
 #[tactic(auto, unfolding(ofx_types::specs::FormWords::text_in, crate::specs::PartSteps::trnuid_at))]
 pub fn read_trnuid(alloc: Global, wrapper: &Cursor<'_>) -> Result<TrnUid, TreeFault>
     ensures { ReadsForm result (text_in (codes "TRNUID") 36 wrapper.now) }
 {
     let child = wrapper.one(b"TRNUID")?;
-    trnuid_at(alloc, child.value(), child.place() as u64)
+    trnuid_at(alloc, child.value(), child.offset() as u64)
 }
 
-/// The uid that a value at a place stands for. It takes memory only where a `&` stands in the value.
+/// The uid that a value at an offset stands for. It takes memory only where a `&` is in the value.
 #[tactic(auto, using(crate::proofs::Uids::refused_uids))]
-fn trnuid_at(alloc: Global, value: &[u8], place: u64) -> Result<TrnUid, TreeFault>
-    ensures { ReadsForm result (steps.trnuid_at place (value_of value.now)) }
+fn trnuid_at(alloc: Global, value: &[u8], offset: u64) -> Result<TrnUid, TreeFault>
+    ensures { ReadsForm result (steps.trnuid_at offset (value_of value.now)) }
 {
     if !value.contains(&b'&') {
-        return plain_trnuid(value, place);
+        return plain_trnuid(value, offset);
     }
-    match value_into(alloc, value, MOST) {
-        Ok(text) => plain_trnuid(text.as_bytes(), place),
+    match value_into(alloc, value, MAX_BYTES) {
+        Ok(text) => plain_trnuid(text.as_bytes(), offset),
         Err(TextFault::OutOfMemory) => Err(TreeFault::OutOfMemory),
-        Err(_) => Err(TreeFault::Value(place)),
+        Err(_) => Err(TreeFault::Value(offset)),
     }
 }
 
 /// The uid that bytes without entities are.
 #[tactic(auto, using(crate::proofs::Uids::plain_uids))]
-fn plain_trnuid(bytes: &[u8], place: u64) -> Result<TrnUid, TreeFault>
-    ensures { result ≡ steps.trnuid_at place (trimmed bytes.now) }
+fn plain_trnuid(bytes: &[u8], offset: u64) -> Result<TrnUid, TreeFault>
+    ensures { result ≡ steps.trnuid_at offset (trimmed bytes.now) }
 {
     match TrnUid::new(bytes) {
         Ok(uid) => Ok(uid),
-        Err(_) => Err(TreeFault::Value(place)),
+        Err(_) => Err(TreeFault::Value(offset)),
     }
 }
 
-fn unless_zero(uid: TrnUid, place: u64) -> Result<TrnUid, TreeFault>
-    ensures { result ≡ reading.unless_zero place uid }
+fn unless_zero(uid: TrnUid, offset: u64) -> Result<TrnUid, TreeFault>
+    ensures { result ≡ reading.unless_zero offset uid }
 {
     if uid.as_bytes() == b"0".as_slice() {
-        return Err(TreeFault::Value(place));
+        return Err(TreeFault::Value(offset));
     }
     Ok(uid)
 }

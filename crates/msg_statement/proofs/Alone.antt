@@ -19,11 +19,11 @@ statements_alone trnuid account period s =
     read_alone (codes "STMTTRNRQ") (statement_request trnuid account period) (statement_documents trnuid account period) statement_of (asks.Statement trnuid account period)
     (statements_printed trnuid account period empty ∙ append-nil (statement_request trnuid account period))
     (statements_lawful 15 trnuid account period empty (omega arith) s tt)
-    (λ place index. statements_back place index trnuid account period s)
+    (λ offset index. statements_back offset index trnuid account period s)
 
 pub replies_alone : StatementRepliesReadBackAlone
 replies_alone trnuid code body r =
     read_alone (codes "STMTTRNRS") (ask_reply (replies.Statement trnuid code body)) (reply_documents trnuid code body) statement_reply_of (replies.Statement trnuid code body)
     (replies_printed trnuid code body empty ∙ append-nil (ask_reply (replies.Statement trnuid code body)))
     (replies_lawful 15 trnuid code body empty (omega arith) r tt)
-    (λ place index. replies_back place index trnuid code body r)
+    (λ offset index. replies_back offset index trnuid code body r)

@@ -24,10 +24,10 @@ type_leaf = record { has_name = named (codes "TRNTYPE") refl refl; is_text = rec
 
 -- ---- requests
 
-moment_lawful : (room : ℕ) (name : List ℕ) (moment : Option Moment) (behind : Documents) → IsElementName name → IfSome moment IsSoundMoment →
-    AreLawful room behind → AreLawful room (moment_document name moment behind)
-moment_lawful room name None behind n h more = more
-moment_lawful room name (Some moment) behind n h more = (moment_leaf name moment.0 n h, more)
+moment_lawful : (room : ℕ) (name : List ℕ) (moment : Option Moment) (rest : Documents) → IsElementName name → IfSome moment IsSoundMoment →
+    AreLawful room rest → AreLawful room (moment_document name moment rest)
+moment_lawful room name None rest n h more = more
+moment_lawful room name (Some moment) rest n h more = (moment_leaf name moment.0 n h, more)
 
 pub period_lawful : (room : ℕ) (period : Period) → IsSoundPeriod period → AreLawful room (period_documents period)
 period_lawful room period p =
@@ -52,7 +52,7 @@ statement_lawful room trnuid account period some s = (
 )
 
 pub statements_lawful : StatementsAreLawful
-statements_lawful room trnuid account period behind some s more =
+statements_lawful room trnuid account period rest some s more =
     (is_branch (codes "STMTTRNRQ") refl refl refl, omega arith, statement_lawful (room - 1) trnuid account period (omega arith) s, more)
 
 -- ---- replies
@@ -80,10 +80,10 @@ list_lawful room list some l = (
   (moment_leaf (codes "DTEND") list.end.0 (named (codes "DTEND") refl refl) l.end, lines_lawful room list.lines some l.lines),
 )
 
-maybe_list_lawful : (room : ℕ) (list : Option StatementList) (behind : Documents) → 1 < room → IfSome list IsSoundList → AreLawful room behind →
-    AreLawful room (list_document list behind)
-maybe_list_lawful room None behind some h more = more
-maybe_list_lawful room (Some list) behind some h more =
+maybe_list_lawful : (room : ℕ) (list : Option StatementList) (rest : Documents) → 1 < room → IfSome list IsSoundList → AreLawful room rest →
+    AreLawful room (list_document list rest)
+maybe_list_lawful room None rest some h more = more
+maybe_list_lawful room (Some list) rest some h more =
     (is_branch (codes "BANKTRANLIST") refl refl refl, omega arith, list_lawful (room - 1) list (omega arith) h, more)
 
 pub balance_lawful : (room : ℕ) (amount : Cents) (moment : Moment) → IsSoundAmount amount → IsSoundMoment moment → AreLawful room (balance_documents amount moment)
@@ -118,5 +118,5 @@ reply_lawful room trnuid code body some r = (
 )
 
 pub replies_lawful : StatementRepliesAreLawful
-replies_lawful room trnuid code body behind some r more =
+replies_lawful room trnuid code body rest some r more =
     (is_branch (codes "STMTTRNRS") refl refl refl, omega arith, reply_lawful (room - 1) trnuid code body (omega arith) r, more)

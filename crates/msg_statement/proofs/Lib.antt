@@ -4,7 +4,7 @@ mod RequestsBack
 mod RepliesBack
 mod Alone
 mod StatementLaws
-mod StatementPlaces
+mod StatementOffsets
 mod LineSteps
 mod Lists
 mod Replies

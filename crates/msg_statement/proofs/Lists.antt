@@ -1,4 +1,4 @@
--- The list of a statement has its form exactly where reading finds it, and its faults have places.
+-- The list of a statement has its form exactly where reading finds it, and its faults have offsets.
 use Rattle.std.proofs.Common.{◌≡◌, ℕ, Bool, true, false, cond, List, [], ◌∷◌, filter, Option, None, Some, Result, Ok, codes, refl, subst, ◌∙◌}
 use Rattle.std.specs.List.{AllZip, AllByRecursion}
 use Rattle.std.specs.Option.{IfSome}
@@ -9,9 +9,9 @@ use Rattle.ofx_types.specs.ReplyReading.{line_of, line_onto, lines_of, list_of, 
 use Rattle.ofx_types.specs.declared.fault.TreeFault.{TreeFault}
 use Rattle.ofx_types.specs.declared.reply.StatementLine.{StatementLine}
 use Rattle.ofx_types.specs.declared.reply.StatementList.{StatementList}
-use Rattle.ofx_tree.specs.Placed.{Stands, Any, IsWithin}
+use Rattle.ofx_tree.specs.Located.{Holds, Any, IsWithin}
 use Rattle.ofx_tree.proofs.FormLaws.{bind_ok, bind_to, one_value, maybe_none, maybe_some, none_again, some_again, amount_in_found, amount_in_again, moment_in_found, moment_in_again, number_in_found, number_in_again}
-use Rattle.ofx_tree.proofs.FormPlaces.{bound, either, children_within, amount_within, moment_within, number_within}
+use Rattle.ofx_tree.proofs.FormOffsets.{bound, either, children_within, amount_within, moment_within, number_within}
 
 -- ---- a line
 
@@ -35,7 +35,7 @@ line_again stmttrn line l =
     ∙ bind_to _ _ line.amount (amount_in_again (codes "TRNAMT") stmttrn line.amount l.amount)
     ∙ bind_to _ _ line.number (number_in_again (codes "FITID") 10 stmttrn line.number l.number)
 
-line_within : (most : ℕ) (stmttrn : Item) → IsWithin most stmttrn → Stands most Any (line_of stmttrn)
+line_within : (most : ℕ) (stmttrn : Item) → IsWithin most stmttrn → Holds most Any (line_of stmttrn)
 unfolding line_of
 line_within most stmttrn h =
     bound most Any Any (moment_in (codes "DTPOSTED") stmttrn) _ (moment_within most (codes "DTPOSTED") stmttrn h) (λ posted _.
@@ -81,7 +81,7 @@ lines_again [] lines h = none_left lines h
 lines_again (child ∷ more) lines h =
     again_next (has_name (codes "STMTTRN") child) child (filter (has_name (codes "STMTTRN")) more) (lines_of more) lines (lines_again more) h
 
-lines_within : (most : ℕ) (items : List Item) → AllByRecursion (IsWithin most) items → Stands most Any (lines_of items)
+lines_within : (most : ℕ) (items : List Item) → AllByRecursion (IsWithin most) items → Holds most Any (lines_of items)
 unfolding lines_of
 lines_within most [] h = tt
 lines_within most (child ∷ more) (h, others) =
@@ -112,14 +112,14 @@ list_again banktranlist list l =
     ∙ bind_to _ _ list.end (moment_in_again (codes "DTEND") banktranlist list.end l.end)
     ∙ bind_to _ _ list.lines (lines_again (children banktranlist) list.lines l.lines)
 
-list_within : (most : ℕ) (banktranlist : Item) → IsWithin most banktranlist → Stands most Any (list_of banktranlist)
+list_within : (most : ℕ) (banktranlist : Item) → IsWithin most banktranlist → Holds most Any (list_of banktranlist)
 unfolding list_of
 list_within most banktranlist h =
     bound most Any Any (moment_in (codes "DTSTART") banktranlist) _ (moment_within most (codes "DTSTART") banktranlist h) (λ start _.
     bound most Any Any (moment_in (codes "DTEND") banktranlist) _ (moment_within most (codes "DTEND") banktranlist h) (λ end _.
     bound most Any Any (lines_of (children banktranlist)) _ (lines_within most (children banktranlist) (children_within most banktranlist h)) (λ lines _. tt)))
 
--- ---- a list that may stand once
+-- ---- a list that may occur once
 
 pub maybe_list_found : (stmtrs : Item) (found : Option Item) (list : Option StatementList) →
     maybe (codes "BANKTRANLIST") stmtrs ≡ Ok found → list_in found ≡ Ok list → IsMaybeList stmtrs list
@@ -138,6 +138,6 @@ maybe_list_again stmtrs (Some list) some =
     bind_to _ _ (Some some.0) (some_again (codes "BANKTRANLIST") stmtrs some.0 some.1)
     ∙ bind_to _ _ list (list_again some.0 list some.2)
 
-pub maybe_list_within : (most : ℕ) (found : Option Item) → IfSome found (IsWithin most) → Stands most Any (list_in found)
+pub maybe_list_within : (most : ℕ) (found : Option Item) → IfSome found (IsWithin most) → Holds most Any (list_in found)
 maybe_list_within most None h = tt
 maybe_list_within most (Some banktranlist) h = bound most Any Any (list_of banktranlist) _ (list_within most banktranlist h) (λ list _. tt)

@@ -19,10 +19,10 @@ use Rattle.msg_statement.specs.StatementDocuments.{moment_document, period_docum
 
 -- ---- requests
 
-moment_printed : (name : List ℕ) (moment : Option Moment) (behind : Documents) → printed (moment_document name moment behind) ≡ text.maybe_moment name moment ++ printed behind
+moment_printed : (name : List ℕ) (moment : Option Moment) (rest : Documents) → printed (moment_document name moment rest) ≡ text.maybe_moment name moment ++ printed rest
 unfolding text.maybe_moment
-moment_printed name None behind = refl
-moment_printed name (Some moment) behind = refl
+moment_printed name None rest = refl
+moment_printed name (Some moment) rest = refl
 
 period_printed : (period : Option Period) → printed (period_document period) ≡ text.period_request period
 unfolding text.period_request
@@ -40,7 +40,7 @@ asked_printed account period = rw (account_printed account, period_printed perio
 
 pub statements_printed : StatementsAreDocuments
 unfolding text.statement_request
-statements_printed trnuid account period behind =
+statements_printed trnuid account period rest =
     rw (append-nil (sheet.aggregate (codes "STMTRQ") (printed (asked_documents account period))), asked_printed account period) refl
 
 -- ---- replies
@@ -53,10 +53,10 @@ lines_printed : (lines : List StatementLine) → printed (lines_documents lines)
 lines_printed [] = refl
 lines_printed (line ∷ lines) = rw (line_printed line, lines_printed lines) refl
 
-list_printed : (list : Option StatementList) (behind : Documents) → printed (list_document list behind) ≡ form.statement_list list ++ printed behind
+list_printed : (list : Option StatementList) (rest : Documents) → printed (list_document list rest) ≡ form.statement_list list ++ printed rest
 unfolding form.statement_list
-list_printed None behind = refl
-list_printed (Some list) behind = rw (lines_printed list.lines) refl
+list_printed None rest = refl
+list_printed (Some list) rest = rw (lines_printed list.lines) refl
 
 balance_printed : (name : List ℕ) (amount : Cents) (moment : Moment) → sheet.aggregate name (printed (balance_documents amount moment)) ≡ form.balance name amount moment
 unfolding form.balance
@@ -77,4 +77,4 @@ body_printed (Some body) =
 
 pub replies_printed : StatementRepliesAreDocuments
 unfolding form.ask_reply
-replies_printed trnuid code body behind = rw (status_printed code, body_printed body) refl
+replies_printed trnuid code body rest = rw (status_printed code, body_printed body) refl

@@ -1,4 +1,4 @@
--- A statement reply has its form exactly where reading finds it, and its faults have places.
+-- A statement reply has its form exactly where reading finds it, and its faults have offsets.
 use Rattle.std.proofs.Common.{◌≡◌, ◌≢◌, ℕ, inl, inr, true, false, nat_eq, Option, None, Some, Ok, codes, refl, sym, ap, subst, ◌∙◌, arith}
 use Rattle.std.proofs.lemmas.Grind.{common_steps}
 use Rattle.std.specs.Option.{IfSome}
@@ -12,11 +12,11 @@ use Rattle.ofx_types.specs.declared.number.Moment.{Moment}
 use Rattle.ofx_types.specs.declared.reply.StatementBody.{StatementBody}
 use Rattle.ofx_types.specs.declared.reply.AskReply.{AskReply}
 use Rattle.ofx_types.proofs.Bytes.{went}
-use Rattle.ofx_tree.specs.Placed.{Stands, Any, IsWithin}
+use Rattle.ofx_tree.specs.Located.{Holds, Any, IsWithin}
 use Rattle.ofx_tree.proofs.FormLaws.{bind_ok, bind_to, one_value, one_found, one_again, text_in_found, text_in_again, amount_in_found, amount_in_again, moment_in_found, moment_in_again}
-use Rattle.ofx_tree.proofs.FormPlaces.{bound, either, one_within, maybe_within, text_within, amount_within, moment_within}
+use Rattle.ofx_tree.proofs.FormOffsets.{bound, either, one_within, maybe_within, text_within, amount_within, moment_within}
 use Rattle.msg_parts.proofs.PartLaws.{account_found, account_again}
-use Rattle.msg_parts.proofs.PartPlaces.{account_within}
+use Rattle.msg_parts.proofs.PartOffsets.{account_within}
 use Rattle.msg_parts.proofs.Statuses.{status_found, status_again, status_within}
 use Rattle.msg_statement.proofs.StatementLaws.{bind_two}
 use Rattle.msg_statement.proofs.Lists.{maybe_list_found, maybe_list_again, maybe_list_within}
@@ -40,7 +40,7 @@ balance_again balance amount moment a m =
     bind_to _ _ amount (amount_in_again (codes "BALAMT") balance amount a)
     ∙ bind_to _ _ moment (moment_in_again (codes "DTASOF") balance moment m)
 
-balance_within : (most : ℕ) (balance : Item) → IsWithin most balance → Stands most Any (balance_of balance)
+balance_within : (most : ℕ) (balance : Item) → IsWithin most balance → Holds most Any (balance_of balance)
 unfolding balance_of
 balance_within most balance h =
     bound most Any Any (amount_in (codes "BALAMT") balance) _ (amount_within most (codes "BALAMT") balance h) (λ amount _.
@@ -93,7 +93,7 @@ body_again stmtrs body b =
     ∙ bind_to _ _ b.is_available.balance (one_again (codes "AVAILBAL") stmtrs b.is_available.balance b.is_available.has_balance)
     ∙ bind_to _ _ (body.available, b.other) (balance_again b.is_available.balance body.available b.other b.is_available.has_amount b.is_available.has_moment)
 
-body_within : (most : ℕ) (stmtrs : Item) → IsWithin most stmtrs → Stands most Any (body_of stmtrs)
+body_within : (most : ℕ) (stmtrs : Item) → IsWithin most stmtrs → Holds most Any (body_of stmtrs)
 unfolding body_of
 body_within most stmtrs h =
     bound most (IsWithin most) Any (one (codes "BANKACCTFROM") stmtrs) _ (one_within most (codes "BANKACCTFROM") stmtrs h) (λ from f.
@@ -131,7 +131,7 @@ body_by_code_again code stmttrnrs (Some body) (zero, (stmtrs, only, is)) =
     let same : nat_eq code 0 ≡ true = grind (arith, common_steps, zero) in
     rw same (bind_to _ _ stmtrs (one_again (codes "STMTRS") stmttrnrs stmtrs only) ∙ bind_to _ _ body (body_again stmtrs body is))
 
-body_by_code_within : (most code : ℕ) (stmttrnrs : Item) → IsWithin most stmttrnrs → Stands most Any (body_by_code code stmttrnrs)
+body_by_code_within : (most code : ℕ) (stmttrnrs : Item) → IsWithin most stmttrnrs → Holds most Any (body_by_code code stmttrnrs)
 unfolding body_by_code
 body_by_code_within most code stmttrnrs h =
     either most Any (nat_eq code 0) _ _
@@ -165,7 +165,7 @@ reply_again stmttrnrs reply r =
     ∙ bind_to _ _ r.body (body_by_code_again r.code stmttrnrs r.body r.is_body)
     ∙ ap Ok (sym r.is_reply)
 
-pub reply_within : (most : ℕ) (stmttrnrs : Item) → IsWithin most stmttrnrs → Stands most Any (statement_reply_of stmttrnrs)
+pub reply_within : (most : ℕ) (stmttrnrs : Item) → IsWithin most stmttrnrs → Holds most Any (statement_reply_of stmttrnrs)
 unfolding statement_reply_of
 reply_within most stmttrnrs h =
     bound most Any Any (text_in (codes "TRNUID") 36 stmttrnrs) _ (text_within most (codes "TRNUID") 36 stmttrnrs h) (λ trnuid _.

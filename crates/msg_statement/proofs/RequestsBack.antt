@@ -26,80 +26,80 @@ use Rattle.msg_statement.proofs.Lawful.{period_lawful, asked_lawful, statement_l
 period_with : Option Moment → Option Moment → Bool → Period
 period_with start end include = record { start = start; end = end; include = include }
 
-bounded_back : (place index : ℕ) (start end : Option Moment) (include : Bool) → IsSoundPeriod (period_with start end include) →
-    period_of (branch_item place index (codes "INCTRAN") (period_documents (period_with start end include))) ≡ Ok (period_with start end include)
+bounded_back : (offset index : ℕ) (start end : Option Moment) (include : Bool) → IsSoundPeriod (period_with start end include) →
+    period_of (branch_item offset index (codes "INCTRAN") (period_documents (period_with start end include))) ≡ Ok (period_with start end include)
 unfolding period_with period_of
-bounded_back place index None None include p =
+bounded_back offset index None None include p =
     let inner = period_documents (period_with None None include) in
     let lawful = period_lawful 0 (period_with None None include) p in
-    let item = branch_item place index (codes "INCTRAN") inner in
-    bind_to _ _ None (maybe_moment_in_again (codes "DTSTART") item None (named_of_branch place index 0 (codes "INCTRAN") (codes "DTSTART") inner lawful))
-    ∙ bind_to _ _ None (maybe_moment_in_again (codes "DTEND") item None (named_of_branch place index 0 (codes "INCTRAN") (codes "DTEND") inner lawful))
-    ∙ bind_to _ _ include (flag_of_leaf (codes "INCLUDE") include _ _ item (named (codes "INCLUDE") refl refl) (named_of_branch place index 0 (codes "INCTRAN") (codes "INCLUDE") inner lawful))
-bounded_back place index None (Some end) include p =
+    let item = branch_item offset index (codes "INCTRAN") inner in
+    bind_to _ _ None (maybe_moment_in_again (codes "DTSTART") item None (named_of_branch offset index 0 (codes "INCTRAN") (codes "DTSTART") inner lawful))
+    ∙ bind_to _ _ None (maybe_moment_in_again (codes "DTEND") item None (named_of_branch offset index 0 (codes "INCTRAN") (codes "DTEND") inner lawful))
+    ∙ bind_to _ _ include (flag_of_leaf (codes "INCLUDE") include _ _ item (named (codes "INCLUDE") refl refl) (named_of_branch offset index 0 (codes "INCTRAN") (codes "INCLUDE") inner lawful))
+bounded_back offset index None (Some end) include p =
     let inner = period_documents (period_with None (Some end) include) in
     let lawful = period_lawful 0 (period_with None (Some end) include) p in
-    let item = branch_item place index (codes "INCTRAN") inner in
-    bind_to _ _ None (maybe_moment_in_again (codes "DTSTART") item None (named_of_branch place index 0 (codes "INCTRAN") (codes "DTSTART") inner lawful))
-    ∙ bind_to _ _ (Some end) (maybe_moment_of_leaf (codes "DTEND") end _ _ item (named (codes "DTEND") refl refl) p.end (named_of_branch place index 0 (codes "INCTRAN") (codes "DTEND") inner lawful))
-    ∙ bind_to _ _ include (flag_of_leaf (codes "INCLUDE") include _ _ item (named (codes "INCLUDE") refl refl) (named_of_branch place index 0 (codes "INCTRAN") (codes "INCLUDE") inner lawful))
-bounded_back place index (Some start) None include p =
+    let item = branch_item offset index (codes "INCTRAN") inner in
+    bind_to _ _ None (maybe_moment_in_again (codes "DTSTART") item None (named_of_branch offset index 0 (codes "INCTRAN") (codes "DTSTART") inner lawful))
+    ∙ bind_to _ _ (Some end) (maybe_moment_of_leaf (codes "DTEND") end _ _ item (named (codes "DTEND") refl refl) p.end (named_of_branch offset index 0 (codes "INCTRAN") (codes "DTEND") inner lawful))
+    ∙ bind_to _ _ include (flag_of_leaf (codes "INCLUDE") include _ _ item (named (codes "INCLUDE") refl refl) (named_of_branch offset index 0 (codes "INCTRAN") (codes "INCLUDE") inner lawful))
+bounded_back offset index (Some start) None include p =
     let inner = period_documents (period_with (Some start) None include) in
     let lawful = period_lawful 0 (period_with (Some start) None include) p in
-    let item = branch_item place index (codes "INCTRAN") inner in
-    bind_to _ _ (Some start) (maybe_moment_of_leaf (codes "DTSTART") start _ _ item (named (codes "DTSTART") refl refl) p.start (named_of_branch place index 0 (codes "INCTRAN") (codes "DTSTART") inner lawful))
-    ∙ bind_to _ _ None (maybe_moment_in_again (codes "DTEND") item None (named_of_branch place index 0 (codes "INCTRAN") (codes "DTEND") inner lawful))
-    ∙ bind_to _ _ include (flag_of_leaf (codes "INCLUDE") include _ _ item (named (codes "INCLUDE") refl refl) (named_of_branch place index 0 (codes "INCTRAN") (codes "INCLUDE") inner lawful))
-bounded_back place index (Some start) (Some end) include p =
+    let item = branch_item offset index (codes "INCTRAN") inner in
+    bind_to _ _ (Some start) (maybe_moment_of_leaf (codes "DTSTART") start _ _ item (named (codes "DTSTART") refl refl) p.start (named_of_branch offset index 0 (codes "INCTRAN") (codes "DTSTART") inner lawful))
+    ∙ bind_to _ _ None (maybe_moment_in_again (codes "DTEND") item None (named_of_branch offset index 0 (codes "INCTRAN") (codes "DTEND") inner lawful))
+    ∙ bind_to _ _ include (flag_of_leaf (codes "INCLUDE") include _ _ item (named (codes "INCLUDE") refl refl) (named_of_branch offset index 0 (codes "INCTRAN") (codes "INCLUDE") inner lawful))
+bounded_back offset index (Some start) (Some end) include p =
     let inner = period_documents (period_with (Some start) (Some end) include) in
     let lawful = period_lawful 0 (period_with (Some start) (Some end) include) p in
-    let item = branch_item place index (codes "INCTRAN") inner in
-    bind_to _ _ (Some start) (maybe_moment_of_leaf (codes "DTSTART") start _ _ item (named (codes "DTSTART") refl refl) p.start (named_of_branch place index 0 (codes "INCTRAN") (codes "DTSTART") inner lawful))
-    ∙ bind_to _ _ (Some end) (maybe_moment_of_leaf (codes "DTEND") end _ _ item (named (codes "DTEND") refl refl) p.end (named_of_branch place index 0 (codes "INCTRAN") (codes "DTEND") inner lawful))
-    ∙ bind_to _ _ include (flag_of_leaf (codes "INCLUDE") include _ _ item (named (codes "INCLUDE") refl refl) (named_of_branch place index 0 (codes "INCTRAN") (codes "INCLUDE") inner lawful))
+    let item = branch_item offset index (codes "INCTRAN") inner in
+    bind_to _ _ (Some start) (maybe_moment_of_leaf (codes "DTSTART") start _ _ item (named (codes "DTSTART") refl refl) p.start (named_of_branch offset index 0 (codes "INCTRAN") (codes "DTSTART") inner lawful))
+    ∙ bind_to _ _ (Some end) (maybe_moment_of_leaf (codes "DTEND") end _ _ item (named (codes "DTEND") refl refl) p.end (named_of_branch offset index 0 (codes "INCTRAN") (codes "DTEND") inner lawful))
+    ∙ bind_to _ _ include (flag_of_leaf (codes "INCLUDE") include _ _ item (named (codes "INCLUDE") refl refl) (named_of_branch offset index 0 (codes "INCTRAN") (codes "INCLUDE") inner lawful))
 
-period_back : (place index : ℕ) (period : Period) → IsSoundPeriod period →
-    period_of (branch_item place index (codes "INCTRAN") (period_documents period)) ≡ Ok period
+period_back : (offset index : ℕ) (period : Period) → IsSoundPeriod period →
+    period_of (branch_item offset index (codes "INCTRAN") (period_documents period)) ≡ Ok period
 unfolding period_with
-period_back place index period p = bounded_back place index period.start period.end period.include p
+period_back offset index period p = bounded_back offset index period.start period.end period.include p
 
 -- ---- what a statement request asks
 
 abbrev asked_item : ℕ → ℕ → AcctName → Option Period → Item
-asked_item place index account period = branch_item place index (codes "STMTRQ") (asked_documents account period)
+asked_item offset index account period = branch_item offset index (codes "STMTRQ") (asked_documents account period)
 
 abbrev account_item : ℕ → ℕ → AcctName → Item
-account_item place index account = branch_item (place + length (sheet.start_line (codes "STMTRQ"))) (index + 1) (codes "BANKACCTFROM") (account_documents account)
+account_item offset index account = branch_item (offset + length (sheet.start_line (codes "STMTRQ"))) (index + 1) (codes "BANKACCTFROM") (account_documents account)
 
-only_account : (place index : ℕ) (account : AcctName) (period : Option Period) → AreLawful 1 (asked_documents account period) →
-    IsOnly (codes "BANKACCTFROM") (asked_item place index account period) (account_item place index account)
-only_account place index account None lawful = named_of_branch place index 1 (codes "STMTRQ") (codes "BANKACCTFROM") (asked_documents account None) lawful
-only_account place index account (Some period) lawful =
-    named_of_branch place index 1 (codes "STMTRQ") (codes "BANKACCTFROM") (asked_documents account (Some period)) lawful
+only_account : (offset index : ℕ) (account : AcctName) (period : Option Period) → AreLawful 1 (asked_documents account period) →
+    IsOnly (codes "BANKACCTFROM") (asked_item offset index account period) (account_item offset index account)
+only_account offset index account None lawful = named_of_branch offset index 1 (codes "STMTRQ") (codes "BANKACCTFROM") (asked_documents account None) lawful
+only_account offset index account (Some period) lawful =
+    named_of_branch offset index 1 (codes "STMTRQ") (codes "BANKACCTFROM") (asked_documents account (Some period)) lawful
 
-asked_period : (place index : ℕ) (account : AcctName) (period : Option Period) → AreLawful 1 (asked_documents account period) → IfSome period IsSoundPeriod →
-    (maybe (codes "INCTRAN") (asked_item place index account period) >>= period_in) ≡ Ok period
-asked_period place index account None lawful p =
-    bind_to _ _ None (none_again (codes "INCTRAN") (asked_item place index account None) (named_of_branch place index 1 (codes "STMTRQ") (codes "INCTRAN") (asked_documents account None) lawful))
-asked_period place index account (Some period) lawful p =
-    bind_to _ period_in _ (some_again (codes "INCTRAN") (asked_item place index account (Some period)) _ (named_of_branch place index 1 (codes "STMTRQ") (codes "INCTRAN") (asked_documents account (Some period)) lawful))
+asked_period : (offset index : ℕ) (account : AcctName) (period : Option Period) → AreLawful 1 (asked_documents account period) → IfSome period IsSoundPeriod →
+    (maybe (codes "INCTRAN") (asked_item offset index account period) >>= period_in) ≡ Ok period
+asked_period offset index account None lawful p =
+    bind_to _ _ None (none_again (codes "INCTRAN") (asked_item offset index account None) (named_of_branch offset index 1 (codes "STMTRQ") (codes "INCTRAN") (asked_documents account None) lawful))
+asked_period offset index account (Some period) lawful p =
+    bind_to _ period_in _ (some_again (codes "INCTRAN") (asked_item offset index account (Some period)) _ (named_of_branch offset index 1 (codes "STMTRQ") (codes "INCTRAN") (asked_documents account (Some period)) lawful))
     ∙ bind_to _ _ period (period_back _ _ period p)
 
 -- ---- statement requests
 
 pub statements_back : StatementsReadBack
 unfolding statement_of trnuid_of
-statements_back place index trnuid account period s =
+statements_back offset index trnuid account period s =
     let inner = statement_documents trnuid account period in
     let lawful = statement_lawful 2 trnuid account period (omega arith) s in
-    let item = branch_item place index (codes "STMTTRNRQ") inner in
-    let at : ℕ = place + length (sheet.start_line (codes "STMTTRNRQ")) + length (sheet.element (codes "TRNUID") trnuid) in
+    let item = branch_item offset index (codes "STMTTRNRQ") inner in
+    let at : ℕ = offset + length (sheet.start_line (codes "STMTTRNRQ")) + length (sheet.element (codes "TRNUID") trnuid) in
     let asked = asked_lawful 1 account period (omega arith) s.is_account s.is_period in
-    let only = named_of_branch place index 2 (codes "STMTTRNRQ") (codes "TRNUID") inner lawful in
+    let only = named_of_branch offset index 2 (codes "STMTTRNRQ") (codes "TRNUID") inner lawful in
     bind_to (trnuid_of item) _ trnuid
     (bind_to _ _ trnuid (text_of_leaf (codes "TRNUID") trnuid 36 _ _ item lawful.0 s.is_uid.is_within only)
     ∙ bind_to _ _ _ (one_again (codes "TRNUID") item _ only) ∙ unless_zero_again _ trnuid s.is_own)
-    ∙ bind_to _ _ _ (one_again (codes "STMTRQ") item (asked_item at (index + 1 + 1) account period) (named_of_branch place index 2 (codes "STMTTRNRQ") (codes "STMTRQ") inner lawful))
+    ∙ bind_to _ _ _ (one_again (codes "STMTRQ") item (asked_item at (index + 1 + 1) account period) (named_of_branch offset index 2 (codes "STMTTRNRQ") (codes "STMTRQ") inner lawful))
     ∙ bind_to _ _ _ (one_again (codes "BANKACCTFROM") (asked_item at (index + 1 + 1) account period) _ (only_account at (index + 1 + 1) account period asked))
     ∙ bind_to _ _ account (account_back _ _ (codes "BANKACCTFROM") account s.is_account)
     ∙ bind_two (maybe (codes "INCTRAN") (asked_item at (index + 1 + 1) account period)) period_in _ period (asked_period at (index + 1 + 1) account period asked s.is_period)

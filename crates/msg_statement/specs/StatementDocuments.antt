@@ -23,12 +23,12 @@ use Rattle.msg_statement.specs.SoundStatements.{IsSoundStatement, IsSoundReply}
 
 -- ---- requests
 
--- a moment that may be left out, in front of more
+-- a moment that may be left out, before more
 abbrev pub moment_document : List ℕ → Option Moment → Documents → Documents
-moment_document name None behind = behind
-moment_document name (Some moment) behind = leaf name (moment_text moment.0) behind
+moment_document name None rest = rest
+moment_document name (Some moment) rest = leaf name (moment_text moment.0) rest
 
--- what stands in INCTRAN
+-- what is in INCTRAN
 abbrev pub period_documents : Period → Documents
 period_documents period =
     moment_document (codes "DTSTART") period.start
@@ -38,18 +38,18 @@ abbrev pub period_document : Option Period → Documents
 period_document None = empty
 period_document (Some period) = branch (codes "INCTRAN") (period_documents period) empty
 
--- what stands in STMTRQ
+-- what is in STMTRQ
 abbrev pub asked_documents : AcctName → Option Period → Documents
 asked_documents account period = branch (codes "BANKACCTFROM") (account_documents account) (period_document period)
 
--- what stands in STMTTRNRQ
+-- what is in STMTTRNRQ
 abbrev pub statement_documents : List ℕ → AcctName → Option Period → Documents
 statement_documents trnuid account period =
     leaf (codes "TRNUID") trnuid (branch (codes "STMTRQ") (asked_documents account period) empty)
 
 -- ---- replies
 
--- what stands in STMTTRN
+-- what is in STMTTRN
 abbrev pub line_documents : StatementLine → Documents
 line_documents line =
     leaf (codes "TRNTYPE") (codes "XFER")
@@ -60,22 +60,22 @@ abbrev pub lines_documents : List StatementLine → Documents
 lines_documents [] = empty
 lines_documents (line ∷ lines) = branch (codes "STMTTRN") (line_documents line) (lines_documents lines)
 
--- what stands in BANKTRANLIST
+-- what is in BANKTRANLIST
 abbrev pub list_documents : StatementList → Documents
 list_documents list =
     leaf (codes "DTSTART") (moment_text list.start.0)
     (leaf (codes "DTEND") (moment_text list.end.0) (lines_documents list.lines))
 
 abbrev pub list_document : Option StatementList → Documents → Documents
-list_document None behind = behind
-list_document (Some list) behind = branch (codes "BANKTRANLIST") (list_documents list) behind
+list_document None rest = rest
+list_document (Some list) rest = branch (codes "BANKTRANLIST") (list_documents list) rest
 
--- what stands in LEDGERBAL and AVAILBAL
+-- what is in LEDGERBAL and AVAILBAL
 abbrev pub balance_documents : Cents → Moment → Documents
 balance_documents amount moment =
     leaf (codes "BALAMT") (amount_text amount.0) (leaf (codes "DTASOF") (moment_text moment.0) empty)
 
--- what stands in STMTRS
+-- what is in STMTRS
 abbrev pub body_documents : StatementBody → Documents
 body_documents body =
     leaf (codes "CURDEF") (codes "USD")
@@ -88,7 +88,7 @@ abbrev pub body_document : Option StatementBody → Documents
 body_document None = empty
 body_document (Some body) = branch (codes "STMTRS") (body_documents body) empty
 
--- what stands in STMTTRNRS
+-- what is in STMTTRNRS
 abbrev pub reply_documents : List ℕ → ℕ → Option StatementBody → Documents
 reply_documents trnuid code body =
     leaf (codes "TRNUID") trnuid (branch (codes "STATUS") (status_documents code) (body_document body))
@@ -98,23 +98,23 @@ reply_documents trnuid code body =
 -- What is written of a statement request are its documents.
 abbrev pub StatementsAreDocuments : Type 0
 StatementsAreDocuments =
-    (trnuid : List ℕ) (account : AcctName) (period : Option Period) (behind : Documents)
-    → printed (branch (codes "STMTTRNRQ") (statement_documents trnuid account period) behind)
-    ≡ statement_request trnuid account period ++ printed behind
+    (trnuid : List ℕ) (account : AcctName) (period : Option Period) (rest : Documents)
+    → printed (branch (codes "STMTTRNRQ") (statement_documents trnuid account period) rest)
+    ≡ statement_request trnuid account period ++ printed rest
 
 -- Those of a sound request are lawful.
 abbrev pub StatementsAreLawful : Type 0
 StatementsAreLawful =
-    (room : ℕ) (trnuid : List ℕ) (account : AcctName) (period : Option Period) (behind : Documents)
-    → 2 < room → IsSoundStatement trnuid account period → AreLawful room behind
-    → AreLawful room (branch (codes "STMTTRNRQ") (statement_documents trnuid account period) behind)
+    (room : ℕ) (trnuid : List ℕ) (account : AcctName) (period : Option Period) (rest : Documents)
+    → 2 < room → IsSoundStatement trnuid account period → AreLawful room rest
+    → AreLawful room (branch (codes "STMTTRNRQ") (statement_documents trnuid account period) rest)
 
--- Wherever they stand, the request is read from them.
+-- Wherever they are, the request is read from them.
 abbrev pub StatementsReadBack : Type 0
 StatementsReadBack =
-    (place index : ℕ) (trnuid : List ℕ) (account : AcctName) (period : Option Period)
+    (offset index : ℕ) (trnuid : List ℕ) (account : AcctName) (period : Option Period)
     → IsSoundStatement trnuid account period
-    → statement_of (branch_item place index (codes "STMTTRNRQ") (statement_documents trnuid account period))
+    → statement_of (branch_item offset index (codes "STMTTRNRQ") (statement_documents trnuid account period))
     ≡ Ok (asks.Statement trnuid account period)
 
 -- So a sound request that is written alone reads back.
@@ -126,20 +126,20 @@ StatementsReadBackAlone =
 -- The same of statement replies.
 abbrev pub StatementRepliesAreDocuments : Type 0
 StatementRepliesAreDocuments =
-    (trnuid : List ℕ) (code : ℕ) (body : Option StatementBody) (behind : Documents)
-    → printed (branch (codes "STMTTRNRS") (reply_documents trnuid code body) behind)
-    ≡ ask_reply (replies.Statement trnuid code body) ++ printed behind
+    (trnuid : List ℕ) (code : ℕ) (body : Option StatementBody) (rest : Documents)
+    → printed (branch (codes "STMTTRNRS") (reply_documents trnuid code body) rest)
+    ≡ ask_reply (replies.Statement trnuid code body) ++ printed rest
 
 abbrev pub StatementRepliesAreLawful : Type 0
 StatementRepliesAreLawful =
-    (room : ℕ) (trnuid : List ℕ) (code : ℕ) (body : Option StatementBody) (behind : Documents)
-    → 3 < room → IsSoundReply trnuid code body → AreLawful room behind
-    → AreLawful room (branch (codes "STMTTRNRS") (reply_documents trnuid code body) behind)
+    (room : ℕ) (trnuid : List ℕ) (code : ℕ) (body : Option StatementBody) (rest : Documents)
+    → 3 < room → IsSoundReply trnuid code body → AreLawful room rest
+    → AreLawful room (branch (codes "STMTTRNRS") (reply_documents trnuid code body) rest)
 
 abbrev pub StatementRepliesReadBack : Type 0
 StatementRepliesReadBack =
-    (place index : ℕ) (trnuid : List ℕ) (code : ℕ) (body : Option StatementBody) → IsSoundReply trnuid code body
-    → statement_reply_of (branch_item place index (codes "STMTTRNRS") (reply_documents trnuid code body))
+    (offset index : ℕ) (trnuid : List ℕ) (code : ℕ) (body : Option StatementBody) → IsSoundReply trnuid code body
+    → statement_reply_of (branch_item offset index (codes "STMTTRNRS") (reply_documents trnuid code body))
     ≡ Ok (replies.Statement trnuid code body)
 
 abbrev pub StatementRepliesReadBackAlone : Type 0

@@ -1,4 +1,4 @@
--- What holds of the forms of statements: each stands exactly where it is read, and its faults have places.
+-- What holds of the forms of statements: each stands exactly where it is read, and its faults have offsets.
 use Rattle.std.specs.Prelude.{◌≡◌, ◌↔◌, ℕ, Ok}
 use Rattle.ofx_types.specs.Nodes.{Item}
 use Rattle.ofx_types.specs.RequestForm.{IsStatement}
@@ -7,23 +7,23 @@ use Rattle.ofx_types.specs.ReplyGrammar.{IsStatementReply}
 use Rattle.ofx_types.specs.ReplyReading.{statement_reply_of}
 use Rattle.ofx_types.specs.declared.request.Ask.{Ask}
 use Rattle.ofx_types.specs.declared.reply.AskReply.{AskReply}
-use Rattle.ofx_tree.specs.Placed.{Stands, Any, IsWithin}
+use Rattle.ofx_tree.specs.Located.{Holds, Any, IsWithin}
 
--- An ask stands in a STMTTRNRQ exactly where reading gives it.
+-- An ask is in a STMTTRNRQ exactly where reading gives it.
 abbrev pub StatementsAreFound : Type 0
 StatementsAreFound = (stmttrnrq : Item) (ask : Ask) → IsStatement stmttrnrq ask ↔ (statement_of stmttrnrq ≡ Ok ask)
 
--- The first fault of a STMTTRNRQ stands at most where its last node does.
-abbrev pub StatementFaultsHavePlaces : Type 0
-StatementFaultsHavePlaces =
-    (most : ℕ) (stmttrnrq : Item) → IsWithin most stmttrnrq → Stands most Any (statement_of stmttrnrq)
+-- The first fault of a STMTTRNRQ occurs at most where its last node does.
+abbrev pub StatementFaultsHaveOffsets : Type 0
+StatementFaultsHaveOffsets =
+    (most : ℕ) (stmttrnrq : Item) → IsWithin most stmttrnrq → Holds most Any (statement_of stmttrnrq)
 
--- An answer stands in a STMTTRNRS exactly where reading gives it.
+-- An answer is in a STMTTRNRS exactly where reading gives it.
 abbrev pub StatementRepliesAreFound : Type 0
 StatementRepliesAreFound =
     (stmttrnrs : Item) (reply : AskReply) → IsStatementReply stmttrnrs reply ↔ (statement_reply_of stmttrnrs ≡ Ok reply)
 
--- The first fault of a STMTTRNRS stands at most where its last node does.
-abbrev pub StatementReplyFaultsHavePlaces : Type 0
-StatementReplyFaultsHavePlaces =
-    (most : ℕ) (stmttrnrs : Item) → IsWithin most stmttrnrs → Stands most Any (statement_reply_of stmttrnrs)
+-- The first fault of a STMTTRNRS occurs at most where its last node does.
+abbrev pub StatementReplyFaultsHaveOffsets : Type 0
+StatementReplyFaultsHaveOffsets =
+    (most : ℕ) (stmttrnrs : Item) → IsWithin most stmttrnrs → Holds most Any (statement_reply_of stmttrnrs)

@@ -20,10 +20,10 @@ line_at child = if has_name (codes "STMTTRN") child then (line_of child >>= some
 
 -- the lines that are read already, and those among the children still to come
 abbrev pub joined : List StatementLine → List StatementLine → Result (List StatementLine) TreeFault
-joined front more = Ok (front ++ more)
+joined prefix more = Ok (prefix ++ more)
 
-unfoldable pub lines_behind : List StatementLine → List Item → Result (List StatementLine) TreeFault
-lines_behind front items = lines_of items >>= joined front
+unfoldable pub lines_after : List StatementLine → List Item → Result (List StatementLine) TreeFault
+lines_after prefix items = lines_of items >>= joined prefix
 
 -- what a statement request says after its uid
 abbrev pub asked : AcctName → Option Period → List ℕ

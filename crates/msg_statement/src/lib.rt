@@ -1,6 +1,6 @@
 //! Statements: what asks for one, and the replies, read from a tape and written on a sheet (OFX 1.6, "Statement Download").
 //!
-//! What is read is the message that stands there, or the first fault of its form with that fault's place. What is
+//! What is read is the message that is there, or the first fault of its form with that fault's offset. What is
 //! written is the message's one printed form.
 #![tactic(auto)]
 

@@ -17,9 +17,9 @@ use ofx_types::{Lines, OutOfMemory, StatementLine, StatementList, TreeFault};
 use std::alloc::Global;
 
 /// The most digits of a transaction's number.
-const MOST: usize = 10;
+const MAX_BYTES: usize = 10;
 
-/// The transactions of a period, where they stand.
+/// The transactions of a period, where they are.
 pub(crate) fn read_maybe_list(
     alloc: Global,
     banktranlist: Option<Cursor<'_>>,
@@ -43,7 +43,7 @@ fn read_list(alloc: Global, banktranlist: &Cursor<'_>) -> Result<StatementList, 
 }
 
 /// The lines of a list in the order of the file.
-#[tactic(auto, using(crate::proofs::LineSteps::behind))]
+#[tactic(auto, using(crate::proofs::LineSteps::rest))]
 fn read_lines(alloc: Global, banktranlist: &Cursor<'_>) -> Result<Lines, TreeFault>
     ensures { ReadsForm result (reading.lines_of (children banktranlist.now)) }
 {
@@ -86,7 +86,7 @@ fn read_line(stmttrn: &Cursor<'_>) -> Result<StatementLine, TreeFault>
 {
     let posted = stmttrn.moment(b"DTPOSTED")?;
     let amount = stmttrn.amount(b"TRNAMT")?;
-    let number = stmttrn.number(b"FITID", MOST)?;
+    let number = stmttrn.number(b"FITID", MAX_BYTES)?;
     Ok(StatementLine {
         number,
         posted,

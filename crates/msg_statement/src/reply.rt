@@ -21,7 +21,7 @@ use std::alloc::Global;
 
 /// The answer that a statement reply (STMTTRNRS) is. With a code other than 0 no statement is looked for.
 ///
-/// The first fault of its form, with its place; `OutOfMemory` where memory for its texts or its lines is refused.
+/// The first fault of its form, with its offset; `OutOfMemory` where memory for its texts or its lines is refused.
 #[tactic(auto, unfolding(ofx_types::specs::ReplyReading::statement_reply_of))]
 pub fn read_statement_reply(alloc: Global, c: &Cursor<'_>) -> Result<AskReply, TreeFault>
     ensures { ReadsForm result (statement_reply_of c.now) }

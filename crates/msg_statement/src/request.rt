@@ -18,7 +18,7 @@ use std::alloc::Global;
 
 /// The ask that a statement request (STMTTRNRQ) is.
 ///
-/// The first fault of its form, with its place; `OutOfMemory` where memory for its texts is refused.
+/// The first fault of its form, with its offset; `OutOfMemory` where memory for its texts is refused.
 #[tactic(auto, unfolding(ofx_types::specs::RequestReading::statement_of))]
 pub fn read_statement(alloc: Global, c: &Cursor<'_>) -> Result<Ask, TreeFault>
     ensures { ReadsForm result (statement_of c.now) }
@@ -73,7 +73,7 @@ pub fn print_statement(
     out.end(b"STMTTRNRQ")
 }
 
-/// Writes what stands in the wrapper after its uid.
+/// Writes what is in the wrapper after its uid.
 #[tactic(auto, unfolding(ofx_types::specs::Sheet::aggregate))]
 fn print_asked(
     account: &AcctName,

@@ -12,9 +12,9 @@ use Rattle.ofx_types.specs.declared.sync.ObjectName.TheVariants as objects
 use Rattle.ofx_types.specs.declared.transfer.Family.{Family}
 use Rattle.ofx_types.specs.declared.transfer.Family.TheVariants.{Intra, RecIntra, BankMail, Mail}
 use Rattle.ofx_types.proofs.Bytes.{bytes_eq_is}
-use Rattle.ofx_tree.specs.Placed.{Stands, Any, IsWithin}
+use Rattle.ofx_tree.specs.Located.{Holds, Any, IsWithin}
 use Rattle.ofx_tree.proofs.FormLaws.{bind_ok, bind_to, one_value}
-use Rattle.ofx_tree.proofs.FormPlaces.{bound, either}
+use Rattle.ofx_tree.proofs.FormOffsets.{bound, either}
 use Rattle.msg_mail.proofs.MailParts.{account_in_found, account_in_again, account_in_within}
 
 -- ---- by a name
@@ -26,25 +26,25 @@ pub name_of_family : (name_of : Family → List ℕ) (name : List ℕ) (fault : 
     else (if bytes_eq name (name_of BankMail) then Ok BankMail
     else (if bytes_eq name (name_of Mail) then Ok Mail else Err fault)))) ≡ Ok family → name ≡ name_of family
 name_of_family name_of name fault family h =
-    told (bytes_eq name (name_of Intra)) (bytes_eq name (name_of RecIntra)) (bytes_eq name (name_of BankMail)) (bytes_eq name (name_of Mail))
+    reported (bytes_eq name (name_of Intra)) (bytes_eq name (name_of RecIntra)) (bytes_eq name (name_of BankMail)) (bytes_eq name (name_of Mail))
     (bytes_eq_is name _) (bytes_eq_is name _) (bytes_eq_is name _) (bytes_eq_is name _) h
   where
-    told : (a b c d : Bool) → (a ≡ true → name ≡ name_of Intra) → (b ≡ true → name ≡ name_of RecIntra) → (c ≡ true → name ≡ name_of BankMail) →
+    reported : (a b c d : Bool) → (a ≡ true → name ≡ name_of Intra) → (b ≡ true → name ≡ name_of RecIntra) → (c ≡ true → name ≡ name_of BankMail) →
         (d ≡ true → name ≡ name_of Mail) →
         (if a then Ok Intra else (if b then Ok RecIntra else (if c then Ok BankMail else (if d then Ok Mail else Err fault)))) ≡ Ok family → name ≡ name_of family
-    told true b c d f g h i e = subst (λ (x : Family). name ≡ name_of x) (one_value (Ok Intra) Intra family refl e) (f refl)
-    told false true c d f g h i e = subst (λ (x : Family). name ≡ name_of x) (one_value (Ok RecIntra) RecIntra family refl e) (g refl)
-    told false false true d f g h i e = subst (λ (x : Family). name ≡ name_of x) (one_value (Ok BankMail) BankMail family refl e) (h refl)
-    told false false false true f g h i e = subst (λ (x : Family). name ≡ name_of x) (one_value (Ok Mail) Mail family refl e) (i refl)
-    told false false false false f g h i e = cc
+    reported true b c d f g h i e = subst (λ (x : Family). name ≡ name_of x) (one_value (Ok Intra) Intra family refl e) (f refl)
+    reported false true c d f g h i e = subst (λ (x : Family). name ≡ name_of x) (one_value (Ok RecIntra) RecIntra family refl e) (g refl)
+    reported false false true d f g h i e = subst (λ (x : Family). name ≡ name_of x) (one_value (Ok BankMail) BankMail family refl e) (h refl)
+    reported false false false true f g h i e = subst (λ (x : Family). name ≡ name_of x) (one_value (Ok Mail) Mail family refl e) (i refl)
+    reported false false false false f g h i e = cc
 
--- The fault of a name that tells none has a place.
-pub family_within : (most place : ℕ) (name : List ℕ) (name_of : Family → List ℕ) → place ≤ most → Stands most Any
+-- The fault of a name that tells none has an offset.
+pub family_within : (most offset : ℕ) (name : List ℕ) (name_of : Family → List ℕ) → offset ≤ most → Holds most Any
     (if bytes_eq name (name_of Intra) then Ok Intra
     else (if bytes_eq name (name_of RecIntra) then Ok RecIntra
     else (if bytes_eq name (name_of BankMail) then Ok BankMail
-    else (if bytes_eq name (name_of Mail) then Ok Mail else Err (Value place)))))
-family_within most place name name_of h =
+    else (if bytes_eq name (name_of Mail) then Ok Mail else Err (Value offset)))))
+family_within most offset name name_of h =
     either most Any (bytes_eq name (name_of Intra)) _ _ tt
     (either most Any (bytes_eq name (name_of RecIntra)) _ _ tt
     (either most Any (bytes_eq name (name_of BankMail)) _ _ tt (either most Any (bytes_eq name (name_of Mail)) _ _ tt h)))
@@ -75,7 +75,7 @@ object_again sync (objects.RecIntra account) h = bind_to (account_in sync) _ acc
 object_again sync (objects.BankMail account) h = bind_to (account_in sync) _ account (account_in_again sync account h)
 object_again sync objects.Mail h = refl
 
-pub object_within : (most : ℕ) (family : Family) (sync : Item) → IsWithin most sync → Stands most Any (object_in family sync)
+pub object_within : (most : ℕ) (family : Family) (sync : Item) → IsWithin most sync → Holds most Any (object_in family sync)
 object_within most Intra sync h = bound most Any Any (account_in sync) _ (account_in_within most sync h) (λ account _. tt)
 object_within most RecIntra sync h = bound most Any Any (account_in sync) _ (account_in_within most sync h) (λ account _. tt)
 object_within most BankMail sync h = bound most Any Any (account_in sync) _ (account_in_within most sync h) (λ account _. tt)

@@ -1,4 +1,4 @@
--- Forms one after the other stand exactly where they are read, their faults have places, and branches read back.
+-- Forms one after the other stand exactly where they are read, their faults have offsets, and branches read back.
 use Rattle.std.proofs.Common.{◌≡◌, ◌↔◌, ℕ, ◌+◌, Bool, true, false, cond, filter, List, [], ◌∷◌, ◌++◌, length, map, Result, Ok, refl, ap, subst, ◌∙◌}
 use Rattle.std.specs.List.{AllZip, AllByRecursion, flat_map}
 use Rattle.ofx_types.specs.Sheet as sheet
@@ -6,10 +6,10 @@ use Rattle.ofx_types.specs.Nodes.{Item}
 use Rattle.ofx_types.specs.FormWords.{◌>>=◌}
 use Rattle.ofx_types.specs.MessageReading.{onto}
 use Rattle.ofx_types.specs.declared.fault.TreeFault.{TreeFault}
-use Rattle.ofx_tree.specs.Placed.{Stands, Any, IsWithin}
+use Rattle.ofx_tree.specs.Located.{Holds, Any, IsWithin}
 use Rattle.ofx_tree.specs.Documents.{Documents, branch, printed, AreLawful, branch_item, items_of}
 use Rattle.ofx_tree.proofs.FormLaws.{bind_ok, bind_to, one_value}
-use Rattle.ofx_tree.proofs.FormPlaces.{bound, either}
+use Rattle.ofx_tree.proofs.FormOffsets.{bound, either}
 use Rattle.msg_sync.specs.Listing.{forms_of, branches}
 
 -- ---- they stand exactly where they are read
@@ -64,11 +64,11 @@ forms_again IsForm read is_wanted each (child ∷ more) forms h =
     again_next IsForm read (is_wanted child.node.name) child (wanted is_wanted more) (forms_of read is_wanted more) forms
     (λ is form. (each child form is).0) (forms_again IsForm read is_wanted each more) h
 
--- ---- their faults have places
+-- ---- their faults have offsets
 
 pub forms_within : {M : Type 0} (most : ℕ) (read : Item → Result M TreeFault) (is_wanted : List ℕ → Bool) →
-    ((item : Item) → IsWithin most item → Stands most Any (read item)) →
-    (items : List Item) → AllByRecursion (IsWithin most) items → Stands most Any (forms_of read is_wanted items)
+    ((item : Item) → IsWithin most item → Holds most Any (read item)) →
+    (items : List Item) → AllByRecursion (IsWithin most) items → Holds most Any (forms_of read is_wanted items)
 unfolding forms_of
 forms_within most read is_wanted each [] h = tt
 forms_within most read is_wanted each (child ∷ more) (h, others) =
@@ -81,14 +81,14 @@ forms_within most read is_wanted each (child ∷ more) (h, others) =
 
 -- What is printed of each is printed of all.
 pub branches_printed : {X : Type 0} (name_of : X → List ℕ) (inner_of : X → Documents) (text_of : X → List ℕ) →
-    ((x : X) (behind : Documents) → printed (branch (name_of x) (inner_of x) behind) ≡ text_of x ++ printed behind) →
+    ((x : X) (rest : Documents) → printed (branch (name_of x) (inner_of x) rest) ≡ text_of x ++ printed rest) →
     (xs : List X) → printed (branches name_of inner_of xs) ≡ flat_map text_of xs
 branches_printed name_of inner_of text_of each [] = refl
 branches_printed name_of inner_of text_of each (x ∷ xs) =
     each x (branches name_of inner_of xs) ∙ ap (λ (more : List ℕ). text_of x ++ more) (branches_printed name_of inner_of text_of each xs)
 
 pub branches_lawful : {X : Type 0} (room : ℕ) (IsSound : X → Type 0) (name_of : X → List ℕ) (inner_of : X → Documents) →
-    ((x : X) (behind : Documents) → IsSound x → AreLawful room behind → AreLawful room (branch (name_of x) (inner_of x) behind)) →
+    ((x : X) (rest : Documents) → IsSound x → AreLawful room rest → AreLawful room (branch (name_of x) (inner_of x) rest)) →
     (xs : List X) → AllByRecursion IsSound xs → AreLawful room (branches name_of inner_of xs)
 branches_lawful room IsSound name_of inner_of each [] h = tt
 branches_lawful room IsSound name_of inner_of each (x ∷ xs) (h, more) =
@@ -97,25 +97,25 @@ branches_lawful room IsSound name_of inner_of each (x ∷ xs) (h, more) =
 -- where their names are wanted, each is read from its branch
 pub branches_read : {X M : Type 0} (IsSound : X → Type 0) (name_of : X → List ℕ) (inner_of : X → Documents) (read : Item → Result M TreeFault) (is_wanted : List ℕ → Bool) (value_of : X → M) →
     ((x : X) → IsSound x → is_wanted (name_of x) ≡ true) →
-    ((place index : ℕ) (x : X) → IsSound x → read (branch_item place index (name_of x) (inner_of x)) ≡ Ok (value_of x)) →
-    (place index : ℕ) (xs : List X) → AllByRecursion IsSound xs →
-    forms_of read is_wanted (items_of place index (branches name_of inner_of xs)) ≡ Ok (map value_of xs)
+    ((offset index : ℕ) (x : X) → IsSound x → read (branch_item offset index (name_of x) (inner_of x)) ≡ Ok (value_of x)) →
+    (offset index : ℕ) (xs : List X) → AllByRecursion IsSound xs →
+    forms_of read is_wanted (items_of offset index (branches name_of inner_of xs)) ≡ Ok (map value_of xs)
 unfolding forms_of
-branches_read IsSound name_of inner_of read is_wanted value_of named reads place index [] h = refl
-branches_read IsSound name_of inner_of read is_wanted value_of named reads place index (x ∷ xs) (h, more) =
+branches_read IsSound name_of inner_of read is_wanted value_of named reads offset index [] h = refl
+branches_read IsSound name_of inner_of read is_wanted value_of named reads offset index (x ∷ xs) (h, more) =
     let is : is_wanted (name_of x) ≡ true = named x h in
-    let item = branch_item place index (name_of x) (inner_of x) in
-    let next = place + length (sheet.aggregate (name_of x) (printed (inner_of x))) in
-    let behind = branches_read IsSound name_of inner_of read is_wanted value_of named reads next item.node.after xs more in
-    rw is (bind_to (read item) _ (value_of x) (reads place index x h) ∙ bind_to _ (onto (value_of x)) (map value_of xs) behind)
+    let item = branch_item offset index (name_of x) (inner_of x) in
+    let next = offset + length (sheet.aggregate (name_of x) (printed (inner_of x))) in
+    let rest = branches_read IsSound name_of inner_of read is_wanted value_of named reads next item.node.after xs more in
+    rw is (bind_to (read item) _ (value_of x) (reads offset index x h) ∙ bind_to _ (onto (value_of x)) (map value_of xs) rest)
 
 -- names that none of them has find nothing among them
 pub branches_passed : {X : Type 0} (IsSound : X → Type 0) (name_of : X → List ℕ) (inner_of : X → Documents) (is_other : List ℕ → Bool) →
     ((x : X) → IsSound x → is_other (name_of x) ≡ false) →
-    (place index : ℕ) (xs : List X) → AllByRecursion IsSound xs → wanted is_other (items_of place index (branches name_of inner_of xs)) ≡ []
-branches_passed IsSound name_of inner_of is_other other place index [] h = refl
-branches_passed IsSound name_of inner_of is_other other place index (x ∷ xs) (h, more) =
+    (offset index : ℕ) (xs : List X) → AllByRecursion IsSound xs → wanted is_other (items_of offset index (branches name_of inner_of xs)) ≡ []
+branches_passed IsSound name_of inner_of is_other other offset index [] h = refl
+branches_passed IsSound name_of inner_of is_other other offset index (x ∷ xs) (h, more) =
     let is : is_other (name_of x) ≡ false = other x h in
-    let item = branch_item place index (name_of x) (inner_of x) in
-    let next = place + length (sheet.aggregate (name_of x) (printed (inner_of x))) in
+    let item = branch_item offset index (name_of x) (inner_of x) in
+    let next = offset + length (sheet.aggregate (name_of x) (printed (inner_of x))) in
     rw is (branches_passed IsSound name_of inner_of is_other other next item.node.after xs more)

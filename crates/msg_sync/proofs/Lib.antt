@@ -1,4 +1,4 @@
-pub mod Behind
+pub mod After
 pub mod Deeds
 pub mod Forms
 mod Transactions

@@ -22,30 +22,30 @@ use Rattle.msg_parts.proofs.Lawful.{named, is_branch, text_leaf, account_lawful}
 use Rattle.msg_parts.proofs.Printed.{account_printed}
 use Rattle.msg_mail.specs.MailsAsDocuments.{MailsAreLawful, MailRepliesAreLawful}
 use Rattle.msg_sync.specs.Listing.{branches}
-use Rattle.msg_sync.specs.SoundSyncs.{IsSoundObject, IsSoundKind, IsSoundIn, IsSoundSync, IsSoundToldIn, IsSoundSyncReply}
+use Rattle.msg_sync.specs.SoundSyncs.{IsSoundObject, IsSoundKind, IsSoundIn, IsSoundSync, IsSoundReportedIn, IsSoundSyncReply}
 use Rattle.msg_sync.specs.SyncsAsDocuments.{deed_name, deed_inner, answer_name, answer_inner, TransactionsAreDocuments, TransactionsAreLawful, AnswersAreDocuments, AnswersAreLawful, kind_document, plain_documents, object_document, sync_inner, sync_reply_inner, SyncsAreDocuments, SyncsAreLawful, SyncRepliesAreDocuments, SyncRepliesAreLawful}
 use Rattle.msg_sync.proofs.Forms.{branches_printed, branches_lawful}
 
 -- ---- transactions
 
 pub transactions_printed : DeedsAreDocuments → TransactionsAreDocuments
-transactions_printed written deed behind = written deed.0 deed.1 behind
+transactions_printed written deed rest = written deed.0 deed.1 rest
 
 pub transactions_lawful : DeedsAreLawful → MailsAreLawful → TransactionsAreLawful
-transactions_lawful bank mails room deed behind some (inl d) more = bank room deed.0 deed.1 behind some d more
-transactions_lawful bank mails room deed behind some (inr d) more = mails room deed.0 deed.1 behind (omega arith) d more
+transactions_lawful bank mails room deed rest some (inl d) more = bank room deed.0 deed.1 rest some d more
+transactions_lawful bank mails room deed rest some (inr d) more = mails room deed.0 deed.1 rest (omega arith) d more
 
 pub answers_lawful : DeedRepliesAreLawful → MailRepliesAreLawful → AnswersAreLawful
-answers_lawful bank mails room reply behind some (inl r) more = bank room reply behind some r more
-answers_lawful bank mails room reply behind some (inr r) more = mails room reply behind (omega arith) r more
+answers_lawful bank mails room reply rest some (inl r) more = bank room reply rest some r more
+answers_lawful bank mails room reply rest some (inr r) more = mails room reply rest (omega arith) r more
 
 -- ---- what is written
 
-kind_printed : (kind : SyncKind) (behind : Documents) → printed (kind_document kind behind) ≡ kind_text kind ++ printed behind
+kind_printed : (kind : SyncKind) (rest : Documents) → printed (kind_document kind rest) ≡ kind_text kind ++ printed rest
 unfolding kind_text
-kind_printed (After token) behind = refl
-kind_printed TokenOnly behind = refl
-kind_printed Refresh behind = refl
+kind_printed (After token) rest = refl
+kind_printed TokenOnly rest = refl
+kind_printed Refresh rest = refl
 
 no_images : List ℕ
 no_images = sheet.element (codes "INCIMAGES") (codes "N")
@@ -53,23 +53,23 @@ no_images = sheet.element (codes "INCIMAGES") (codes "N")
 no_html : List ℕ
 no_html = sheet.element (codes "USEHTML") (codes "N")
 
-plain_printed : (family : Family) (behind : Documents) → printed (plain_documents family behind) ≡ plain_text family ++ printed behind
+plain_printed : (family : Family) (rest : Documents) → printed (plain_documents family rest) ≡ plain_text family ++ printed rest
 unfolding plain_text no_images no_html
-plain_printed families.Intra behind = refl
-plain_printed families.RecIntra behind = refl
-plain_printed families.BankMail behind = sym (append_assoc no_images no_html (printed behind))
-plain_printed families.Mail behind = sym (append_assoc no_images no_html (printed behind))
+plain_printed families.Intra rest = refl
+plain_printed families.RecIntra rest = refl
+plain_printed families.BankMail rest = sym (append_assoc no_images no_html (printed rest))
+plain_printed families.Mail rest = sym (append_assoc no_images no_html (printed rest))
 
-object_printed : (object : ObjectName) (behind : Documents) → printed (object_document object behind) ≡ object_text object ++ printed behind
+object_printed : (object : ObjectName) (rest : Documents) → printed (object_document object rest) ≡ object_text object ++ printed rest
 unfolding object_text
-object_printed (Intra account) behind = ap (λ (text : List ℕ). text ++ printed behind) (account_printed account)
-object_printed (RecIntra account) behind = ap (λ (text : List ℕ). text ++ printed behind) (account_printed account)
-object_printed (BankMail account) behind = ap (λ (text : List ℕ). text ++ printed behind) (account_printed account)
-object_printed Mail behind = refl
+object_printed (Intra account) rest = ap (λ (text : List ℕ). text ++ printed rest) (account_printed account)
+object_printed (RecIntra account) rest = ap (λ (text : List ℕ). text ++ printed rest) (account_printed account)
+object_printed (BankMail account) rest = ap (λ (text : List ℕ). text ++ printed rest) (account_printed account)
+object_printed Mail rest = refl
 
 pub syncs_printed : TransactionsAreDocuments → SyncsAreDocuments
 unfolding sync_text
-syncs_printed transactions ask behind =
+syncs_printed transactions ask rest =
     let family = object_family ask.object in
     let deeds = branches deed_name deed_inner ask.deeds in
     let name = sync_name family in
@@ -84,11 +84,11 @@ syncs_printed transactions ask behind =
     ∙ ap (λ (text : List ℕ). plain_text family ++ text)
     (object_printed ask.object deeds
     ∙ ap (λ (text : List ℕ). object_text ask.object ++ text) (branches_printed deed_name deed_inner transaction_text transactions ask.deeds))) in
-    ap (λ (text : List ℕ). sheet.aggregate name text ++ printed behind) inner
+    ap (λ (text : List ℕ). sheet.aggregate name text ++ printed rest) inner
 
 pub sync_replies_printed : AnswersAreDocuments → SyncRepliesAreDocuments
 unfolding sync_reply_text
-sync_replies_printed answers reply behind =
+sync_replies_printed answers reply rest =
     let replies = branches answer_name answer_inner reply.replies in
     let name = sync_reply_name (object_family reply.object) in
     let token = sheet.element (codes "TOKEN") reply.token in
@@ -97,34 +97,34 @@ sync_replies_printed answers reply behind =
     ap (λ (text : List ℕ). token ++ (lost ++ text))
     (object_printed reply.object replies
     ∙ ap (λ (text : List ℕ). object_text reply.object ++ text) (branches_printed answer_name answer_inner deed_reply_text answers reply.replies)) in
-    ap (λ (text : List ℕ). sheet.aggregate name text ++ printed behind) inner
+    ap (λ (text : List ℕ). sheet.aggregate name text ++ printed rest) inner
 
 -- ---- they are lawful
 
-kind_lawful : (room : ℕ) (kind : SyncKind) (behind : Documents) → IsSoundKind kind → AreLawful room behind → AreLawful room (kind_document kind behind)
-kind_lawful room (After token) behind k more = (text_leaf (codes "TOKEN") 64 token (named (codes "TOKEN") refl refl) k, more)
-kind_lawful room TokenOnly behind k more = (flag_leaf (codes "TOKENONLY") true (named (codes "TOKENONLY") refl refl), more)
-kind_lawful room Refresh behind k more = (flag_leaf (codes "REFRESH") true (named (codes "REFRESH") refl refl), more)
+kind_lawful : (room : ℕ) (kind : SyncKind) (rest : Documents) → IsSoundKind kind → AreLawful room rest → AreLawful room (kind_document kind rest)
+kind_lawful room (After token) rest k more = (text_leaf (codes "TOKEN") 64 token (named (codes "TOKEN") refl refl) k, more)
+kind_lawful room TokenOnly rest k more = (flag_leaf (codes "TOKENONLY") true (named (codes "TOKENONLY") refl refl), more)
+kind_lawful room Refresh rest k more = (flag_leaf (codes "REFRESH") true (named (codes "REFRESH") refl refl), more)
 
-plain_lawful : (room : ℕ) (family : Family) (behind : Documents) → AreLawful room behind → AreLawful room (plain_documents family behind)
-plain_lawful room families.Intra behind more = more
-plain_lawful room families.RecIntra behind more = more
-plain_lawful room families.BankMail behind more =
+plain_lawful : (room : ℕ) (family : Family) (rest : Documents) → AreLawful room rest → AreLawful room (plain_documents family rest)
+plain_lawful room families.Intra rest more = more
+plain_lawful room families.RecIntra rest more = more
+plain_lawful room families.BankMail rest more =
     (flag_leaf (codes "INCIMAGES") false (named (codes "INCIMAGES") refl refl), (flag_leaf (codes "USEHTML") false (named (codes "USEHTML") refl refl), more))
-plain_lawful room families.Mail behind more =
+plain_lawful room families.Mail rest more =
     (flag_leaf (codes "INCIMAGES") false (named (codes "INCIMAGES") refl refl), (flag_leaf (codes "USEHTML") false (named (codes "USEHTML") refl refl), more))
 
-object_lawful : (room : ℕ) (object : ObjectName) (behind : Documents) → 0 < room → IsSoundObject object → AreLawful room behind →
-    AreLawful room (object_document object behind)
-object_lawful room (Intra account) behind some o more = (is_branch (codes "BANKACCTFROM") refl refl refl, some, account_lawful (room - 1) account o, more)
-object_lawful room (RecIntra account) behind some o more = (is_branch (codes "BANKACCTFROM") refl refl refl, some, account_lawful (room - 1) account o, more)
-object_lawful room (BankMail account) behind some o more = (is_branch (codes "BANKACCTFROM") refl refl refl, some, account_lawful (room - 1) account o, more)
-object_lawful room Mail behind some o more = more
+object_lawful : (room : ℕ) (object : ObjectName) (rest : Documents) → 0 < room → IsSoundObject object → AreLawful room rest →
+    AreLawful room (object_document object rest)
+object_lawful room (Intra account) rest some o more = (is_branch (codes "BANKACCTFROM") refl refl refl, some, account_lawful (room - 1) account o, more)
+object_lawful room (RecIntra account) rest some o more = (is_branch (codes "BANKACCTFROM") refl refl refl, some, account_lawful (room - 1) account o, more)
+object_lawful room (BankMail account) rest some o more = (is_branch (codes "BANKACCTFROM") refl refl refl, some, account_lawful (room - 1) account o, more)
+object_lawful room Mail rest some o more = more
 
 pub sync_lawful : TransactionsAreLawful → (room : ℕ) (ask : SyncAsk) → 4 < room → IsSoundSync ask → AreLawful room (sync_inner ask)
 sync_lawful transactions room ask some s =
     let family = object_family ask.object in
-    let deeds = branches_lawful room (IsSoundIn family) deed_name deed_inner (λ deed behind sound more. transactions room deed behind some sound.0 more) ask.deeds s.deeds in
+    let deeds = branches_lawful room (IsSoundIn family) deed_name deed_inner (λ deed rest sound more. transactions room deed rest some sound.0 more) ask.deeds s.deeds in
     let object = object_document ask.object (branches deed_name deed_inner ask.deeds) in
     let plain = plain_documents family object in
     kind_lawful room ask.kind (leaf (codes "REJECTIFMISSING") (flag_word ask.reject) plain) s.kind (
@@ -139,13 +139,13 @@ sync_branch families.BankMail = is_branch (codes "BANKMAILSYNCRQ") refl refl ref
 sync_branch families.Mail = is_branch (codes "MAILSYNCRQ") refl refl refl
 
 pub syncs_lawful : TransactionsAreLawful → SyncsAreLawful
-syncs_lawful transactions room ask behind some s more =
+syncs_lawful transactions room ask rest some s more =
     (sync_branch (object_family ask.object), omega arith, sync_lawful transactions (room - 1) ask (omega arith) s, more)
 
 pub sync_reply_lawful : AnswersAreLawful → (room : ℕ) (reply : SyncReply) → 4 < room → IsSoundSyncReply reply → AreLawful room (sync_reply_inner reply)
 sync_reply_lawful answers room reply some s =
     let family = object_family reply.object in
-    let replies = branches_lawful room (IsSoundToldIn family) answer_name answer_inner (λ answer behind sound more. answers room answer behind some sound.0 more) reply.replies s.replies in (
+    let replies = branches_lawful room (IsSoundReportedIn family) answer_name answer_inner (λ answer rest sound more. answers room answer rest some sound.0 more) reply.replies s.replies in (
       text_leaf (codes "TOKEN") 64 reply.token (named (codes "TOKEN") refl refl) s.token,
       (flag_leaf (codes "LOSTSYNC") reply.lost (named (codes "LOSTSYNC") refl refl), object_lawful room reply.object (branches answer_name answer_inner reply.replies) (omega arith) s.object replies),
     )
@@ -157,5 +157,5 @@ sync_reply_branch families.BankMail = is_branch (codes "BANKMAILSYNCRS") refl re
 sync_reply_branch families.Mail = is_branch (codes "MAILSYNCRS") refl refl refl
 
 pub sync_replies_lawful : AnswersAreLawful → SyncRepliesAreLawful
-sync_replies_lawful answers room reply behind some s more =
+sync_replies_lawful answers room reply rest some s more =
     (sync_reply_branch (object_family reply.object), omega arith, sync_reply_lawful answers (room - 1) reply (omega arith) s, more)

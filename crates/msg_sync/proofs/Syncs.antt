@@ -1,4 +1,4 @@
--- A synchronisation has its form exactly where reading finds it, and its faults have places.
+-- A synchronisation has its form exactly where reading finds it, and its faults have offsets.
 use Rattle.std.proofs.Common.{◌≡◌, ℕ, inl, inr, true, false, filter, List, Ok, codes, refl, sym, ap, subst, ◌∙◌}
 use Rattle.std.specs.List.{AllZip, AllByRecursion}
 use Rattle.std.specs.Str.{bytes_eq}
@@ -16,11 +16,11 @@ use Rattle.ofx_types.specs.declared.sync.SyncKind.{SyncKind}
 use Rattle.ofx_types.specs.declared.sync.SyncKind.TheVariants.{After, TokenOnly, Refresh}
 use Rattle.ofx_types.specs.declared.sync.SyncAsk.{SyncAsk}
 use Rattle.ofx_types.proofs.Bytes.{bytes_eq_is, went}
-use Rattle.ofx_tree.specs.Placed.{Stands, Any, IsWithin}
+use Rattle.ofx_tree.specs.Located.{Holds, Any, IsWithin}
 use Rattle.ofx_tree.proofs.FormLaws.{bind_ok, bind_to, one_value, ok_guarded, one_of_found, one_of_again, has_one_of, text_found, text_again, flag_in_found, flag_in_again}
-use Rattle.ofx_tree.proofs.FormPlaces.{bound, either, one_of_within, flag_within, children_within}
+use Rattle.ofx_tree.proofs.FormOffsets.{bound, either, one_of_within, flag_within, children_within}
 use Rattle.msg_parts.proofs.Named.{third_name}
-use Rattle.msg_sync.specs.SyncLaws.{TransactionsAreFound, TransactionFaultsHavePlaces, SyncsAreFound, SyncFaultsHavePlaces}
+use Rattle.msg_sync.specs.SyncLaws.{TransactionsAreFound, TransactionFaultsHaveOffsets, SyncsAreFound, SyncFaultsHaveOffsets}
 use Rattle.msg_sync.specs.SyncSteps.{is_name_of}
 use Rattle.msg_sync.proofs.Deeds.{deeds_are}
 use Rattle.msg_sync.proofs.Families.{name_of_family, family_within, object_found, object_again, object_within}
@@ -63,14 +63,14 @@ kind_again choice Refresh k =
     let yes : bytes_eq (value_of choice.node.text) (codes "Y") ≡ true = rw k.1 refl in
     rw (first, second, yes) refl
 
-kind_within : (most : ℕ) (choice : Item) → IsWithin most choice → Stands most Any (kind_of choice)
+kind_within : (most : ℕ) (choice : Item) → IsWithin most choice → Holds most Any (kind_of choice)
 unfolding kind_of
 kind_within most choice h =
     either most Any (has_name (codes "TOKEN") choice) _ _
-    (bound most Any Any (text_at 64 choice.node) _ (either most Any (is_text_within 64 (value_of choice.node.text)) _ _ tt h.place) (λ token _. tt))
+    (bound most Any Any (text_at 64 choice.node) _ (either most Any (is_text_within 64 (value_of choice.node.text)) _ _ tt h.offset) (λ token _. tt))
     (either most Any (has_name (codes "TOKENONLY") choice) _ _
-    (either most Any (bytes_eq (value_of choice.node.text) (codes "Y")) _ _ tt h.place)
-    (either most Any (bytes_eq (value_of choice.node.text) (codes "Y")) _ _ tt h.place))
+    (either most Any (bytes_eq (value_of choice.node.text) (codes "Y")) _ _ tt h.offset)
+    (either most Any (bytes_eq (value_of choice.node.text) (codes "Y")) _ _ tt h.offset))
 
 -- ---- the deeds
 
@@ -94,8 +94,8 @@ deeds_again transactions family sync deeds h =
     deeds_are name (children sync)
     ∙ forms_again IsTransaction transaction_of (is_name_of name) (deeds_read transactions family) (children sync) deeds h
 
-deeds_within : TransactionFaultsHavePlaces → (most : ℕ) (name : List ℕ) (items : List Item) → AllByRecursion (IsWithin most) items → Stands most Any (deeds_of name items)
-deeds_within places most name items h = rw (deeds_are name items) (forms_within most transaction_of (is_name_of name) (places most) items h)
+deeds_within : TransactionFaultsHaveOffsets → (most : ℕ) (name : List ℕ) (items : List Item) → AllByRecursion (IsWithin most) items → Holds most Any (deeds_of name items)
+deeds_within offsets most name items h = rw (deeds_are name items) (forms_within most transaction_of (is_name_of name) (offsets most) items h)
 
 -- ---- the synchronisation
 
@@ -108,9 +108,9 @@ synced_again sync Mail name = rw name refl
 sync_found : TransactionsAreFound → (sync : Item) (ask : SyncAsk) → sync_of sync ≡ Ok ask → IsSync sync ask
 unfolding sync_of
 sync_found transactions sync ask h =
-    let told = bind_ok (family_synced sync) _ ask h in
-    let family = told.0 in
-    let choice = bind_ok (one_of sync_kinds sync) _ ask told.2 in
+    let reported = bind_ok (family_synced sync) _ ask h in
+    let family = reported.0 in
+    let choice = bind_ok (one_of sync_kinds sync) _ ask reported.2 in
     let kind = bind_ok (kind_of choice.0) _ ask choice.2 in
     let reject = bind_ok (flag_in (codes "REJECTIFMISSING") sync) _ ask kind.2 in
     let object = bind_ok (object_in family sync) _ ask reject.2 in
@@ -119,7 +119,7 @@ sync_found transactions sync ask h =
     let named_so = object_found family sync object.0 object.1 in
     let Are : Family → Type 0 = λ f. AreDeeds f sync deeds.0 in
     subst (IsSync sync) (one_value _ _ ask refl deeds.2) (record {
-      is_named = name_of_family sync_name sync.node.name _ family told.1 ∙ ap sync_name (sym named_so.0);
+      is_named = name_of_family sync_name sync.node.name _ family reported.1 ∙ ap sync_name (sym named_so.0);
       choice = choice.0;
       has_choice = only;
       is_kind = kind_found choice.0 kind.0 (has_one_of sync_kinds sync choice.0 only) kind.1;
@@ -141,13 +141,13 @@ sync_again transactions sync ask s =
 pub syncs_are_found : TransactionsAreFound → SyncsAreFound
 syncs_are_found transactions sync ask = (sync_again transactions sync ask, sync_found transactions sync ask)
 
-pub sync_faults_have_places : TransactionFaultsHavePlaces → SyncFaultsHavePlaces
+pub sync_faults_have_offsets : TransactionFaultsHaveOffsets → SyncFaultsHaveOffsets
 unfolding sync_of
-sync_faults_have_places places most sync h =
-    bound most Any Any (family_synced sync) _ (family_within most sync.node.place sync.node.name sync_name h.place) (λ family _.
+sync_faults_have_offsets offsets most sync h =
+    bound most Any Any (family_synced sync) _ (family_within most sync.node.offset sync.node.name sync_name h.offset) (λ family _.
     bound most (IsWithin most) Any (one_of sync_kinds sync) _ (one_of_within most sync_kinds sync h) (λ choice c.
     bound most Any Any (kind_of choice) _ (kind_within most choice c) (λ kind _.
     bound most Any Any (flag_in (codes "REJECTIFMISSING") sync) _ (flag_within most (codes "REJECTIFMISSING") sync h) (λ reject _.
     bound most Any Any (object_in family sync) _ (object_within most family sync h) (λ object _.
     bound most Any Any (deeds_of (request_name family) (children sync)) _
-    (deeds_within places most (request_name family) (children sync) (children_within most sync h)) (λ deeds _. tt))))))
+    (deeds_within offsets most (request_name family) (children sync) (children_within most sync h)) (λ deeds _. tt))))))

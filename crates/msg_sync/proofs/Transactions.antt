@@ -1,5 +1,5 @@
 -- Transactions of any kind, and the answers to them, have their forms exactly where reading finds them, and their faults have
--- places.
+-- offsets.
 use Rattle.std.proofs.Common.{◌≡◌, ℕ, inl, inr, true, false, List, Ok, refl}
 use Rattle.ofx_types.specs.Nodes.{Item}
 use Rattle.ofx_types.specs.DeedForm.{family_of, request_name, IsDeedRequest, IsDeedReplyNamed}
@@ -12,11 +12,11 @@ use Rattle.ofx_types.specs.declared.transfer.Family.{Family}
 use Rattle.ofx_types.specs.declared.transfer.Family.TheVariants.{Intra, RecIntra, BankMail, Mail}
 use Rattle.ofx_types.specs.declared.transfer.DeedReply.{DeedReply}
 use Rattle.ofx_types.proofs.Bytes.{went}
-use Rattle.ofx_tree.specs.Placed.{Any}
-use Rattle.ofx_tree.proofs.FormPlaces.{either}
-use Rattle.msg_deed.specs.DeedLaws.{DeedsAreFound, DeedFaultsHavePlaces, DeedRepliesAreFound, DeedReplyFaultsHavePlaces}
-use Rattle.msg_mail.specs.MailLaws.{MailsAreFound, MailFaultsHavePlaces, MailRepliesAreFound, MailReplyFaultsHavePlaces}
-use Rattle.msg_sync.specs.SyncLaws.{TransactionsAreFound, TransactionFaultsHavePlaces, TransactionRepliesAreFound, TransactionReplyFaultsHavePlaces}
+use Rattle.ofx_tree.specs.Located.{Any}
+use Rattle.ofx_tree.proofs.FormOffsets.{either}
+use Rattle.msg_deed.specs.DeedLaws.{DeedsAreFound, DeedFaultsHaveOffsets, DeedRepliesAreFound, DeedReplyFaultsHaveOffsets}
+use Rattle.msg_mail.specs.MailLaws.{MailsAreFound, MailFaultsHaveOffsets, MailRepliesAreFound, MailReplyFaultsHaveOffsets}
+use Rattle.msg_sync.specs.SyncLaws.{TransactionsAreFound, TransactionFaultsHaveOffsets, TransactionRepliesAreFound, TransactionReplyFaultsHaveOffsets}
 
 -- ---- requests
 
@@ -57,9 +57,9 @@ pub transactions_are_found : DeedsAreFound → MailsAreFound → TransactionsAre
 transactions_are_found bank mails transaction deed =
     (transaction_again bank mails transaction deed, transaction_found bank mails transaction deed)
 
-pub transaction_faults_have_places : DeedFaultsHavePlaces → MailFaultsHavePlaces → TransactionFaultsHavePlaces
+pub transaction_faults_have_offsets : DeedFaultsHaveOffsets → MailFaultsHaveOffsets → TransactionFaultsHaveOffsets
 unfolding transaction_of
-transaction_faults_have_places bank mails most transaction h =
+transaction_faults_have_offsets bank mails most transaction h =
     either most Any (is_mail transaction) _ _ (mails most transaction h) (bank most transaction h)
 
 -- ---- answers
@@ -98,7 +98,7 @@ pub answers_are_found : DeedRepliesAreFound → MailRepliesAreFound → Transact
 answers_are_found bank mails transaction reply =
     (answer_again bank mails transaction reply, answer_found bank mails transaction reply)
 
-pub answer_faults_have_places : DeedReplyFaultsHavePlaces → MailReplyFaultsHavePlaces → TransactionReplyFaultsHavePlaces
+pub answer_faults_have_offsets : DeedReplyFaultsHaveOffsets → MailReplyFaultsHaveOffsets → TransactionReplyFaultsHaveOffsets
 unfolding transaction_reply_of
-answer_faults_have_places bank mails most transaction h =
+answer_faults_have_offsets bank mails most transaction h =
     either most Any (is_mail_reply transaction) _ _ (mails most transaction h) (bank most transaction h)

@@ -25,14 +25,14 @@ form_at read is_wanted child = if is_wanted child.node.name then (read child >>=
 
 -- the forms that are read already, and those among the children still to come
 abbrev pub joined : {M : Type 0} → List M → List M → Result (List M) TreeFault
-joined front more = Ok (front ++ more)
+joined prefix more = Ok (prefix ++ more)
 
-unfoldable pub forms_behind : {M : Type 0} → (Item → Result M TreeFault) → (List ℕ → Bool) → List M → List Item → Result (List M) TreeFault
-forms_behind read is_wanted front items = forms_of read is_wanted items >>= joined front
+unfoldable pub forms_after : {M : Type 0} → (Item → Result M TreeFault) → (List ℕ → Bool) → List M → List Item → Result (List M) TreeFault
+forms_after read is_wanted prefix items = forms_of read is_wanted items >>= joined prefix
 
 -- ---- written
 
--- The documents of values, a branch for each: its name, and what stands in it.
+-- The documents of values, a branch for each: its name, and what is in it.
 abbrev pub branches : {X : Type 0} → (X → List ℕ) → (X → Documents) → List X → Documents
 branches name_of inner_of [] = empty
 branches name_of inner_of (x ∷ xs) = branch (name_of x) (inner_of x) (branches name_of inner_of xs)

@@ -38,10 +38,10 @@ pub record IsSoundSync (ask : SyncAsk) : Type 0 where
   pub kind : IsSoundKind ask.kind
   pub deeds : AllByRecursion (IsSoundIn (object_family ask.object)) ask.deeds
 
-abbrev pub IsSoundToldIn : Family → DeedReply → Type 0
-IsSoundToldIn family reply = IsSoundAnswer reply × (reply.family ≡ family)
+abbrev pub IsSoundReportedIn : Family → DeedReply → Type 0
+IsSoundReportedIn family reply = IsSoundAnswer reply × (reply.family ≡ family)
 
 pub record IsSoundSyncReply (reply : SyncReply) : Type 0 where
   pub object : IsSoundObject reply.object
   pub token : IsTextWithin 64 reply.token
-  pub replies : AllByRecursion (IsSoundToldIn (object_family reply.object)) reply.replies
+  pub replies : AllByRecursion (IsSoundReportedIn (object_family reply.object)) reply.replies

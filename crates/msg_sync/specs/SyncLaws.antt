@@ -1,5 +1,5 @@
 -- What holds of the forms of synchronisation and of the transactions in it: each stands exactly where it is read, and its
--- faults have places.
+-- faults have offsets.
 use Rattle.std.specs.Prelude.{◌≡◌, ◌↔◌, ℕ, List, Ok}
 use Rattle.ofx_types.specs.Nodes.{Item}
 use Rattle.ofx_types.specs.SyncForm.{IsTransaction, IsTransactionReply, IsSync, IsSyncReply}
@@ -8,41 +8,41 @@ use Rattle.ofx_types.specs.declared.transfer.Deed.{Deed}
 use Rattle.ofx_types.specs.declared.transfer.DeedReply.{DeedReply}
 use Rattle.ofx_types.specs.declared.sync.SyncAsk.{SyncAsk}
 use Rattle.ofx_types.specs.declared.sync.SyncReply.{SyncReply}
-use Rattle.ofx_tree.specs.Placed.{Stands, Any, IsWithin}
+use Rattle.ofx_tree.specs.Located.{Holds, Any, IsWithin}
 
 -- A uid and a deed stand in a transaction exactly where reading gives them.
 abbrev pub TransactionsAreFound : Type 0
 TransactionsAreFound =
     (transaction : Item) (deed : List ℕ × Deed) → IsTransaction transaction deed ↔ (transaction_of transaction ≡ Ok deed)
 
--- The first fault of a transaction stands at most where its last node does.
-abbrev pub TransactionFaultsHavePlaces : Type 0
-TransactionFaultsHavePlaces =
-    (most : ℕ) (transaction : Item) → IsWithin most transaction → Stands most Any (transaction_of transaction)
+-- The first fault of a transaction occurs at most where its last node does.
+abbrev pub TransactionFaultsHaveOffsets : Type 0
+TransactionFaultsHaveOffsets =
+    (most : ℕ) (transaction : Item) → IsWithin most transaction → Holds most Any (transaction_of transaction)
 
 -- The same of the answers to transactions.
 abbrev pub TransactionRepliesAreFound : Type 0
 TransactionRepliesAreFound =
     (transaction : Item) (reply : DeedReply) → IsTransactionReply transaction reply ↔ (transaction_reply_of transaction ≡ Ok reply)
 
-abbrev pub TransactionReplyFaultsHavePlaces : Type 0
-TransactionReplyFaultsHavePlaces =
-    (most : ℕ) (transaction : Item) → IsWithin most transaction → Stands most Any (transaction_reply_of transaction)
+abbrev pub TransactionReplyFaultsHaveOffsets : Type 0
+TransactionReplyFaultsHaveOffsets =
+    (most : ℕ) (transaction : Item) → IsWithin most transaction → Holds most Any (transaction_reply_of transaction)
 
--- An ask stands in a synchronisation exactly where reading gives it.
+-- An ask is in a synchronisation exactly where reading gives it.
 abbrev pub SyncsAreFound : Type 0
 SyncsAreFound =
     (sync : Item) (ask : SyncAsk) → IsSync sync ask ↔ (sync_of sync ≡ Ok ask)
 
--- The first fault of a synchronisation stands at most where its last node does.
-abbrev pub SyncFaultsHavePlaces : Type 0
-SyncFaultsHavePlaces = (most : ℕ) (sync : Item) → IsWithin most sync → Stands most Any (sync_of sync)
+-- The first fault of a synchronisation occurs at most where its last node does.
+abbrev pub SyncFaultsHaveOffsets : Type 0
+SyncFaultsHaveOffsets = (most : ℕ) (sync : Item) → IsWithin most sync → Holds most Any (sync_of sync)
 
--- An answer stands in the reply to a synchronisation exactly where reading gives it.
+-- An answer is in the reply to a synchronisation exactly where reading gives it.
 abbrev pub SyncRepliesAreFound : Type 0
 SyncRepliesAreFound =
     (sync : Item) (reply : SyncReply) → IsSyncReply sync reply ↔ (sync_reply_of sync ≡ Ok reply)
 
--- The first fault of such a reply stands at most where its last node does.
-abbrev pub SyncReplyFaultsHavePlaces : Type 0
-SyncReplyFaultsHavePlaces = (most : ℕ) (sync : Item) → IsWithin most sync → Stands most Any (sync_reply_of sync)
+-- The first fault of such a reply occurs at most where its last node does.
+abbrev pub SyncReplyFaultsHaveOffsets : Type 0
+SyncReplyFaultsHaveOffsets = (most : ℕ) (sync : Item) → IsWithin most sync → Holds most Any (sync_reply_of sync)

@@ -6,7 +6,7 @@ use Rattle.ofx_types.specs.SyncReading.{transaction_of, transaction_reply_of}
 use Rattle.ofx_types.specs.declared.fault.TreeFault.{TreeFault}
 use Rattle.ofx_types.specs.declared.transfer.Deed.{Deed}
 use Rattle.ofx_types.specs.declared.transfer.DeedReply.{DeedReply}
-use Rattle.msg_sync.specs.Listing.{form_at, forms_behind}
+use Rattle.msg_sync.specs.Listing.{form_at, forms_after}
 
 -- it is this name
 abbrev pub is_name_of : List ℕ → List ℕ → Bool
@@ -17,12 +17,12 @@ abbrev pub deed_at : List ℕ → Item → Result (Option (List ℕ × Deed)) Tr
 deed_at name child = form_at transaction_of (is_name_of name) child
 
 -- the deeds that are read already, and those of this name still to come
-abbrev pub deeds_behind : List ℕ → List (List ℕ × Deed) → List Item → Result (List (List ℕ × Deed)) TreeFault
-deeds_behind name front items = forms_behind transaction_of (is_name_of name) front items
+abbrev pub deeds_after : List ℕ → List (List ℕ × Deed) → List Item → Result (List (List ℕ × Deed)) TreeFault
+deeds_after name prefix items = forms_after transaction_of (is_name_of name) prefix items
 
 -- the same of answers
 abbrev pub reply_at : List ℕ → Item → Result (Option DeedReply) TreeFault
 reply_at name child = form_at transaction_reply_of (is_name_of name) child
 
-abbrev pub replies_behind : List ℕ → List DeedReply → List Item → Result (List DeedReply) TreeFault
-replies_behind name front items = forms_behind transaction_reply_of (is_name_of name) front items
+abbrev pub replies_after : List ℕ → List DeedReply → List Item → Result (List DeedReply) TreeFault
+replies_after name prefix items = forms_after transaction_reply_of (is_name_of name) prefix items

@@ -25,7 +25,7 @@ use Rattle.msg_sync.specs.SoundSyncs.{IsSoundTransaction, IsSoundAnswer, IsSound
 
 -- ---- transactions
 
--- the name of a deed's transaction, and what stands in it
+-- the name of a deed's transaction, and what is in it
 abbrev pub deed_name : List ℕ × Deed → List ℕ
 deed_name deed = request_name (family_of deed.1)
 
@@ -42,66 +42,66 @@ answer_inner reply = deed_reply_documents reply.trnuid reply.code reply.change
 -- What is written of a deed are its documents.
 abbrev pub TransactionsAreDocuments : Type 0
 TransactionsAreDocuments =
-    (deed : List ℕ × Deed) (behind : Documents)
-    → printed (branch (deed_name deed) (deed_inner deed) behind) ≡ transaction_text deed ++ printed behind
+    (deed : List ℕ × Deed) (rest : Documents)
+    → printed (branch (deed_name deed) (deed_inner deed) rest) ≡ transaction_text deed ++ printed rest
 
 -- Those of a sound deed are lawful.
 abbrev pub TransactionsAreLawful : Type 0
 TransactionsAreLawful =
-    (room : ℕ) (deed : List ℕ × Deed) (behind : Documents)
-    → 4 < room → IsSoundTransaction deed → AreLawful room behind → AreLawful room (branch (deed_name deed) (deed_inner deed) behind)
+    (room : ℕ) (deed : List ℕ × Deed) (rest : Documents)
+    → 4 < room → IsSoundTransaction deed → AreLawful room rest → AreLawful room (branch (deed_name deed) (deed_inner deed) rest)
 
--- Wherever they stand, the uid and the deed are read from them.
+-- Wherever they are, the uid and the deed are read from them.
 abbrev pub TransactionsReadBack : Type 0
 TransactionsReadBack =
-    (place index : ℕ) (deed : List ℕ × Deed) → IsSoundTransaction deed
-    → transaction_of (branch_item place index (deed_name deed) (deed_inner deed)) ≡ Ok deed
+    (offset index : ℕ) (deed : List ℕ × Deed) → IsSoundTransaction deed
+    → transaction_of (branch_item offset index (deed_name deed) (deed_inner deed)) ≡ Ok deed
 
 -- The same of answers, of which a changed transfer is read with model 0.
 abbrev pub AnswersAreDocuments : Type 0
 AnswersAreDocuments =
-    (reply : DeedReply) (behind : Documents)
-    → printed (branch (answer_name reply) (answer_inner reply) behind) ≡ deed_reply_text reply ++ printed behind
+    (reply : DeedReply) (rest : Documents)
+    → printed (branch (answer_name reply) (answer_inner reply) rest) ≡ deed_reply_text reply ++ printed rest
 
 abbrev pub AnswersAreLawful : Type 0
 AnswersAreLawful =
-    (room : ℕ) (reply : DeedReply) (behind : Documents)
-    → 4 < room → IsSoundAnswer reply → AreLawful room behind → AreLawful room (branch (answer_name reply) (answer_inner reply) behind)
+    (room : ℕ) (reply : DeedReply) (rest : Documents)
+    → 4 < room → IsSoundAnswer reply → AreLawful room rest → AreLawful room (branch (answer_name reply) (answer_inner reply) rest)
 
 abbrev pub AnswersReadBack : Type 0
 AnswersReadBack =
-    (place index : ℕ) (reply : DeedReply) → IsSoundAnswer reply
-    → transaction_reply_of (branch_item place index (answer_name reply) (answer_inner reply)) ≡ Ok (wire reply)
+    (offset index : ℕ) (reply : DeedReply) → IsSoundAnswer reply
+    → transaction_reply_of (branch_item offset index (answer_name reply) (answer_inner reply)) ≡ Ok (wire reply)
 
 -- ---- synchronisations
 
 abbrev pub kind_document : SyncKind → Documents → Documents
-kind_document (After token) behind = leaf (codes "TOKEN") token behind
-kind_document TokenOnly behind = leaf (codes "TOKENONLY") (codes "Y") behind
-kind_document Refresh behind = leaf (codes "REFRESH") (codes "Y") behind
+kind_document (After token) rest = leaf (codes "TOKEN") token rest
+kind_document TokenOnly rest = leaf (codes "TOKENONLY") (codes "Y") rest
+kind_document Refresh rest = leaf (codes "REFRESH") (codes "Y") rest
 
 -- Mail is asked for without images and without HTML.
 abbrev pub plain_documents : Family → Documents → Documents
-plain_documents families.Intra behind = behind
-plain_documents families.RecIntra behind = behind
-plain_documents families.BankMail behind = leaf (codes "INCIMAGES") (codes "N") (leaf (codes "USEHTML") (codes "N") behind)
-plain_documents families.Mail behind = leaf (codes "INCIMAGES") (codes "N") (leaf (codes "USEHTML") (codes "N") behind)
+plain_documents families.Intra rest = rest
+plain_documents families.RecIntra rest = rest
+plain_documents families.BankMail rest = leaf (codes "INCIMAGES") (codes "N") (leaf (codes "USEHTML") (codes "N") rest)
+plain_documents families.Mail rest = leaf (codes "INCIMAGES") (codes "N") (leaf (codes "USEHTML") (codes "N") rest)
 
 -- The account of an object, where it has one.
 abbrev pub object_document : ObjectName → Documents → Documents
-object_document (Intra account) behind = branch (codes "BANKACCTFROM") (account_documents account) behind
-object_document (RecIntra account) behind = branch (codes "BANKACCTFROM") (account_documents account) behind
-object_document (BankMail account) behind = branch (codes "BANKACCTFROM") (account_documents account) behind
-object_document Mail behind = behind
+object_document (Intra account) rest = branch (codes "BANKACCTFROM") (account_documents account) rest
+object_document (RecIntra account) rest = branch (codes "BANKACCTFROM") (account_documents account) rest
+object_document (BankMail account) rest = branch (codes "BANKACCTFROM") (account_documents account) rest
+object_document Mail rest = rest
 
--- what stands in a synchronisation
+-- what is in a synchronisation
 abbrev pub sync_inner : SyncAsk → Documents
 sync_inner ask =
     kind_document ask.kind
     (leaf (codes "REJECTIFMISSING") (flag_word ask.reject)
     (plain_documents (object_family ask.object) (object_document ask.object (branches deed_name deed_inner ask.deeds))))
 
--- what stands in the reply to one
+-- what is in the reply to one
 abbrev pub sync_reply_inner : SyncReply → Documents
 sync_reply_inner reply =
     leaf (codes "TOKEN") reply.token
@@ -113,37 +113,37 @@ sync_reply_inner reply =
 -- What is written of a synchronisation are its documents.
 abbrev pub SyncsAreDocuments : Type 0
 SyncsAreDocuments =
-    (ask : SyncAsk) (behind : Documents)
-    → printed (branch (sync_name (object_family ask.object)) (sync_inner ask) behind) ≡ sync_text ask ++ printed behind
+    (ask : SyncAsk) (rest : Documents)
+    → printed (branch (sync_name (object_family ask.object)) (sync_inner ask) rest) ≡ sync_text ask ++ printed rest
 
 -- Those of a sound one are lawful.
 abbrev pub SyncsAreLawful : Type 0
 SyncsAreLawful =
-    (room : ℕ) (ask : SyncAsk) (behind : Documents)
-    → 5 < room → IsSoundSync ask → AreLawful room behind
-    → AreLawful room (branch (sync_name (object_family ask.object)) (sync_inner ask) behind)
+    (room : ℕ) (ask : SyncAsk) (rest : Documents)
+    → 5 < room → IsSoundSync ask → AreLawful room rest
+    → AreLawful room (branch (sync_name (object_family ask.object)) (sync_inner ask) rest)
 
--- Wherever they stand, the ask is read from them.
+-- Wherever they are, the ask is read from them.
 abbrev pub SyncsReadBack : Type 0
 SyncsReadBack =
-    (place index : ℕ) (ask : SyncAsk) → IsSoundSync ask
-    → sync_of (branch_item place index (sync_name (object_family ask.object)) (sync_inner ask)) ≡ Ok ask
+    (offset index : ℕ) (ask : SyncAsk) → IsSoundSync ask
+    → sync_of (branch_item offset index (sync_name (object_family ask.object)) (sync_inner ask)) ≡ Ok ask
 
 -- The same of replies, in which each changed transfer is read with model 0.
 abbrev pub SyncRepliesAreDocuments : Type 0
 SyncRepliesAreDocuments =
-    (reply : SyncReply) (behind : Documents)
-    → printed (branch (sync_reply_name (object_family reply.object)) (sync_reply_inner reply) behind)
-    ≡ sync_reply_text reply ++ printed behind
+    (reply : SyncReply) (rest : Documents)
+    → printed (branch (sync_reply_name (object_family reply.object)) (sync_reply_inner reply) rest)
+    ≡ sync_reply_text reply ++ printed rest
 
 abbrev pub SyncRepliesAreLawful : Type 0
 SyncRepliesAreLawful =
-    (room : ℕ) (reply : SyncReply) (behind : Documents)
-    → 5 < room → IsSoundSyncReply reply → AreLawful room behind
-    → AreLawful room (branch (sync_reply_name (object_family reply.object)) (sync_reply_inner reply) behind)
+    (room : ℕ) (reply : SyncReply) (rest : Documents)
+    → 5 < room → IsSoundSyncReply reply → AreLawful room rest
+    → AreLawful room (branch (sync_reply_name (object_family reply.object)) (sync_reply_inner reply) rest)
 
 abbrev pub SyncRepliesReadBack : Type 0
 SyncRepliesReadBack =
-    (place index : ℕ) (reply : SyncReply) → IsSoundSyncReply reply
-    → sync_reply_of (branch_item place index (sync_reply_name (object_family reply.object)) (sync_reply_inner reply))
+    (offset index : ℕ) (reply : SyncReply) → IsSoundSyncReply reply
+    → sync_reply_of (branch_item offset index (sync_reply_name (object_family reply.object)) (sync_reply_inner reply))
     ≡ Ok (wire_sync reply)

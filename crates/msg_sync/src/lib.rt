@@ -2,7 +2,7 @@
 //! written on a sheet (OFX 1.6, "Data Synchronization").
 //!
 //! Here too stand the calls for a transaction of any kind, which a file may have alone or inside a synchronisation. What is
-//! read is the message that stands there, or the first fault of its form with that fault's place. What is written is the
+//! read is the message that is there, or the first fault of its form with that fault's offset. What is written is the
 //! message's one printed form.
 #![tactic(auto)]
 

@@ -22,19 +22,19 @@ use ofx_types::{DeedReplies, DeedReply, Family, OutOfMemory, SyncReply, TreeFaul
 use std::alloc::Global;
 
 /// The most bytes of a token.
-const MOST: u32 = 64;
+const MAX_BYTES: u32 = 64;
 
 /// The answer that the reply to a synchronisation is: INTRASYNCRS, RECINTRASYNCRS, BANKMAILSYNCRS or MAILSYNCRS. Where LOSTSYNC
 /// doesn't stand nothing is lost. Answers of another family are skipped.
 ///
-/// The first fault of its form, with its place, which is its own where it has another name; `OutOfMemory` where memory
+/// The first fault of its form, with its offset, which is its own where it has another name; `OutOfMemory` where memory
 /// for its texts or its answers is refused.
 #[tactic(auto, unfolding(ofx_types::specs::SyncReading::sync_reply_of))]
 pub fn read_sync_reply(alloc: Global, c: &Cursor<'_>) -> Result<SyncReply, TreeFault>
     ensures { ReadsForm result (sync_reply_of c.now) }
 {
-    let family = family_told_of(c)?;
-    let token = c.text(alloc, b"TOKEN", MOST)?;
+    let family = family_reported_of(c)?;
+    let token = c.text(alloc, b"TOKEN", MAX_BYTES)?;
     let lost = c.maybe_flag(b"LOSTSYNC")?;
     let object = read_object(alloc, family, c)?;
     let replies = read_replies(alloc, reply_name(family), c)?;
@@ -47,8 +47,8 @@ pub fn read_sync_reply(alloc: Global, c: &Cursor<'_>) -> Result<SyncReply, TreeF
 }
 
 /// The family of what is synchronised, by the name of the reply.
-fn family_told_of(sync: &Cursor<'_>) -> Result<Family, TreeFault>
-    ensures { result ≡ reading.family_told_of sync.now }
+fn family_reported_of(sync: &Cursor<'_>) -> Result<Family, TreeFault>
+    ensures { result ≡ reading.family_reported_of sync.now }
 {
     if sync.name() == b"INTRASYNCRS".as_slice() {
         return Ok(Family::Intra);
@@ -62,11 +62,11 @@ fn family_told_of(sync: &Cursor<'_>) -> Result<Family, TreeFault>
     if sync.name() == b"MAILSYNCRS".as_slice() {
         return Ok(Family::Mail);
     }
-    Err(TreeFault::Value(sync.place() as u64))
+    Err(TreeFault::Value(sync.offset() as u64))
 }
 
 /// The answers of this name, in the order of the file.
-#[tactic(auto, using(crate::proofs::Behind::behind, crate::proofs::Deeds::all_replies))]
+#[tactic(auto, using(crate::proofs::After::rest, crate::proofs::Deeds::all_replies))]
 fn read_replies(alloc: Global, name: &[u8], sync: &Cursor<'_>) -> Result<DeedReplies, TreeFault>
     ensures { ReadsForm result (reading.replies_of name.now (children sync.now)) }
 {

@@ -23,12 +23,12 @@ use ofx_types::{Deed, Deeds, Family, OutOfMemory, SyncAsk, SyncKind, TreeFault, 
 use std::alloc::Global;
 
 /// The most bytes of a token.
-const MOST: u32 = 64;
+const MAX_BYTES: u32 = 64;
 
 /// The ask that a synchronisation is: INTRASYNCRQ, RECINTRASYNCRQ, BANKMAILSYNCRQ or MAILSYNCRQ. Just one of TOKEN, TOKENONLY
-/// and REFRESH stands in it, the last two as `Y`. Deeds of another family are skipped.
+/// and REFRESH is in it, the last two as `Y`. Deeds of another family are skipped.
 ///
-/// The first fault of its form, with its place, which is its own where it has another name; `OutOfMemory` where memory
+/// The first fault of its form, with its offset, which is its own where it has another name; `OutOfMemory` where memory
 /// for its texts or its deeds is refused.
 #[tactic(auto, unfolding(ofx_types::specs::SyncReading::sync_of))]
 pub fn read_sync(alloc: Global, c: &Cursor<'_>) -> Result<SyncAsk, TreeFault>
@@ -54,7 +54,7 @@ fn read_kind(alloc: Global, choice: &Cursor<'_>) -> Result<SyncKind, TreeFault>
     ensures { ReadsForm result (reading.kind_of choice.now) }
 {
     if choice.name() == b"TOKEN".as_slice() {
-        return Ok(SyncKind::After(choice.own_text(alloc, MOST)?));
+        return Ok(SyncKind::After(choice.own_text(alloc, MAX_BYTES)?));
     }
     if choice.name() == b"TOKENONLY".as_slice() {
         return only_yes(SyncKind::TokenOnly, choice);
@@ -69,7 +69,7 @@ fn only_yes(kind: SyncKind, choice: &Cursor<'_>) -> Result<SyncKind, TreeFault>
     if choice.value_eq(b"Y") {
         return Ok(kind);
     }
-    Err(TreeFault::Value(choice.place() as u64))
+    Err(TreeFault::Value(choice.offset() as u64))
 }
 
 /// The family of what is synchronised, by the name of the synchronisation.
@@ -88,7 +88,7 @@ fn family_synced(sync: &Cursor<'_>) -> Result<Family, TreeFault>
     if sync.name() == b"MAILSYNCRQ".as_slice() {
         return Ok(Family::Mail);
     }
-    Err(TreeFault::Value(sync.place() as u64))
+    Err(TreeFault::Value(sync.offset() as u64))
 }
 
 /// The name of the deeds of a family.
@@ -104,7 +104,7 @@ fn deed_name(family: Family) -> &'static [u8]
 }
 
 /// The deeds of this name, in the order of the file.
-#[tactic(auto, using(crate::proofs::Behind::behind, crate::proofs::Deeds::all_deeds))]
+#[tactic(auto, using(crate::proofs::After::rest, crate::proofs::Deeds::all_deeds))]
 fn read_deeds(alloc: Global, name: &[u8], sync: &Cursor<'_>) -> Result<Deeds, TreeFault>
     ensures { ReadsForm result (reading.deeds_of name.now (children sync.now)) }
 {

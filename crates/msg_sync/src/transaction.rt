@@ -17,7 +17,7 @@ use std::alloc::Global;
 
 /// The uid and the deed that a transaction is: INTRATRNRQ, RECINTRATRNRQ, BANKMAILTRNRQ or MAILTRNRQ.
 ///
-/// The first fault of its form, with its place, which is its own where it has another name; `OutOfMemory` where memory
+/// The first fault of its form, with its offset, which is its own where it has another name; `OutOfMemory` where memory
 /// for its texts is refused.
 #[tactic(auto, unfolding(ofx_types::specs::SyncReading::transaction_of))]
 pub fn read_transaction(alloc: Global, c: &Cursor<'_>) -> Result<(TrnUid, Deed), TreeFault>
@@ -55,7 +55,7 @@ pub fn print_transaction(trnuid: &TrnUid, deed: &Deed, out: &mut Sheet) -> Resul
 
 /// The answer that the reply to a transaction is: INTRATRNRS, RECINTRATRNRS, BANKMAILTRNRS or MAILTRNRS.
 ///
-/// The first fault of its form, with its place, which is its own where it has another name; `OutOfMemory` where memory
+/// The first fault of its form, with its offset, which is its own where it has another name; `OutOfMemory` where memory
 /// for its texts is refused.
 #[tactic(auto, unfolding(ofx_types::specs::SyncReading::transaction_reply_of))]
 pub fn read_transaction_reply(alloc: Global, c: &Cursor<'_>) -> Result<DeedReply, TreeFault>

@@ -3,7 +3,7 @@ use Rattle.std.proofs.Common.{◌≡◌, ℕ, ◌+◌, ◌⊎◌, inl, inr, List
 use Rattle.ofx_types.specs.HeaderForm.{header_fault}
 use Rattle.ofx_types.specs.TagFault.{tag_fault}
 use Rattle.ofx_types.specs.Nodes.{TagNode, Item, AreNodesOf, IsRoot, nodes_from}
-use Rattle.ofx_types.specs.FileForm.{HasBody, header_place, tag_place, form_place, HasHeader, IsHeaderFault, IsSyntaxFault, IsFormFault, IsFaultIn, OneFaultOf}
+use Rattle.ofx_types.specs.FileForm.{HasBody, header_offset, tag_offset, form_offset, HasHeader, IsHeaderFault, IsSyntaxFault, IsFormFault, IsFaultIn, OneFaultOf}
 use Rattle.ofx_types.specs.declared.fault.HeaderFault.{HeaderFault}
 use Rattle.ofx_types.specs.declared.fault.TapeFault.{TapeFault}
 use Rattle.ofx_types.specs.declared.fault.TreeFault.{TreeFault}
@@ -12,10 +12,10 @@ use Rattle.ofx_types.specs.declared.fault.FileFault.TheVariants.{Header, Syntax,
 use Rattle.ofx_header.specs.HeaderLaws.{OneHeader, SpelledIsFaultless, FaultlessIsSpelled}
 use Rattle.ofx_tape.specs.Slices.{NodesAreSlices}
 use Rattle.ofx_tape.specs.TapeOutcome.{TagsAreUnambiguous, SpelledTagsHaveNoFault, FaultlessTagsAreSpelled}
-use Rattle.ofx_tree.specs.Placed.{IsWithin, Stands, Any}
+use Rattle.ofx_tree.specs.Located.{IsWithin, Holds, Any}
 use Rattle.ofx_tree.proofs.FormLaws.{one_value}
-use Rattle.ofx_file.proofs.FormPlaces.{form_fault_place}
-use Rattle.ofx_file.proofs.TagPlaces.{tag_fault_place}
+use Rattle.ofx_file.proofs.FormOffsets.{form_fault_offset}
+use Rattle.ofx_file.proofs.TagOffsets.{tag_fault_offset}
 
 -- the laws that the laws of files stand on
 pub record Laws : Type 0 where
@@ -94,37 +94,37 @@ no_fault laws parts_of bytes size nodes ofx parts (Syntax at) h b r f = no_synta
 no_fault laws parts_of bytes size nodes ofx parts (Form at) h b r f = no_form_fault laws parts_of bytes at size nodes ofx parts h b r f
 no_fault laws parts_of bytes size nodes ofx parts OutOfMemory h b r f = f
 
-one_header_place : (bytes : List ℕ) (at to : ℕ) → IsHeaderFault bytes at → IsHeaderFault bytes to → at ≡ to
-one_header_place bytes at to x y = x.2 ∙ ap header_place (some_same (header_fault bytes) x.0 y.0 x.1 y.1) ∙ sym y.2
+one_header_offset : (bytes : List ℕ) (at to : ℕ) → IsHeaderFault bytes at → IsHeaderFault bytes to → at ≡ to
+one_header_offset bytes at to x y = x.2 ∙ ap header_offset (some_same (header_fault bytes) x.0 y.0 x.1 y.1) ∙ sym y.2
 
 sum_same : (a b c d : ℕ) → a ≡ b → c ≡ d → a + c ≡ b + d
 sum_same a b c d h i = cc
 
-one_syntax_place : Laws → (bytes : List ℕ) (at to : ℕ) → IsSyntaxFault bytes at → IsSyntaxFault bytes to → at ≡ to
-one_syntax_place laws bytes at to x y =
+one_syntax_offset : Laws → (bytes : List ℕ) (at to : ℕ) → IsSyntaxFault bytes at → IsSyntaxFault bytes to → at ≡ to
+one_syntax_offset laws bytes at to x y =
     let size = one_size laws bytes x.size y.size x.header y.header in
     let fault = some_same (tag_fault (drop y.size bytes)) x.fault y.fault (ap (λ n. tag_fault (drop n bytes)) (sym size) ∙ x.is_fault) y.is_fault in
-    let place = some_same (tag_place y.fault) x.place y.place (ap tag_place (sym fault) ∙ x.has_place) y.has_place in
-    x.at_is ∙ sum_same x.size y.size x.place y.place size place ∙ sym y.at_is
+    let offset = some_same (tag_offset y.fault) x.offset y.offset (ap tag_offset (sym fault) ∙ x.has_offset) y.has_offset in
+    x.at_is ∙ sum_same x.size y.size x.offset y.offset size offset ∙ sym y.at_is
 
-one_form_place : {P : Type 0} → Laws → (parts_of : Item → Result P TreeFault) (bytes : List ℕ) (at to : ℕ) → IsFormFault parts_of bytes at → IsFormFault parts_of bytes to → at ≡ to
-one_form_place laws parts_of bytes at to x y =
+one_form_offset : {P : Type 0} → Laws → (parts_of : Item → Result P TreeFault) (bytes : List ℕ) (at to : ℕ) → IsFormFault parts_of bytes at → IsFormFault parts_of bytes to → at ≡ to
+one_form_offset laws parts_of bytes at to x y =
     let size = one_size laws bytes x.size y.size x.header y.header in
     let ofx = one_body laws bytes x.size y.size x.nodes y.nodes x.ofx y.ofx size x.body y.body in
     let fault = err_same (parts_of y.ofx) x.fault y.fault (ap parts_of (sym ofx) ∙ x.is_fault) y.is_fault in
-    let place = some_same (form_place y.fault) x.place y.place (ap form_place (sym fault) ∙ x.has_place) y.has_place in
-    x.at_is ∙ sum_same x.size y.size x.place y.place size place ∙ sym y.at_is
+    let offset = some_same (form_offset y.fault) x.offset y.offset (ap form_offset (sym fault) ∙ x.has_offset) y.has_offset in
+    x.at_is ∙ sum_same x.size y.size x.offset y.offset size offset ∙ sym y.at_is
 
 pub one_fault : {P : Type 0} → Laws → (parts_of : Item → Result P TreeFault) → OneFaultOf (IsFaultIn parts_of)
-one_fault laws parts_of bytes (Header at) (Header to) x y = ap Header (one_header_place bytes at to x y)
+one_fault laws parts_of bytes (Header at) (Header to) x y = ap Header (one_header_offset bytes at to x y)
 one_fault laws parts_of bytes (Header at) (Syntax to) x y = absurd (no_header_fault laws bytes at y.size y.header x)
 one_fault laws parts_of bytes (Header at) (Form to) x y = absurd (no_header_fault laws bytes at y.size y.header x)
 one_fault laws parts_of bytes (Syntax at) (Header to) x y = absurd (no_header_fault laws bytes to x.size x.header y)
-one_fault laws parts_of bytes (Syntax at) (Syntax to) x y = ap Syntax (one_syntax_place laws bytes at to x y)
+one_fault laws parts_of bytes (Syntax at) (Syntax to) x y = ap Syntax (one_syntax_offset laws bytes at to x y)
 one_fault laws parts_of bytes (Syntax at) (Form to) x y = absurd (no_syntax_fault laws bytes at y.size y.nodes y.ofx y.header y.body x)
 one_fault laws parts_of bytes (Form at) (Header to) x y = absurd (no_header_fault laws bytes to x.size x.header y)
 one_fault laws parts_of bytes (Form at) (Syntax to) x y = absurd (no_syntax_fault laws bytes to x.size x.nodes x.ofx x.header x.body y)
-one_fault laws parts_of bytes (Form at) (Form to) x y = ap Form (one_form_place laws parts_of bytes at to x y)
+one_fault laws parts_of bytes (Form at) (Form to) x y = ap Form (one_form_offset laws parts_of bytes at to x y)
 one_fault laws parts_of bytes (Header at) OutOfMemory x y = absurd y
 one_fault laws parts_of bytes (Syntax at) OutOfMemory x y = absurd y
 one_fault laws parts_of bytes (Form at) OutOfMemory x y = absurd y
@@ -154,70 +154,70 @@ IsJudged parts_of bytes = HasParts parts_of bytes ⊎ ((fault : FileFault) × Is
 abbrev item_of : TagNode → List TagNode → Item
 item_of node inner = record { node = node; first = 1; inner = inner }
 
-first_is_root : (nodes behind : List TagNode) (node : TagNode) → nodes ≡ node ∷ behind → (ofx : Item) × IsRoot nodes ofx
-first_is_root nodes behind node h = (item_of node behind, (behind, h, refl, refl))
+first_is_root : (nodes suffix : List TagNode) (node : TagNode) → nodes ≡ node ∷ suffix → (ofx : Item) × IsRoot nodes ofx
+first_is_root nodes suffix node h = (item_of node suffix, (suffix, h, refl, refl))
 
 -- the nodes of a body have OFX as their root
 has_root : (body : List ℕ) (nodes : List TagNode) → AreNodesOf body nodes → (ofx : Item) × IsRoot nodes ofx
 has_root body nodes are = first_is_root nodes _ _ (are.are ∙ ap (nodes_from 0) are.spelled.is_whole)
 
-abbrev pub HavePlaces : {P : Type 0} → (Item → Result P TreeFault) → Type 0
-HavePlaces parts_of = (most : ℕ) (ofx : Item) → IsWithin most ofx → Stands most Any (parts_of ofx)
+abbrev pub HaveOffsets : {P : Type 0} → (Item → Result P TreeFault) → Type 0
+HaveOffsets parts_of = (most : ℕ) (ofx : Item) → IsWithin most ofx → Holds most Any (parts_of ofx)
 
-by_forms : {P : Type 0} → Judges → (parts_of : Item → Result P TreeFault) → HavePlaces parts_of → (bytes : List ℕ) (size : ℕ) (nodes : List TagNode) (ofx : Item) →
+by_forms : {P : Type 0} → Judges → (parts_of : Item → Result P TreeFault) → HaveOffsets parts_of → (bytes : List ℕ) (size : ℕ) (nodes : List TagNode) (ofx : Item) →
     HasHeader bytes size → HasBody bytes size nodes ofx → IsJudged parts_of bytes
-by_forms {P = P} laws parts_of places bytes size nodes ofx header body = go (parts_of ofx) refl
+by_forms {P = P} laws parts_of offsets bytes size nodes ofx header body = go (parts_of ofx) refl
   where
     go : (r : Result P TreeFault) → parts_of ofx ≡ r → IsJudged parts_of bytes
     go (Ok parts) h = inl (record { size = size; nodes = nodes; ofx = ofx; parts = parts; header = header; body = body; is_read = h })
     go (Err fault) h =
         let slices = laws.slices (drop size bytes) nodes body.are_nodes in
-        let place = form_fault_place parts_of places (drop size bytes) nodes ofx fault slices body.is_root h in
+        let offset = form_fault_offset parts_of offsets (drop size bytes) nodes ofx fault slices body.is_root h in
         inr (
-          Form (size + place.0),
+          Form (size + offset.0),
           record {
             size = size;
             nodes = nodes;
             ofx = ofx;
             fault = fault;
-            place = place.0;
+            offset = offset.0;
             header = header;
             body = body;
             is_fault = h;
-            has_place = place.1;
+            has_offset = offset.1;
             at_is = refl;
           },
         )
 
-by_nodes : {P : Type 0} → Judges → (parts_of : Item → Result P TreeFault) → HavePlaces parts_of → (bytes : List ℕ) (size : ℕ) (nodes : List TagNode) →
+by_nodes : {P : Type 0} → Judges → (parts_of : Item → Result P TreeFault) → HaveOffsets parts_of → (bytes : List ℕ) (size : ℕ) (nodes : List TagNode) →
     HasHeader bytes size → AreNodesOf (drop size bytes) nodes → IsJudged parts_of bytes
-by_nodes laws parts_of places bytes size nodes header are =
+by_nodes laws parts_of offsets bytes size nodes header are =
     let root = has_root (drop size bytes) nodes are in
-    by_forms laws parts_of places bytes size nodes root.0 header (record { are_nodes = are; is_root = root.1 })
+    by_forms laws parts_of offsets bytes size nodes root.0 header (record { are_nodes = are; is_root = root.1 })
 
-by_tags : {P : Type 0} → Judges → (parts_of : Item → Result P TreeFault) → HavePlaces parts_of → (bytes : List ℕ) (size : ℕ) → HasHeader bytes size → IsJudged parts_of bytes
-by_tags laws parts_of places bytes size header = go (tag_fault (drop size bytes)) refl
+by_tags : {P : Type 0} → Judges → (parts_of : Item → Result P TreeFault) → HaveOffsets parts_of → (bytes : List ℕ) (size : ℕ) → HasHeader bytes size → IsJudged parts_of bytes
+by_tags laws parts_of offsets bytes size header = go (tag_fault (drop size bytes)) refl
   where
     go : (found : Option TapeFault) → tag_fault (drop size bytes) ≡ found → IsJudged parts_of bytes
-    go None h = let spelling = laws.tags (drop size bytes) h in by_nodes laws parts_of places bytes size spelling.0 header spelling.1
+    go None h = let spelling = laws.tags (drop size bytes) h in by_nodes laws parts_of offsets bytes size spelling.0 header spelling.1
     go (Some fault) h =
-        let place = tag_fault_place (drop size bytes) fault h in
+        let offset = tag_fault_offset (drop size bytes) fault h in
         inr (
-          Syntax (size + place.0),
+          Syntax (size + offset.0),
           record {
             size = size;
             fault = fault;
-            place = place.0;
+            offset = offset.0;
             header = header;
             is_fault = h;
-            has_place = place.1;
+            has_offset = offset.1;
             at_is = refl;
           },
         )
 
-pub judged : {P : Type 0} → Judges → (parts_of : Item → Result P TreeFault) → HavePlaces parts_of → (bytes : List ℕ) → IsJudged parts_of bytes
-judged laws parts_of places bytes = go (header_fault bytes) refl
+pub judged : {P : Type 0} → Judges → (parts_of : Item → Result P TreeFault) → HaveOffsets parts_of → (bytes : List ℕ) → IsJudged parts_of bytes
+judged laws parts_of offsets bytes = go (header_fault bytes) refl
   where
     go : (found : Option HeaderFault) → header_fault bytes ≡ found → IsJudged parts_of bytes
-    go None h = let header = laws.headers bytes h in by_tags laws parts_of places bytes header.0 header.1
-    go (Some fault) h = inr (Header (header_place fault), (fault, h, refl))
+    go None h = let header = laws.headers bytes h in by_tags laws parts_of offsets bytes header.0 header.1
+    go (Some fault) h = inr (Header (header_offset fault), (fault, h, refl))

@@ -6,7 +6,7 @@ use Rattle.ofx_types.specs.declared.request.RequestFile.{RequestFile}
 use Rattle.ofx_types.specs.declared.reply.ReplyFile.{ReplyFile}
 use Rattle.ofx_file.specs.RequestOutcome.{EachIsJudged}
 use Rattle.ofx_file.specs.ReplyOutcome.{EachReplyIsJudged}
-use Rattle.ofx_file.specs.FileLaws.{RequestsAreFound, RequestFaultsHavePlaces, RepliesAreFound, ReplyFaultsHavePlaces}
+use Rattle.ofx_file.specs.FileLaws.{RequestsAreFound, RequestFaultsHaveOffsets, RepliesAreFound, ReplyFaultsHaveOffsets}
 use Rattle.ofx_file.proofs.FileFaults.{Laws, one_reading, no_fault, Judges, HasParts, judged}
 
 -- ---- requests
@@ -47,8 +47,8 @@ unfolding file_with
 spelled requests bytes p =
     record { size = p.size; nodes = p.nodes; ofx = p.ofx; header = p.header.spelled; body = p.body; form = (requests p.ofx p.parts).1 p.is_read }
 
-pub each_is_judged : Judges → RequestsAreFound → RequestFaultsHavePlaces → EachIsJudged
-each_is_judged laws requests places bytes = elim (judged laws request_of places bytes) [
+pub each_is_judged : Judges → RequestsAreFound → RequestFaultsHaveOffsets → EachIsJudged
+each_is_judged laws requests offsets bytes = elim (judged laws request_of offsets bytes) [
   | inl p ↦ inl (file_with p.header.version p.header.older p.header.newer p.parts, spelled requests bytes p)
   | inr f ↦ inr f
 ]
@@ -89,8 +89,8 @@ unfolding reply_with
 reply_spelled replies bytes p =
     record { size = p.size; nodes = p.nodes; ofx = p.ofx; older = p.header.older; header = p.header.spelled; body = p.body; form = (replies p.ofx p.parts).1 p.is_read }
 
-pub each_reply_is_judged : Judges → RepliesAreFound → ReplyFaultsHavePlaces → EachReplyIsJudged
-each_reply_is_judged laws replies places bytes = elim (judged laws reply_of places bytes) [
+pub each_reply_is_judged : Judges → RepliesAreFound → ReplyFaultsHaveOffsets → EachReplyIsJudged
+each_reply_is_judged laws replies offsets bytes = elim (judged laws reply_of offsets bytes) [
   | inl p ↦ inl (reply_with p.header.version p.header.newer p.parts, reply_spelled replies bytes p)
   | inr f ↦ inr f
 ]

@@ -2,8 +2,8 @@ mod Names
 pub mod InSets
 mod RequestLaws
 mod ReplyLaws
-mod FormPlaces
-mod TagPlaces
+mod FormOffsets
+mod TagOffsets
 mod FileFaults
 mod Files
 mod Within

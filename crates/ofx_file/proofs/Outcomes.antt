@@ -9,7 +9,7 @@ use Rattle.ofx_types.specs.MessageForm.{bank_names, mail_names, bank_reply_names
 use Rattle.ofx_types.specs.RequestReading.{signon_of}
 use Rattle.ofx_types.specs.ReplyReading.{signon_reply_of}
 use Rattle.ofx_types.specs.MessageReading.{messages_in, RequestParts, ask_of, request_of, ReplyParts, ask_reply_of, reply_of}
-use Rattle.ofx_types.specs.FileForm.{SpellsFile, SpellsReply, HasHeader, IsFormFault, IsFaultIn, IsFaultOf, IsReplyFaultOf, form_place, OneSpelled, NothingSpelled, OneFaultOf}
+use Rattle.ofx_types.specs.FileForm.{SpellsFile, SpellsReply, HasHeader, IsFormFault, IsFaultIn, IsFaultOf, IsReplyFaultOf, form_offset, OneSpelled, NothingSpelled, OneFaultOf}
 use Rattle.ofx_types.specs.declared.number.Moment.{Moment}
 use Rattle.ofx_types.specs.declared.fault.TapeFault.{TapeFault}
 use Rattle.ofx_types.specs.declared.fault.TapeFault.TheVariants as tags
@@ -28,12 +28,12 @@ use Rattle.ofx_file.specs.ReplyOutcome.{ReadsReply}
 use Rattle.ofx_file.specs.FileLaws.{RequestsAreFound, RepliesAreFound}
 use Rattle.ofx_file.specs.RequestSteps as requests
 use Rattle.ofx_file.specs.ReplySteps as replies
-use Rattle.ofx_file.specs.FaultPlaces.{IsTagWithin, IsFormWithin, syntax_fault, form_fault}
+use Rattle.ofx_file.specs.FaultOffsets.{IsTagWithin, IsFormWithin, syntax_fault, form_fault}
 use Rattle.ofx_tree.proofs.FormLaws.{bind_ok, one_value}
-use Rattle.ofx_file.proofs.FileFaults.{HavePlaces}
-use Rattle.ofx_file.proofs.FormPlaces.{form_fault_within}
+use Rattle.ofx_file.proofs.FileFaults.{HaveOffsets}
+use Rattle.ofx_file.proofs.FormOffsets.{form_fault_within}
 use Rattle.ofx_file.proofs.Soundness.{sound_file}
-use Rattle.ofx_file.proofs.TagPlaces.{tag_fault_within}
+use Rattle.ofx_file.proofs.TagOffsets.{tag_fault_within}
 
 -- ---- the header and the tags
 
@@ -51,15 +51,15 @@ tape_refused body (tags.Depth at) f h = f h
 tape_refused body (tags.Cut at) f h = f h
 tape_refused body tags.OutOfMemory f h = tt
 
--- a refusal of the tags stands in the body
+-- a refusal of the tags is in the body
 pub tape_refusal_within : (body : List ℕ) (fault : TapeFault) → IsTapeRefusal body fault → IsTagWithin (length body) fault
 tape_refusal_within body fault h = tape_refused body fault (tag_fault_within body fault) h
 
 pub tape_refusal : (bytes : List ℕ) (size : ℕ) (fault : TapeFault) → HasHeader bytes size → IsTapeRefusal (drop size bytes) fault → IsTagsRefusal bytes (syntax_fault size fault)
-tape_refusal bytes size (tags.Tag at) header h = record { size = size; fault = tags.Tag at; place = at; header = header; is_fault = h; has_place = refl; at_is = refl }
-tape_refusal bytes size (tags.Mismatch at) header h = record { size = size; fault = tags.Mismatch at; place = at; header = header; is_fault = h; has_place = refl; at_is = refl }
-tape_refusal bytes size (tags.Depth at) header h = record { size = size; fault = tags.Depth at; place = at; header = header; is_fault = h; has_place = refl; at_is = refl }
-tape_refusal bytes size (tags.Cut at) header h = record { size = size; fault = tags.Cut at; place = at; header = header; is_fault = h; has_place = refl; at_is = refl }
+tape_refusal bytes size (tags.Tag at) header h = record { size = size; fault = tags.Tag at; offset = at; header = header; is_fault = h; has_offset = refl; at_is = refl }
+tape_refusal bytes size (tags.Mismatch at) header h = record { size = size; fault = tags.Mismatch at; offset = at; header = header; is_fault = h; has_offset = refl; at_is = refl }
+tape_refusal bytes size (tags.Depth at) header h = record { size = size; fault = tags.Depth at; offset = at; header = header; is_fault = h; has_offset = refl; at_is = refl }
+tape_refusal bytes size (tags.Cut at) header h = record { size = size; fault = tags.Cut at; offset = at; header = header; is_fault = h; has_offset = refl; at_is = refl }
 tape_refusal bytes size tags.OutOfMemory header h = tt
 
 -- a refusal of header or tags is one of the file, whatever forms it has
@@ -76,31 +76,31 @@ err_before : {P F : Type 0} (r : Result P TreeFault) (file_of : P → F) (e : Tr
 err_before (Ok parts) file_of e h = cc
 err_before (Err f) file_of e h = cc
 
-form_within : {P F : Type 0} (parts_of : Item → Result P TreeFault) → HavePlaces parts_of → (file_of : P → F) (bytes : List ℕ) (said : headers.Header) (size : ℕ) (nodes : List TagNode) (ofx : Item) (fault : TreeFault) →
+form_within : {P F : Type 0} (parts_of : Item → Result P TreeFault) → HaveOffsets parts_of → (file_of : P → F) (bytes : List ℕ) (said : headers.Header) (size : ℕ) (nodes : List TagNode) (ofx : Item) (fault : TreeFault) →
     HasTags bytes said size nodes → IsRoot nodes ofx → (parts_of ofx >>= λ parts. Ok (file_of parts)) ≡ Err fault → IsFormWithin (length (drop size bytes)) fault
-form_within parts_of places file_of bytes said size nodes ofx fault has root h =
-    form_fault_within parts_of places (drop size bytes) nodes ofx fault has.slices root (err_before (parts_of ofx) file_of fault h)
+form_within parts_of offsets file_of bytes said size nodes ofx fault has root h =
+    form_fault_within parts_of offsets (drop size bytes) nodes ofx fault has.slices root (err_before (parts_of ofx) file_of fault h)
 
--- a refusal of the forms stands in the body
-pub form_refusal_within : {P F : Type 0} (parts_of : Item → Result P TreeFault) → HavePlaces parts_of → (file_of : P → F) (bytes : List ℕ) (said : headers.Header) (size : ℕ) (nodes : List TagNode) (ofx : Item) (fault : TreeFault) →
+-- a refusal of the forms is in the body
+pub form_refusal_within : {P F : Type 0} (parts_of : Item → Result P TreeFault) → HaveOffsets parts_of → (file_of : P → F) (bytes : List ℕ) (said : headers.Header) (size : ℕ) (nodes : List TagNode) (ofx : Item) (fault : TreeFault) →
     HasTags bytes said size nodes → IsRoot nodes ofx → FailsSo fault (parts_of ofx >>= λ parts. Ok (file_of parts)) → IsFormWithin (length (drop size bytes)) fault
-form_refusal_within parts_of places file_of bytes said size nodes ofx (forms.Missing at) has root h = form_within parts_of places file_of bytes said size nodes ofx (forms.Missing at) has root h
-form_refusal_within parts_of places file_of bytes said size nodes ofx (forms.Repeated at) has root h = form_within parts_of places file_of bytes said size nodes ofx (forms.Repeated at) has root h
-form_refusal_within parts_of places file_of bytes said size nodes ofx (forms.Value at) has root h = form_within parts_of places file_of bytes said size nodes ofx (forms.Value at) has root h
-form_refusal_within parts_of places file_of bytes said size nodes ofx forms.OutOfMemory has root h = tt
+form_refusal_within parts_of offsets file_of bytes said size nodes ofx (forms.Missing at) has root h = form_within parts_of offsets file_of bytes said size nodes ofx (forms.Missing at) has root h
+form_refusal_within parts_of offsets file_of bytes said size nodes ofx (forms.Repeated at) has root h = form_within parts_of offsets file_of bytes said size nodes ofx (forms.Repeated at) has root h
+form_refusal_within parts_of offsets file_of bytes said size nodes ofx (forms.Value at) has root h = form_within parts_of offsets file_of bytes said size nodes ofx (forms.Value at) has root h
+form_refusal_within parts_of offsets file_of bytes said size nodes ofx forms.OutOfMemory has root h = tt
 
 form_refused : {P F : Type 0} (parts_of : Item → Result P TreeFault) (file_of : P → F) (bytes : List ℕ) (said : headers.Header) (size : ℕ) (nodes : List TagNode) (ofx : Item) (fault : TreeFault) (at : ℕ) →
-    HasTags bytes said size nodes → IsRoot nodes ofx → (parts_of ofx >>= λ parts. Ok (file_of parts)) ≡ Err fault → form_place fault ≡ Some at → IsFormFault parts_of bytes (size + at)
-form_refused parts_of file_of bytes said size nodes ofx fault at has root h place = record {
+    HasTags bytes said size nodes → IsRoot nodes ofx → (parts_of ofx >>= λ parts. Ok (file_of parts)) ≡ Err fault → form_offset fault ≡ Some at → IsFormFault parts_of bytes (size + at)
+form_refused parts_of file_of bytes said size nodes ofx fault at has root h offset = record {
   size = size;
   nodes = nodes;
   ofx = ofx;
   fault = fault;
-  place = at;
+  offset = at;
   header = has_header bytes said.version said.older said.newer size has.header;
   body = record { are_nodes = has.are_nodes; is_root = root };
   is_fault = err_before (parts_of ofx) file_of fault h;
-  has_place = place;
+  has_offset = offset;
   at_is = refl;
 }
 
@@ -128,8 +128,8 @@ abbrev file_read : ℕ → Option (List ℕ) → Option (List ℕ) → RequestPa
 file_read version older newer parts = Ok (file_of version older newer parts)
 
 -- what follows on the signon
-abbrev behind_signon : ℕ → Option (List ℕ) → Option (List ℕ) → Item → List ℕ × List ℕ → Result RequestFile TreeFault
-behind_signon version older newer ofx signon = do
+abbrev after_signon : ℕ → Option (List ℕ) → Option (List ℕ) → Item → List ℕ × List ℕ → Result RequestFile TreeFault
+after_signon version older newer ofx signon = do
   bank_set ← maybe (codes "BANKMSGSRQV1") ofx
   bank ← messages_in ask_of bank_names bank_set
   mail_set ← maybe (codes "EMAILMSGSRQV1") ofx
@@ -143,14 +143,14 @@ in_row rest ofx = do
   signon ← signon_of sonrq
   rest ofx signon
 
-file_in_row : (version : ℕ) (older newer : Option (List ℕ)) (ofx : Item) → requests.file_in version older newer ofx ≡ in_row (behind_signon version older newer) ofx
+file_in_row : (version : ℕ) (older newer : Option (List ℕ)) (ofx : Item) → requests.file_in version older newer ofx ≡ in_row (after_signon version older newer) ofx
 unfolding requests.file_in requests.signon_in
 file_in_row version older newer ofx =
-    through (one (codes "SIGNONMSGSRQV1") ofx) _ (behind_signon version older newer ofx) _ (λ set.
-    through (one (codes "SONRQ") set) _ (behind_signon version older newer ofx) _ (λ sonrq. refl))
+    through (one (codes "SIGNONMSGSRQV1") ofx) _ (after_signon version older newer ofx) _ (λ set.
+    through (one (codes "SONRQ") set) _ (after_signon version older newer ofx) _ (λ sonrq. refl))
 
 request_in_row : (version : ℕ) (older newer : Option (List ℕ)) (ofx : Item) →
-    (request_of ofx >>= file_read version older newer) ≡ in_row (behind_signon version older newer) ofx
+    (request_of ofx >>= file_read version older newer) ≡ in_row (after_signon version older newer) ofx
 unfolding request_of
 request_in_row version older newer ofx =
     let w = file_read version older newer in
@@ -191,8 +191,8 @@ reply_file version newer parts =
 abbrev reply_read : ℕ → Option (List ℕ) → ReplyParts → Result ReplyFile TreeFault
 reply_read version newer parts = Ok (reply_file version newer parts)
 
-abbrev behind_reply_signon : ℕ → Option (List ℕ) → Item → ℕ × Moment → Result ReplyFile TreeFault
-behind_reply_signon version newer ofx signon = do
+abbrev after_reply_signon : ℕ → Option (List ℕ) → Item → ℕ × Moment → Result ReplyFile TreeFault
+after_reply_signon version newer ofx signon = do
   bank_set ← maybe (codes "BANKMSGSRSV1") ofx
   bank ← messages_in ask_reply_of bank_reply_names bank_set
   mail_set ← maybe (codes "EMAILMSGSRSV1") ofx
@@ -206,13 +206,13 @@ reply_row rest ofx = do
   signon ← signon_reply_of sonrs
   rest ofx signon
 
-reply_in_row : (version : ℕ) (newer : Option (List ℕ)) (ofx : Item) → replies.reply_in version newer ofx ≡ reply_row (behind_reply_signon version newer) ofx
+reply_in_row : (version : ℕ) (newer : Option (List ℕ)) (ofx : Item) → replies.reply_in version newer ofx ≡ reply_row (after_reply_signon version newer) ofx
 unfolding replies.reply_in replies.signon_in
 reply_in_row version newer ofx =
-    through (one (codes "SIGNONMSGSRSV1") ofx) _ (behind_reply_signon version newer ofx) _ (λ set.
-    through (one (codes "SONRS") set) _ (behind_reply_signon version newer ofx) _ (λ sonrs. refl))
+    through (one (codes "SIGNONMSGSRSV1") ofx) _ (after_reply_signon version newer ofx) _ (λ set.
+    through (one (codes "SONRS") set) _ (after_reply_signon version newer ofx) _ (λ sonrs. refl))
 
-reply_of_row : (version : ℕ) (newer : Option (List ℕ)) (ofx : Item) → (reply_of ofx >>= reply_read version newer) ≡ reply_row (behind_reply_signon version newer) ofx
+reply_of_row : (version : ℕ) (newer : Option (List ℕ)) (ofx : Item) → (reply_of ofx >>= reply_read version newer) ≡ reply_row (after_reply_signon version newer) ofx
 unfolding reply_of
 reply_of_row version newer ofx =
     let w = reply_read version newer in

@@ -74,12 +74,12 @@ printable_lines : (items : List Item) (lines : List StatementLine) → AllZip Is
 printable_lines [] [] h = tt
 printable_lines [] (line ∷ lines) h = absurd h
 printable_lines (item ∷ items) [] h = absurd h
-printable_lines (item ∷ items) (line ∷ lines) (h, more) = (h.posted.stands.is_moment, printable_lines items lines more)
+printable_lines (item ∷ items) (line ∷ lines) (h, more) = (h.posted.holds.is_moment, printable_lines items lines more)
 
 printable_list : (banktranlist : Item) (list : StatementList) → IsStatementList banktranlist list → IsPrintableList list
 printable_list banktranlist list h = record {
-  start = h.start.stands.is_moment;
-  end = h.end.stands.is_moment;
+  start = h.start.holds.is_moment;
+  end = h.end.holds.is_moment;
   lines = printable_lines _ list.lines h.lines;
 }
 
@@ -90,20 +90,20 @@ printable_maybe_list stmtrs (Some list) (banktranlist, only, h) = printable_list
 printable_body : (code : ℕ) (stmttrnrs : Item) (body : Option StatementBody) → IsBodyByCode code stmttrnrs body → HasBodyByCode code body
 printable_body code stmttrnrs None h = h
 printable_body code stmttrnrs (Some body) (done, (stmtrs, only, h)) =
-    (done, record { list = printable_maybe_list stmtrs body.list h.is_list; moment = h.is_ledger.has_moment.stands.is_moment })
+    (done, record { list = printable_maybe_list stmtrs body.list h.is_list; moment = h.is_ledger.has_moment.holds.is_moment })
 
 printable_statement : (item : Item) (reply : AskReply) → IsStatementReply item reply → IsPrintableReply reply
 printable_statement item reply s =
-    let P : AskReply → Type 0 = λ told. IsPrintableReply told in
+    let P : AskReply → Type 0 = λ reported. IsPrintableReply reported in
     subst P (sym s.is_reply) (printable_body s.code item s.body s.is_body)
 
 -- ---- deeds that are told
 
 printable_row : (reply : Item) (row : TransferRow) → IsRow reply row → IsPrintableRow row
 printable_row reply row h = record {
-  told = h.processing.is_told;
+  reported = h.processing.is_reported;
   due = (sound_info reply _ h.info).due;
-  stamp = h.processing.has_stamp.stands.is_moment;
+  stamp = h.processing.has_stamp.holds.is_moment;
 }
 
 first_day : (reply : Item) (row : ModelRow) → IsModelRow reply row → IsDay row.first.0
@@ -123,8 +123,8 @@ printable_by_code code family item None h = h
 printable_by_code code family item (Some change) (done, (reply, only, is)) = (done, printable_change reply change is)
 
 printable_mail : (code : ℕ) (family : Family) (item : Item) (change : Option Change) → IsMailByCode code family item change → HasChangeByCode code change
-printable_mail code families.BankMail item (Some (NewMail row)) (done, (reply, only, (account, about, from, (mail, is, user, h)))) = (done, h.created.stands.is_moment)
-printable_mail code families.Mail item (Some (NewMail row)) (done, (reply, only, about, (mail, is, user, h))) = (done, h.created.stands.is_moment)
+printable_mail code families.BankMail item (Some (NewMail row)) (done, (reply, only, (account, about, from, (mail, is, user, h)))) = (done, h.created.holds.is_moment)
+printable_mail code families.Mail item (Some (NewMail row)) (done, (reply, only, about, (mail, is, user, h))) = (done, h.created.holds.is_moment)
 printable_mail code family item (Some change) h = absurd h
 printable_mail code family item None h = h
 
@@ -132,12 +132,12 @@ printable_transaction : (item : Item) (reply : DeedReply) → IsTransactionReply
 printable_transaction item reply (inl h) = printable_by_code reply.code reply.family item reply.change h.is_change
 printable_transaction item reply (inr h) = printable_mail reply.code reply.family item reply.change h.is_change
 
-printable_transactions : (items : List Item) (told : List DeedReply) → AllZip IsTransactionReply items told →
-    AllByRecursion (λ (answer : DeedReply). HasChangeByCode answer.code answer.change) told
+printable_transactions : (items : List Item) (reported : List DeedReply) → AllZip IsTransactionReply items reported →
+    AllByRecursion (λ (answer : DeedReply). HasChangeByCode answer.code answer.change) reported
 printable_transactions [] [] h = tt
-printable_transactions [] (reply ∷ told) h = absurd h
+printable_transactions [] (reply ∷ reported) h = absurd h
 printable_transactions (item ∷ items) [] h = absurd h
-printable_transactions (item ∷ items) (reply ∷ told) (h, more) = (printable_transaction item reply h, printable_transactions items told more)
+printable_transactions (item ∷ items) (reply ∷ reported) (h, more) = (printable_transaction item reply h, printable_transactions items reported more)
 
 -- ---- message sets
 
@@ -146,15 +146,15 @@ printable_reply item (replies.Statement trnuid code body) (name, is) = printable
 printable_reply item (replies.One answer) is = printable_transaction item answer is
 printable_reply item (replies.Sync answer) is = printable_transactions _ answer.replies is.replies
 
-printable_each : (items : List Item) (told : List AskReply) → AllZip IsAskReply items told → AllByRecursion IsPrintableReply told
+printable_each : (items : List Item) (reported : List AskReply) → AllZip IsAskReply items reported → AllByRecursion IsPrintableReply reported
 printable_each [] [] h = tt
-printable_each [] (reply ∷ told) h = absurd h
+printable_each [] (reply ∷ reported) h = absurd h
 printable_each (item ∷ items) [] h = absurd h
-printable_each (item ∷ items) (reply ∷ told) (h, more) = (printable_reply item reply h, printable_each items told more)
+printable_each (item ∷ items) (reply ∷ reported) (h, more) = (printable_reply item reply h, printable_each items reported more)
 
-printable_set : (name : List ℕ) (names : List (List ℕ)) (ofx : Item) (told : List AskReply) → AreMaybeMessages IsAskReply name names ofx told → AllByRecursion IsPrintableReply told
-printable_set name names ofx told (inl (none, empty)) = rw empty tt
-printable_set name names ofx told (inr (set, is, are)) = printable_each _ told are
+printable_set : (name : List ℕ) (names : List (List ℕ)) (ofx : Item) (reported : List AskReply) → AreMaybeMessages IsAskReply name names ofx reported → AllByRecursion IsPrintableReply reported
+printable_set name names ofx reported (inl (none, empty)) = rw empty tt
+printable_set name names ofx reported (inr (set, is, are)) = printable_each _ reported are
 
 both_printable : (bank mail : List AskReply) → AllByRecursion IsPrintableReply bank → AllByRecursion IsPrintableReply mail → AllByRecursion IsPrintableReply (bank ++ mail)
 both_printable [] mail h i = i
@@ -163,9 +163,9 @@ both_printable (reply ∷ bank) mail (h, more) i = (h, both_printable bank mail 
 pub spelled_replies_are_printable : SpelledRepliesArePrintable
 spelled_replies_are_printable bytes reply s =
     let r = s.form in
-    let P : List AskReply → Type 0 = λ told. AllByRecursion IsPrintableReply told in
+    let P : List AskReply → Type 0 = λ reported. AllByRecursion IsPrintableReply reported in
     record {
-      moment = r.is_signon.has_moment.stands.is_moment;
+      moment = r.is_signon.has_moment.holds.is_moment;
       replies = subst P (sym r.are_answers) (both_printable r.bank r.mail
           (printable_set (codes "BANKMSGSRSV1") bank_reply_names s.ofx r.bank r.are_bank)
           (printable_set (codes "EMAILMSGSRSV1") mail_reply_names s.ofx r.mail r.are_mail));

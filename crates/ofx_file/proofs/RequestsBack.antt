@@ -61,7 +61,7 @@ pub record Laws : Type 0 where
 
 -- ---- asks
 
--- the name of an ask's request, and what stands in it
+-- the name of an ask's request, and what is in it
 abbrev ask_name : Ask → List ℕ
 ask_name (Statement trnuid account period) = codes "STMTTRNRQ"
 ask_name (One trnuid deed) = request_name (family_of deed)
@@ -72,27 +72,27 @@ ask_inner (Statement trnuid account period) = statement_documents trnuid account
 ask_inner (One trnuid deed) = deed_documents trnuid deed
 ask_inner (Sync ask) = sync_inner ask
 
-ask_printed : Laws → (ask : Ask) (behind : Documents) → printed (branch (ask_name ask) (ask_inner ask) behind) ≡ ask_text ask ++ printed behind
+ask_printed : Laws → (ask : Ask) (suffix : Documents) → printed (branch (ask_name ask) (ask_inner ask) suffix) ≡ ask_text ask ++ printed suffix
 unfolding ask_text
-ask_printed laws (Statement trnuid account period) behind = laws.statements_written trnuid account period behind
-ask_printed laws (One trnuid deed) behind = laws.transactions_written (trnuid, deed) behind
-ask_printed laws (Sync ask) behind = laws.syncs_written ask behind
+ask_printed laws (Statement trnuid account period) suffix = laws.statements_written trnuid account period suffix
+ask_printed laws (One trnuid deed) suffix = laws.transactions_written (trnuid, deed) suffix
+ask_printed laws (Sync ask) suffix = laws.syncs_written ask suffix
 
-ask_lawful : Laws → (room : ℕ) (ask : Ask) (behind : Documents) → 5 < room → IsSoundAsk ask → AreLawful room behind → AreLawful room (branch (ask_name ask) (ask_inner ask) behind)
-ask_lawful laws room (Statement trnuid account period) behind some s more = laws.statements_lawful room trnuid account period behind (omega arith) s more
-ask_lawful laws room (One trnuid deed) behind some s more = laws.transactions_lawful room (trnuid, deed) behind (omega arith) s more
-ask_lawful laws room (Sync ask) behind some s more = laws.syncs_lawful room ask behind some s more
+ask_lawful : Laws → (room : ℕ) (ask : Ask) (suffix : Documents) → 5 < room → IsSoundAsk ask → AreLawful room suffix → AreLawful room (branch (ask_name ask) (ask_inner ask) suffix)
+ask_lawful laws room (Statement trnuid account period) suffix some s more = laws.statements_lawful room trnuid account period suffix (omega arith) s more
+ask_lawful laws room (One trnuid deed) suffix some s more = laws.transactions_lawful room (trnuid, deed) suffix (omega arith) s more
+ask_lawful laws room (Sync ask) suffix some s more = laws.syncs_lawful room ask suffix some s more
 
-ask_back : Laws → (place index : ℕ) (ask : Ask) → IsSoundAsk ask → ask_of (branch_item place index (ask_name ask) (ask_inner ask)) ≡ Ok ask
+ask_back : Laws → (offset index : ℕ) (ask : Ask) → IsSoundAsk ask → ask_of (branch_item offset index (ask_name ask) (ask_inner ask)) ≡ Ok ask
 unfolding ask_of
-ask_back laws place index (Statement trnuid account period) s = laws.statements_read place index trnuid account period s
-ask_back laws place index (One trnuid deed) s =
-    transaction_branch_read (family_of deed) (branch_item place index (request_name (family_of deed)) (deed_documents trnuid deed)) (trnuid, deed) refl
-    (laws.transactions_read place index (trnuid, deed) s)
-ask_back laws place index (Sync ask) s =
-    sync_branch_read (object_family ask.object) (branch_item place index (sync_name (object_family ask.object)) (sync_inner ask)) ask refl (laws.syncs_read place index ask s)
+ask_back laws offset index (Statement trnuid account period) s = laws.statements_read offset index trnuid account period s
+ask_back laws offset index (One trnuid deed) s =
+    transaction_branch_read (family_of deed) (branch_item offset index (request_name (family_of deed)) (deed_documents trnuid deed)) (trnuid, deed) refl
+    (laws.transactions_read offset index (trnuid, deed) s)
+ask_back laws offset index (Sync ask) s =
+    sync_branch_read (object_family ask.object) (branch_item offset index (sync_name (object_family ask.object)) (sync_inner ask)) ask refl (laws.syncs_read offset index ask s)
 
--- An ask stands in a message set exactly where its name does.
+-- An ask is in a message set exactly where its name does.
 bank_deed : (family : Family) → is_one_of bank_names (request_name family) ≡ not (is_mail_family family)
 bank_deed families.Intra = refl
 bank_deed families.RecIntra = refl
@@ -125,14 +125,14 @@ set_named Mail (Statement trnuid account period) = refl
 set_named Mail (One trnuid deed) = mail_deed (family_of deed)
 set_named Mail (Sync ask) = mail_sync (object_family ask.object)
 
--- a sound ask that stands in the message set
+-- a sound ask that is in the message set
 abbrev IsSoundIn : MessageSet → Ask → Type 0
 IsSoundIn set ask = IsSoundAsk ask × (is_ask_in set ask ≡ true)
 
 -- ---- the documents of a request
 
 abbrev set_documents : MessageSet → List Ask → Documents → Documents
-set_documents set asks behind = maybe_set (request_set set) ask_name ask_inner (asks_in set asks) behind
+set_documents set asks suffix = maybe_set (request_set set) ask_name ask_inner (asks_in set asks) suffix
 
 abbrev signon_inner : List ℕ → List ℕ → Moment → Documents
 signon_inner user pass at = branch (codes "SONRQ") (signon_documents user pass at) empty
@@ -144,9 +144,9 @@ request_inner file at =
 set_text : MessageSet → List Ask → List ℕ
 set_text set asks = aggregate_of_some (request_set set) (flat_map ask_text (asks_in set asks))
 
-set_written : Laws → (set : MessageSet) (asks : List Ask) (behind : Documents) → printed (set_documents set asks behind) ≡ set_text set asks ++ printed behind
+set_written : Laws → (set : MessageSet) (asks : List Ask) (suffix : Documents) → printed (set_documents set asks suffix) ≡ set_text set asks ++ printed suffix
 unfolding set_text
-set_written laws set asks behind = set_printed (request_set set) ask_name ask_inner ask_text (ask_printed laws) ask_is_there (asks_in set asks) behind
+set_written laws set asks suffix = set_printed (request_set set) ask_name ask_inner ask_text (ask_printed laws) ask_is_there (asks_in set asks) suffix
 
 request_printed : Laws → (file : RequestFile) (at : Moment) →
     printed (request_inner file at) ≡ aggregate (codes "SIGNONMSGSRQV1") (signon_request file.user file.pass at) ++ (set_text Bank file.asks ++ set_text Mail file.asks)
@@ -161,11 +161,11 @@ set_branch : (set : MessageSet) → IsBranch (request_set set)
 set_branch Bank = is_branch (codes "BANKMSGSRQV1") refl refl refl
 set_branch Mail = is_branch (codes "EMAILMSGSRQV1") refl refl refl
 
-one_set_lawful : Laws → (room : ℕ) (set : MessageSet) (asks : List Ask) (behind : Documents) → 6 < room → AllByRecursion IsSoundAsk asks → AreLawful room behind →
-    AreLawful room (set_documents set asks behind)
-one_set_lawful laws room set asks behind some sound more =
+one_set_lawful : Laws → (room : ℕ) (set : MessageSet) (asks : List Ask) (suffix : Documents) → 6 < room → AllByRecursion IsSoundAsk asks → AreLawful room suffix →
+    AreLawful room (set_documents set asks suffix)
+one_set_lawful laws room set asks suffix some sound more =
     set_lawful room IsSoundAsk (request_set set) ask_name ask_inner (set_branch set) (omega arith)
-    (λ ask others is rest. ask_lawful laws (room - 1) ask others (omega arith) is rest) (asks_in set asks) behind
+    (λ ask others is rest. ask_lawful laws (room - 1) ask others (omega arith) is rest) (asks_in set asks) suffix
     (kept_sound IsSoundAsk (is_ask_in set) asks sound) more
 
 request_lawful : Laws → (file : RequestFile) (at : Moment) → IsSoundFile file at → AreLawful 15 (request_inner file at)
@@ -179,9 +179,9 @@ request_lawful laws file at s = (
 -- ---- what is read of them
 
 -- the sets after the signon's have other names
-none_behind : (is_wanted : List ℕ → Bool) → ((set : MessageSet) → is_wanted (request_set set) ≡ false) → (asks : List Ask) →
+none_after : (is_wanted : List ℕ → Bool) → ((set : MessageSet) → is_wanted (request_set set) ≡ false) → (asks : List Ask) →
     Everywhere (IsNone is_wanted) (set_documents Bank asks (set_documents Mail asks empty))
-none_behind is_wanted other asks =
+none_after is_wanted other asks =
     let skips = wanted_skips is_wanted [] in
     set_skipped (IsNone is_wanted) is_wanted skips (request_set Bank) ask_name ask_inner (other Bank) (asks_in Bank asks) (set_documents Mail asks empty)
     (set_skipped (IsNone is_wanted) is_wanted skips (request_set Mail) ask_name ask_inner (other Mail) (asks_in Mail asks) empty (no_more is_wanted))
@@ -190,37 +190,37 @@ no_signon : (set : MessageSet) → is_name_of (codes "SIGNONMSGSRQV1") (request_
 no_signon Bank = refl
 no_signon Mail = refl
 
-signon_stands : (place index : ℕ) (file : RequestFile) (at : Moment) →
-    wanted (is_name_of (codes "SIGNONMSGSRQV1")) (items_of place index (request_inner file at))
-    ≡ branch_item place index (codes "SIGNONMSGSRQV1") (signon_inner file.user file.pass at) ∷ []
-signon_stands place index file at =
-    let set = branch_item place index (codes "SIGNONMSGSRQV1") (signon_inner file.user file.pass at) in
-    ap (λ (more : List Item). set ∷ more) (none_behind (is_name_of (codes "SIGNONMSGSRQV1")) no_signon file.asks _ _)
+signon_holds : (offset index : ℕ) (file : RequestFile) (at : Moment) →
+    wanted (is_name_of (codes "SIGNONMSGSRQV1")) (items_of offset index (request_inner file at))
+    ≡ branch_item offset index (codes "SIGNONMSGSRQV1") (signon_inner file.user file.pass at) ∷ []
+signon_holds offset index file at =
+    let set = branch_item offset index (codes "SIGNONMSGSRQV1") (signon_inner file.user file.pass at) in
+    ap (λ (more : List Item). set ∷ more) (none_after (is_name_of (codes "SIGNONMSGSRQV1")) no_signon file.asks _ _)
 
 HasAsks : MessageSet → List Ask → List Item → Type 0
 HasAsks set asks items = HasSet ask_of (request_set set) (request_names set) (map (λ (ask : Ask). ask) (asks_in set asks)) items
 
--- a message set of these asks, in front of none
-asks_read : Laws → (set : MessageSet) (asks : List Ask) (behind : Documents) → AllByRecursion IsSoundAsk asks → Everywhere (IsNone (is_name_of (request_set set))) behind →
-    Everywhere (HasAsks set asks) (set_documents set asks behind)
+-- a message set of these asks, before none
+asks_read : Laws → (set : MessageSet) (asks : List Ask) (suffix : Documents) → AllByRecursion IsSoundAsk asks → Everywhere (IsNone (is_name_of (request_set set))) suffix →
+    Everywhere (HasAsks set asks) (set_documents set asks suffix)
 unfolding HasAsks
-asks_read laws set asks behind sound none =
+asks_read laws set asks suffix sound none =
     set_back (IsSoundIn set) ask_name ask_inner ask_of (λ ask. ask) (request_set set) (request_names set)
-    (λ ask is. set_named set ask ∙ is.1) (λ place index ask is. ask_back laws place index ask is.0)
-    (asks_in set asks) behind (passed_sound IsSoundAsk (is_ask_in set) asks sound) none
+    (λ ask is. set_named set ask ∙ is.1) (λ offset index ask is. ask_back laws offset index ask is.0)
+    (asks_in set asks) suffix (passed_sound IsSoundAsk (is_ask_in set) asks sound) none
 
-bank_stands : Laws → (file : RequestFile) (at : Moment) → AllByRecursion IsSoundAsk file.asks → Everywhere (HasAsks Bank file.asks) (request_inner file at)
+bank_holds : Laws → (file : RequestFile) (at : Moment) → AllByRecursion IsSoundAsk file.asks → Everywhere (HasAsks Bank file.asks) (request_inner file at)
 unfolding HasAsks
-bank_stands laws file at sound =
+bank_holds laws file at sound =
     let is_bank : List ℕ → Bool = is_name_of (codes "BANKMSGSRQV1") in
     let none = set_skipped (IsNone is_bank) is_bank (wanted_skips is_bank []) (request_set Mail) ask_name ask_inner refl (asks_in Mail file.asks) empty (no_more is_bank) in
     branch_skipped (HasAsks Bank file.asks) is_bank (set_skips ask_of (codes "BANKMSGSRQV1") bank_names (map (λ (ask : Ask). ask) (asks_in Bank file.asks)))
     (codes "SIGNONMSGSRQV1") (signon_inner file.user file.pass at) (set_documents Bank file.asks (set_documents Mail file.asks empty)) refl
     (asks_read laws Bank file.asks (set_documents Mail file.asks empty) sound none)
 
-mail_stands : Laws → (file : RequestFile) (at : Moment) → AllByRecursion IsSoundAsk file.asks → Everywhere (HasAsks Mail file.asks) (request_inner file at)
+mail_holds : Laws → (file : RequestFile) (at : Moment) → AllByRecursion IsSoundAsk file.asks → Everywhere (HasAsks Mail file.asks) (request_inner file at)
 unfolding HasAsks
-mail_stands laws file at sound =
+mail_holds laws file at sound =
     let is_mail : List ℕ → Bool = is_name_of (codes "EMAILMSGSRQV1") in
     let skips = set_skips ask_of (codes "EMAILMSGSRQV1") mail_names (map (λ (ask : Ask). ask) (asks_in Mail file.asks)) in
     branch_skipped (HasAsks Mail file.asks) is_mail skips
@@ -235,19 +235,19 @@ request_back laws file at s =
     let inner = request_inner file at in
     let ofx = branch_item 2 0 (codes "OFX") inner in
     let lawful = request_lawful laws file at s in
-    let place : ℕ = 2 + length (start_line (codes "OFX")) in
-    let set = branch_item place 1 (codes "SIGNONMSGSRQV1") (signon_inner file.user file.pass at) in
-    let behind : ℕ = place + length (start_line (codes "SIGNONMSGSRQV1")) in
-    let sonrq = branch_item behind 2 (codes "SONRQ") (signon_documents file.user file.pass at) in
-    let bank = bank_stands laws file at s.asks place 1 in
-    let mail = mail_stands laws file at s.asks place 1 in
+    let offset : ℕ = 2 + length (start_line (codes "OFX")) in
+    let set = branch_item offset 1 (codes "SIGNONMSGSRQV1") (signon_inner file.user file.pass at) in
+    let suffix : ℕ = offset + length (start_line (codes "SIGNONMSGSRQV1")) in
+    let sonrq = branch_item suffix 2 (codes "SONRQ") (signon_documents file.user file.pass at) in
+    let bank = bank_holds laws file at s.asks offset 1 in
+    let mail = mail_holds laws file at s.asks offset 1 in
     let bank_asks : map (λ (ask : Ask). ask) (asks_in Bank file.asks) ≡ asks_in Bank file.asks = map-id (asks_in Bank file.asks) in
     let mail_asks : map (λ (ask : Ask). ask) (asks_in Mail file.asks) ≡ asks_in Mail file.asks = map-id (asks_in Mail file.asks) in
     bind_to (one (codes "SIGNONMSGSRQV1") ofx) _ set
-    (one_again (codes "SIGNONMSGSRQV1") ofx set (named_of_branch 2 0 15 (codes "OFX") (codes "SIGNONMSGSRQV1") inner lawful ∙ signon_stands place 1 file at))
+    (one_again (codes "SIGNONMSGSRQV1") ofx set (named_of_branch 2 0 15 (codes "OFX") (codes "SIGNONMSGSRQV1") inner lawful ∙ signon_holds offset 1 file at))
     ∙ bind_to (one (codes "SONRQ") set) _ sonrq
-    (one_again (codes "SONRQ") set sonrq (named_of_branch place 1 14 (codes "SIGNONMSGSRQV1") (codes "SONRQ") (signon_inner file.user file.pass at) lawful.2))
-    ∙ bind_to (signon_of sonrq) _ (file.user, file.pass) (laws.signons_read behind 2 file.user file.pass at s.signon)
+    (one_again (codes "SONRQ") set sonrq (named_of_branch offset 1 14 (codes "SIGNONMSGSRQV1") (codes "SONRQ") (signon_inner file.user file.pass at) lawful.2))
+    ∙ bind_to (signon_of sonrq) _ (file.user, file.pass) (laws.signons_read suffix 2 file.user file.pass at s.signon)
     ∙ bind_to (maybe (codes "BANKMSGSRQV1") ofx) _ bank.0 (ap if_any (named_of_branch 2 0 15 (codes "OFX") (codes "BANKMSGSRQV1") inner lawful) ∙ bank.1)
     ∙ bind_to (messages_in ask_of bank_names bank.0) _ (asks_in Bank file.asks) (bank.2 ∙ ap Ok bank_asks)
     ∙ bind_to (maybe (codes "EMAILMSGSRQV1") ofx) _ mail.0 (ap if_any (named_of_branch 2 0 15 (codes "OFX") (codes "EMAILMSGSRQV1") inner lawful) ∙ mail.1)

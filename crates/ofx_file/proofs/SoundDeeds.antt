@@ -62,7 +62,7 @@ day_within (negsuc n) h = omega (arith, ints)
 
 sound_due : (xferinfo : Item) (due : Option Day) → IsMaybeDue xferinfo due → IfSome due (λ (day : Day). IsDay day.0)
 sound_due xferinfo None h = tt
-sound_due xferinfo (Some day) (moment, there, same) = let stands = there.stands in rw same (day_within moment.0 stands.is_moment)
+sound_due xferinfo (Some day) (moment, there, same) = let holds = there.holds in rw same (day_within moment.0 holds.is_moment)
 
 -- ---- numbers
 
@@ -91,7 +91,7 @@ count_within text count h = by_test (is_number_within 3 text) (digits_within 3 t
 
 sound_count : (recurrinst : Item) (count : Option ℕ) → IsMaybeCount recurrinst count → IfSome count (λ (n : ℕ). (0 < n) × (n ≤ 999))
 sound_count recurrinst None h = tt
-sound_count recurrinst (Some count) (there, some) = (some, count_within _ count there.stands)
+sound_count recurrinst (Some count) (there, some) = (some, count_within _ count there.holds)
 
 pub sound_recur : (parent : Item) (recur : Recur) → HasRecur parent recur → IsSoundRecur recur
 sound_recur parent recur (recurrinst, only, is) = sound_count recurrinst recur.count is.count
@@ -102,7 +102,7 @@ pub sound_info : (parent : Item) (info : XferInfo) → HasXferInfo parent info �
 sound_info parent info (xferinfo, only, i) = record {
   from = sound_account i.bankacctfrom info.from i.is_from;
   to = sound_account i.bankacctto info.to i.is_to;
-  amount = let stands = i.amount.stands in amount_within _ info.amount.0 stands;
+  amount = let holds = i.amount.holds in amount_within _ info.amount.0 holds;
   due = sound_due xferinfo info.due i.due;
 }
 
@@ -124,7 +124,7 @@ sound_deed request (Mail mail) r = absurd r
 
 pub sound_text : (item : Item) (mail : MailText) → IsMailText item mail → IsSoundMail mail
 sound_text item mail m = record {
-  created = m.created.stands.is_moment;
+  created = m.created.holds.is_moment;
   sender = text_within_in (codes "FROM") 32 item mail.sender (omega arith) m.sender;
   target = text_within_in (codes "TO") 32 item mail.target (omega arith) m.target;
   subject = text_within_in (codes "SUBJECT") 64 item mail.subject (omega arith) m.subject;

@@ -32,7 +32,7 @@ use Rattle.ofx_types.specs.declared.request.RequestFile.{RequestFile}
 use Rattle.ofx_types.proofs.Bytes.{bytes_eq_is, bytes_eq_self}
 use Rattle.ofx_types.proofs.Trimming.{text_within}
 use Rattle.bank_model.specs.Sound.{IsSoundPeriod, IsSoundKind, IsSoundPair, IsSoundSync, IsSoundAsk, IsVersion, IsSound}
-use Rattle.ofx_tape.specs.Slices.{ArePlaced, AreSlices}
+use Rattle.ofx_tape.specs.Slices.{AreLocated, AreSlices}
 use Rattle.ofx_tree.proofs.Chosen.{all_chosen, all_filtered}
 use Rattle.ofx_file.proofs.Names.{name_has}
 use Rattle.ofx_file.proofs.SoundDeeds.{client_uid, file_uid, sound_account, sound_transaction, sound_object}
@@ -66,10 +66,10 @@ items_within index until (n ∷ nodes) =
     (omega (arith, items_within (index + 1) n.after nodes))
 
 -- the nodes of a tape stand one after the other in the body
-placed_within : (from : ℕ) (body : List ℕ) (nodes : List TagNode) → from ≤ length body → ArePlaced from body nodes → from + tag_bytes nodes ≤ length body
-placed_within from body [] h placed = omega arith
-placed_within from body (n ∷ nodes) h (behind, sliced, more) =
-    let rest = placed_within (n.place + length n.name + 2 + length n.text) body nodes sliced.inside more in omega arith
+located_within : (from : ℕ) (body : List ℕ) (nodes : List TagNode) → from ≤ length body → AreLocated from body nodes → from + tag_bytes nodes ≤ length body
+located_within from body [] h located = omega arith
+located_within from body (n ∷ nodes) h (suffix, sliced, more) =
+    let rest = located_within (n.offset + length n.name + 2 + length n.text) body nodes sliced.inside more in omega arith
 
 -- an item's inner nodes take at most so many bytes
 abbrev IsWithin : ℕ → Item → Type 0
@@ -135,7 +135,7 @@ root_within nodes ofx (inner, is, first, same) = rw (is, same) (omega arith)
 
 sound_moment : (name : List ℕ) (inctran : Item) (moment : Option Moment) → IsMaybeMomentIn name inctran moment → IfSome moment (λ (m : Moment). IsMoment m.0)
 sound_moment name inctran None m = tt
-sound_moment name inctran (Some moment) m = m.stands.is_moment
+sound_moment name inctran (Some moment) m = m.holds.is_moment
 
 sound_period : (inctran : Item) (period : Period) → IsPeriod inctran period → IsSoundPeriod period
 sound_period inctran period p =
@@ -154,7 +154,7 @@ sound_statement item ask s =
 -- ---- synchronisations
 
 sound_kind : (choice : Item) (kind : SyncKind) → IsKind choice kind → IsSoundKind kind
-sound_kind choice (After token) (name, stands) = text_within 64 choice.node.text token (omega arith) stands
+sound_kind choice (After token) (name, holds) = text_within 64 choice.node.text token (omega arith) holds
 sound_kind choice TokenOnly k = tt
 sound_kind choice Refresh k = tt
 
@@ -258,7 +258,7 @@ both_sound (ask ∷ bank) mail (h, more) i = (h, both_sound bank mail more i)
 
 -- ---- what the bank is asked comes first
 
--- An ask is one of mail exactly where its request stands in the message set of mail.
+-- An ask is one of mail exactly where its request is in the message set of mail.
 by_family : (item : Item) (family : Family) → item.node.name ≡ request_name family → is_mail_family family ≡ is_named_one_of mail_names item
 by_family item families.Intra name = rw name refl
 by_family item families.RecIntra name = rw name refl
@@ -324,19 +324,19 @@ mail_alone (ask ∷ asks) (h, more) =
     let is : is_mail_ask ask ≡ true = h in
     (rw is rest.0, rw is (ap (λ (others : List Ask). ask ∷ others) rest.1))
 
-bank_in_front : (bank mail : List Ask) → AllByRecursion (AreMailAsks false) bank → AllByRecursion (AreMailAsks true) mail →
+bank_in_prefix : (bank mail : List Ask) → AllByRecursion (AreMailAsks false) bank → AllByRecursion (AreMailAsks true) mail →
     (bank_of (bank ++ mail) ≡ bank) × (mail_of (bank ++ mail) ≡ mail)
-bank_in_front [] mail h i = mail_alone mail i
-bank_in_front (ask ∷ bank) mail (h, more) i =
-    let rest = bank_in_front bank mail more i in
+bank_in_prefix [] mail h i = mail_alone mail i
+bank_in_prefix (ask ∷ bank) mail (h, more) i =
+    let rest = bank_in_prefix bank mail more i in
     let is : is_mail_ask ask ≡ false = h in
     (rw is (ap (λ (others : List Ask). ask ∷ others) rest.0), rw is rest.1)
 
 in_order : (bank mail asks : List Ask) → asks ≡ bank ++ mail → AllByRecursion (AreMailAsks false) bank → AllByRecursion (AreMailAsks true) mail → asks ≡ bank_of asks ++ mail_of asks
 in_order bank mail asks same h i =
-    let parts = bank_in_front bank mail h i in
+    let parts = bank_in_prefix bank mail h i in
     let P : List Ask → Type 0 = λ all. all ≡ bank_of all ++ mail_of all in
-    subst P (sym same) (sym (ap (λ (front : List Ask). front ++ mail_of (bank ++ mail)) parts.0 ∙ ap (λ (behind : List Ask). bank ++ behind) parts.1))
+    subst P (sym same) (sym (ap (λ (prefix : List Ask). prefix ++ mail_of (bank ++ mail)) parts.0 ∙ ap (λ (suffix : List Ask). bank ++ suffix) parts.1))
 
 -- ---- the file
 
@@ -357,7 +357,7 @@ sound_version version h = four (nat_eq version 102) (nat_eq version 103) (nat_eq
 -- a file of at most so many bytes, of whose body these are the nodes, may be handed to a bank
 pub sound_file : (bytes : List ℕ) (file : RequestFile) (s : SpellsFile bytes file) → AreSlices (drop s.size bytes) s.nodes → length bytes ≤ 262144 → IsSound file
 sound_file bytes file s slices h =
-    let body = placed_within 0 (drop s.size bytes) s.nodes (omega arith) slices.placed in
+    let body = located_within 0 (drop s.size bytes) s.nodes (omega arith) slices.located in
     let short = length-drop s.size bytes in
     let root = root_within s.nodes s.ofx s.body.is_root in
     let inside : tag_bytes s.ofx.inner ≤ 262144 = omega arith in

@@ -30,7 +30,7 @@ passing passes text_of [] = refl
 passing {X = X} passes text_of (x ∷ xs) = tested (passing passes text_of xs) (passes x)
   where
     tested : (flat_map (λ (other : X). cond (passes other) (text_of other) []) xs ≡ flat_map text_of (filter passes xs)) → (b : Bool) → cond b (text_of x) [] ++ flat_map (λ (other : X). cond (passes other) (text_of other) []) xs ≡ flat_map text_of (cond b (x ∷ filter passes xs) (filter passes xs))
-    tested more true = ap (λ (behind : List ℕ). text_of x ++ behind) more
+    tested more true = ap (λ (suffix : List ℕ). text_of x ++ suffix) more
     tested more false = more
 
 -- where one passes something is written

@@ -8,22 +8,22 @@ use Rattle.ofx_types.specs.RequestReading.{signon_of}
 use Rattle.ofx_types.specs.ReplyReading.{signon_reply_of}
 use Rattle.ofx_types.specs.SyncReading.{transaction_of, transaction_reply_of, sync_of, sync_reply_of}
 use Rattle.ofx_types.specs.MessageReading.{messages_in, transaction_names, one_ask, ask_of, request_of, transaction_reply_names, ask_reply_of, reply_of}
-use Rattle.ofx_tree.specs.Placed.{Stands, Any, IsWithin}
-use Rattle.ofx_tree.proofs.FormPlaces.{bound, either, one_within, maybe_within}
-use Rattle.msg_statement.specs.StatementLaws.{StatementFaultsHavePlaces, StatementReplyFaultsHavePlaces}
-use Rattle.msg_mail.specs.SignonLaws.{SignonFaultsHavePlaces, SignonReplyFaultsHavePlaces}
-use Rattle.msg_sync.specs.SyncLaws.{TransactionFaultsHavePlaces, TransactionReplyFaultsHavePlaces, SyncFaultsHavePlaces, SyncReplyFaultsHavePlaces}
-use Rattle.ofx_file.specs.FileLaws.{RequestFaultsHavePlaces, ReplyFaultsHavePlaces}
+use Rattle.ofx_tree.specs.Located.{Holds, Any, IsWithin}
+use Rattle.ofx_tree.proofs.FormOffsets.{bound, either, one_within, maybe_within}
+use Rattle.msg_statement.specs.StatementLaws.{StatementFaultsHaveOffsets, StatementReplyFaultsHaveOffsets}
+use Rattle.msg_mail.specs.SignonLaws.{SignonFaultsHaveOffsets, SignonReplyFaultsHaveOffsets}
+use Rattle.msg_sync.specs.SyncLaws.{TransactionFaultsHaveOffsets, TransactionReplyFaultsHaveOffsets, SyncFaultsHaveOffsets, SyncReplyFaultsHaveOffsets}
+use Rattle.ofx_file.specs.FileLaws.{RequestFaultsHaveOffsets, ReplyFaultsHaveOffsets}
 use Rattle.ofx_file.proofs.InSets.{messages_within}
 
 -- the laws of the messages that a request is made of
 pub record Laws : Type 0 where
-  pub statements : StatementFaultsHavePlaces
-  pub transactions : TransactionFaultsHavePlaces
-  pub syncs : SyncFaultsHavePlaces
-  pub signons : SignonFaultsHavePlaces
+  pub statements : StatementFaultsHaveOffsets
+  pub transactions : TransactionFaultsHaveOffsets
+  pub syncs : SyncFaultsHaveOffsets
+  pub signons : SignonFaultsHaveOffsets
 
-ask_within : Laws → (most : ℕ) (request : Item) → IsWithin most request → Stands most Any (ask_of request)
+ask_within : Laws → (most : ℕ) (request : Item) → IsWithin most request → Holds most Any (ask_of request)
 unfolding ask_of
 ask_within laws most request h =
     either most Any (has_name (codes "STMTTRNRQ") request) _ _ (laws.statements most request h)
@@ -31,7 +31,7 @@ ask_within laws most request h =
     (bound most Any Any (transaction_of request) one_ask (laws.transactions most request h) (λ deed _. tt))
     (bound most Any Any (sync_of request) _ (laws.syncs most request h) (λ ask _. tt)))
 
-pub request_within : Laws → RequestFaultsHavePlaces
+pub request_within : Laws → RequestFaultsHaveOffsets
 unfolding request_of
 request_within laws most ofx h =
     bound most (IsWithin most) Any (one (codes "SIGNONMSGSRQV1") ofx) _ (one_within most (codes "SIGNONMSGSRQV1") ofx h) (λ set s.
@@ -44,12 +44,12 @@ request_within laws most ofx h =
 
 -- and those that a reply is made of
 pub record ReplyLaws : Type 0 where
-  pub statements : StatementReplyFaultsHavePlaces
-  pub transactions : TransactionReplyFaultsHavePlaces
-  pub syncs : SyncReplyFaultsHavePlaces
-  pub signons : SignonReplyFaultsHavePlaces
+  pub statements : StatementReplyFaultsHaveOffsets
+  pub transactions : TransactionReplyFaultsHaveOffsets
+  pub syncs : SyncReplyFaultsHaveOffsets
+  pub signons : SignonReplyFaultsHaveOffsets
 
-answer_within : ReplyLaws → (most : ℕ) (reply : Item) → IsWithin most reply → Stands most Any (ask_reply_of reply)
+answer_within : ReplyLaws → (most : ℕ) (reply : Item) → IsWithin most reply → Holds most Any (ask_reply_of reply)
 unfolding ask_reply_of
 answer_within laws most reply h =
     either most Any (has_name (codes "STMTTRNRS") reply) _ _ (laws.statements most reply h)
@@ -57,7 +57,7 @@ answer_within laws most reply h =
     (bound most Any Any (transaction_reply_of reply) _ (laws.transactions most reply h) (λ said _. tt))
     (bound most Any Any (sync_reply_of reply) _ (laws.syncs most reply h) (λ said _. tt)))
 
-pub reply_within : ReplyLaws → ReplyFaultsHavePlaces
+pub reply_within : ReplyLaws → ReplyFaultsHaveOffsets
 unfolding reply_of
 reply_within laws most ofx h =
     bound most (IsWithin most) Any (one (codes "SIGNONMSGSRSV1") ofx) _ (one_within most (codes "SIGNONMSGSRSV1") ofx h) (λ set s.

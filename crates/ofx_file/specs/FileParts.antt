@@ -27,7 +27,7 @@ ask_set set asks = aggregate (request_set set) (flat_map (text_in set) asks)
 abbrev pub ask_set_of_some : MessageSet → List Ask → List ℕ
 ask_set_of_some set asks = aggregate_of_some (request_set set) (flat_map (text_in set) asks)
 
--- what stands after the header
+-- what follows the header
 abbrev pub request_body : RequestFile → Moment → List ℕ
 request_body file at =
     aggregate (codes "OFX") (request_signon_set file.user file.pass at ++ (ask_set_of_some Bank file.asks ++ ask_set_of_some Mail file.asks))

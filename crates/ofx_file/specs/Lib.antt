@@ -1,5 +1,5 @@
 pub mod MessageSets
-pub mod FaultPlaces
+pub mod FaultOffsets
 pub mod Outcome
 pub mod RequestOutcome
 pub mod ReplyOutcome

@@ -1,4 +1,4 @@
--- The message sets that follow on that of the signon: their names, what stands in them, and how it is read.
+-- The message sets that follow on that of the signon: their names, what is in them, and how it is read.
 use Rattle.std.specs.Prelude.{ℕ, Bool, not, List, [], codes, filter, Option, Result, if◌then◌else◌}
 use Rattle.std.specs.List.{list_any}
 use Rattle.ofx_types.specs.Nodes.{Item}
@@ -12,7 +12,7 @@ use Rattle.ofx_types.specs.declared.request.Ask.{Ask}
 use Rattle.ofx_types.specs.declared.reply.AskReply.{AskReply}
 use Rattle.ofx_file.specs.declared.messages.MessageSet.{MessageSet}
 use Rattle.ofx_file.specs.declared.messages.MessageSet.TheVariants.{Bank, Mail}
-use Rattle.msg_sync.specs.Listing.{form_at, forms_behind}
+use Rattle.msg_sync.specs.Listing.{form_at, forms_after}
 
 -- ---- requests
 
@@ -20,7 +20,7 @@ abbrev pub request_set : MessageSet → List ℕ
 request_set Bank = codes "BANKMSGSRQV1"
 request_set Mail = codes "EMAILMSGSRQV1"
 
--- the requests that stand in it
+-- the requests that are in it
 abbrev pub request_names : MessageSet → List (List ℕ)
 request_names Bank = bank_names
 request_names Mail = mail_names
@@ -33,7 +33,7 @@ is_ask_in Mail ask = is_mail_ask ask
 abbrev pub asks_in : MessageSet → List Ask → List Ask
 asks_in set asks = filter (λ (ask : Ask). is_ask_in set ask) asks
 
--- One of the asks stands in it.
+-- One of the asks is in it.
 abbrev pub has_ask : MessageSet → List Ask → Bool
 has_ask set asks = list_any (λ (ask : Ask). is_ask_in set ask) asks
 
@@ -46,8 +46,8 @@ abbrev pub ask_at : MessageSet → Item → Result (Option Ask) TreeFault
 ask_at set child = form_at ask_of (is_one_of (request_names set)) child
 
 -- the asks that are read already, and those among the children still to come
-abbrev pub asks_behind : MessageSet → List Ask → List Item → Result (List Ask) TreeFault
-asks_behind set front items = forms_behind ask_of (is_one_of (request_names set)) front items
+abbrev pub asks_after : MessageSet → List Ask → List Item → Result (List Ask) TreeFault
+asks_after set prefix items = forms_after ask_of (is_one_of (request_names set)) prefix items
 
 -- ---- replies
 
@@ -75,5 +75,5 @@ answer_text_in set answer = if is_reply_in set answer then ask_reply answer else
 abbrev pub answer_at : MessageSet → Item → Result (Option AskReply) TreeFault
 answer_at set child = form_at ask_reply_of (is_one_of (reply_names set)) child
 
-abbrev pub answers_behind : MessageSet → List AskReply → List Item → Result (List AskReply) TreeFault
-answers_behind set front items = forms_behind ask_reply_of (is_one_of (reply_names set)) front items
+abbrev pub answers_after : MessageSet → List AskReply → List Item → Result (List AskReply) TreeFault
+answers_after set prefix items = forms_after ask_reply_of (is_one_of (reply_names set)) prefix items

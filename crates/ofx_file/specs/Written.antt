@@ -28,7 +28,7 @@ IsSoundAsk (asks.Statement trnuid account period) = IsSoundStatement trnuid acco
 IsSoundAsk (asks.One trnuid deed) = IsSoundTransaction (trnuid, deed)
 IsSoundAsk (asks.Sync ask) = IsSoundSync ask
 
--- The user and the password have at least 1 byte, and what the bank is asked stands before mail.
+-- The user and the password have at least 1 byte, and what the bank is asked comes before mail.
 pub record IsSoundFile (file : RequestFile) (at : Moment) : Type 0 where
   pub version : is_version file.version ≡ true
   pub older : IfSome file.older IsFileUid

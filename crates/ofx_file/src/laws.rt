@@ -3,24 +3,24 @@
 ghost use Rattle.ofx_types.specs.FileForm.{OneFile, FaultsSpellNothing, OneFault, OneReply, FaultsSpellNoReply, OneReplyFault};
 ghost use Rattle.ofx_file.specs.RequestOutcome.{EachIsJudged};
 ghost use Rattle.ofx_file.specs.ReplyOutcome.{EachReplyIsJudged};
-ghost use Rattle.ofx_file.specs.FileLaws.{RequestsAreFound, RequestFaultsHavePlaces, RepliesAreFound, ReplyFaultsHavePlaces};
+ghost use Rattle.ofx_file.specs.FileLaws.{RequestsAreFound, RequestFaultsHaveOffsets, RepliesAreFound, ReplyFaultsHaveOffsets};
 ghost use Rattle.ofx_file.specs.SoundFiles.{SpelledFilesAreSound};
 ghost use Rattle.ofx_file.specs.Printable.{SoundFilesArePrintable, SpelledRepliesArePrintable};
 ghost use Rattle.ofx_file.specs.Written.{FilesReadBack, RepliesReadBack};
 
 use msg_mail::laws::{
-    signon_faults_have_places, signon_replies_are_found, signon_replies_read_back,
-    signon_reply_faults_have_places, signons_are_found, signons_read_back,
+    signon_faults_have_offsets, signon_replies_are_found, signon_replies_read_back,
+    signon_reply_faults_have_offsets, signons_are_found, signons_read_back,
 };
 use msg_statement::laws::{
-    statement_faults_have_places, statement_replies_are_found, statement_replies_read_back,
-    statement_reply_faults_have_places, statements_are_found, statements_read_back,
+    statement_faults_have_offsets, statement_replies_are_found, statement_replies_read_back,
+    statement_reply_faults_have_offsets, statements_are_found, statements_read_back,
 };
 use msg_sync::laws::{
-    sync_faults_have_places, sync_replies_are_found, sync_replies_read_back,
-    sync_reply_faults_have_places, syncs_are_found, syncs_read_back,
-    transaction_faults_have_places, transaction_replies_are_found, transaction_replies_read_back,
-    transaction_reply_faults_have_places, transactions_are_found, transactions_read_back,
+    sync_faults_have_offsets, sync_replies_are_found, sync_replies_read_back,
+    sync_reply_faults_have_offsets, syncs_are_found, syncs_read_back,
+    transaction_faults_have_offsets, transaction_replies_are_found, transaction_replies_read_back,
+    transaction_reply_faults_have_offsets, transactions_are_found, transactions_read_back,
 };
 use ofx_header::laws::{
     faultless_is_spelled, one_header, spelled_is_faultless, written_is_spelled,
@@ -69,7 +69,7 @@ pub fn each_is_judged()
     faultless_tags_are_spelled();
     nodes_are_slices();
     requests_are_found();
-    request_faults_have_places();
+    request_faults_have_offsets();
 }
 
 /// A file that is spelled by at most 262,144 bytes may be handed to a bank.
@@ -129,7 +129,7 @@ pub fn each_reply_is_judged()
     faultless_tags_are_spelled();
     nodes_are_slices();
     replies_are_found();
-    reply_faults_have_places();
+    reply_faults_have_offsets();
 }
 
 /// What is written of a sound request file spells that file.
@@ -166,14 +166,14 @@ pub(crate) fn requests_are_found()
     signons_are_found();
 }
 
-/// The first fault of a request stands within its nodes.
-pub(crate) fn request_faults_have_places()
-    ensures { RequestFaultsHavePlaces }
+/// The first fault of a request is within its nodes.
+pub(crate) fn request_faults_have_offsets()
+    ensures { RequestFaultsHaveOffsets }
 {
-    statement_faults_have_places();
-    transaction_faults_have_places();
-    sync_faults_have_places();
-    signon_faults_have_places();
+    statement_faults_have_offsets();
+    transaction_faults_have_offsets();
+    sync_faults_have_offsets();
+    signon_faults_have_offsets();
 }
 
 /// A reply has its form exactly where reading finds it.
@@ -186,12 +186,12 @@ pub(crate) fn replies_are_found()
     signon_replies_are_found();
 }
 
-/// The first fault of a reply stands within its nodes.
-pub(crate) fn reply_faults_have_places()
-    ensures { ReplyFaultsHavePlaces }
+/// The first fault of a reply is within its nodes.
+pub(crate) fn reply_faults_have_offsets()
+    ensures { ReplyFaultsHaveOffsets }
 {
-    statement_reply_faults_have_places();
-    transaction_reply_faults_have_places();
-    sync_reply_faults_have_places();
-    signon_reply_faults_have_places();
+    statement_reply_faults_have_offsets();
+    transaction_reply_faults_have_offsets();
+    sync_reply_faults_have_offsets();
+    signon_reply_faults_have_offsets();
 }

@@ -81,7 +81,7 @@ pub(crate) fn is_transaction_reply(name: &[u8]) -> bool
 }
 
 /// The messages of two message sets, those of the first in front.
-pub(crate) fn one_behind_other<T: Drop>(
+pub(crate) fn one_after_other<T: Drop>(
     first: Sequence<T>,
     second: Sequence<T>,
 ) -> Result<Sequence<T>, TreeFault>

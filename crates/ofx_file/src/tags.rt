@@ -1,9 +1,9 @@
-//! The header and the tags of a file, read, and the places of faults in the file.
+//! The header and the tags of a file, read, and the offsets of faults in the file.
 
 ghost use Rattle.std.specs.Prelude.{◌≡◌, ◌+◌, ◌<◌, ◌^◌};
-ghost use Rattle.ofx_types.specs.FileForm.{header_place};
+ghost use Rattle.ofx_types.specs.FileForm.{header_offset};
 ghost use Rattle.ofx_file.specs.Outcome.{ReadsTags};
-ghost use Rattle.ofx_file.specs.FaultPlaces.{IsTagWithin, IsFormWithin, syntax_fault, form_fault};
+ghost use Rattle.ofx_file.specs.FaultOffsets.{IsTagWithin, IsFormWithin, syntax_fault, form_fault};
 
 use ofx_header::{Header, read_header};
 use ofx_tape::Tape;
@@ -29,7 +29,7 @@ pub(crate) fn read_tags<'b>(
 
 /// A fault of the header.
 fn in_header(fault: HeaderFault) -> FileFault
-    ensures { result ≡ FileFault.Header (header_place fault) }
+    ensures { result ≡ FileFault.Header (header_offset fault) }
 {
     match fault {
         HeaderFault::Line(_, at) | HeaderFault::Value(_, at) | HeaderFault::Cut(at) => {
@@ -38,7 +38,7 @@ fn in_header(fault: HeaderFault) -> FileFault
     }
 }
 
-/// A fault of the tags of a body of this length, with so many bytes in front of it.
+/// A fault of the tags of a body of this length, with so many bytes before it.
 fn in_tags(size: usize, length: usize, fault: TapeFault) -> FileFault
     requires within { IsTagWithin length fault }
     requires fits { size + length < 2 ^ 64 }
@@ -51,7 +51,7 @@ fn in_tags(size: usize, length: usize, fault: TapeFault) -> FileFault
     }
 }
 
-/// A fault of the forms of a body of this length, with so many bytes in front of it.
+/// A fault of the forms of a body of this length, with so many bytes before it.
 pub(crate) fn in_forms(size: usize, length: usize, fault: TreeFault) -> FileFault
     requires within { IsFormWithin length fault }
     requires fits { size + length < 2 ^ 64 }

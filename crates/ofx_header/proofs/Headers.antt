@@ -151,7 +151,7 @@ fixed_read : (number : ℕ) (tag wanted line bytes rest : List ℕ) (at : ℕ) �
 fixed_read number tag wanted line bytes rest at mark is split =
     line_again (fixed_in wanted) number tag wanted line bytes rest at tt mark is (fixed_again wanted) split
 
--- the body stands after the nine lines
+-- the body comes after the nine lines
 lengths : (a b c d e f g h i body bytes : List ℕ) (size : ℕ) → bytes ≡ a ++ (b ++ (c ++ (d ++ (e ++ (f ++ (g ++ (h ++ (i ++ body)))))))) → size + length body ≡ length bytes →
     0 + length a + length b + length c + length d + length e + length f + length g + length h + length i ≡ size
 lengths a b c d e f g h i body bytes size split is =

@@ -75,9 +75,9 @@ text_160 = record { spelled = refl; is_known = refl }
 -- a word is found, or one of those after it
 word_or : (given word : List ℕ) (n version : ℕ) (found : Bool) (later : Option ℕ) → bytes_eq given word ≡ found → IsVersionText word n →
     (later ≡ Some version → IsVersionText given version) → cond found (Some n) later ≡ Some version → IsVersionText given version
-word_or given word n version true later same is behind h =
+word_or given word n version true later same is rest h =
     let version_is : n ≡ version = cc in rw (bytes_eq_is given word same, ← version_is) is
-word_or given word n version false later same is behind h = behind h
+word_or given word n version false later same is rest h = rest h
 
 pub version_means : (given : List ℕ) (version : ℕ) → version_in given ≡ Some version → IsVersionText given version
 version_means given version h =

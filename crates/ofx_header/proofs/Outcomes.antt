@@ -6,7 +6,7 @@ use Rattle.ofx_types.specs.HeaderForm.{SpellsHeader, header_fault}
 use Rattle.ofx_types.specs.FileForm.{HasHeader}
 use Rattle.ofx_types.specs.declared.fault.HeaderFault.{HeaderFault}
 use Rattle.ofx_header.specs.HeaderReading.{ReadsHeader, HeaderParts, parts_of, header_at}
-use Rattle.ofx_header.specs.HeaderLaws.{OneHeader, SpelledIsFaultless, FaultlessIsSpelled, BodyIsBehind}
+use Rattle.ofx_header.specs.HeaderLaws.{OneHeader, SpelledIsFaultless, FaultlessIsSpelled, BodyIsAfter}
 use Rattle.ofx_header.specs.declared.values.Header.{Header}
 use Rattle.ofx_header.proofs.Lines.{fault_of}
 use Rattle.ofx_header.proofs.Headers.{ok_is, header_found, header_again, header_fault_is}
@@ -59,16 +59,16 @@ found_where bytes (Err fault) e h = cc
 pub faultless_is_spelled : FaultlessIsSpelled
 faultless_is_spelled bytes h = found_where bytes (header_at bytes) refl (sym (header_fault_is bytes) ∙ h)
 
-behind : (bytes front body : List ℕ) (size : ℕ) → bytes ≡ front ++ body → size + length body ≡ length bytes → (size ≤ length bytes) × (drop size bytes ≡ body)
-behind bytes front body size e h =
-    let whole : length bytes ≡ length front + length body = ap length e ∙ length-append front body in
-    let place : size ≡ length front = omega arith in
-    (omega arith, rw (place, e) (drop-append_seam front body))
+rest : (bytes prefix body : List ℕ) (size : ℕ) → bytes ≡ prefix ++ body → size + length body ≡ length bytes → (size ≤ length bytes) × (drop size bytes ≡ body)
+rest bytes prefix body size e h =
+    let whole : length bytes ≡ length prefix + length body = ap length e ∙ length-append prefix body in
+    let offset : size ≡ length prefix = omega arith in
+    (omega arith, rw (offset, e) (drop-append_seam prefix body))
 
 lines_then : (a b c d e f g h i body : List ℕ) →
     a ++ (b ++ (c ++ (d ++ (e ++ (f ++ (g ++ (h ++ (i ++ body)))))))) ≡ (a ++ (b ++ (c ++ (d ++ (e ++ (f ++ (g ++ (h ++ i)))))))) ++ body
 lines_then a b c d e f g h i body = simp append_assoc
 
-pub body_is_behind : BodyIsBehind
-body_is_behind bytes version older newer size is =
-    behind bytes _ is.body size (is.spelled ∙ lines_then is.line_1 is.line_2 is.line_3 is.line_4 is.line_5 is.line_6 is.line_7 is.line_8 is.line_9 is.body) is.size_is
+pub body_is_after : BodyIsAfter
+body_is_after bytes version older newer size is =
+    rest bytes _ is.body size (is.spelled ∙ lines_then is.line_1 is.line_2 is.line_3 is.line_4 is.line_5 is.line_6 is.line_7 is.line_8 is.line_9 is.body) is.size_is

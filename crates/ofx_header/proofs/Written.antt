@@ -23,7 +23,7 @@ seven o a b c d e f g = simp append_assoc
 line_before : (name value rest : List ℕ) → header_line name value ++ rest ≡ name ++ 58 ∷ (value ++ 13 ∷ 10 ∷ rest)
 line_before name value rest = simp append_assoc
 
--- the fixed text in front of the version
+-- the fixed text before the version
 abbrev pub to_version : List ℕ
 to_version = header_line (codes "OFXHEADER") (codes "100") ++ (header_line (codes "DATA") (codes "OFXSGML") ++ codes "VERSION:")
 
@@ -57,14 +57,14 @@ pieces o0 o1 o2 o3 o4 o5 o6 o7 version older newer p q r s t u v =
 one_white : (xs : List ℕ) → trim_end (xs ++ 13 ∷ []) ≡ trim_end xs
 one_white xs = ap (λ (l : List ℕ). reverse (trim_start l)) (reverse-append xs (13 ∷ []))
 
--- the CR in front of a line's LF is trimmed
+-- the CR before a line's LF is trimmed
 cr_trimmed : (xs : List ℕ) → trimmed (xs ++ 13 ∷ []) ≡ trimmed xs
 cr_trimmed [] = refl
 cr_trimmed (x ∷ xs) =
     elim (is_white x) as (λ b. trim_end (cond b (trim_start (xs ++ 13 ∷ [])) (x ∷ (xs ++ 13 ∷ []))) ≡ trim_end (cond b (trim_start xs) (x ∷ xs)))
     [ true ↦ cr_trimmed xs | false ↦ one_white (x ∷ xs) ]
 
--- a value as it stands on a line
+-- a value as it is on a line
 record IsPlainValue (value : List ℕ) : Type 0 where
   is_trimmed : trimmed value ≡ value
   on_line : list_all is_on_line value ≡ true
@@ -87,18 +87,18 @@ plain_version version h =
     (record { is_trimmed = refl; on_line = refl }) (record { is_trimmed = refl; on_line = refl })
     (record { is_trimmed = refl; on_line = refl }) (record { is_trimmed = refl; on_line = refl }) h
 
-no_place : (there : Bool) (place : ℕ) → cond there (Some place) None ≡ None → there ≡ false
-no_place true place h = cc
-no_place false place h = refl
+no_index : (there : Bool) (offset : ℕ) → cond there (Some offset) None ≡ None → there ≡ false
+no_index true offset h = cc
+no_index false offset h = refl
 
 on_line_byte : (b : ℕ) → is_refused_in_uid b ≡ false → is_on_line b ≡ true
 on_line_byte b h = grind (arith, common_steps)
 
-first_clean : (refused : Bool) (place size : ℕ) → nat_lt (cond (not refused) (1 + place) 0) (suc size) ≡ false → (refused ≡ false) × (nat_lt place size ≡ false)
-first_clean true place size h = absurd (grind (arith, common_steps))
-first_clean false place size h = (refl, grind (arith, common_steps))
+first_clean : (refused : Bool) (offset size : ℕ) → nat_lt (cond (not refused) (1 + offset) 0) (suc size) ≡ false → (refused ≡ false) × (nat_lt offset size ≡ false)
+first_clean true offset size h = absurd (grind (arith, common_steps))
+first_clean false offset size h = (refl, grind (arith, common_steps))
 
--- no LF stands in a uid
+-- no LF is in a uid
 clean_on_line : (xs : List ℕ) → nat_lt (position_or_len is_refused_in_uid xs) (length xs) ≡ false → list_all is_on_line xs ≡ true
 clean_on_line [] h = refl
 clean_on_line (x ∷ xs) h =
@@ -107,7 +107,7 @@ clean_on_line (x ∷ xs) h =
 
 plain_uid : (uid : Option (List ℕ)) → IfSome uid IsFileUid → IsPlainValue (uid_text uid)
 plain_uid None h = record { is_trimmed = refl; on_line = refl }
-plain_uid (Some uid) is = record { is_trimmed = is.is_trimmed; on_line = clean_on_line uid (no_place _ _ is.is_clean) }
+plain_uid (Some uid) is = record { is_trimmed = is.is_trimmed; on_line = clean_on_line uid (no_index _ _ is.is_clean) }
 
 passes : (empty named long : Bool) (n : ℕ) (refused : Option ℕ) → empty ≡ false → named ≡ false → long ≡ false → refused ≡ None →
     cond empty (Some Empty) (cond named (Some Empty) (cond long (Some (TooLong n)) (refused_at refused))) ≡ None

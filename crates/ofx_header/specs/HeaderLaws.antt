@@ -18,9 +18,9 @@ SpelledIsFaultless = (bytes : List ℕ) (version : ℕ) (older newer : Option (L
 abbrev pub FaultlessIsSpelled : Type 0
 FaultlessIsSpelled = (bytes : List ℕ) → header_fault bytes ≡ None → (size : ℕ) × HasHeader bytes size
 
--- The body is what stands after the header's bytes.
-abbrev pub BodyIsBehind : Type 0
-BodyIsBehind =
+-- The body is what follows the header's bytes.
+abbrev pub BodyIsAfter : Type 0
+BodyIsAfter =
     (bytes : List ℕ) (version : ℕ) (older newer : Option (List ℕ)) (size : ℕ) (spelled : SpellsHeader bytes version older newer size) →
     (size ≤ length bytes) × (drop size bytes ≡ spelled.body)
 

@@ -15,18 +15,18 @@ abbrev pub ReadsHeader : {X Y : Type 0} → (X → Y) → Result X HeaderFault �
 ReadsHeader view (Ok x) read = read ≡ Ok (view x)
 ReadsHeader view (Err fault) read = read ≡ Err fault
 
--- The bytes after the mark, which is a tag and its colon, on the line that begins at this place and whose LF is so
--- far after it; and the place after the line.
-abbrev pub behind_mark : ℕ → List ℕ → List ℕ → ℕ → Option ℕ → Result (List ℕ × ℕ) HeaderFault
-behind_mark number mark bytes at None = Err (Cut (length bytes))
-behind_mark number mark bytes at (Some size) =
+-- The bytes after the mark, which is a tag and its colon, on the line that begins at this offset and whose LF is so
+-- far after it; and the offset after the line.
+abbrev pub after_mark : ℕ → List ℕ → List ℕ → ℕ → Option ℕ → Result (List ℕ × ℕ) HeaderFault
+after_mark number mark bytes at None = Err (Cut (length bytes))
+after_mark number mark bytes at (Some size) =
     let line = take size (drop at bytes) in
     if starts_with nat_eq line mark then Ok (drop (length mark) line, at + size + 1) else Err (Line number at)
 
 unfoldable pub raw_at : ℕ → List ℕ → List ℕ → ℕ → Result (List ℕ × ℕ) HeaderFault
-raw_at number mark bytes at = behind_mark number mark bytes at (position is_line_feed (drop at bytes))
+raw_at number mark bytes at = after_mark number mark bytes at (position is_line_feed (drop at bytes))
 
--- what an allowed value stands for, and the place after its line
+-- what an allowed value stands for, and the offset after its line
 abbrev pub if_allowed : {A : Type 0} → ℕ → ℕ → ℕ → Option A → Result (A × ℕ) HeaderFault
 if_allowed number at next None = Err (Value number at)
 if_allowed number at next (Some x) = Ok (x, next)
@@ -66,7 +66,7 @@ pub record HeaderParts : Type 0 where
 abbrev pub parts_of : Header → ℕ → HeaderParts
 parts_of header size = record { version = header.version; older = header.older; newer = header.newer; size = size }
 
--- the four lines that say how the bytes are written, and the place after them
+-- the four lines that say how the bytes are written, and the offset after them
 unfoldable pub writing_at : List ℕ → ℕ → Result ℕ HeaderFault
 writing_at bytes at =
     line_at (fixed_in (codes "NONE")) 4 (codes "SECURITY:") bytes at >>= λ security.

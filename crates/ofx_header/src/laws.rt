@@ -1,6 +1,6 @@
 //! What holds of headers, beyond one reading. Nothing here runs: each contract is a law.
 
-ghost use Rattle.ofx_header.specs.HeaderLaws.{OneHeader, SpelledIsFaultless, FaultlessIsSpelled, BodyIsBehind, WrittenIsSpelled};
+ghost use Rattle.ofx_header.specs.HeaderLaws.{OneHeader, SpelledIsFaultless, FaultlessIsSpelled, BodyIsAfter, WrittenIsSpelled};
 
 /// No bytes begin with two headers.
 pub fn one_header()
@@ -17,9 +17,9 @@ pub fn faultless_is_spelled()
     ensures { FaultlessIsSpelled }
 {}
 
-/// The body is what stands after the header's bytes.
-pub fn body_is_behind()
-    ensures { BodyIsBehind }
+/// The body is what follows the header's bytes.
+pub fn body_is_after()
+    ensures { BodyIsAfter }
 {}
 
 /// What is written of a known version and uids is spelled so, whatever follows.

@@ -1,4 +1,4 @@
-//! One line of a header: its end, its tag, and what stands after it.
+//! One line of a header: its end, its tag, and what follows it.
 
 ghost use Rattle.std.specs.Prelude.{◌≡◌, ◌≤◌, IfOk, length, position};
 ghost use Rattle.ofx_types.specs.HeaderForm.{is_line_feed};
@@ -7,7 +7,7 @@ ghost use Rattle.ofx_header.specs.HeaderReading.{ReadsHeader};
 
 use ofx_types::HeaderFault;
 
-/// The bytes after the mark, a tag and its colon, on the line that begins at a place, and the place after the line.
+/// The bytes after the mark, a tag and its colon, on the line that begins at an offset, and the offset after the line.
 ///
 /// `Cut` where the line's LF isn't there, and `Line` where the line doesn't begin with the mark.
 #[tactic(auto, unfolding(crate::specs::HeaderReading::raw_at))]

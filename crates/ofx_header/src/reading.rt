@@ -30,7 +30,7 @@ pub fn read_header(bytes: &[u8]) -> Result<(Header, usize), HeaderFault>
     lines(bytes)
 }
 
-/// What the nine lines say, and the place after the ninth.
+/// What the nine lines say, and the offset after the ninth.
 #[tactic(auto, unfolding(crate::specs::HeaderReading::header_at))]
 fn lines(bytes: &[u8]) -> Result<(Header, usize), HeaderFault>
     ensures found { ReadsHeader (λ x. header.parts_of x.0 x.1) result (header.header_at bytes.now) }
@@ -50,7 +50,7 @@ fn lines(bytes: &[u8]) -> Result<(Header, usize), HeaderFault>
     Ok((header, at))
 }
 
-/// The place after the four lines that say how the bytes are written.
+/// The offset after the four lines that say how the bytes are written.
 #[tactic(auto, unfolding(crate::specs::HeaderReading::writing_at))]
 fn writing_lines(bytes: &[u8], at: usize) -> Result<usize, HeaderFault>
     requires { at ≤ length bytes.now }
@@ -63,7 +63,7 @@ fn writing_lines(bytes: &[u8], at: usize) -> Result<usize, HeaderFault>
     fixed_line(bytes, at, 7, b"COMPRESSION:", b"NONE")
 }
 
-/// The place after a line that has one value.
+/// The offset after a line that has one value.
 #[tactic(auto, unfolding(crate::specs::HeaderReading::line_at))]
 fn fixed_line(
     bytes: &[u8],
@@ -83,7 +83,7 @@ fn fixed_line(
     Ok(next)
 }
 
-/// The version, and the place after its line.
+/// The version, and the offset after its line.
 #[tactic(auto, unfolding(crate::specs::HeaderReading::line_at))]
 fn version_line(bytes: &[u8], at: usize) -> Result<(u16, usize), HeaderFault>
     requires { at ≤ length bytes.now }
@@ -97,7 +97,7 @@ fn version_line(bytes: &[u8], at: usize) -> Result<(u16, usize), HeaderFault>
     }
 }
 
-/// The place after the line of the character set.
+/// The offset after the line of the character set.
 #[tactic(auto, unfolding(crate::specs::HeaderReading::line_at))]
 fn charset_line(bytes: &[u8], at: usize) -> Result<usize, HeaderFault>
     requires { at ≤ length bytes.now }
@@ -111,7 +111,7 @@ fn charset_line(bytes: &[u8], at: usize) -> Result<usize, HeaderFault>
     Ok(next)
 }
 
-/// The uid on a line, if it has one, and the place after the line.
+/// The uid on a line, if it has one, and the offset after the line.
 #[tactic(auto, unfolding(crate::specs::HeaderReading::line_at))]
 fn uid_line(
     bytes: &[u8],

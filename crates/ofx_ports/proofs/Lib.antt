@@ -1,3 +1,3 @@
-pub mod ToldLaws
+pub mod KnownLaws
 pub mod FaultLaws
 pub mod Writing

@@ -11,7 +11,7 @@ rest_length done bytes = ap length (take_rest bytes done) ∙ length-drop done b
 
 -- a front is written, and then more of the bytes
 pub written_more : (before mid after : Option (List ℕ)) (done count : ℕ) (bytes : List ℕ) → Appends before mid (take done bytes) → Appends mid after (take count (take (length bytes - done) (drop done bytes))) → Appends before after (take (done + count) bytes)
-written_more before mid after done count bytes front more =
+written_more before mid after done count bytes prefix more =
     let joined : take done bytes ++ take count (take (length bytes - done) (drop done bytes)) ≡ take (done + count) bytes =
     ap (λ (l : List ℕ). take done bytes ++ take count l) (take_rest bytes done) ∙ sym (take-add done count bytes) in
-    rw (sym joined) (Appends-trans before mid after _ _ front more)
+    rw (sym joined) (Appends-trans before mid after _ _ prefix more)

@@ -10,7 +10,7 @@ pub record Calls : Type 0 where
   -- the number of calls that failed
   pub faults : ℕ
 
--- One more. A number that has reached the end of its type stands still.
+-- One more. A number that has reached the end of its type stays the same.
 abbrev pub one_more : ℕ → ℕ
 one_more n = min (n + 1) (2 ^ 64 - 1)
 

@@ -1,6 +1,6 @@
 -- What a keeper's calls do to the records that it keeps.
 use Rattle.std.specs.Prelude.{◌≡◌, ℕ, ◌+◌, Bool, true, false, List, [], ◌∷◌, ⊤, Option, None, Some, Result, Ok, Err}
-use Rattle.ofx_ports.specs.Told.{Stays, Grows}
+use Rattle.ofx_ports.specs.Known.{Stays, Grows}
 use Rattle.ofx_ports.specs.declared.fault.Failed.{Failed}
 use Rattle.ofx_ports.specs.declared.fault.PutFault.{PutFault}
 use Rattle.ofx_ports.specs.declared.fault.PutFault.TheVariants as puts
@@ -13,22 +13,22 @@ MayGrow (Some rs) new None rec = ⊥
 MayGrow (Some rs) new (Some true) rec = Grows (Some rs) new (rec ∷ [])
 MayGrow (Some rs) new (Some false) rec = Stays (Some rs) new
 
--- An acknowledged record stands at the end of the list. A failed append leaves something to be settled, and otherwise
+-- An acknowledged record is at the end of the list. A failed append leaves something to be settled, and otherwise
 -- nothing is to be settled. Want of memory leaves the list as it was.
 abbrev pub Appended : Option (List (List ℕ)) → Option (List (List ℕ)) → Option Bool → Bool → List ℕ → Result (Unit {0}) PutFault → Type 0
 Appended old new landed unsettled rec (Ok done) = Grows old new (rec ∷ []) × (unsettled ≡ false)
 Appended old new landed unsettled rec (Err puts.Failed) = MayGrow old new landed rec × (unsettled ≡ true)
 Appended old new landed unsettled rec (Err puts.OutOfMemory) = Stays old new × (unsettled ≡ false)
 
--- Settling answers whether the record landed, where that is told. Where nothing is to be settled, no record did.
-abbrev pub TellsLanding : Bool → Option Bool → Bool → Type 0
-TellsLanding false landed stands = stands ≡ false
-TellsLanding true None stands = ⊤
-TellsLanding true (Some landed) stands = stands ≡ landed
+-- Settling answers whether the record landed, where that is reported. Where nothing is to be settled, no record did.
+abbrev pub KnowsLanding : Bool → Option Bool → Bool → Type 0
+KnowsLanding false landed holds = holds ≡ false
+KnowsLanding true None holds = ⊤
+KnowsLanding true (Some landed) holds = holds ≡ landed
 
--- what a settling answers: whether the record stands, or nothing where it failed
+-- what a settling answers: whether the record is stored, or nothing where it failed
 abbrev pub stands_if : Result Bool Failed → Option Bool
-stands_if (Ok stands) = Some stands
+stands_if (Ok holds) = Some holds
 stands_if (Err failed) = None
 
 -- the number of records with one more, where that one stands

@@ -1,11 +1,11 @@
 pub mod Faults
-pub mod Told
+pub mod Known
 pub mod Kept
 pub mod Saved
 pub mod Calls
 pub mod States
-pub mod Trail
+pub mod ClockTrace
 pub mod Adapters
 pub mod Doors
-pub mod Given
+pub mod LinkTrace
 pub mod Writes

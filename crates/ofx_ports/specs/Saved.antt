@@ -1,10 +1,10 @@
 -- What a save does to the text that is kept.
 use Rattle.std.specs.Prelude.{◌≡◌, ℕ, List, ⊤, ◌⊎◌, Option, None, Some, Result, Ok, Err}
-use Rattle.ofx_ports.specs.Told.{Stays}
+use Rattle.ofx_ports.specs.Known.{Stays}
 use Rattle.ofx_ports.specs.declared.fault.PutFault.{PutFault}
 use Rattle.ofx_ports.specs.declared.fault.PutFault.TheVariants.{Failed, OutOfMemory}
 
--- A text that is told is this one from now on.
+-- A text that is reported is this one from now on.
 abbrev pub Becomes : Option (List ℕ) → Option (List ℕ) → List ℕ → Type 0
 Becomes None new text = ⊤
 Becomes (Some old) None text = ⊥

@@ -21,7 +21,7 @@ pub record SinkState : Type 0 where
   pub calls : Calls
 
 pub record KeeperState : Type 0 where
-  -- the records that stand, oldest first
+  -- the records that are stored, oldest first
   pub records : List (List ℕ)
   -- whether the record of an append that failed landed, where this is to be settled
   pub landed : Option Bool
@@ -40,7 +40,7 @@ settled_size records (Some false) = length records
 settled_size records (Some true) = length records - 1
 
 pub record StoreState : Type 0 where
-  -- the text that stands, empty where nothing was saved
+  -- the text that is there, empty where nothing was saved
   pub text : List ℕ
   -- the numbers of the failing saves whose text lands
   pub landing : List ℕ

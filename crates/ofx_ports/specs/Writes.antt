@@ -2,7 +2,7 @@
 use Rattle.std.specs.Prelude.{ℕ, ◌≤◌, List, length, take, Option}
 use Rattle.std.specs.Io.KnownBytes.{Appends}
 
--- a front of the bytes is written
+-- a prefix of the bytes is written
 pub record AppendsPart (before after : Option (List ℕ)) (bytes : List ℕ) : Type 0 where
   pub count : ℕ
   pub within : count ≤ length bytes

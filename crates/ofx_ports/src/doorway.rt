@@ -2,7 +2,7 @@
 
 ghost use Rattle.std.specs.Prelude.{◌≡◌, ℕ, List, [], ◌∷◌, Option, None, Ok, IfOk, IsErr, IsSome};
 ghost use Rattle.ofx_ports.specs.Faults.{CountsFaults};
-ghost use Rattle.ofx_ports.specs.Told.{Stays, Grows};
+ghost use Rattle.ofx_ports.specs.Known.{Stays, Grows};
 ghost use Rattle.ofx_ports.specs.Doors.{given_by, HasOneOut};
 
 use crate::fault::Failed;
@@ -28,7 +28,7 @@ pub trait Doorway<L: Link>: Drop + Send {
     /// - `Failed` comes only where the count of faults rose in this call.
     /// - `None` comes only where the count of closings rose in this call.
     ///
-    /// Where the links are told, fewer came back than were given once a link is given, so that it can come back.
+    /// Where the links are known, fewer came back than were given once a link is given, so that it can come back.
     fn accept(&mut self) -> Result<Option<L>, Failed>
         ensures given { Grows (given self.old) (given self.new) (given_by result) }
         ensures back { Stays (back self.old) (back self.new) }
@@ -36,7 +36,7 @@ pub trait Doorway<L: Link>: Drop + Send {
         ensures closings { CountsFaults (closings self.old) (closings self.new) (result ≡ Ok None) }
         ensures one_out { IfOk result (λ found. IsSome found → HasOneOut (given self.new) (back self.new)) };
 
-    /// Takes a link back whose connection has ended. Where the links are told, fewer came back than were given.
+    /// Takes a link back whose connection has ended. Where the links are known, fewer came back than were given.
     fn ended(&mut self, link: L)
         requires { HasOneOut (given self.old) (back self.old) }
         ensures given { Stays (given self.old) (given self.new) }

@@ -2,18 +2,18 @@
 
 ghost use Rattle.std.specs.Prelude.{◌≡◌, ℕ, ◌-◌, ◌≤◌, ⊤, Bool, false, List, [], Option, Result, length, slice_get, Some, is_ok, IfOk, IfSome, OnOk, OnErr, IsErr, IsErrOf};
 ghost use Rattle.ofx_ports.specs.Faults.{CountsFaults};
-ghost use Rattle.ofx_ports.specs.Told.{Stays};
-ghost use Rattle.ofx_ports.specs.Kept.{Appended, TellsLanding, counted, stands_if};
+ghost use Rattle.ofx_ports.specs.Known.{Stays};
+ghost use Rattle.ofx_ports.specs.Kept.{Appended, KnowsLanding, counted, stands_if};
 ghost use Rattle.ofx_ports.specs.declared.fault.PutFault.{PutFault};
 
 use crate::fault::{Failed, FetchFault, PutFault};
 
 /// Records in the order in which they were appended, numbered from 1. A record is any bytes.
 ///
-/// After an append that failed the record may stand or not. This is then to be settled, and until it is, only
+/// After an append that failed the record may be stored or not. This is then to be settled, and until it is, only
 /// `settle` and `faults` may be called.
 pub trait Keeper: Drop {
-    // the records that stand, oldest first, where they are told
+    // the records that are stored, oldest first, where they are told
     ghost records: { Self → Option (List (List ℕ)) };
 
     // the number of records, without one that is to be settled
@@ -22,7 +22,7 @@ pub trait Keeper: Drop {
     // whether an append failed and is not settled
     ghost unsettled: { Self → Bool };
 
-    // whether the record that is to be settled stands at the end, where this is told
+    // whether the record that is to be settled is at the end, where this is told
     ghost landed: { Self → Option Bool };
 
     // how many of its calls failed
@@ -31,7 +31,7 @@ pub trait Keeper: Drop {
     // what else is known of an append of these bytes that ended so
     ghost appends: { Self → Self → List ℕ → Result (Unit {0}) PutFault → Type 0 } = { λ _ _ _ _. ⊤ };
 
-    // what else is known of a settling: whether the record stands, or nothing where it failed
+    // what else is known of a settling: whether the record is stored, or nothing where it failed
     ghost settles: { Self → Self → Option Bool → Type 0 } = { λ _ _ _. ⊤ };
 
     /// Appends a record.
@@ -46,15 +46,15 @@ pub trait Keeper: Drop {
         ensures faults { CountsFaults (faults self.old) (faults self.new) (IsErrOf result PutFault.Failed) }
         ensures appends { appends self.old self.new rec.now result };
 
-    /// Answers whether the record of the append that failed stands, and from then on nothing is to be settled. Where
+    /// Answers whether the record of the append that failed is stored, and from then on nothing is to be settled. Where
     /// nothing was to be settled the answer is `false`.
     ///
     /// `Failed` only where the count of faults rose in this call. It is then still to be settled.
     fn settle(&mut self) -> Result<bool, Failed>
         ensures list { Stays (records self.old) (records self.new) }
-        ensures answer { IfOk result (TellsLanding (unsettled self.old) (landed self.old)) }
+        ensures answer { IfOk result (KnowsLanding (unsettled self.old) (landed self.old)) }
         ensures settled { OnOk result (unsettled self.new ≡ false) }
-        ensures size { IfOk result (λ stands. size self.new ≡ counted (size self.old) stands) }
+        ensures size { IfOk result (λ holds. size self.new ≡ counted (size self.old) holds) }
         ensures open { OnErr result (unsettled self.new ≡ unsettled self.old) }
         ensures kept { OnErr result ((landed self.new ≡ landed self.old) × (size self.new ≡ size self.old)) }
         ensures faults { CountsFaults (faults self.old) (faults self.new) (IsErr result) }
@@ -81,9 +81,9 @@ pub trait Keeper: Drop {
     fn len(&self) -> u64
         requires { unsettled self.now ≡ false }
         ensures size { result ≡ size self.now }
-        ensures told { IfSome (records self.now) (λ rs. result ≡ length rs) };
+        ensures known { IfSome (records self.now) (λ rs. result ≡ length rs) };
 
-    /// How many calls failed so far. The count stands still at 2^64 - 1.
+    /// How many calls failed so far. The count stays at 2^64 - 1.
     fn faults(&self) -> u64
         ensures { result ≡ faults self.now };
 }

@@ -21,7 +21,7 @@ pub trait Link: Drop + Send {
     // how many of its writes failed
     ghost write_faults: { Self → ℕ };
 
-    /// Reads the next bytes to the front of `into` and answers how many they are: at least one, or 0 where the peer
+    /// Reads the next bytes to the start of `into` and answers how many they are: at least one, or 0 where the peer
     /// has ended the link. What `into` holds after them is open.
     ///
     /// `Failed` comes only where the count of reads' faults rose in this call, and no byte is lost by it.

@@ -14,7 +14,7 @@ pub trait Source {
     // how many of its calls failed
     ghost faults: { Self → ℕ };
 
-    /// Reads the next bytes to the front of `into` and answers how many they are: at least one, or 0 at the end of
+    /// Reads the next bytes to the start of `into` and answers how many they are: at least one, or 0 at the end of
     /// the input. What `into` holds after them is open.
     ///
     /// `Failed` comes only where the count of faults rose in this call, and no byte is lost by it.

@@ -2,14 +2,14 @@
 
 ghost use Rattle.std.specs.Prelude.{◌≡◌, ℕ, List, [], Option, IfSome, OnOk, OnErr, IsErrOf};
 ghost use Rattle.ofx_ports.specs.Faults.{CountsFaults};
-ghost use Rattle.ofx_ports.specs.Told.{Stays};
+ghost use Rattle.ofx_ports.specs.Known.{Stays};
 ghost use Rattle.ofx_ports.specs.Saved.{Saved};
 
 use crate::fault::{FetchFault, PutFault};
 
 /// One text of any bytes, which each save replaces as a whole. Before the first save it is empty.
 pub trait StoreKeeper: Drop {
-    // the text that stands, where it is told
+    // the text that is there, where it is told
     ghost saved: { Self → Option (List ℕ) };
 
     // how many of its calls failed
@@ -24,7 +24,7 @@ pub trait StoreKeeper: Drop {
         ensures text { Saved (saved self.old) (saved self.new) text.now result }
         ensures faults { CountsFaults (faults self.old) (faults self.new) (IsErrOf result PutFault.Failed) };
 
-    /// Puts the text that stands into `into`, in place of what it held.
+    /// Puts the text that is there into `into`, in place of what it held.
     ///
     /// - `Failed` only where the count of faults rose in this call.
     /// - `OutOfMemory`.
@@ -36,7 +36,7 @@ pub trait StoreKeeper: Drop {
         ensures text { Stays (saved self.old) (saved self.new) }
         ensures faults { CountsFaults (faults self.old) (faults self.new) (IsErrOf result FetchFault.Failed) };
 
-    /// How many calls failed so far. The count stands still at 2^64 - 1.
+    /// How many calls failed so far. The count stays at 2^64 - 1.
     fn faults(&self) -> u64
         ensures { result ≡ faults self.now };
 }

@@ -12,23 +12,23 @@ use Rattle.ofx_tape.specs.NodeCounts.{tag_size, count_named, TagsFit, NamedTagsF
 tree_fits : (tree : Tree) (size room index : ℕ) (bytes rest : List ℕ) → Spells size room bytes tree rest →
     sum_by tag_size (nodes_from index tree) + length rest ≤ length bytes
 tree_fits nothing size room index bytes rest spells = rw spells (omega arith)
-tree_fits (element place name text behind) size room index bytes rest spells =
-    let (closing, more, is_one, placed, split, further) = spells in
-    let again = tree_fits behind size room (index + 1) more rest further in
+tree_fits (element offset name text suffix) size room index bytes rest spells =
+    let (closing, more, is_one, located, split, further) = spells in
+    let again = tree_fits suffix size room (index + 1) more rest further in
     let bytes_is : length bytes ≡ length name + 2 + (length text + (length closing + length more)) = ap length split ∙ simp length-append (omega arith) in
-    let sum_is = sum_by-cons tag_size (record { is_element = true; name = name; text = text; place = place; after = index + 1 }) (nodes_from (index + 1) behind) in
+    let sum_is = sum_by-cons tag_size (record { is_element = true; name = name; text = text; offset = offset; after = index + 1 }) (nodes_from (index + 1) suffix) in
     omega arith
-tree_fits (aggregate place name text inner behind) size room index bytes rest spells =
-    let (within, white, more, is_one, has_room, placed, split, inside, further) = spells in
+tree_fits (aggregate offset name text inner suffix) size room index bytes rest spells =
+    let (within, white, more, is_one, has_room, located, split, inside, further) = spells in
     let inner_nodes = nodes_from (index + 1) inner in
     let after = index + 1 + length inner_nodes in
     let closing = end_tag name ++ (white ++ more) in
     let inner_fits = tree_fits inner size (room - 1) (index + 1) within closing inside in
-    let again = tree_fits behind size room after more rest further in
+    let again = tree_fits suffix size room after more rest further in
     let bytes_is : length bytes ≡ length name + 2 + (length text + length within) = ap length split ∙ simp length-append (omega arith) in
     let closing_is : length closing ≡ length (end_tag name) + (length white + length more) = simp length-append (omega arith) in
-    let sum_is = sum_by-cons tag_size (record { is_element = false; name = name; text = text; place = place; after = after }) (inner_nodes ++ nodes_from after behind) in
-    let sum_both = sum_by-append tag_size inner_nodes (nodes_from after behind) in
+    let sum_is = sum_by-cons tag_size (record { is_element = false; name = name; text = text; offset = offset; after = after }) (inner_nodes ++ nodes_from after suffix) in
+    let sum_both = sum_by-append tag_size inner_nodes (nodes_from after suffix) in
     omega arith
 
 -- The start tags of all nodes of a body stand in it.

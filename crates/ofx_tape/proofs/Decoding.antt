@@ -36,7 +36,7 @@ pub decoded-lone : (rest : List ℕ) → starts_with nat_eq rest (codes "lt;") �
 unfolding decoded_past
 decoded-lone rest no_lt no_gt no_amp = rw (no_lt, no_gt, no_amp) refl
 
-pub ruleset decoded_front = (decoded-other, decoded-lt, decoded-gt, decoded-amp, decoded-lone)
+pub ruleset decoded_prefix = (decoded-other, decoded-lt, decoded-gt, decoded-amp, decoded-lone)
 
 pub decoded-nil : decoded [] ≡ []
 unfolding decoded_past

@@ -1,4 +1,4 @@
--- The kind of a start tag, by its name and by whether text that isn't white space stands after it.
+-- The kind of a start tag, by its name and by whether text that isn't white space comes after it.
 use Rattle.std.proofs.Common.{◌≡◌, ℕ, Bool, true, false, cond, ◌&&◌, ◌||◌, not, List, [], ◌∷◌, one-add, eqb-true, refl, sym, ap, ◌∙◌}
 use Rattle.std.proofs.lemmas.Bool.{and_parts, both_ways}
 use Rattle.std.proofs.lemmas.Slice.Eq.{bytes_eq-Decides}
@@ -18,14 +18,14 @@ white_is_no_tag b white = by_cases (is_open b) refl
     by_cases true e = let same : is_white b ≡ is_white 60 = ap is_white (eqb-true b 60 e) in absurd (both_ways (is_white b) same white)
     by_cases false e = e
 
--- the text up to the next `<` is white space where nothing else stands in front of it
+-- the text up to the next `<` is white space where nothing else comes before it
 pub white_to_tag : (bytes : List ℕ) → list_all is_white (before_first is_open bytes) ≡ is_at_tag (trim_start bytes)
 white_to_tag [] = refl
 white_to_tag (b ∷ bytes) = by_cases (is_white b) refl (white_to_tag bytes)
   where
     kept : (o : Bool) → is_open b ≡ o → is_white b ≡ false → list_all is_white (before_first is_open (b ∷ bytes)) ≡ is_open b
-    kept true e ink = rw e refl
-    kept false e ink = rw (e, one-add) (rw ink refl)
+    kept true e visible = rw e refl
+    kept false e visible = rw (e, one-add) (rw visible refl)
 
     by_cases : (w : Bool) → is_white b ≡ w → list_all is_white (before_first is_open bytes) ≡ is_at_tag (trim_start bytes) →
         list_all is_white (before_first is_open (b ∷ bytes)) ≡ is_at_tag (trim_start (b ∷ bytes))
@@ -51,24 +51,24 @@ always_apart name one = none_of_both element_names aggregate_names name refl one
 
 -- ---- the kind
 
-no_ink_kind : (e a : Bool) → (e || (not a && false)) ≡ e
-no_ink_kind true a = refl
-no_ink_kind false true = refl
-no_ink_kind false false = refl
+no_visible_kind : (e a : Bool) → (e || (not a && false)) ≡ e
+no_visible_kind true a = refl
+no_visible_kind false true = refl
+no_visible_kind false false = refl
 
-ink_kind : (e a : Bool) → (e ≡ true → a ≡ false) → (e || (not a && true)) ≡ not a
-ink_kind true a apart = sym (ap not (apart refl))
-ink_kind false true apart = refl
-ink_kind false false apart = refl
+visible_kind : (e a : Bool) → (e ≡ true → a ≡ false) → (e || (not a && true)) ≡ not a
+visible_kind true a apart = sym (ap not (apart refl))
+visible_kind false true apart = refl
+visible_kind false false apart = refl
 
 -- With white space alone after it a start tag is an element's where its name always is.
-pub kind_without_ink : (name behind : List ℕ) → is_at_tag (trim_start behind) ≡ true → is_one_of element_names name ≡ is_element name (before_first is_open behind)
-kind_without_ink name behind at =
-    sym (ap (λ w. is_one_of element_names name || (not (is_one_of aggregate_names name) && not w)) (white_to_tag behind ∙ at)
-    ∙ no_ink_kind (is_one_of element_names name) (is_one_of aggregate_names name))
+pub kind_without_visible : (name suffix : List ℕ) → is_at_tag (trim_start suffix) ≡ true → is_one_of element_names name ≡ is_element name (before_first is_open suffix)
+kind_without_visible name suffix at =
+    sym (ap (λ w. is_one_of element_names name || (not (is_one_of aggregate_names name) && not w)) (white_to_tag suffix ∙ at)
+    ∙ no_visible_kind (is_one_of element_names name) (is_one_of aggregate_names name))
 
 -- With other text it is one where its name isn't always an aggregate's.
-pub kind_with_ink : (name behind : List ℕ) → is_at_tag (trim_start behind) ≡ false → not (is_one_of aggregate_names name) ≡ is_element name (before_first is_open behind)
-kind_with_ink name behind at =
-    sym (ap (λ w. is_one_of element_names name || (not (is_one_of aggregate_names name) && not w)) (white_to_tag behind ∙ at)
-    ∙ ink_kind (is_one_of element_names name) (is_one_of aggregate_names name) (always_apart name))
+pub kind_with_visible : (name suffix : List ℕ) → is_at_tag (trim_start suffix) ≡ false → not (is_one_of aggregate_names name) ≡ is_element name (before_first is_open suffix)
+kind_with_visible name suffix at =
+    sym (ap (λ w. is_one_of element_names name || (not (is_one_of aggregate_names name) && not w)) (white_to_tag suffix ∙ at)
+    ∙ visible_kind (is_one_of element_names name) (is_one_of aggregate_names name) (always_apart name))

@@ -16,22 +16,22 @@ inside_append (x ∷ xs) ys index end first later =
 -- The nodes of a tree end where the tree does.
 pub inside_tree : (tree : Tree) (index end : ℕ) → index + length (nodes_from index tree) ≤ end → AreInside index end (nodes_from index tree)
 inside_tree nothing index end fits = tt
-inside_tree (element place name text behind) index end fits =
-    (omega arith, omega arith, inside_tree behind (index + 1) end (omega arith))
-inside_tree (aggregate place name text inner behind) index end fits =
+inside_tree (element offset name text suffix) index end fits =
+    (omega arith, omega arith, inside_tree suffix (index + 1) end (omega arith))
+inside_tree (aggregate offset name text inner suffix) index end fits =
     let within = nodes_from (index + 1) inner in
     let after = index + 1 + length within in
-    let whole : index + suc (length within + length (nodes_from after behind)) ≤ end = rw (length-append within (nodes_from after behind)) at fits in (
+    let whole : index + suc (length within + length (nodes_from after suffix)) ≤ end = rw (length-append within (nodes_from after suffix)) at fits in (
       omega arith,
       omega arith,
-      inside_append within (nodes_from after behind) (index + 1) end
-          (inside_tree inner (index + 1) end (omega arith)) (inside_tree behind after end (omega arith)),
+      inside_append within (nodes_from after suffix) (index + 1) end
+          (inside_tree inner (index + 1) end (omega arith)) (inside_tree suffix after end (omega arith)),
     )
 
 inner_is : (n : ℕ) (xs ys : List TagNode) → n ≡ length xs → take n (xs ++ ys) ≡ xs
 inner_is n xs ys is = take_at xs ys n (sym is)
 
--- what stands in a node is the same where others follow
+-- what is in a node is the same where others follow
 each_append : (xs ys : List TagNode) (index : ℕ) → AreInside index (index + length xs) xs → AreInsideEach index xs →
     AreInsideEach (index + length xs) ys → AreInsideEach index (xs ++ ys)
 each_append [] ys index inside first later = rw add-zero at later
@@ -43,18 +43,18 @@ each_append (x ∷ xs) ys index inside first later =
       each_append xs ys (index + 1) inside_rest first.1 (rw on at later),
     )
 
--- What stands in a node of a tree ends where the node does.
+-- What is in a node of a tree ends where the node does.
 pub each_tree : (tree : Tree) (index : ℕ) → AreInsideEach index (nodes_from index tree)
 each_tree nothing index = tt
-each_tree (element place name text behind) index =
+each_tree (element offset name text suffix) index =
     let none : index + 1 - (index + 1) ≡ 0 = omega arith in
-    (rw none tt, each_tree behind (index + 1))
-each_tree (aggregate place name text inner behind) index =
+    (rw none tt, each_tree suffix (index + 1))
+each_tree (aggregate offset name text inner suffix) index =
     let within = nodes_from (index + 1) inner in
     let after = index + 1 + length within in
-    let inner_nodes : take (after - (index + 1)) (within ++ nodes_from after behind) ≡ within = inner_is (after - (index + 1)) within (nodes_from after behind) (omega arith) in
+    let inner_nodes : take (after - (index + 1)) (within ++ nodes_from after suffix) ≡ within = inner_is (after - (index + 1)) within (nodes_from after suffix) (omega arith) in
     let inside : AreInside (index + 1) after within = inside_tree inner (index + 1) after (omega arith) in
-    (rw inner_nodes inside, each_append within (nodes_from after behind) (index + 1) inside (each_tree inner (index + 1)) (each_tree behind after))
+    (rw inner_nodes inside, each_append within (nodes_from after suffix) (index + 1) inside (each_tree inner (index + 1)) (each_tree suffix after))
 
 -- The nodes of a body are nested.
 pub nodes_are_nested : (body : List ℕ) (nodes : List TagNode) → AreNodesOf body nodes → AreNested nodes

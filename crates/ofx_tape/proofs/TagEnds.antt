@@ -3,13 +3,13 @@ use Rattle.std.proofs.Common.{◌≡◌, ℕ, suc, ◌-◌, ◌<◌, ◌≤◌, 
 use Rattle.std.proofs.lemmas.Bool.{le-leb, lt-leb, and_left}
 use Rattle.std.specs.List.{list_all}
 use Rattle.ofx_types.specs.TagNames.{is_name, is_name_byte}
-use Rattle.ofx_types.specs.TagFault.{at_place, no_tag, pieces_behind}
+use Rattle.ofx_types.specs.TagFault.{at_offset, no_tag, pieces_after}
 use Rattle.ofx_tape.specs.TagScan.{IsNoName, BeginsNoTag}
 use Rattle.ofx_tape.proofs.Pieces.{broken_start, broken_end, unfinished_start, unfinished_end}
 
 unfinished_is : (size : ℕ) (bytes : List ℕ) (n : ℕ) (b : Bool) → nat_le n 32 ≡ b →
-    pieces_behind size bytes ≡ at_place (size - length bytes) (no_tag (nat_le n 32)) ∷ [] → pieces_behind size bytes ≡ at_place (size - length bytes) (no_tag b) ∷ []
-unfinished_is size bytes n b is here = here ∙ ap (λ u. at_place (size - length bytes) (no_tag u) ∷ []) is
+    pieces_after size bytes ≡ at_offset (size - length bytes) (no_tag (nat_le n 32)) ∷ [] → pieces_after size bytes ≡ at_offset (size - length bytes) (no_tag b) ∷ []
+unfinished_is size bytes n b is here = here ∙ ap (λ u. at_offset (size - length bytes) (no_tag u) ∷ []) is
 
 pub start_unfinished : (bytes : List ℕ) → (list_all is_name_byte bytes ≡ true) × (length bytes ≤ 32) → BeginsNoTag true (60 ∷ bytes)
 start_unfinished bytes h size = unfinished_is size (60 ∷ bytes) (length bytes) true (le-leb (length bytes) 32 h.1) (unfinished_start size bytes h.0)
@@ -31,7 +31,7 @@ start_broken bytes other none size = go none.ends
   where
     go : ((bytes ≡ none.name) × (32 < length none.name))
         ⊎ ((b : ℕ) × (more : List ℕ) × (bytes ≡ none.name ++ b ∷ more) × (is_name_byte b ≡ false) × (((b == 62) && is_name none.name) ≡ false)) →
-        pieces_behind size (60 ∷ bytes) ≡ at_place (size - length (60 ∷ bytes)) (no_tag false) ∷ []
+        pieces_after size (60 ∷ bytes) ≡ at_offset (size - length (60 ∷ bytes)) (no_tag false) ∷ []
     go (inl (is, long)) = rw is (unfinished_is size (60 ∷ none.name) (length none.name) false (lt-leb (length none.name) 32 long) (unfinished_start size none.name none.of_name))
     go (inr (b, more, is, refused, stops)) =
         let elsewhere = slash_elsewhere bytes none.name b more other is in
@@ -42,6 +42,6 @@ end_broken inside none size = go none.ends
   where
     go : ((inside ≡ none.name) × (32 < length none.name))
         ⊎ ((b : ℕ) × (more : List ℕ) × (inside ≡ none.name ++ b ∷ more) × (is_name_byte b ≡ false) × (((b == 62) && is_name none.name) ≡ false)) →
-        pieces_behind size (60 ∷ 47 ∷ inside) ≡ at_place (size - length (60 ∷ 47 ∷ inside)) (no_tag false) ∷ []
+        pieces_after size (60 ∷ 47 ∷ inside) ≡ at_offset (size - length (60 ∷ 47 ∷ inside)) (no_tag false) ∷ []
     go (inl (is, long)) = rw is (unfinished_is size (60 ∷ 47 ∷ none.name) (length none.name) false (lt-leb (length none.name) 32 long) (unfinished_end size none.name none.of_name))
     go (inr (b, more, is, refused, stops)) = rw is (broken_end size none.name b more none.of_name refused stops)

@@ -5,7 +5,7 @@ use Rattle.std.specs.List.{list_any, position_or_len, before_first}
 use Rattle.ofx_types.specs.TextRules.{is_white, is_refused_in_text, trim_start}
 use Rattle.ofx_types.specs.TagForm.{IsWhite, is_value_byte}
 use Rattle.ofx_types.specs.TagFault.{is_open}
-use Rattle.ofx_tape.specs.OpenAggregates.{is_at_tag, front_of, behind_front}
+use Rattle.ofx_tape.specs.OpenAggregates.{is_at_tag, prefix_of, after_prefix}
 use Rattle.ofx_tape.proofs.NameKinds.{white_is_no_tag}
 
 -- ---- the first byte that passes a test
@@ -13,14 +13,14 @@ use Rattle.ofx_tape.proofs.NameKinds.{white_is_no_tag}
 position_here : (p : ℕ → Bool) (b : ℕ) (bytes : List ℕ) → p b ≡ true → position p (b ∷ bytes) ≡ Some 0
 position_here p b bytes passes = rw (passes, lt-ltb 0 (suc (length bytes)) (omega arith)) refl
 
-some_place : (there : Bool) (n i : ℕ) → cond there (Some n) None ≡ Some i → (there ≡ true) × (n ≡ i)
-some_place true n i e = (refl, cc)
-some_place false n i e = cc
+some_offset : (there : Bool) (n i : ℕ) → cond there (Some n) None ≡ Some i → (there ≡ true) × (n ≡ i)
+some_offset true n i e = (refl, cc)
+some_offset false n i e = cc
 
 position_later : (p : ℕ → Bool) (b : ℕ) (bytes : List ℕ) (i : ℕ) → p b ≡ false → position p bytes ≡ Some i → position p (b ∷ bytes) ≡ Some (suc i)
 position_later p b bytes i fails found =
     let n = position_or_len p bytes in
-    let parts = some_place (nat_lt n (length bytes)) n i found in
+    let parts = some_offset (nat_lt n (length bytes)) n i found in
     let inside : suc n < suc (length bytes) = omega (arith, ltb-true n (length bytes) parts.0) in
     rw (fails, one-add, lt-ltb (suc n) (suc (length bytes)) inside) (ap (λ k. Some (suc k)) parts.1)
 
@@ -89,10 +89,10 @@ white_then_tag (b ∷ bytes) at = by_cases (is_white b) refl (white_then_tag byt
         }
 
 -- Otherwise the first byte that isn't white space is refused.
-pub ink_at : (bytes : List ℕ) → is_at_tag (trim_start bytes) ≡ false →
+pub visible_at : (bytes : List ℕ) → is_at_tag (trim_start bytes) ≡ false →
     (i : ℕ) × (position (λ b. not (is_white b)) (text_at bytes) ≡ Some i) × (i + length (trim_start bytes) ≡ length bytes)
-ink_at [] at = absurd (both_ways true at refl)
-ink_at (b ∷ bytes) at = by_cases (is_white b) refl (ink_at bytes)
+visible_at [] at = absurd (both_ways true at refl)
+visible_at (b ∷ bytes) at = by_cases (is_white b) refl (visible_at bytes)
   where
     by_cases : (w : Bool) → is_white b ≡ w →
         (is_at_tag (trim_start bytes) ≡ false → (i : ℕ) × (position (λ c. not (is_white c)) (text_at bytes) ≡ Some i) × (i + length (trim_start bytes) ≡ length bytes)) →
@@ -120,30 +120,30 @@ pub not_true_is : (a : Bool) → not a ≡ true → a ≡ false
 not_true_is true e = cc
 not_true_is false e = refl
 
--- Where a tag comes after the bytes that may stand in a value, they are the text up to it.
-pub value_then_tag : (bytes : List ℕ) → is_at_tag (behind_front is_value_byte bytes) ≡ true → text_at bytes ≡ front_of is_value_byte bytes
+-- Where a tag comes after the bytes that may be in a value, they are the text up to it.
+pub value_then_tag : (bytes : List ℕ) → is_at_tag (after_prefix is_value_byte bytes) ≡ true → text_at bytes ≡ prefix_of is_value_byte bytes
 value_then_tag [] at = refl
 value_then_tag (b ∷ bytes) at = by_cases (is_value_byte b) refl (value_then_tag bytes)
   where
-    by_cases : (v : Bool) → is_value_byte b ≡ v → (is_at_tag (behind_front is_value_byte bytes) ≡ true → text_at bytes ≡ front_of is_value_byte bytes) →
-        text_at (b ∷ bytes) ≡ front_of is_value_byte (b ∷ bytes)
+    by_cases : (v : Bool) → is_value_byte b ≡ v → (is_at_tag (after_prefix is_value_byte bytes) ≡ true → text_at bytes ≡ prefix_of is_value_byte bytes) →
+        text_at (b ∷ bytes) ≡ prefix_of is_value_byte (b ∷ bytes)
     by_cases true e again =
         let parts = or_parts (is_open b) (is_refused_in_text b) (not_true_is (is_open b || is_refused_in_text b) e) in
         rw (e, parts.0, one-add (position_or_len (λ c. not (is_value_byte c)) bytes), one-add (position_or_len is_open bytes)) (ap (λ l. b ∷ l) (again (rw (e, one-add) at at)))
     by_cases false e again = rw (e, (let here : is_open b ≡ true = rw e at at in here)) refl
 
 -- Otherwise the first byte that may not stand in one is refused.
-pub refused_at_value : (bytes : List ℕ) → is_at_tag (behind_front is_value_byte bytes) ≡ false →
-    position is_refused_in_text (text_at bytes) ≡ Some (length (front_of is_value_byte bytes))
+pub refused_at_value : (bytes : List ℕ) → is_at_tag (after_prefix is_value_byte bytes) ≡ false →
+    position is_refused_in_text (text_at bytes) ≡ Some (length (prefix_of is_value_byte bytes))
 refused_at_value [] at = absurd (both_ways true at refl)
 refused_at_value (b ∷ bytes) at = by_cases (is_value_byte b) refl (refused_at_value bytes)
   where
     by_cases : (v : Bool) → is_value_byte b ≡ v →
-        (is_at_tag (behind_front is_value_byte bytes) ≡ false → position is_refused_in_text (text_at bytes) ≡ Some (length (front_of is_value_byte bytes))) →
-        position is_refused_in_text (text_at (b ∷ bytes)) ≡ Some (length (front_of is_value_byte (b ∷ bytes)))
+        (is_at_tag (after_prefix is_value_byte bytes) ≡ false → position is_refused_in_text (text_at bytes) ≡ Some (length (prefix_of is_value_byte bytes))) →
+        position is_refused_in_text (text_at (b ∷ bytes)) ≡ Some (length (prefix_of is_value_byte (b ∷ bytes)))
     by_cases true e again =
         let parts = or_parts (is_open b) (is_refused_in_text b) (not_true_is (is_open b || is_refused_in_text b) e) in
-        rw (e, parts.0, one-add (position_or_len (λ c. not (is_value_byte c)) bytes), one-add (position_or_len is_open bytes)) (position_later is_refused_in_text b (text_at bytes) (length (front_of is_value_byte bytes)) parts.1 (again (rw (e, one-add) at at)))
+        rw (e, parts.0, one-add (position_or_len (λ c. not (is_value_byte c)) bytes), one-add (position_or_len is_open bytes)) (position_later is_refused_in_text b (text_at bytes) (length (prefix_of is_value_byte bytes)) parts.1 (again (rw (e, one-add) at at)))
     by_cases false e again =
         let other : is_open b ≡ false = rw e at at in
         let either : (is_open b || is_refused_in_text b) ≡ true = not_false_is (is_open b || is_refused_in_text b) e in

@@ -10,7 +10,7 @@ use Rattle.ofx_types.specs.ValueForm.{decoded_past, decoded, value_of}
 use Rattle.ofx_types.proofs.Trimming.{trim_start-kept}
 use Rattle.ofx_tape.proofs.Decoding.{decoded-other, decoded-plain}
 
--- trimming at the end, from the front on
+-- trimming at the end, from the start on
 unfoldable pub cut_end : List ℕ → List ℕ
 cut_end [] = []
 cut_end (b ∷ bs) = cond (list_all is_white (b ∷ bs)) [] (b ∷ cut_end bs)
@@ -27,7 +27,7 @@ cut_end-kept x xs h = ap (λ b. cond b [] (x ∷ cut_end xs)) h
 all_white-kept : (x : ℕ) (xs : List ℕ) → is_white x ≡ false → list_all is_white (x ∷ xs) ≡ false
 all_white-kept x xs h = ap (λ b. b && list_all is_white xs) h
 
--- trimming in front of one more byte
+-- trimming before one more byte
 trim_start-last : (xs : List ℕ) (x : ℕ) → trim_start (xs ++ x ∷ []) ≡ cond (list_all is_white xs) (trim_start (x ∷ [])) (trim_start xs ++ x ∷ [])
 trim_start-last [] x = refl
 trim_start-last (y ∷ ys) x =
@@ -69,8 +69,8 @@ trim_end-cut (x ∷ xs) =
         ∙ ap (λ (l : List ℕ). x ∷ l) again
         ∙ elim (is_white x) as (λ b. x ∷ cut_end xs ≡ cond (b && false) [] (x ∷ cut_end xs)) [ true ↦ refl | false ↦ refl ]
 
-abbrev is_ink : ℕ → Bool
-is_ink b = not (is_white b)
+abbrev is_visible : ℕ → Bool
+is_visible b = not (is_white b)
 
 white_apart : (c b : ℕ) → is_white c ≡ false → is_white b ≡ true → nat_eq c b ≡ false
 white_apart c b plain white = by_cases (nat_eq c b) refl
@@ -79,18 +79,18 @@ white_apart c b plain white = by_cases (nat_eq c b) refl
     by_cases true h = let e : c ≡ b = eqb-true c b h in let kept : is_white c ≡ is_white b = ap is_white e in cc
     by_cases false h = h
 
-ink : (b : ℕ) → not (is_white b) ≡ true → is_white b ≡ false
-ink b h = by_cases (is_white b) refl
+visible : (b : ℕ) → not (is_white b) ≡ true → is_white b ≡ false
+visible b h = by_cases (is_white b) refl
   where
     by_cases : (w : Bool) → is_white b ≡ w → is_white b ≡ false
     by_cases true e = let flipped : not (is_white b) ≡ false = ap not e in cc
     by_cases false e = e
 
-white_or_ink : (b : ℕ) → (is_white b ≡ true) ⊎ (is_white b ≡ false)
-white_or_ink b = elim (is_white b) as (λ w. (w ≡ true) ⊎ (w ≡ false)) [ true ↦ inl refl | false ↦ inr refl ]
+white_or_visible : (b : ℕ) → (is_white b ≡ true) ⊎ (is_white b ≡ false)
+white_or_visible b = elim (is_white b) as (λ w. (w ≡ true) ⊎ (w ≡ false)) [ true ↦ inl refl | false ↦ inr refl ]
 
--- a name without white space stands at the front as before, where the end is trimmed
-starts_with-cut : (name bs : List ℕ) → list_all is_ink name ≡ true → starts_with nat_eq (cut_end bs) name ≡ starts_with nat_eq bs name
+-- a name without white space is at the start as before, where the end is trimmed
+starts_with-cut : (name bs : List ℕ) → list_all is_visible name ≡ true → starts_with nat_eq (cut_end bs) name ≡ starts_with nat_eq bs name
 unfolding cut_end
 starts_with-cut [] bs h = refl
 starts_with-cut (c ∷ cs) [] h = refl
@@ -99,7 +99,7 @@ starts_with-cut (c ∷ cs) (b ∷ bs) h = by_cases (list_all is_white (b ∷ bs)
     by_cases : (w : Bool) → list_all is_white (b ∷ bs) ≡ w → starts_with nat_eq (cut_end bs) cs ≡ starts_with nat_eq bs cs
         → starts_with nat_eq (cond w [] (b ∷ cut_end bs)) (c ∷ cs) ≡ starts_with nat_eq (b ∷ bs) (c ∷ cs)
     by_cases true e again =
-        let apart : nat_eq c b ≡ false = white_apart c b (ink c (and_parts _ _ h).0) (and_parts _ _ e).0 in
+        let apart : nat_eq c b ≡ false = white_apart c b (visible c (and_parts _ _ h).0) (and_parts _ _ e).0 in
         sym (ap (λ same. same && starts_with nat_eq bs cs) apart)
     by_cases false e again = ap (λ more. nat_eq c b && more) again
 
@@ -110,12 +110,12 @@ record Decodes (b : ℕ) (bs : List ℕ) : Type 0 where
   pub passed : ℕ
   pub same_kind : is_white byte ≡ is_white b
   pub is_alone : (passed ≡ 0) ⊎ (is_white b ≡ false)
-  pub is_ink_passed : list_all is_ink (take passed bs) ≡ true
+  pub is_visible_passed : list_all is_visible (take passed bs) ≡ true
   pub here : decoded (b ∷ bs) ≡ byte ∷ decoded_past passed bs
   pub cut : decoded (b ∷ cut_end bs) ≡ byte ∷ decoded_past passed (cut_end bs)
 
-taken : (name bs : List ℕ) → list_all is_ink name ≡ true → starts_with nat_eq bs name ≡ true → list_all is_ink (take (length name) bs) ≡ true
-taken name bs h e = ap (list_all is_ink) (sym ((bytes_eq-Decides name (take (length name) bs)).0 e)) ∙ h
+taken : (name bs : List ℕ) → list_all is_visible name ≡ true → starts_with nat_eq bs name ≡ true → list_all is_visible (take (length name) bs) ≡ true
+taken name bs h e = ap (list_all is_visible) (sym ((bytes_eq-Decides name (take (length name) bs)).0 e)) ∙ h
 
 at_ampersand : (bs : List ℕ) → Decodes 38 bs
 unfolding decoded_past
@@ -128,7 +128,7 @@ at_ampersand bs = by_lt (starts_with nat_eq bs (codes "lt;")) refl
       passed = 4;
       same_kind = refl;
       is_alone = inr refl;
-      is_ink_passed = taken (codes "amp;") bs refl e;
+      is_visible_passed = taken (codes "amp;") bs refl e;
       here = rw (no_lt, no_gt, e) refl;
       cut = rw (starts_with-cut (codes "lt;") bs refl, starts_with-cut (codes "gt;") bs refl, starts_with-cut (codes "amp;") bs refl, no_lt, no_gt, e) refl;
     }
@@ -137,7 +137,7 @@ at_ampersand bs = by_lt (starts_with nat_eq bs (codes "lt;")) refl
       passed = 0;
       same_kind = refl;
       is_alone = inr refl;
-      is_ink_passed = refl;
+      is_visible_passed = refl;
       here = rw (no_lt, no_gt, e) refl;
       cut = rw (starts_with-cut (codes "lt;") bs refl, starts_with-cut (codes "gt;") bs refl, starts_with-cut (codes "amp;") bs refl, no_lt, no_gt, e) refl;
     }
@@ -148,7 +148,7 @@ at_ampersand bs = by_lt (starts_with nat_eq bs (codes "lt;")) refl
       passed = 3;
       same_kind = refl;
       is_alone = inr refl;
-      is_ink_passed = taken (codes "gt;") bs refl e;
+      is_visible_passed = taken (codes "gt;") bs refl e;
       here = rw (no_lt, e) refl;
       cut = rw (starts_with-cut (codes "lt;") bs refl, starts_with-cut (codes "gt;") bs refl, no_lt, e) refl;
     }
@@ -160,7 +160,7 @@ at_ampersand bs = by_lt (starts_with nat_eq bs (codes "lt;")) refl
       passed = 3;
       same_kind = refl;
       is_alone = inr refl;
-      is_ink_passed = taken (codes "lt;") bs refl e;
+      is_visible_passed = taken (codes "lt;") bs refl e;
       here = rw e refl;
       cut = rw (starts_with-cut (codes "lt;") bs refl, e) refl;
     }
@@ -176,7 +176,7 @@ decodes_at b bs = by_cases (nat_eq b 38) refl
       passed = 0;
       same_kind = refl;
       is_alone = inl refl;
-      is_ink_passed = refl;
+      is_visible_passed = refl;
       here = decoded-other b bs h;
       cut = decoded-other b (cut_end bs) h;
     }
@@ -212,7 +212,7 @@ decoded-white b bs h = decoded-other b bs (eq_turned (white_apart 38 b refl h))
 trim_start-decoded : (raw : List ℕ) → trim_start (decoded raw) ≡ decoded (trim_start raw)
 unfolding decoded_past
 trim_start-decoded [] = refl
-trim_start-decoded (b ∷ bs) = by_cases (white_or_ink b) (decodes_at b bs) (trim_start-decoded bs)
+trim_start-decoded (b ∷ bs) = by_cases (white_or_visible b) (decodes_at b bs) (trim_start-decoded bs)
   where
     by_cases : (is_white b ≡ true) ⊎ (is_white b ≡ false) → Decodes b bs → trim_start (decoded bs) ≡ decoded (trim_start bs)
         → trim_start (decoded (b ∷ bs)) ≡ decoded (trim_start (b ∷ bs))
@@ -235,15 +235,15 @@ cut_end_step b bs false d h again =
     ∙ sym (ap decoded (cut_end-kept b bs h))
 
 -- the bytes to be passed over aren't white space
-cut_end-decoded_past : (n : ℕ) (raw : List ℕ) → list_all is_ink (take n raw) ≡ true → cut_end (decoded_past n raw) ≡ decoded_past n (cut_end raw)
+cut_end-decoded_past : (n : ℕ) (raw : List ℕ) → list_all is_visible (take n raw) ≡ true → cut_end (decoded_past n raw) ≡ decoded_past n (cut_end raw)
 unfolding decoded_past cut_end
 cut_end-decoded_past n [] h = refl
 cut_end-decoded_past zero (b ∷ bs) h =
     let d = decodes_at b bs in
-    cut_end_step b bs (list_all is_white (b ∷ bs)) d refl (cut_end-decoded_past d.passed bs d.is_ink_passed)
+    cut_end_step b bs (list_all is_white (b ∷ bs)) d refl (cut_end-decoded_past d.passed bs d.is_visible_passed)
 cut_end-decoded_past (suc n) (b ∷ bs) h =
     let parts = and_parts _ _ h in
-    cut_end-decoded_past n bs parts.1 ∙ sym (ap (decoded_past (suc n)) (cut_end-kept b bs (all_white-kept b bs (ink b parts.0))))
+    cut_end-decoded_past n bs parts.1 ∙ sym (ap (decoded_past (suc n)) (cut_end-kept b bs (all_white-kept b bs (visible b parts.0))))
 
 -- a value may be trimmed before it is decoded
 pub value_of-trimmed : (raw : List ℕ) → value_of raw ≡ decoded (trimmed raw)
@@ -253,7 +253,7 @@ value_of-trimmed raw =
     ∙ cut_end-decoded_past 0 (trim_start raw) refl
     ∙ ap decoded (sym (trim_end-cut (trim_start raw)))
 
--- and where no `&` stands in it nothing else is done
+-- and where no `&` is in it nothing else is done
 pub value_of-plain : (raw cut : List ℕ) → cut ≡ trimmed raw → list_any (λ b. nat_eq b 38) cut ≡ false → value_of raw ≡ cut
 value_of-plain raw cut e h = value_of-trimmed raw ∙ ap decoded (sym e) ∙ decoded-plain cut h
 

@@ -40,60 +40,60 @@ same_tag name other more others named other_named same =
     let parts = same_run is_close name other (62 ∷ more) (62 ∷ others) (name_avoids 62 name refl (name_bytes name named)) (name_avoids 62 other refl (name_bytes other other_named)) refl refl inner in
     (parts.0, ap (drop 1) parts.1)
 
--- A start tag at its place, the text after it, and what follows from the next tag on.
-record IsTagged (size : ℕ) (bytes : List ℕ) (place : ℕ) (name text next : List ℕ) : Type 0 where
+-- A start tag at its offset, the text after it, and what follows from the next tag on.
+record IsTagged (size : ℕ) (bytes : List ℕ) (offset : ℕ) (name text next : List ℕ) : Type 0 where
   has_name : is_name name ≡ true
   avoids : list_any is_open text ≡ false
   at : is_at_tag next ≡ true
-  placed : place + length bytes ≡ size
+  located : offset + length bytes ≡ size
   split : bytes ≡ tag name ++ (text ++ next)
 
-record IsSame (place other_place : ℕ) (name other_name text other_text next other_next : List ℕ) : Type 0 where
-  places : place ≡ other_place
+record IsSame (offset other_offset : ℕ) (name other_name text other_text next other_next : List ℕ) : Type 0 where
+  offsets : offset ≡ other_offset
   names : name ≡ other_name
   texts : text ≡ other_text
   nexts : next ≡ other_next
 
-same_tagged : (size place other_place : ℕ) (bytes others name other_name text other_text next other_next : List ℕ) →
-    IsTagged size bytes place name text next → IsTagged size others other_place other_name other_text other_next → bytes ≡ others →
-    IsSame place other_place name other_name text other_text next other_next
-same_tagged size place other_place bytes others name other_name text other_text next other_next one another same =
+same_tagged : (size offset other_offset : ℕ) (bytes others name other_name text other_text next other_next : List ℕ) →
+    IsTagged size bytes offset name text next → IsTagged size others other_offset other_name other_text other_next → bytes ≡ others →
+    IsSame offset other_offset name other_name text other_text next other_next
+same_tagged size offset other_offset bytes others name other_name text other_text next other_next one another same =
     let tags = same_tag name other_name (text ++ next) (other_text ++ other_next) one.has_name another.has_name (sym one.split ∙ same ∙ another.split) in
     let parts = same_run is_open text other_text next other_next one.avoids another.avoids one.at another.at tags.1 in
     record {
-      places = omega (arith, one.placed, another.placed, ap length same);
+      offsets = omega (arith, one.located, another.located, ap length same);
       names = tags.0;
       texts = parts.0;
       nexts = parts.1;
     }
 
-tagged_element : (size room : ℕ) (bytes : List ℕ) (place : ℕ) (name text : List ℕ) (behind : Tree) (rest : List ℕ) (spells : Spells size room bytes (element place name text behind) rest) →
-    is_at_end rest ≡ true → IsTagged size bytes place name text (spells.0 ++ spells.1)
-tagged_element size room bytes place name text behind rest spells at =
-    let (closing, more, is_one, placed, split, further) = spells in
+tagged_element : (size room : ℕ) (bytes : List ℕ) (offset : ℕ) (name text : List ℕ) (suffix : Tree) (rest : List ℕ) (spells : Spells size room bytes (element offset name text suffix) rest) →
+    is_at_end rest ≡ true → IsTagged size bytes offset name text (spells.0 ++ spells.1)
+tagged_element size room bytes offset name text suffix rest spells at =
+    let (closing, more, is_one, located, split, further) = spells in
     record {
       has_name = is_one.has_name;
       avoids = value_avoids text is_one.is_value;
-      at = closing_at_tag name closing more is_one.closes (spelled_at_tag size room more behind rest further (end_at_tag rest at));
-      placed = placed;
+      at = closing_at_tag name closing more is_one.closes (spelled_at_tag size room more suffix rest further (end_at_tag rest at));
+      located = located;
       split = split;
     }
 
-tagged_aggregate : (size room : ℕ) (bytes : List ℕ) (place : ℕ) (name text : List ℕ) (inner behind : Tree) (rest : List ℕ)
-    (spells : Spells size room bytes (aggregate place name text inner behind) rest) → IsTagged size bytes place name text spells.0
-tagged_aggregate size room bytes place name text inner behind rest spells =
-    let (within, white, more, is_one, has_room, placed, split, inside, further) = spells in
+tagged_aggregate : (size room : ℕ) (bytes : List ℕ) (offset : ℕ) (name text : List ℕ) (inner suffix : Tree) (rest : List ℕ)
+    (spells : Spells size room bytes (aggregate offset name text inner suffix) rest) → IsTagged size bytes offset name text spells.0
+tagged_aggregate size room bytes offset name text inner suffix rest spells =
+    let (within, white, more, is_one, has_room, located, split, inside, further) = spells in
     record {
       has_name = is_one.has_name;
       avoids = white_avoids text is_one.is_white;
       at = spelled_at_tag size (room - 1) within inner (end_tag name ++ (white ++ more)) inside refl;
-      placed = placed;
+      located = located;
       split = split;
     }
 
 -- what is tagged doesn't end there
-tagged_no_end : (size place : ℕ) (bytes name text next rest : List ℕ) → IsTagged size bytes place name text next → rest ≡ bytes → is_at_end rest ≡ true → ⊥
-tagged_no_end size place bytes name text next rest tagged same at =
+tagged_no_end : (size offset : ℕ) (bytes name text next rest : List ℕ) → IsTagged size bytes offset name text next → rest ≡ bytes → is_at_end rest ≡ true → ⊥
+tagged_no_end size offset bytes name text next rest tagged same at =
     both_ways (is_at_end rest) (rw (same ∙ tagged.split) (start_no_end name (text ++ next) tagged.has_name)) at
 
 -- an end tag stands where it closes an element, and not where the element has none
@@ -121,53 +121,53 @@ pub same_tree : (a b : Tree) (size room other_room : ℕ) (bytes other_bytes res
     is_at_end rest ≡ true → is_at_end others ≡ true → (a ≡ b) × (rest ≡ others)
 same_tree nothing nothing size room other_room bytes other_bytes rest others one another same at other_at =
     (refl, sym one ∙ same ∙ another)
-same_tree nothing (element place name text behind) size room other_room bytes other_bytes rest others one another same at other_at =
-    absurd (tagged_no_end size place other_bytes name text (another.0 ++ another.1) rest
-    (tagged_element size other_room other_bytes place name text behind others another other_at) (sym one ∙ same) at)
-same_tree nothing (aggregate place name text inner behind) size room other_room bytes other_bytes rest others one another same at other_at =
-    absurd (tagged_no_end size place other_bytes name text another.0 rest
-    (tagged_aggregate size other_room other_bytes place name text inner behind others another) (sym one ∙ same) at)
-same_tree (element place name text behind) nothing size room other_room bytes other_bytes rest others one another same at other_at =
-    absurd (tagged_no_end size place bytes name text (one.0 ++ one.1) others
-    (tagged_element size room bytes place name text behind rest one at) (sym (same ∙ another)) other_at)
-same_tree (aggregate place name text inner behind) nothing size room other_room bytes other_bytes rest others one another same at other_at =
-    absurd (tagged_no_end size place bytes name text one.0 others
-    (tagged_aggregate size room bytes place name text inner behind rest one) (sym (same ∙ another)) other_at)
-same_tree (element place name text behind) (aggregate other_place other_name other_text other_inner other_behind) size room other_room bytes other_bytes rest others one another same at other_at =
-    let are = same_tagged size place other_place bytes other_bytes name other_name text other_text (one.0 ++ one.1) another.0
-    (tagged_element size room bytes place name text behind rest one at)
-    (tagged_aggregate size other_room other_bytes other_place other_name other_text other_inner other_behind others another) same in
+same_tree nothing (element offset name text suffix) size room other_room bytes other_bytes rest others one another same at other_at =
+    absurd (tagged_no_end size offset other_bytes name text (another.0 ++ another.1) rest
+    (tagged_element size other_room other_bytes offset name text suffix others another other_at) (sym one ∙ same) at)
+same_tree nothing (aggregate offset name text inner suffix) size room other_room bytes other_bytes rest others one another same at other_at =
+    absurd (tagged_no_end size offset other_bytes name text another.0 rest
+    (tagged_aggregate size other_room other_bytes offset name text inner suffix others another) (sym one ∙ same) at)
+same_tree (element offset name text suffix) nothing size room other_room bytes other_bytes rest others one another same at other_at =
+    absurd (tagged_no_end size offset bytes name text (one.0 ++ one.1) others
+    (tagged_element size room bytes offset name text suffix rest one at) (sym (same ∙ another)) other_at)
+same_tree (aggregate offset name text inner suffix) nothing size room other_room bytes other_bytes rest others one another same at other_at =
+    absurd (tagged_no_end size offset bytes name text one.0 others
+    (tagged_aggregate size room bytes offset name text inner suffix rest one) (sym (same ∙ another)) other_at)
+same_tree (element offset name text suffix) (aggregate other_offset other_name other_text other_inner other_after) size room other_room bytes other_bytes rest others one another same at other_at =
+    let are = same_tagged size offset other_offset bytes other_bytes name other_name text other_text (one.0 ++ one.1) another.0
+    (tagged_element size room bytes offset name text suffix rest one at)
+    (tagged_aggregate size other_room other_bytes other_offset other_name other_text other_inner other_after others another) same in
     absurd (both_ways (is_element name text) (rw (are.names, are.texts) (another.3).is_one) (one.2).is_one)
-same_tree (aggregate place name text inner behind) (element other_place other_name other_text other_behind) size room other_room bytes other_bytes rest others one another same at other_at =
-    let are = same_tagged size place other_place bytes other_bytes name other_name text other_text one.0 (another.0 ++ another.1)
-    (tagged_aggregate size room bytes place name text inner behind rest one)
-    (tagged_element size other_room other_bytes other_place other_name other_text other_behind others another other_at) same in
+same_tree (aggregate offset name text inner suffix) (element other_offset other_name other_text other_after) size room other_room bytes other_bytes rest others one another same at other_at =
+    let are = same_tagged size offset other_offset bytes other_bytes name other_name text other_text one.0 (another.0 ++ another.1)
+    (tagged_aggregate size room bytes offset name text inner suffix rest one)
+    (tagged_element size other_room other_bytes other_offset other_name other_text other_after others another other_at) same in
     absurd (both_ways (is_element name text) (one.3).is_one (rw (are.names, are.texts) (another.2).is_one))
-same_tree (element place name text behind) (element other_place other_name other_text other_behind) size room other_room bytes other_bytes rest others one another same at other_at =
-    let (closing, more, is_one, placed, split, further) = one in
-    let (other_closing, other_more, is_another, other_placed, other_split, other_further) = another in
-    let are = same_tagged size place other_place bytes other_bytes name other_name text other_text (closing ++ more) (other_closing ++ other_more)
-    (tagged_element size room bytes place name text behind rest one at)
-    (tagged_element size other_room other_bytes other_place other_name other_text other_behind others another other_at) same in
+same_tree (element offset name text suffix) (element other_offset other_name other_text other_after) size room other_room bytes other_bytes rest others one another same at other_at =
+    let (closing, more, is_one, located, split, further) = one in
+    let (other_closing, other_more, is_another, other_located, other_split, other_further) = another in
+    let are = same_tagged size offset other_offset bytes other_bytes name other_name text other_text (closing ++ more) (other_closing ++ other_more)
+    (tagged_element size room bytes offset name text suffix rest one at)
+    (tagged_element size other_room other_bytes other_offset other_name other_text other_after others another other_at) same in
     let more_is = same_closing name closing more other_closing other_more is_one.closes (subst (λ n. Closes n other_closing other_more) (sym are.names) is_another.closes)
-    (spelled_at_tag size room more behind rest further (end_at_tag rest at))
-    (spelled_at_tag size other_room other_more other_behind others other_further (end_at_tag others other_at)) are.nexts in
-    let again = same_tree behind other_behind size room other_room more other_more rest others further other_further more_is at other_at in
-    (cc (are.places, are.names, are.texts, again.0), again.1)
-same_tree (aggregate place name text inner behind) (aggregate other_place other_name other_text other_inner other_behind) size room other_room bytes other_bytes rest others one another same at other_at =
-    let (within, white, more, is_one, has_room, placed, split, inside, further) = one in
-    let (other_within, other_white, other_more, is_another, other_has_room, other_placed, other_split, other_inside, other_further) = another in
-    let are = same_tagged size place other_place bytes other_bytes name other_name text other_text within other_within
-    (tagged_aggregate size room bytes place name text inner behind rest one)
-    (tagged_aggregate size other_room other_bytes other_place other_name other_text other_inner other_behind others another) same in
+    (spelled_at_tag size room more suffix rest further (end_at_tag rest at))
+    (spelled_at_tag size other_room other_more other_after others other_further (end_at_tag others other_at)) are.nexts in
+    let again = same_tree suffix other_after size room other_room more other_more rest others further other_further more_is at other_at in
+    (cc (are.offsets, are.names, are.texts, again.0), again.1)
+same_tree (aggregate offset name text inner suffix) (aggregate other_offset other_name other_text other_inner other_after) size room other_room bytes other_bytes rest others one another same at other_at =
+    let (within, white, more, is_one, has_room, located, split, inside, further) = one in
+    let (other_within, other_white, other_more, is_another, other_has_room, other_located, other_split, other_inside, other_further) = another in
+    let are = same_tagged size offset other_offset bytes other_bytes name other_name text other_text within other_within
+    (tagged_aggregate size room bytes offset name text inner suffix rest one)
+    (tagged_aggregate size other_room other_bytes other_offset other_name other_text other_inner other_after others another) same in
     let inner_is = same_tree inner other_inner size (room - 1) (other_room - 1) within other_within
     (end_tag name ++ (white ++ more)) (end_tag other_name ++ (other_white ++ other_more)) inside other_inside are.nexts refl refl in
     let whites = append_cancel_left (end_tag name) (white ++ more) (other_white ++ other_more) (rw (← are.names) at inner_is.1) in
-    let parts = same_run is_open white other_white more other_more (white_avoids white is_one.is_white_behind) (white_avoids other_white is_another.is_white_behind)
-    (spelled_at_tag size room more behind rest further (end_at_tag rest at))
-    (spelled_at_tag size other_room other_more other_behind others other_further (end_at_tag others other_at)) whites in
-    let again = same_tree behind other_behind size room other_room more other_more rest others further other_further parts.1 at other_at in
-    (cc (are.places, are.names, are.texts, inner_is.0, again.0), again.1)
+    let parts = same_run is_open white other_white more other_more (white_avoids white is_one.is_white_after) (white_avoids other_white is_another.is_white_after)
+    (spelled_at_tag size room more suffix rest further (end_at_tag rest at))
+    (spelled_at_tag size other_room other_more other_after others other_further (end_at_tag others other_at)) whites in
+    let again = same_tree suffix other_after size room other_room more other_more rest others further other_further parts.1 at other_at in
+    (cc (are.offsets, are.names, are.texts, inner_is.0, again.0), again.1)
 
 -- A body spells one tree.
 pub one_tree : (body : List ℕ) (a b : Tree) → SpellsBody body a → SpellsBody body b → a ≡ b

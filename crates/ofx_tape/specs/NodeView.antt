@@ -5,7 +5,7 @@ use Rattle.ofx_tape.specs.Slices.{AreInside}
 use Rattle.ofx_tape.specs.declared.tape.Node.{Node}
 
 abbrev pub node_view : Node → TagNode
-node_view n = record { is_element = n.element; name = n.name.now; text = n.value.now; place = n.at; after = n.after }
+node_view n = record { is_element = n.element; name = n.name.now; text = n.value.now; offset = n.at; after = n.after }
 
 -- Each node ends after itself, and among the nodes there are.
 abbrev pub AreNested : List TagNode → Type 0

@@ -44,18 +44,18 @@ Advances old new rest (Ok next) = (new.body ≡ old.body) × IsRead new next.now
 Advances old new rest (Err fault) = IsTapeRefusal old.body.now fault
 
 -- The rest begins with a tag of this name.
-pub record IsTagAt (spelled : List ℕ → List ℕ) (r : Reader) (rest name behind : List ℕ) : Type 0 where
+pub record IsTagAt (spelled : List ℕ → List ℕ) (r : Reader) (rest name suffix : List ℕ) : Type 0 where
   pub read : IsRead r rest
   pub has_name : is_name name ≡ true
-  pub split : rest ≡ spelled name ++ behind
+  pub split : rest ≡ spelled name ++ suffix
 
 -- It begins with a start tag inside OFX, or with that of OFX.
-pub record IsStartAt (r : Reader) (rest name behind : List ℕ) : Type 0 where
-  pub at : IsTagAt tag r rest name behind
+pub record IsStartAt (r : Reader) (rest name suffix : List ℕ) : Type 0 where
+  pub at : IsTagAt tag r rest name suffix
   pub is_open : r.has_ended ≡ false
   pub is_right : ((r.depth == 0) && not (bytes_eq name (codes "OFX"))) ≡ false
 
 -- An end tag where no aggregate is open is no first tag, and closes none after the end of OFX.
 abbrev pub IsFaultOfEnd : Bool → ℕ → List ℕ → TapeFault → Type 0
-IsFaultOfEnd true size rest fault = (place : ℕ) × (fault ≡ Mismatch place) × (place + length rest ≡ size)
-IsFaultOfEnd false size rest fault = (place : ℕ) × (fault ≡ Tag place) × (place + length rest ≡ size)
+IsFaultOfEnd true size rest fault = (offset : ℕ) × (fault ≡ Mismatch offset) × (offset + length rest ≡ size)
+IsFaultOfEnd false size rest fault = (offset : ℕ) × (fault ≡ Tag offset) × (offset + length rest ≡ size)

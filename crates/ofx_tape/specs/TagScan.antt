@@ -1,8 +1,8 @@
--- What stands after the `<` of a tag.
+-- What follows the `<` of a tag.
 use Rattle.std.specs.Prelude.{◌≡◌, ℕ, ◌<◌, ◌≤◌, ◌⊎◌, ◌-◌, ◌==◌, ◌&&◌, Bool, true, false, List, [], ◌∷◌, ◌++◌, length}
 use Rattle.std.specs.List.{list_all}
 use Rattle.ofx_types.specs.TagNames.{is_name, is_name_byte}
-use Rattle.ofx_types.specs.TagFault.{at_place, no_tag, pieces_behind}
+use Rattle.ofx_types.specs.TagFault.{at_offset, no_tag, pieces_after}
 use Rattle.ofx_tape.specs.declared.scan.NameAt.{NameAt}
 use Rattle.ofx_tape.specs.declared.scan.NameAt.TheVariants as names
 use Rattle.ofx_tape.specs.declared.scan.TagAt.{TagAt}
@@ -16,16 +16,16 @@ pub record IsNoName (bytes : List ℕ) : Type 0 where
       ⊎ ((b : ℕ) × (more : List ℕ) × (bytes ≡ name ++ b ∷ more) × (is_name_byte b ≡ false) × (((b == 62) && is_name name) ≡ false))
 
 abbrev pub IsNameAt : List ℕ → NameAt → Type 0
-IsNameAt bytes (names.Whole name behind) = (is_name name.now ≡ true) × (bytes ≡ name.now ++ 62 ∷ behind.now)
+IsNameAt bytes (names.Whole name suffix) = (is_name name.now ≡ true) × (bytes ≡ name.now ++ 62 ∷ suffix.now)
 IsNameAt bytes names.Unfinished = (list_all is_name_byte bytes ≡ true) × (length bytes ≤ 32)
 IsNameAt bytes names.Broken = IsNoName bytes
 
 -- The `<` begins no tag, and is the last piece of a body of any size.
 abbrev pub BeginsNoTag : Bool → List ℕ → Type 0
-BeginsNoTag is_unfinished bytes = (size : ℕ) → pieces_behind size bytes ≡ at_place (size - length bytes) (no_tag is_unfinished) ∷ []
+BeginsNoTag is_unfinished bytes = (size : ℕ) → pieces_after size bytes ≡ at_offset (size - length bytes) (no_tag is_unfinished) ∷ []
 
-abbrev pub IsTagBehind : List ℕ → TagAt → Type 0
-IsTagBehind bytes (tags.Start name behind) = (is_name name.now ≡ true) × (bytes ≡ name.now ++ 62 ∷ behind.now)
-IsTagBehind bytes (tags.End name behind) = (is_name name.now ≡ true) × (bytes ≡ 47 ∷ (name.now ++ 62 ∷ behind.now))
-IsTagBehind bytes tags.Unfinished = BeginsNoTag true (60 ∷ bytes)
-IsTagBehind bytes tags.Broken = BeginsNoTag false (60 ∷ bytes)
+abbrev pub IsTagAfter : List ℕ → TagAt → Type 0
+IsTagAfter bytes (tags.Start name suffix) = (is_name name.now ≡ true) × (bytes ≡ name.now ++ 62 ∷ suffix.now)
+IsTagAfter bytes (tags.End name suffix) = (is_name name.now ≡ true) × (bytes ≡ 47 ∷ (name.now ++ 62 ∷ suffix.now))
+IsTagAfter bytes tags.Unfinished = BeginsNoTag true (60 ∷ bytes)
+IsTagAfter bytes tags.Broken = BeginsNoTag false (60 ∷ bytes)

@@ -11,7 +11,7 @@ use std::alloc::Global;
 /// The most bytes of a short value, which is decoded on the stack.
 pub const SHORT_VALUE: usize = 64;
 
-/// Whether a `&` stands among the bytes; without one they stand for themselves.
+/// Whether a `&` is among the bytes; without one they stand for themselves.
 pub(crate) fn has_ampersand(raw: &[u8]) -> bool
     ensures { result ≡ list_any (λ b. b == 38) raw.now }
 {
@@ -25,15 +25,15 @@ pub(crate) fn decode(alloc: Global, raw: &[u8]) -> Result<Vec<u8>, OutOfMemory>
 {
     let mut value = Vec::with_capacity(alloc, raw.len())?;
     let mut rest = raw;
-    while let [first, behind @ ..] = rest {
-        let (byte, tail) = decoded_first(*first, behind);
+    while let [first, suffix @ ..] = rest {
+        let (byte, tail) = decoded_first(*first, suffix);
         value.push(byte)?;
         rest = tail;
     }
     Ok(value)
 }
 
-/// Puts the bytes that raw bytes stand for at the front of the room, and answers how many they are: `None` where they are
+/// Puts the bytes that raw bytes stand for at the start of the room, and answers how many they are: `None` where they are
 /// more than the room has.
 #[tactic(auto, using(crate::proofs::Decoding::decoded_ends))]
 pub(crate) fn decode_within(raw: &[u8], room: &mut [u8; SHORT_VALUE]) -> Option<usize>
@@ -43,11 +43,11 @@ pub(crate) fn decode_within(raw: &[u8], room: &mut [u8; SHORT_VALUE]) -> Option<
 {
     let mut rest = raw;
     let mut count = 0;
-    while let [first, behind @ ..] = rest {
+    while let [first, suffix @ ..] = rest {
         if count == SHORT_VALUE {
             return None;
         }
-        let (byte, tail) = decoded_first(*first, behind);
+        let (byte, tail) = decoded_first(*first, suffix);
         room[count] = byte;
         count += 1;
         rest = tail;
@@ -62,8 +62,8 @@ pub(crate) fn decodes_to(raw: &[u8], text: &[u8]) -> bool
 {
     let mut rest = raw;
     let mut wanted = text;
-    while let [first, behind @ ..] = rest {
-        let (byte, tail) = decoded_first(*first, behind);
+    while let [first, suffix @ ..] = rest {
+        let (byte, tail) = decoded_first(*first, suffix);
         let [next, more @ ..] = wanted else {
             return false;
         };
@@ -83,23 +83,23 @@ pub(crate) fn decoded_len(raw: &[u8]) -> usize
 {
     let mut rest = raw;
     let mut count = 0;
-    while let [first, behind @ ..] = rest {
-        let (_byte, tail) = decoded_first(*first, behind);
+    while let [first, suffix @ ..] = rest {
+        let (_byte, tail) = decoded_first(*first, suffix);
         count += 1;
         rest = tail;
     }
     count
 }
 
-/// The place, among the bytes that raw bytes stand for, of the first control byte but tab, LF and CR.
+/// The offset, among the bytes that raw bytes stand for, of the first control byte but tab, LF and CR.
 #[tactic(auto, using(crate::proofs::Decoding::decoded_ends))]
 pub(crate) fn first_refused(raw: &[u8]) -> Option<usize>
     ensures { result ≡ position is_refused_in_text (decoded raw.now) }
 {
     let mut rest = raw;
     let mut count = 0;
-    while let [first, behind @ ..] = rest {
-        let (byte, tail) = decoded_first(*first, behind);
+    while let [first, suffix @ ..] = rest {
+        let (byte, tail) = decoded_first(*first, suffix);
         if byte < 0x20 && !is_white_space(byte) {
             return Some(count);
         }
@@ -110,31 +110,31 @@ pub(crate) fn first_refused(raw: &[u8]) -> Option<usize>
 }
 
 /// The byte that the first bytes stand for, and the bytes after those.
-#[tactic(auto, using(crate::proofs::Decoding::decoded_front))]
-fn decoded_first(first: u8, behind: &[u8]) -> (u8, &[u8])
-    ensures value { decoded (first ∷ behind.now) ≡ result.0 ∷ decoded result.1.now }
-    ensures shorter { length result.1.now ≤ length behind.now }
+#[tactic(auto, using(crate::proofs::Decoding::decoded_prefix))]
+fn decoded_first(first: u8, suffix: &[u8]) -> (u8, &[u8])
+    ensures value { decoded (first ∷ suffix.now) ≡ result.0 ∷ decoded result.1.now }
+    ensures shorter { length result.1.now ≤ length suffix.now }
 {
     if first == b'&' {
-        return decoded_entity(behind);
+        return decoded_entity(suffix);
     }
-    (first, behind)
+    (first, suffix)
 }
 
 /// The byte that a `&` and the first bytes after it stand for, and the bytes after those.
-#[tactic(auto, using(crate::proofs::Decoding::decoded_front))]
-fn decoded_entity(behind: &[u8]) -> (u8, &[u8])
-    ensures value { decoded (38 ∷ behind.now) ≡ result.0 ∷ decoded result.1.now }
-    ensures shorter { length result.1.now ≤ length behind.now }
+#[tactic(auto, using(crate::proofs::Decoding::decoded_prefix))]
+fn decoded_entity(suffix: &[u8]) -> (u8, &[u8])
+    ensures value { decoded (38 ∷ suffix.now) ≡ result.0 ∷ decoded result.1.now }
+    ensures shorter { length result.1.now ≤ length suffix.now }
 {
-    if behind.starts_with(b"lt;") {
-        return (b'<', behind.split_at(3).1);
+    if suffix.starts_with(b"lt;") {
+        return (b'<', suffix.split_at(3).1);
     }
-    if behind.starts_with(b"gt;") {
-        return (b'>', behind.split_at(3).1);
+    if suffix.starts_with(b"gt;") {
+        return (b'>', suffix.split_at(3).1);
     }
-    if behind.starts_with(b"amp;") {
-        return (b'&', behind.split_at(4).1);
+    if suffix.starts_with(b"amp;") {
+        return (b'&', suffix.split_at(4).1);
     }
-    (b'&', behind)
+    (b'&', suffix)
 }

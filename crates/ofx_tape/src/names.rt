@@ -10,14 +10,14 @@ ghost use Rattle.ofx_tape.specs.NamesOfLength.{of_length};
 
 use crate::scan::{is_tag_next, skip_white};
 
-/// Whether a start tag of this name, in front of these bytes, is an element's.
+/// Whether a start tag of this name, before these bytes, is an element's.
 ///
 /// Where no text but white space stands up to the next `<`, the name must always be an element's; where other text does,
 /// it must not always be an aggregate's.
-pub(crate) fn begins_element(name: &[u8], behind: &[u8]) -> bool
-    ensures { result ≡ is_element name.now (before_first is_open behind.now) }
+pub(crate) fn begins_element(name: &[u8], suffix: &[u8]) -> bool
+    ensures { result ≡ is_element name.now (before_first is_open suffix.now) }
 {
-    if is_tag_next(skip_white(behind)) {
+    if is_tag_next(skip_white(suffix)) {
         return is_element_name(name);
     }
     !is_aggregate_name(name)

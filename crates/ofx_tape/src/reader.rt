@@ -8,7 +8,7 @@ ghost use Rattle.ofx_types.specs.TagForm.{end_tag};
 ghost use Rattle.ofx_types.specs.TagNames.{is_name, is_element};
 
 use crate::names::begins_element;
-use crate::scan::{TagAt, is_tag_next, skip_white, split_value, tag_behind};
+use crate::scan::{TagAt, is_tag_next, skip_white, split_value, tag_after};
 use crate::tape::Node;
 use ofx_types::TapeFault;
 use std::alloc::Global;
@@ -72,22 +72,22 @@ impl<'a> Reader<'a> {
     pub(crate) fn read_tag(
         &mut self,
         rest: &'a [u8],
-        behind: &'a [u8],
+        suffix: &'a [u8],
     ) -> Result<&'a [u8], TapeFault>
         requires read { IsRead self.old rest.now }
-        requires at_tag { rest.now ≡ 60 ∷ behind.now }
+        requires at_tag { rest.now ≡ 60 ∷ suffix.now }
         ensures { Advances self.old self.new rest.now result }
     {
-        match tag_behind(behind) {
+        match tag_after(suffix) {
             TagAt::Start(name, more) => self.start(rest, name, more),
             TagAt::End(name, more) => self.end(rest, name, more),
             TagAt::Unfinished => Err(TapeFault::Cut(self.body.len() as u64)),
-            TagAt::Broken => Err(TapeFault::Tag(self.place(rest))),
+            TagAt::Broken => Err(TapeFault::Tag(self.offset(rest))),
         }
     }
 
-    /// The number of bytes in front of the rest.
-    fn place(&self, rest: &[u8]) -> u64
+    /// The number of bytes before the rest.
+    fn offset(&self, rest: &[u8]) -> u64
         requires { length rest.now ≤ length self.now.body.now }
         ensures { result + length rest.now ≡ length self.now.body.now }
     {
@@ -99,21 +99,21 @@ impl<'a> Reader<'a> {
         &mut self,
         rest: &'a [u8],
         name: &'a [u8],
-        behind: &'a [u8],
+        suffix: &'a [u8],
     ) -> Result<&'a [u8], TapeFault>
-        requires { IsTagAt tag self.old rest.now name.now behind.now }
+        requires { IsTagAt tag self.old rest.now name.now suffix.now }
         ensures { Advances self.old self.new rest.now result }
     {
         if self.has_ended {
-            return Err(TapeFault::Tag(self.place(rest)));
+            return Err(TapeFault::Tag(self.offset(rest)));
         }
         if self.is_wrong_first(name) {
-            return Err(TapeFault::Tag(self.place(rest)));
+            return Err(TapeFault::Tag(self.offset(rest)));
         }
-        if begins_element(name, behind) {
-            self.element(rest, name, behind)
+        if begins_element(name, suffix) {
+            self.element(rest, name, suffix)
         } else {
-            self.aggregate(rest, name, behind)
+            self.aggregate(rest, name, suffix)
         }
     }
 
@@ -129,15 +129,15 @@ impl<'a> Reader<'a> {
         &mut self,
         rest: &'a [u8],
         name: &'a [u8],
-        behind: &'a [u8],
+        suffix: &'a [u8],
     ) -> Result<&'a [u8], TapeFault>
-        requires start { IsStartAt self.old rest.now name.now behind.now }
-        requires is_one { is_element name.now (before_first is_open behind.now) ≡ true }
+        requires start { IsStartAt self.old rest.now name.now suffix.now }
+        requires is_one { is_element name.now (before_first is_open suffix.now) ≡ true }
         ensures { Advances self.old self.new rest.now result }
     {
-        let (value, next) = split_value(behind);
+        let (value, next) = split_value(suffix);
         if !is_tag_next(next) {
-            return Err(TapeFault::Tag(self.place(next)));
+            return Err(TapeFault::Tag(self.offset(next)));
         }
         let node = Node {
             element: true,
@@ -158,24 +158,24 @@ impl<'a> Reader<'a> {
         &mut self,
         rest: &'a [u8],
         name: &'a [u8],
-        behind: &'a [u8],
+        suffix: &'a [u8],
     ) -> Result<&'a [u8], TapeFault>
-        requires start { IsStartAt self.old rest.now name.now behind.now }
-        requires is_none { is_element name.now (before_first is_open behind.now) ≡ false }
+        requires start { IsStartAt self.old rest.now name.now suffix.now }
+        requires is_none { is_element name.now (before_first is_open suffix.now) ≡ false }
         ensures { Advances self.old self.new rest.now result }
     {
         if self.depth == 16 {
-            return Err(TapeFault::Depth(self.place(rest)));
+            return Err(TapeFault::Depth(self.offset(rest)));
         }
-        let next = skip_white(behind);
+        let next = skip_white(suffix);
         if !is_tag_next(next) {
-            return Err(TapeFault::Tag(self.place(next)));
+            return Err(TapeFault::Tag(self.offset(next)));
         }
         let index = self.nodes.len();
         let node = Node {
             element: false,
             name,
-            value: behind.split_at(behind.len() - next.len()).0,
+            value: suffix.split_at(suffix.len() - next.len()).0,
             at: self.body.len() - rest.len(),
             after: 0,
         };
@@ -193,17 +193,17 @@ impl<'a> Reader<'a> {
         &mut self,
         rest: &'a [u8],
         name: &'a [u8],
-        behind: &'a [u8],
+        suffix: &'a [u8],
     ) -> Result<&'a [u8], TapeFault>
-        requires { IsTagAt end_tag self.old rest.now name.now behind.now }
+        requires { IsTagAt end_tag self.old rest.now name.now suffix.now }
         ensures { Advances self.old self.new rest.now result }
     {
         if !self.is_end_of_element(name) {
-            return self.end_aggregate(rest, name, behind);
+            return self.end_aggregate(rest, name, suffix);
         }
-        let next = skip_white(behind);
+        let next = skip_white(suffix);
         if !is_tag_next(next) {
-            return Err(TapeFault::Tag(self.place(next)));
+            return Err(TapeFault::Tag(self.offset(next)));
         }
         self.element = None;
         Ok(next)
@@ -224,9 +224,9 @@ impl<'a> Reader<'a> {
         &mut self,
         rest: &'a [u8],
         name: &'a [u8],
-        behind: &'a [u8],
+        suffix: &'a [u8],
     ) -> Result<&'a [u8], TapeFault>
-        requires at { IsTagAt end_tag self.old rest.now name.now behind.now }
+        requires at { IsTagAt end_tag self.old rest.now name.now suffix.now }
         requires is_other { is_name_of name.now (element_in self.old) ≡ false }
         ensures { Advances self.old self.new rest.now result }
     {
@@ -235,11 +235,11 @@ impl<'a> Reader<'a> {
         }
         let index = self.open[self.depth - 1];
         if self.nodes[index].name != name {
-            return Err(TapeFault::Mismatch(self.place(rest)));
+            return Err(TapeFault::Mismatch(self.offset(rest)));
         }
-        let next = skip_white(behind);
+        let next = skip_white(suffix);
         if !is_tag_next(next) {
-            return Err(TapeFault::Tag(self.place(next)));
+            return Err(TapeFault::Tag(self.offset(next)));
         }
         let after = self.nodes.len();
         self.nodes[index].after = after;
@@ -255,9 +255,9 @@ impl<'a> Reader<'a> {
         ensures { IsFaultOfEnd self.now.has_ended (length self.now.body.now) rest.now result }
     {
         if self.has_ended {
-            TapeFault::Mismatch(self.place(rest))
+            TapeFault::Mismatch(self.offset(rest))
         } else {
-            TapeFault::Tag(self.place(rest))
+            TapeFault::Tag(self.offset(rest))
         }
     }
 }

@@ -1,16 +1,16 @@
-//! What stands at the front of bytes: a tag, white space, a value.
+//! What is at the prefix of bytes: a tag, white space, a value.
 
 ghost use Rattle.std.specs.Prelude.{◌≡◌, ◌≤◌, ◌∷◌, ◌&&◌, true, nat_le, not, length, position};
 ghost use Rattle.std.specs.List.{list_all};
 ghost use Rattle.ofx_types.specs.TagForm.{is_value_byte};
 ghost use Rattle.ofx_types.specs.TagNames.{is_name_byte};
 ghost use Rattle.ofx_types.specs.TextRules.{is_refused_in_text, trim_start};
-ghost use Rattle.ofx_tape.specs.OpenAggregates.{is_at_tag, front_of, behind_front};
-ghost use Rattle.ofx_tape.specs.TagScan.{IsNameAt, IsTagBehind};
+ghost use Rattle.ofx_tape.specs.OpenAggregates.{is_at_tag, prefix_of, after_prefix};
+ghost use Rattle.ofx_tape.specs.TagScan.{IsNameAt, IsTagAfter};
 
 use ofx_types::is_white_space;
 
-/// The front of what stands after a `<` or a `</`.
+/// The prefix of what follows a `<` or a `</`.
 pub(crate) enum NameAt<'a> {
     /// A name and a `>`: the name, and the bytes after the `>`.
     Whole(&'a [u8], &'a [u8]),
@@ -20,41 +20,41 @@ pub(crate) enum NameAt<'a> {
     Broken,
 }
 
-/// What stands after a `<`.
+/// What follows a `<`.
 pub(crate) enum TagAt<'a> {
     /// A start tag: its name, and the bytes after it.
     Start(&'a [u8], &'a [u8]),
     /// An end tag: its name, and the bytes after it.
     End(&'a [u8], &'a [u8]),
-    /// The front of a tag, which the body's end leaves unfinished.
+    /// The prefix of a tag, which the body's end leaves unfinished.
     Unfinished,
     /// No tag.
     Broken,
 }
 
-/// The tag whose `<` stands in front of these bytes.
-pub(crate) fn tag_behind(bytes: &[u8]) -> TagAt<'_>
-    ensures { IsTagBehind bytes.now result }
+/// The tag whose `<` comes before these bytes.
+pub(crate) fn tag_after(bytes: &[u8]) -> TagAt<'_>
+    ensures { IsTagAfter bytes.now result }
 {
     let [first, inside @ ..] = bytes else {
         return TagAt::Unfinished;
     };
     if *first == b'/' {
-        return end_tag_behind(inside);
+        return end_tag_after(inside);
     }
     match name_at(bytes) {
-        NameAt::Whole(name, behind) => TagAt::Start(name, behind),
+        NameAt::Whole(name, suffix) => TagAt::Start(name, suffix),
         NameAt::Unfinished => TagAt::Unfinished,
         NameAt::Broken => TagAt::Broken,
     }
 }
 
-/// The end tag whose `</` stands in front of these bytes.
-fn end_tag_behind(inside: &[u8]) -> TagAt<'_>
-    ensures { IsTagBehind (47 ∷ inside.now) result }
+/// The end tag whose `</` comes before these bytes.
+fn end_tag_after(inside: &[u8]) -> TagAt<'_>
+    ensures { IsTagAfter (47 ∷ inside.now) result }
 {
     match name_at(inside) {
-        NameAt::Whole(name, behind) => TagAt::End(name, behind),
+        NameAt::Whole(name, suffix) => TagAt::End(name, suffix),
         NameAt::Unfinished => TagAt::Unfinished,
         NameAt::Broken => TagAt::Broken,
     }
@@ -64,7 +64,7 @@ fn name_at(bytes: &[u8]) -> NameAt<'_>
     ensures { IsNameAt bytes.now result }
 {
     let (name, rest) = split_name(bytes);
-    let [first, behind @ ..] = rest else {
+    let [first, suffix @ ..] = rest else {
         return unended(name);
     };
     if *first != b'>' {
@@ -73,7 +73,7 @@ fn name_at(bytes: &[u8]) -> NameAt<'_>
     if !is_of_name_length(name) {
         return NameAt::Broken;
     }
-    NameAt::Whole(name, behind)
+    NameAt::Whole(name, suffix)
 }
 
 /// Bytes of a name that nothing follows.
@@ -93,11 +93,11 @@ fn is_of_name_length(name: &[u8]) -> bool
     !name.is_empty() && name.len() <= 32
 }
 
-/// The bytes at the front that may stand in a name, and the bytes after them.
+/// The bytes at the start that may be in a name, and the bytes after them.
 #[tactic(auto, using(crate::proofs::Splitting::splits))]
 fn split_name(bytes: &[u8]) -> (&[u8], &[u8])
-    ensures name { result.0.now ≡ front_of is_name_byte bytes.now }
-    ensures rest { result.1.now ≡ behind_front is_name_byte bytes.now }
+    ensures name { result.0.now ≡ prefix_of is_name_byte bytes.now }
+    ensures rest { result.1.now ≡ after_prefix is_name_byte bytes.now }
 {
     match first_of_no_name(bytes) {
         Some(at) => bytes.split_at(at),
@@ -111,7 +111,7 @@ fn first_of_no_name(bytes: &[u8]) -> Option<usize>
     bytes.iter().position(|byte| !is_in_name(*byte))
 }
 
-/// Whether a byte may stand in a name. Capital letters, which most names have, are tried first.
+/// Whether a byte may be in a name. Capital letters, which most names have, are tried first.
 fn is_in_name(byte: u8) -> bool
     ensures { result ≡ is_name_byte byte }
 {
@@ -121,7 +121,7 @@ fn is_in_name(byte: u8) -> bool
         || matches!(byte, b'.' | b'_' | b'-')
 }
 
-/// The bytes without the white space at their front.
+/// The bytes without the white space at their start.
 pub(crate) fn skip_white(bytes: &[u8]) -> &[u8]
     ensures trimmed { result.now ≡ trim_start bytes.now }
     ensures shorter { length result.now ≤ length bytes.now }
@@ -146,11 +146,11 @@ pub(crate) fn is_tag_next(bytes: &[u8]) -> bool
     }
 }
 
-/// The bytes at the front that may stand in a value, and the bytes after them.
+/// The bytes at the start that may be in a value, and the bytes after them.
 #[tactic(auto, using(crate::proofs::Splitting::splits))]
 pub(crate) fn split_value(bytes: &[u8]) -> (&[u8], &[u8])
-    ensures value { result.0.now ≡ front_of is_value_byte bytes.now }
-    ensures rest { result.1.now ≡ behind_front is_value_byte bytes.now }
+    ensures value { result.0.now ≡ prefix_of is_value_byte bytes.now }
+    ensures rest { result.1.now ≡ after_prefix is_value_byte bytes.now }
 {
     match first_of_no_value(bytes) {
         Some(at) => bytes.split_at(at),

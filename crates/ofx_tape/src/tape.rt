@@ -12,7 +12,7 @@ use ofx_types::TapeFault;
 use std::alloc::Global;
 use std::marker::Model;
 
-/// An element or an aggregate, as it stands in the body (OFX 1.6, "SGML Basics").
+/// An element or an aggregate, as it is in the body (OFX 1.6, "SGML Basics").
 #[derive(Clone, Copy, Debug)]
 pub struct Node<'a> {
     /// Whether it is an element; otherwise it is an aggregate.
@@ -21,13 +21,13 @@ pub struct Node<'a> {
     pub name: &'a [u8],
     /// The bytes between its start tag and the next `<`: an element's value, and white space in an aggregate.
     pub value: &'a [u8],
-    /// The place of its start tag, the number of bytes in front of it.
+    /// The offset of its start tag, the number of bytes before it.
     pub at: usize,
     /// The index after its last inner node.
     pub after: usize,
 }
 
-/// The nodes of a body in the order of their start tags, each aggregate in front of what stands in it.
+/// The nodes of a body in the order of their start tags, each aggregate before what is in it.
 #[derive(Debug, Drop)]
 pub struct Tape<'a> {
     nodes: Vec<Node<'a>>,
@@ -82,8 +82,8 @@ fn read_nodes(alloc: Global, body: &[u8]) -> Result<Vec<Node<'_>>, TapeFault>
         Ok(reader) => reader,
         Err(fault) => return Err(fault),
     };
-    while let [_, behind @ ..] = rest {
-        match reader.read_tag(rest, behind) {
+    while let [_, suffix @ ..] = rest {
+        match reader.read_tag(rest, suffix) {
             Ok(next) => rest = next,
             Err(fault) => return Err(fault),
         }

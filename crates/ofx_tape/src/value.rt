@@ -20,7 +20,7 @@ pub fn value_eq(raw: &[u8], text: &[u8]) -> bool
 }
 
 /// What the raw bytes of a value stand for, trimmed and with its entities decoded, where it has at most 64 bytes. It takes
-/// no memory; where an entity may stand in it, it is decoded in the room.
+/// no memory; where an entity may be in it, it is decoded in the room.
 ///
 /// `None` where it has more than 64 bytes.
 #[tactic(auto, using(crate::proofs::Trimming::trimmed_raw))]

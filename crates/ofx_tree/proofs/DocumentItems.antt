@@ -14,7 +14,7 @@ use Rattle.ofx_tree.proofs.Written.{value_of-written, written_black}
 
 -- ---- children
 
--- an item with the nodes in it, in front of other nodes
+-- an item with the nodes in it, before other nodes
 whole_item : (index : ℕ) (node : TagNode) (within more : List TagNode) → node.after ≡ index + 1 + length within
     → items_from index index (node ∷ (within ++ more))
     ≡ record { node = node; first = index + 1; inner = within } ∷ items_from node.after node.after more
@@ -27,63 +27,63 @@ whole_item index node within more after =
     ∙ ap (λ (nodes : List TagNode). item within ∷ items_from end end nodes) (drop_at within more (length within) refl)
     ∙ ap (λ (i : ℕ). item within ∷ items_from i i more) (sym after)
 
-items_are : (place index : ℕ) (documents : Documents) → items_from index index (nodes_from index (tree_of place documents nothing)) ≡ items_of place index documents
+items_are : (offset index : ℕ) (documents : Documents) → items_from index index (nodes_from index (tree_of offset documents nothing)) ≡ items_of offset index documents
 unfolding items_from
-items_are place index empty = refl
-items_are place index (leaf name value behind) =
-    let item = leaf_item place index name value in
-    let next = place + length (sheet.element name value) in
-    whole_item index item.node [] (nodes_from (index + 1) (tree_of next behind nothing)) (omega arith)
-    ∙ ap (λ (items : List Item). item ∷ items) (items_are next (index + 1) behind)
-items_are place index (branch name inner behind) =
-    let item = branch_item place index name inner in
-    let next = place + length (sheet.aggregate name (printed inner)) in
-    whole_item index item.node item.inner (nodes_from item.node.after (tree_of next behind nothing)) refl
-    ∙ ap (λ (items : List Item). item ∷ items) (items_are next item.node.after behind)
+items_are offset index empty = refl
+items_are offset index (leaf name value suffix) =
+    let item = leaf_item offset index name value in
+    let next = offset + length (sheet.element name value) in
+    whole_item index item.node [] (nodes_from (index + 1) (tree_of next suffix nothing)) (omega arith)
+    ∙ ap (λ (items : List Item). item ∷ items) (items_are next (index + 1) suffix)
+items_are offset index (branch name inner suffix) =
+    let item = branch_item offset index name inner in
+    let next = offset + length (sheet.aggregate name (printed inner)) in
+    whole_item index item.node item.inner (nodes_from item.node.after (tree_of next suffix nothing)) refl
+    ∙ ap (λ (items : List Item). item ∷ items) (items_are next item.node.after suffix)
 
 pub children_of_branch : BranchesHoldTheirDocuments
-children_of_branch place index name inner = items_are (place + length (start_line name)) (index + 1) inner
+children_of_branch offset index name inner = items_are (offset + length (start_line name)) (index + 1) inner
 
 -- ---- values
 
 pub value_of_leaf : LeavesHaveTheirValues
-value_of_leaf place index name value is =
+value_of_leaf offset index name value is =
     (value_of-written value is.is_text.is_trimmed is.is_there, written_black value is.is_text.is_trimmed is.is_there)
 
 -- ---- names
 
-stands_as_named : (named absent : Bool) → absent ≡ false → (named && not absent) ≡ named
-stands_as_named true absent h = rw h refl
-stands_as_named false absent h = refl
+holds_as_named : (named absent : Bool) → absent ≡ false → (named && not absent) ≡ named
+holds_as_named true absent h = rw h refl
+holds_as_named false absent h = refl
 
 abbrev found : (Item → Bool) → List Item → List Item
 found test items = filter (λ item. test item && not (is_absent item.node)) items
 
 one_more : (test : Item → Bool) (item : Item) (items : List Item) → is_absent item.node ≡ false → found test items ≡ filter test items → found test (item ∷ items) ≡ filter test (item ∷ items)
 one_more test item items there again =
-    ap (λ (b : Bool). cond b (item ∷ found test items) (found test items)) (stands_as_named (test item) (is_absent item.node) there)
+    ap (λ (b : Bool). cond b (item ∷ found test items) (found test items)) (holds_as_named (test item) (is_absent item.node) there)
     ∙ ap (λ (more : List Item). cond (test item) (item ∷ more) more) again
 
-items_stand : (place index room : ℕ) (test : Item → Bool) (documents : Documents) → AreLawful room documents → found test (items_of place index documents) ≡ filter test (items_of place index documents)
-items_stand place index room test empty lawful = refl
-items_stand place index room test (leaf other value behind) lawful =
-    let next = place + length (sheet.element other value) in
-    one_more test (leaf_item place index other value) (items_of next (index + 1) behind) (value_of_leaf place index other value lawful.0).1
-    (items_stand next (index + 1) room test behind lawful.1)
-items_stand place index room test (branch other inner behind) lawful =
-    let item = branch_item place index other inner in
-    let next = place + length (sheet.aggregate other (printed inner)) in
-    one_more test item (items_of next item.node.after behind) refl (items_stand next item.node.after room test behind lawful.3)
+items_hold : (offset index room : ℕ) (test : Item → Bool) (documents : Documents) → AreLawful room documents → found test (items_of offset index documents) ≡ filter test (items_of offset index documents)
+items_hold offset index room test empty lawful = refl
+items_hold offset index room test (leaf other value suffix) lawful =
+    let next = offset + length (sheet.element other value) in
+    one_more test (leaf_item offset index other value) (items_of next (index + 1) suffix) (value_of_leaf offset index other value lawful.0).1
+    (items_hold next (index + 1) room test suffix lawful.1)
+items_hold offset index room test (branch other inner suffix) lawful =
+    let item = branch_item offset index other inner in
+    let next = offset + length (sheet.aggregate other (printed inner)) in
+    one_more test item (items_of next item.node.after suffix) refl (items_hold next item.node.after room test suffix lawful.3)
 
 pub named_of_branch : DocumentsAreFound
-named_of_branch place index room own name inner lawful =
-    ap (found (has_name name)) (children_of_branch place index own inner)
-    ∙ items_stand (place + length (start_line own)) (index + 1) room (has_name name) inner lawful
+named_of_branch offset index room own name inner lawful =
+    ap (found (has_name name)) (children_of_branch offset index own inner)
+    ∙ items_hold (offset + length (start_line own)) (index + 1) room (has_name name) inner lawful
 
 -- the same of several names
-pub named_one_of_branch : (place index room : ℕ) (own : List ℕ) (names : List (List ℕ)) (inner : Documents) → AreLawful room inner
-    → named_one_of names (branch_item place index own inner)
-    ≡ filter (λ item. is_one_of names item.node.name) (items_of (place + length (start_line own)) (index + 1) inner)
-named_one_of_branch place index room own names inner lawful =
-    ap (found (is_named_one_of names)) (children_of_branch place index own inner)
-    ∙ items_stand (place + length (start_line own)) (index + 1) room (is_named_one_of names) inner lawful
+pub named_one_of_branch : (offset index room : ℕ) (own : List ℕ) (names : List (List ℕ)) (inner : Documents) → AreLawful room inner
+    → named_one_of names (branch_item offset index own inner)
+    ≡ filter (λ item. is_one_of names item.node.name) (items_of (offset + length (start_line own)) (index + 1) inner)
+named_one_of_branch offset index room own names inner lawful =
+    ap (found (is_named_one_of names)) (children_of_branch offset index own inner)
+    ∙ items_hold (offset + length (start_line own)) (index + 1) room (is_named_one_of names) inner lawful

@@ -15,7 +15,7 @@ use Rattle.ofx_tree.specs.PrintedForm.{IsElementName, written}
 use Rattle.ofx_tree.specs.Documents.{Documents, empty, leaf, branch, printed, IsBranch, AreLawful, tree_of, ClosesNoElement, DocumentsReadBack, branch_item, BodiesHoldTheirDocuments}
 use Rattle.ofx_tree.proofs.Printed.{elements, aggregates, bodies, element_line, aggregate_lines}
 
--- ---- no end tag of an element stands in front
+-- ---- no end tag of an element comes first
 
 start_closes_none : (name more : List ℕ) → is_name name ≡ true → ClosesNoElement (tag name ++ more)
 start_closes_none name more named other o = start_awaits (Some other) name more named
@@ -33,49 +33,49 @@ end_closes_none name more b other o =
 
 documents_close_none : (room : ℕ) (documents : Documents) (more : List ℕ) → AreLawful room documents → ClosesNoElement more → ClosesNoElement (printed documents ++ more)
 documents_close_none room empty more lawful none = none
-documents_close_none room (leaf name value behind) more lawful none =
-    rw (append_assoc, element_line name value (printed behind ++ more) lawful.0.is_there)
-    (start_closes_none name (written value ++ (printed behind ++ more)) lawful.0.has_name.has_name)
-documents_close_none room (branch name inner behind) more lawful none =
-    rw (append_assoc, aggregate_lines name (printed inner) (printed behind ++ more))
-    (start_closes_none name (ended [] ++ (printed inner ++ (end_line name ++ (printed behind ++ more)))) lawful.0.has_name.has_name)
+documents_close_none room (leaf name value suffix) more lawful none =
+    rw (append_assoc, element_line name value (printed suffix ++ more) lawful.0.is_there)
+    (start_closes_none name (written value ++ (printed suffix ++ more)) lawful.0.has_name.has_name)
+documents_close_none room (branch name inner suffix) more lawful none =
+    rw (append_assoc, aggregate_lines name (printed inner) (printed suffix ++ more))
+    (start_closes_none name (ended [] ++ (printed inner ++ (end_line name ++ (printed suffix ++ more)))) lawful.0.has_name.has_name)
 
 -- ---- the tree
 
--- the place after printed bytes
-placed_behind : (size place : ℕ) (bytes more : List ℕ) → place + length (bytes ++ more) ≡ size → place + length bytes + length more ≡ size
-placed_behind size place bytes more at = omega (arith, length-append bytes more)
+-- the offset after printed bytes
+located_after : (size offset : ℕ) (bytes more : List ℕ) → offset + length (bytes ++ more) ≡ size → offset + length bytes + length more ≡ size
+located_after size offset bytes more at = omega (arith, length-append bytes more)
 
 opened : (name inner more : List ℕ) → start_line name ++ (inner ++ (end_line name ++ more)) ≡ sheet.aggregate name inner ++ more
 unfolding sheet.aggregate
 opened name inner more = simp append_assoc
 
 pub documents_spell : DocumentsReadBack
-documents_spell size room place empty more rest next lawful none at spells = spells
-documents_spell size room place (leaf name value behind) more rest next lawful none at spells =
-    let split : (sheet.element name value ++ printed behind) ++ more ≡ sheet.element name value ++ (printed behind ++ more) = append_assoc (sheet.element name value) (printed behind) more in
-    let placed : place + length (sheet.element name value ++ (printed behind ++ more)) ≡ size = ap (λ (bytes : List ℕ). place + length bytes) (sym split) ∙ at in
-    let further = documents_spell size room (place + length (sheet.element name value)) behind more rest next lawful.1 none
-    (placed_behind size place (sheet.element name value) (printed behind ++ more) placed) spells in
-    rw split (elements size room place name value (printed behind ++ more) rest _ lawful.0.has_name lawful.0.is_text lawful.0.is_there
-    (documents_close_none room behind more lawful.1 none name lawful.0.has_name) placed further).0
-documents_spell size room place (branch name inner behind) more rest next lawful none at spells =
+documents_spell size room offset empty more rest next lawful none at spells = spells
+documents_spell size room offset (leaf name value suffix) more rest next lawful none at spells =
+    let split : (sheet.element name value ++ printed suffix) ++ more ≡ sheet.element name value ++ (printed suffix ++ more) = append_assoc (sheet.element name value) (printed suffix) more in
+    let located : offset + length (sheet.element name value ++ (printed suffix ++ more)) ≡ size = ap (λ (bytes : List ℕ). offset + length bytes) (sym split) ∙ at in
+    let further = documents_spell size room (offset + length (sheet.element name value)) suffix more rest next lawful.1 none
+    (located_after size offset (sheet.element name value) (printed suffix ++ more) located) spells in
+    rw split (elements size room offset name value (printed suffix ++ more) rest _ lawful.0.has_name lawful.0.is_text lawful.0.is_there
+    (documents_close_none room suffix more lawful.1 none name lawful.0.has_name) located further).0
+documents_spell size room offset (branch name inner suffix) more rest next lawful none at spells =
     let lines = sheet.aggregate name (printed inner) in
-    let end = end_line name ++ (printed behind ++ more) in
-    let split : (lines ++ printed behind) ++ more ≡ lines ++ (printed behind ++ more) = append_assoc lines (printed behind) more in
-    let placed : place + length (lines ++ (printed behind ++ more)) ≡ size = ap (λ (bytes : List ℕ). place + length bytes) (sym split) ∙ at in
-    let further = documents_spell size room (place + length lines) behind more rest next lawful.3 none
-    (placed_behind size place lines (printed behind ++ more) placed) spells in
-    let inside = documents_spell size (room - 1) (place + length (start_line name)) inner end end nothing lawful.2
-    (end_closes_none name (printed behind ++ more) lawful.0)
-    (placed_behind size place (start_line name) (printed inner ++ end) (ap (λ (bytes : List ℕ). place + length bytes) (opened name (printed inner) (printed behind ++ more)) ∙ placed)) refl in
-    rw split (aggregates size room place name (printed inner) (printed behind ++ more) rest _ _ lawful.0.has_name lawful.1 placed inside further)
+    let end = end_line name ++ (printed suffix ++ more) in
+    let split : (lines ++ printed suffix) ++ more ≡ lines ++ (printed suffix ++ more) = append_assoc lines (printed suffix) more in
+    let located : offset + length (lines ++ (printed suffix ++ more)) ≡ size = ap (λ (bytes : List ℕ). offset + length bytes) (sym split) ∙ at in
+    let further = documents_spell size room (offset + length lines) suffix more rest next lawful.3 none
+    (located_after size offset lines (printed suffix ++ more) located) spells in
+    let inside = documents_spell size (room - 1) (offset + length (start_line name)) inner end end nothing lawful.2
+    (end_closes_none name (printed suffix ++ more) lawful.0)
+    (located_after size offset (start_line name) (printed inner ++ end) (ap (λ (bytes : List ℕ). offset + length bytes) (opened name (printed inner) (printed suffix ++ more)) ∙ located)) refl in
+    rw split (aggregates size room offset name (printed inner) (printed suffix ++ more) rest _ _ lawful.0.has_name lawful.1 located inside further)
 
 -- ---- bodies
 
-inner_placed : (white name inner : List ℕ) → length white + length (start_line name) + length (inner ++ end_line name) ≡ length (white ++ sheet.aggregate name inner)
+inner_located : (white name inner : List ℕ) → length white + length (start_line name) + length (inner ++ end_line name) ≡ length (white ++ sheet.aggregate name inner)
 unfolding sheet.aggregate
-inner_placed white name inner =
+inner_located white name inner =
     omega (arith, length-append white (start_line name ++ (inner ++ end_line name)), length-append (start_line name) (inner ++ end_line name))
 
 ofx_is_branch : IsBranch (codes "OFX")
@@ -85,10 +85,10 @@ pub documents_of_body : BodiesHoldTheirDocuments
 documents_of_body white inner blank lawful =
     let name = codes "OFX" in
     let ofx = branch_item (length white) 0 name inner in
-    let place = length white + length (start_line name) in
-    let within = tree_of place inner nothing in
-    let inside = documents_spell (length (white ++ sheet.aggregate name (printed inner))) 15 place inner (end_line name) (end_line name) nothing lawful
-    (end_closes_none name [] ofx_is_branch) (inner_placed white name (printed inner)) refl in
+    let offset = length white + length (start_line name) in
+    let within = tree_of offset inner nothing in
+    let inside = documents_spell (length (white ++ sheet.aggregate name (printed inner))) 15 offset inner (end_line name) (end_line name) nothing lawful
+    (end_closes_none name [] ofx_is_branch) (inner_located white name (printed inner)) refl in
     record {
       tree = tree_of (length white) (branch name inner empty) nothing;
       spelled = bodies white (printed inner) within blank inside;

@@ -8,7 +8,7 @@ use Rattle.ofx_tape.specs.NodeView.{node_view}
 use Rattle.ofx_tape.specs.declared.tape.Node.{Node}
 use Rattle.ofx_tree.specs.ItemView.{item_view, items_at}
 
--- nodes in front of the second index are passed over
+-- nodes before the second index are passed over
 pass_one : (i until : ℕ) (n : TagNode) (ns : List TagNode) → i < until → items_from i until (n ∷ ns) ≡ items_from (i + 1) until ns
 unfolding items_from
 pass_one i until n ns h = let passed : nat_lt i until ≡ true = grind (arith, common_steps) in rw passed refl
@@ -31,10 +31,10 @@ pass_tested i until n ns true h rest (suc k) e =
     let same : i + suc k ≡ i + 1 + k = omega arith in
     rw (pass_one i until n ns ahead, same) (rest k (omega arith))
 pass_tested i until n ns false h rest k e =
-    let behind : until ≤ i = ltb-false i until h in
+    let suffix : until ≤ i = ltb-false i until h in
     let none : k ≡ 0 = omega arith in
     let same : i + 0 ≡ i = omega arith in
-    rw (none, same) (pass_none i until (n ∷ ns) behind)
+    rw (none, same) (pass_none i until (n ∷ ns) suffix)
 
 -- to pass over nodes one by one is to drop them
 pass_all : (i until : ℕ) (ns : List TagNode) (k : ℕ) → k ≡ min (until - i) (length ns) → items_from i until ns ≡ items_from (i + k) (i + k) (drop k ns)
@@ -50,9 +50,9 @@ first_of i k n ns e =
     let here : nat_lt i i ≡ false = grind (arith, common_steps) in
     rw (here, e, take_min, ← e, pass_all (i + 1) n.after ns k e) refl
 
-first_behind : (i k : ℕ) (n : Node) (ns : List Node) → k ≡ min (n.after - (i + 1)) (length ns)
+first_after : (i k : ℕ) (n : Node) (ns : List Node) → k ≡ min (n.after - (i + 1)) (length ns)
     → items_at i (n ∷ ns) ≡ item_view n (i + 1) (take k ns) ∷ items_at (i + 1 + k) (drop k ns)
-first_behind i k n ns e =
+first_after i k n ns e =
     rw (first_of i k (node_view n) (map node_view ns) (rw length-map e), take-map, drop-map) refl
 
 pub first_item : (i left size : ℕ) (nodes : List Node) (e d : Node) → 0 < length nodes
@@ -63,7 +63,7 @@ first_item i left zero (n ∷ ns) e d h l s = absurd (omega arith)
 first_item i left (suc k) (n ∷ ns) e d h l s =
     let same : i + suc k ≡ i + 1 + k = omega arith in
     let less : suc k - 1 ≡ k = omega arith in
-    rw (same, less) (first_behind i k n ns (omega arith))
+    rw (same, less) (first_after i k n ns (omega arith))
 
 -- no nodes, no items
 pub no_items : (i : ℕ) (nodes : List Node) → length nodes ≡ 0 → items_at i nodes ≡ []

@@ -9,7 +9,7 @@ use Rattle.std.specs.Fmt.{decimal}
 use Rattle.std.specs.List.{list_any}
 use Rattle.ofx_types.specs.TextRules.{is_white, trim_start, trim_end, trimmed, is_refused_in_text, IsText}
 use Rattle.ofx_types.specs.TextOutcome.{text_fault}
-use Rattle.ofx_types.specs.ValueForm.{value_of, StandsFor}
+use Rattle.ofx_types.specs.ValueForm.{value_of, Represents}
 use Rattle.ofx_types.specs.Calendar.{IsMoment}
 use Rattle.ofx_types.specs.AmountForm.{IsAmount, amount_text}
 use Rattle.ofx_types.specs.DateForm.{IsDate, moment_text}
@@ -29,12 +29,12 @@ use Rattle.ofx_tree.proofs.Written.{value_of-written}
 
 -- ---- plain bytes are a text
 
-plain_ink : (b : ℕ) → 38 < b → b < 60 → (is_white b ≡ false) × (is_refused_in_text b ≡ false)
-plain_ink b low high = (grind (arith, common_steps), grind (arith, common_steps))
+plain_visible : (b : ℕ) → 38 < b → b < 60 → (is_white b ≡ false) × (is_refused_in_text b ≡ false)
+plain_visible b low high = (grind (arith, common_steps), grind (arith, common_steps))
 
 plain_start : (bytes : List ℕ) → IsPlain bytes → trim_start bytes ≡ bytes
 plain_start [] p = refl
-plain_start (b ∷ bytes) (low, high, p) = rw ((plain_ink b low high).0) refl
+plain_start (b ∷ bytes) (low, high, p) = rw ((plain_visible b low high).0) refl
 
 plain_reverse : (bytes : List ℕ) → IsPlain bytes → IsPlain (reverse bytes)
 plain_reverse [] p = tt
@@ -47,7 +47,7 @@ plain_trimmed bytes p =
 
 plain_allowed : (bytes : List ℕ) → IsPlain bytes → list_any is_refused_in_text bytes ≡ false
 plain_allowed [] p = refl
-plain_allowed (b ∷ bytes) (low, high, p) = rw ((plain_ink b low high).1, plain_allowed bytes p) refl
+plain_allowed (b ∷ bytes) (low, high, p) = rw ((plain_visible b low high).1, plain_allowed bytes p) refl
 
 plain_text : (bytes : List ℕ) → IsPlain bytes → length (trimmed bytes) < 2 ^ 32 → IsText bytes
 plain_text bytes p short = record {
@@ -99,72 +99,72 @@ no_fault : (most : ℕ) (text : List ℕ) → length text ≤ most → position 
 no_fault most text short clean =
     let within : nat_lt most (length text) ≡ false = grind (arith, common_steps) in rw (within, clean) refl
 
-pub stands_of_leaf : (name value : List ℕ) (most : ℕ) → IsLeaf name value → length value ≤ most → StandsFor most (written value) value
-stands_of_leaf name value most is short = record {
+pub holds_of_leaf : (name value : List ℕ) (most : ℕ) → IsLeaf name value → length value ≤ most → Represents most (written value) value
+holds_of_leaf name value most is short = record {
   value = sym (leaf_value name value is);
   is_there = is.is_there;
   is_faultless = no_fault most value short is.is_text.is_clean;
 }
 
-pub text_of_leaf : (name value : List ℕ) (most place index : ℕ) (parent : Item) → IsLeaf name value → length value ≤ most
-    → IsOnly name parent (leaf_item place index name value) → text_in name most parent ≡ Ok value
-text_of_leaf name value most place index parent is short only =
+pub text_of_leaf : (name value : List ℕ) (most offset index : ℕ) (parent : Item) → IsLeaf name value → length value ≤ most
+    → IsOnly name parent (leaf_item offset index name value) → text_in name most parent ≡ Ok value
+text_of_leaf name value most offset index parent is short only =
     text_in_again name most parent value (record {
-      child = leaf_item place index name value;
+      child = leaf_item offset index name value;
       is_only = only;
-      stands = stands_of_leaf name value most is short;
+      holds = holds_of_leaf name value most is short;
     })
 
 -- What is printed of a flag is read as that flag.
-pub is_flag_of_leaf : (name : List ℕ) (flag : Bool) (place index : ℕ) (parent : Item) → IsElementName name
-    → IsOnly name parent (leaf_item place index name (flag_word flag)) → IsFlagIn name parent flag
-is_flag_of_leaf name flag place index parent named only = record {
-  child = leaf_item place index name (flag_word flag);
+pub is_flag_of_leaf : (name : List ℕ) (flag : Bool) (offset index : ℕ) (parent : Item) → IsElementName name
+    → IsOnly name parent (leaf_item offset index name (flag_word flag)) → IsFlagIn name parent flag
+is_flag_of_leaf name flag offset index parent named only = record {
+  child = leaf_item offset index name (flag_word flag);
   is_only = only;
-  stands = leaf_value name (flag_word flag) (flag_leaf name flag named);
+  holds = leaf_value name (flag_word flag) (flag_leaf name flag named);
 }
 
-pub flag_of_leaf : (name : List ℕ) (flag : Bool) (place index : ℕ) (parent : Item) → IsElementName name
-    → IsOnly name parent (leaf_item place index name (flag_word flag)) → flag_in name parent ≡ Ok flag
-flag_of_leaf name flag place index parent named only = flag_in_again name parent flag (is_flag_of_leaf name flag place index parent named only)
+pub flag_of_leaf : (name : List ℕ) (flag : Bool) (offset index : ℕ) (parent : Item) → IsElementName name
+    → IsOnly name parent (leaf_item offset index name (flag_word flag)) → flag_in name parent ≡ Ok flag
+flag_of_leaf name flag offset index parent named only = flag_in_again name parent flag (is_flag_of_leaf name flag offset index parent named only)
 
-pub maybe_flag_of_leaf : (name : List ℕ) (flag : Bool) (place index : ℕ) (parent : Item) → IsElementName name
-    → IsOnly name parent (leaf_item place index name (flag_word flag)) → maybe_flag_in name parent ≡ Ok flag
-maybe_flag_of_leaf name flag place index parent named only =
-    maybe_flag_in_again name parent flag (inr (is_flag_of_leaf name flag place index parent named only))
+pub maybe_flag_of_leaf : (name : List ℕ) (flag : Bool) (offset index : ℕ) (parent : Item) → IsElementName name
+    → IsOnly name parent (leaf_item offset index name (flag_word flag)) → maybe_flag_in name parent ≡ Ok flag
+maybe_flag_of_leaf name flag offset index parent named only =
+    maybe_flag_in_again name parent flag (inr (is_flag_of_leaf name flag offset index parent named only))
 
-pub amount_of_leaf : (name : List ℕ) (amount : Cents) (place index : ℕ) (parent : Item) → IsElementName name → unsigned_abs amount.0 ≤ 9999999999999
-    → IsOnly name parent (leaf_item place index name (amount_text amount.0)) → amount_in name parent ≡ Ok amount
-amount_of_leaf name amount place index parent named h only =
+pub amount_of_leaf : (name : List ℕ) (amount : Cents) (offset index : ℕ) (parent : Item) → IsElementName name → unsigned_abs amount.0 ≤ 9999999999999
+    → IsOnly name parent (leaf_item offset index name (amount_text amount.0)) → amount_in name parent ≡ Ok amount
+amount_of_leaf name amount offset index parent named h only =
     amount_in_again name parent amount (record {
-      child = leaf_item place index name (amount_text amount.0);
+      child = leaf_item offset index name (amount_text amount.0);
       is_only = only;
-      stands = subst (λ (t : List ℕ). IsAmount t amount.0) (sym (leaf_value name (amount_text amount.0) (amount_leaf name amount.0 named h))) (amount_printed amount.0 h);
+      holds = subst (λ (t : List ℕ). IsAmount t amount.0) (sym (leaf_value name (amount_text amount.0) (amount_leaf name amount.0 named h))) (amount_printed amount.0 h);
     })
 
-is_moment_of_leaf : (name : List ℕ) (moment : Moment) (place index : ℕ) (parent : Item) → IsElementName name → IsMoment moment.0
-    → IsOnly name parent (leaf_item place index name (moment_text moment.0)) → IsMomentIn name parent moment
-is_moment_of_leaf name moment place index parent named h only = record {
-  child = leaf_item place index name (moment_text moment.0);
+is_moment_of_leaf : (name : List ℕ) (moment : Moment) (offset index : ℕ) (parent : Item) → IsElementName name → IsMoment moment.0
+    → IsOnly name parent (leaf_item offset index name (moment_text moment.0)) → IsMomentIn name parent moment
+is_moment_of_leaf name moment offset index parent named h only = record {
+  child = leaf_item offset index name (moment_text moment.0);
   is_only = only;
-  stands = subst (λ (t : List ℕ). IsDate t moment.0) (sym (leaf_value name (moment_text moment.0) (moment_leaf name moment.0 named h))) (moment_printed moment.0 h);
+  holds = subst (λ (t : List ℕ). IsDate t moment.0) (sym (leaf_value name (moment_text moment.0) (moment_leaf name moment.0 named h))) (moment_printed moment.0 h);
 }
 
-pub moment_of_leaf : (name : List ℕ) (moment : Moment) (place index : ℕ) (parent : Item) → IsElementName name → IsMoment moment.0
-    → IsOnly name parent (leaf_item place index name (moment_text moment.0)) → moment_in name parent ≡ Ok moment
-moment_of_leaf name moment place index parent named h only =
-    moment_in_again name parent moment (is_moment_of_leaf name moment place index parent named h only)
+pub moment_of_leaf : (name : List ℕ) (moment : Moment) (offset index : ℕ) (parent : Item) → IsElementName name → IsMoment moment.0
+    → IsOnly name parent (leaf_item offset index name (moment_text moment.0)) → moment_in name parent ≡ Ok moment
+moment_of_leaf name moment offset index parent named h only =
+    moment_in_again name parent moment (is_moment_of_leaf name moment offset index parent named h only)
 
-pub maybe_moment_of_leaf : (name : List ℕ) (moment : Moment) (place index : ℕ) (parent : Item) → IsElementName name → IsMoment moment.0
-    → IsOnly name parent (leaf_item place index name (moment_text moment.0)) → maybe_moment_in name parent ≡ Ok (Some moment)
-maybe_moment_of_leaf name moment place index parent named h only =
-    maybe_moment_in_again name parent (Some moment) (is_moment_of_leaf name moment place index parent named h only)
+pub maybe_moment_of_leaf : (name : List ℕ) (moment : Moment) (offset index : ℕ) (parent : Item) → IsElementName name → IsMoment moment.0
+    → IsOnly name parent (leaf_item offset index name (moment_text moment.0)) → maybe_moment_in name parent ≡ Ok (Some moment)
+maybe_moment_of_leaf name moment offset index parent named h only =
+    maybe_moment_in_again name parent (Some moment) (is_moment_of_leaf name moment offset index parent named h only)
 
-pub number_of_leaf : (name : List ℕ) (most number place index : ℕ) (parent : Item) → IsElementName name → 0 < most → number < 10 ^ most → number < 2 ^ 64
-    → IsOnly name parent (leaf_item place index name (decimal number)) → number_in name most parent ≡ Ok number
-number_of_leaf name most number place index parent named some room h only =
+pub number_of_leaf : (name : List ℕ) (most number offset index : ℕ) (parent : Item) → IsElementName name → 0 < most → number < 10 ^ most → number < 2 ^ 64
+    → IsOnly name parent (leaf_item offset index name (decimal number)) → number_in name most parent ≡ Ok number
+number_of_leaf name most number offset index parent named some room h only =
     number_in_again name most parent number (record {
-      child = leaf_item place index name (decimal number);
+      child = leaf_item offset index name (decimal number);
       is_only = only;
-      stands = ap (number_at most) (leaf_value name (decimal number) (number_leaf name number named h)) ∙ number_printed most number some room h;
+      holds = ap (number_at most) (leaf_value name (decimal number) (number_leaf name number named h)) ∙ number_printed most number some room h;
     })

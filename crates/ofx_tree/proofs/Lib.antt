@@ -4,7 +4,7 @@ pub mod Written
 pub mod Printed
 pub mod Root
 pub mod FormLaws
-pub mod FormPlaces
+pub mod FormOffsets
 pub mod Chosen
 pub mod Short
 pub mod DocumentTrees

@@ -60,7 +60,7 @@ decimal_plain = decimal_by_steps (λ n ds. IsPlain ds)
 pub number_element : (out name : List ℕ) (n : ℕ) → n < 2 ^ 64 → ended ((out ++ tag name) ++ decimal n) ≡ out ++ element name (decimal n)
 number_element out name n h = plain_element out name (decimal n) (decimal_nonempty n h) (decimal_plain n h)
 
--- a sign, if any, in front of plain bytes
+-- a sign, if any, before plain bytes
 sign_plain : (negative : Bool) (digits : List ℕ) → IsPlain digits → IsPlain (cond negative (45 ∷ []) [] ++ digits)
 sign_plain true digits p = (omega arith, omega arith, p)
 sign_plain false digits p = p

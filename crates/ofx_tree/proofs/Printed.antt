@@ -9,7 +9,7 @@ use Rattle.ofx_types.specs.TagForm as tags
 use Rattle.ofx_tree.specs.PrintedForm.{written, ElementsReadBack, AggregatesReadBack, BodiesReadBack}
 use Rattle.ofx_tree.proofs.Written.{value_of-written, written_bytes, written_black}
 
--- the line of an element in front of more bytes
+-- the line of an element before more bytes
 pub element_line : (name value more : List ℕ) → 0 < length value → sheet.element name value ++ more ≡ tag name ++ (written value ++ more)
 unfolding sheet.element
 element_line name value more there =
@@ -20,7 +20,7 @@ named_element true aggregate white a w = refl
 named_element false aggregate white a w = rw (a, w) refl
 
 pub elements : ElementsReadBack
-elements size room place name value more rest behind named text there unclosed at spells =
+elements size room offset name value more rest suffix named text there unclosed at spells =
     let line = element_line name value more there in
     let is : IsElement name (written value) [] more = record {
       has_name = named.has_name;
@@ -30,7 +30,7 @@ elements size room place name value more rest behind named text there unclosed a
     } in
     (([], more, is, at, line, spells), value_of-written value text.is_trimmed there)
 
--- the lines of an aggregate in front of more bytes
+-- the lines of an aggregate before more bytes
 pub aggregate_lines : (name inner more : List ℕ) → sheet.aggregate name inner ++ more ≡ tag name ++ (ended [] ++ (inner ++ (end_line name ++ more)))
 unfolding sheet.aggregate
 aggregate_lines name inner more = simp append_assoc
@@ -44,12 +44,12 @@ named_aggregate false true a = refl
 named_aggregate false false a = refl
 
 pub aggregates : AggregatesReadBack
-aggregates size room place name inner more rest within behind named space at inside spells =
+aggregates size room offset name inner more rest within suffix named space at inside spells =
     let is : IsAggregate name (ended []) (ended []) = record {
       has_name = named.has_name;
       is_one = named_aggregate (is_one_of element_names name) (is_one_of aggregate_names name) named.is_free;
       is_white = refl;
-      is_white_behind = refl;
+      is_white_after = refl;
     } in
     let Closed : List ℕ → Type 0 = λ bytes. Spells size (room - 1) (inner ++ (end_line name ++ more)) within bytes in
     (inner ++ (end_line name ++ more), ended [], more, is, space, at, aggregate_lines name inner more, subst Closed (end_of_lines name more) inside, spells)
@@ -64,7 +64,7 @@ body_lines white inner within inside =
 pub bodies : BodiesReadBack
 bodies white inner within blank inside = record {
   white = white;
-  place = length white;
+  offset = length white;
   text = ended [];
   inner = within;
   rest = sheet.aggregate (codes "OFX") inner;

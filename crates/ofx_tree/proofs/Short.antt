@@ -41,7 +41,7 @@ pub ruleset numbers_are_short = (same_number, no_number)
 
 -- ---- ids
 
--- a short value is a text where a byte stands in it and none is refused
+-- a short value is a text where a byte is in it and none is refused
 pub short_text : (text : List ℕ) → length text ≤ 64 →
     (nat_lt 0 (length text) && is_none (position is_refused_in_text text)) ≡ is_text_within 64 text
 short_text text short =

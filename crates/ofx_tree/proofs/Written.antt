@@ -61,9 +61,9 @@ value_of-written value h there = rw (decoded-escaped value (13 ∷ 10 ∷ [])) (
 
 -- ---- the bytes of a written value
 
-front_more : (b : Bool) (k n : ℕ) → suc k ≤ cond (not b) (1 + n) 0 → (b ≡ false) × (k ≤ n)
-front_more true k n h = absurd (omega arith)
-front_more false k n h = (refl, omega arith)
+prefix_more : (b : Bool) (k n : ℕ) → suc k ≤ cond (not b) (1 + n) 0 → (b ≡ false) × (k ≤ n)
+prefix_more true k n h = absurd (omega arith)
+prefix_more false k n h = (refl, omega arith)
 
 byte_tested : (b : ℕ) (amp lt gt : Bool) → nat_eq b 60 ≡ lt → is_refused_in_text b ≡ false
     → list_all is_value_byte (cond amp (codes "&amp;") (cond lt (codes "&lt;") (cond gt (codes "&gt;") (b ∷ [])))) ≡ true
@@ -75,7 +75,7 @@ byte_tested b false false false l h = rw (l, h) refl
 escaped_bytes : (value : List ℕ) → length value ≤ position_or_len is_refused_in_text value → list_all is_value_byte (escaped value) ≡ true
 escaped_bytes [] h = refl
 escaped_bytes (b ∷ bs) h =
-    let parts = front_more (is_refused_in_text b) (length bs) (position_or_len is_refused_in_text bs) h in
+    let parts = prefix_more (is_refused_in_text b) (length bs) (position_or_len is_refused_in_text bs) h in
     rw (list_all-append, byte_tested b (nat_eq b 38) (nat_eq b 60) (nat_eq b 62) refl parts.0, escaped_bytes bs parts.1) refl
 
 none_tested : (n k : ℕ) (b : Bool) → nat_lt k n ≡ b → cond b (Some k) None ≡ None → n ≤ k
@@ -87,14 +87,14 @@ written_bytes value h =
     let clean = none_tested (length value) (position_or_len is_refused_in_text value) _ refl h in
     rw (list_all-append, escaped_bytes value clean) refl
 
-front_black : (b : ℕ) (rest : List ℕ) (amp lt gt : Bool) → is_white b ≡ false
+prefix_black : (b : ℕ) (rest : List ℕ) (amp lt gt : Bool) → is_white b ≡ false
     → list_all is_white (cond amp (codes "&amp;") (cond lt (codes "&lt;") (cond gt (codes "&gt;") (b ∷ []))) ++ rest) ≡ false
-front_black b rest true lt gt h = refl
-front_black b rest false true gt h = refl
-front_black b rest false false true h = refl
-front_black b rest false false false h = rw h refl
+prefix_black b rest true lt gt h = refl
+prefix_black b rest false true gt h = refl
+prefix_black b rest false false true h = refl
+prefix_black b rest false false false h = rw h refl
 
 pub written_black : (value : List ℕ) → trimmed value ≡ value → 0 < length value → list_all is_white (written value) ≡ false
 written_black [] h there = absurd (omega arith)
 written_black (b ∷ bs) h there =
-    rw append_assoc (front_black b (escaped bs ++ 13 ∷ 10 ∷ []) (nat_eq b 38) (nat_eq b 60) (nat_eq b 62) (first_black b bs h))
+    rw append_assoc (prefix_black b (escaped bs ++ 13 ∷ 10 ∷ []) (nat_eq b 38) (nat_eq b 60) (nat_eq b 62) (first_black b bs h))

@@ -14,14 +14,14 @@ use Rattle.ofx_tree.specs.PrintedForm.{IsElementName, IsAggregateName, written}
 -- Documents in order. A leaf has a name and a value, a branch a name and documents in it.
 pub data Documents : Type 0 where
   empty : Documents
-  leaf : (name value : List ℕ) (behind : Documents) → Documents
-  branch : (name : List ℕ) (inner behind : Documents) → Documents
+  leaf : (name value : List ℕ) (suffix : Documents) → Documents
+  branch : (name : List ℕ) (inner suffix : Documents) → Documents
 
 -- A leaf is printed as an element, a branch as an aggregate.
 abbrev pub printed : Documents → List ℕ
 printed empty = []
-printed (leaf name value behind) = sheet.element name value ++ printed behind
-printed (branch name inner behind) = sheet.aggregate name (printed inner) ++ printed behind
+printed (leaf name value suffix) = sheet.element name value ++ printed suffix
+printed (branch name inner suffix) = sheet.aggregate name (printed inner) ++ printed suffix
 
 -- A leaf has a name that isn't always an aggregate's, and its value is a text of 1 byte or more.
 pub record IsLeaf (name value : List ℕ) : Type 0 where
@@ -37,81 +37,81 @@ pub record IsBranch (name : List ℕ) : Type 0 where
 -- All of them are such leaves and branches, and at most so many branches stand in each other.
 abbrev pub AreLawful : ℕ → Documents → Type 0
 AreLawful room empty = Unit {0}
-AreLawful room (leaf name value behind) = IsLeaf name value × AreLawful room behind
-AreLawful room (branch name inner behind) =
-    IsBranch name × (0 < room) × AreLawful (room - 1) inner × AreLawful room behind
+AreLawful room (leaf name value suffix) = IsLeaf name value × AreLawful room suffix
+AreLawful room (branch name inner suffix) =
+    IsBranch name × (0 < room) × AreLawful (room - 1) inner × AreLawful room suffix
 
 -- ---- what they spell
 
--- The tree of documents that are printed at a place, with the next tree after it.
+-- The tree of documents that are printed at an offset, with the next tree after it.
 abbrev pub tree_of : ℕ → Documents → Tree → Tree
-tree_of place empty next = next
-tree_of place (leaf name value behind) next =
-    element place name (written value) (tree_of (place + length (sheet.element name value)) behind next)
-tree_of place (branch name inner behind) next =
-    aggregate place name (ended []) (tree_of (place + length (start_line name)) inner nothing)
-    (tree_of (place + length (sheet.aggregate name (printed inner))) behind next)
+tree_of offset empty next = next
+tree_of offset (leaf name value suffix) next =
+    element offset name (written value) (tree_of (offset + length (sheet.element name value)) suffix next)
+tree_of offset (branch name inner suffix) next =
+    aggregate offset name (ended []) (tree_of (offset + length (start_line name)) inner nothing)
+    (tree_of (offset + length (sheet.aggregate name (printed inner))) suffix next)
 
 -- The bytes begin with no end tag of an element.
 abbrev pub ClosesNoElement : List ℕ → Type 0
 ClosesNoElement bytes = (name : List ℕ) → IsElementName name → starts_with nat_eq bytes (end_tag name) ≡ false
 
--- Documents that are printed in front of more bytes spell their tree in front of what those bytes spell.
+-- Documents that are printed before more bytes spell their tree before what those bytes spell.
 abbrev pub DocumentsReadBack : Type 0
 DocumentsReadBack =
-    (size room place : ℕ) (documents : Documents) (more rest : List ℕ) (next : Tree)
+    (size room offset : ℕ) (documents : Documents) (more rest : List ℕ) (next : Tree)
     → AreLawful room documents → ClosesNoElement more
-    → place + length (printed documents ++ more) ≡ size
+    → offset + length (printed documents ++ more) ≡ size
     → Spells size room more next rest
-    → Spells size room (printed documents ++ more) (tree_of place documents next) rest
+    → Spells size room (printed documents ++ more) (tree_of offset documents next) rest
 
 -- ---- their items
 
--- The item of a leaf that is printed at a place. Its node has this index.
+-- The item of a leaf that is printed at an offset. Its node has this index.
 abbrev pub leaf_item : ℕ → ℕ → List ℕ → List ℕ → Item
-leaf_item place index name value = record {
-  node = record { is_element = true; name = name; text = written value; place = place; after = index + 1 };
+leaf_item offset index name value = record {
+  node = record { is_element = true; name = name; text = written value; offset = offset; after = index + 1 };
   first = index + 1;
   inner = [];
 }
 
--- The item of a branch that is printed at a place. Its node has this index.
+-- The item of a branch that is printed at an offset. Its node has this index.
 abbrev pub branch_item : ℕ → ℕ → List ℕ → Documents → Item
-branch_item place index name inner =
-    let nodes = nodes_from (index + 1) (tree_of (place + length (start_line name)) inner nothing) in
+branch_item offset index name inner =
+    let nodes = nodes_from (index + 1) (tree_of (offset + length (start_line name)) inner nothing) in
     record {
-      node = record { is_element = false; name = name; text = ended []; place = place; after = index + 1 + length nodes };
+      node = record { is_element = false; name = name; text = ended []; offset = offset; after = index + 1 + length nodes };
       first = index + 1;
       inner = nodes;
     }
 
--- The items of documents that are printed at a place. The first of their nodes has this index.
+-- The items of documents that are printed at an offset. The first of their nodes has this index.
 abbrev pub items_of : ℕ → ℕ → Documents → List Item
-items_of place index empty = []
-items_of place index (leaf name value behind) =
-    leaf_item place index name value ∷ items_of (place + length (sheet.element name value)) (index + 1) behind
-items_of place index (branch name inner behind) =
-    let item = branch_item place index name inner in
-    item ∷ items_of (place + length (sheet.aggregate name (printed inner))) item.node.after behind
+items_of offset index empty = []
+items_of offset index (leaf name value suffix) =
+    leaf_item offset index name value ∷ items_of (offset + length (sheet.element name value)) (index + 1) suffix
+items_of offset index (branch name inner suffix) =
+    let item = branch_item offset index name inner in
+    item ∷ items_of (offset + length (sheet.aggregate name (printed inner))) item.node.after suffix
 
 -- The children of a branch are the items of its documents.
 abbrev pub BranchesHoldTheirDocuments : Type 0
 BranchesHoldTheirDocuments =
-    (place index : ℕ) (name : List ℕ) (inner : Documents)
-    → children (branch_item place index name inner) ≡ items_of (place + length (start_line name)) (index + 1) inner
+    (offset index : ℕ) (name : List ℕ) (inner : Documents)
+    → children (branch_item offset index name inner) ≡ items_of (offset + length (start_line name)) (index + 1) inner
 
 -- None of them is absent: those that a name finds are all that have it.
 abbrev pub DocumentsAreFound : Type 0
 DocumentsAreFound =
-    (place index room : ℕ) (own name : List ℕ) (inner : Documents) → AreLawful room inner
-    → named name (branch_item place index own inner)
-    ≡ filter (λ item. has_name name item) (items_of (place + length (start_line own)) (index + 1) inner)
+    (offset index room : ℕ) (own name : List ℕ) (inner : Documents) → AreLawful room inner
+    → named name (branch_item offset index own inner)
+    ≡ filter (λ item. has_name name item) (items_of (offset + length (start_line own)) (index + 1) inner)
 
 -- A leaf's item stands for its value.
 abbrev pub LeavesHaveTheirValues : Type 0
 LeavesHaveTheirValues =
-    (place index : ℕ) (name value : List ℕ) → IsLeaf name value
-    → let item = leaf_item place index name value in
+    (offset index : ℕ) (name value : List ℕ) → IsLeaf name value
+    → let item = leaf_item offset index name value in
     (value_of item.node.text ≡ value) × (is_absent item.node ≡ false)
 
 -- Documents between the tags of OFX are the body's nodes: the first one is that of the branch OFX, with the others in it.

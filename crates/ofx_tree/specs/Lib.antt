@@ -3,7 +3,7 @@ pub mod NamedChildren
 pub mod Marks
 pub mod PrintedForm
 pub mod Root
-pub mod Placed
+pub mod Located
 pub mod Documents
 pub mod Ids
 pub mod ValueLaws

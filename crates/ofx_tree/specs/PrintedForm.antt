@@ -18,7 +18,7 @@ pub record IsAggregateName (name : List ℕ) : Type 0 where
   pub has_name : is_name name ≡ true
   pub is_free : is_one_of element_names name ≡ false
 
--- What stands after an element's start tag, up to the next line.
+-- What follows an element's start tag, up to the next line.
 abbrev pub written : List ℕ → List ℕ
 written value = ended (escaped value)
 
@@ -26,25 +26,25 @@ written value = ended (escaped value)
 -- its name stands on the next line.
 abbrev pub ElementsReadBack : Type 0
 ElementsReadBack =
-    (size room place : ℕ) (name value more rest : List ℕ) (behind : Tree)
+    (size room offset : ℕ) (name value more rest : List ℕ) (suffix : Tree)
     → IsElementName name → IsText value → 0 < length value
     → starts_with nat_eq more (end_tag name) ≡ false
-    → place + length (sheet.element name value ++ more) ≡ size
-    → Spells size room more behind rest
-    → Spells size room (sheet.element name value ++ more) (tags.element place name (written value) behind) rest
+    → offset + length (sheet.element name value ++ more) ≡ size
+    → Spells size room more suffix rest
+    → Spells size room (sheet.element name value ++ more) (tags.element offset name (written value) suffix) rest
     × (value_of (written value) ≡ value)
 
--- What is written between a start tag and its end tag reads back as an aggregate of what stands there.
+-- What is written between a start tag and its end tag reads back as an aggregate of what is there there.
 abbrev pub AggregatesReadBack : Type 0
 AggregatesReadBack =
-    (size room place : ℕ) (name inner more rest : List ℕ) (within behind : Tree)
+    (size room offset : ℕ) (name inner more rest : List ℕ) (within suffix : Tree)
     → IsAggregateName name → 0 < room
-    → place + length (sheet.aggregate name inner ++ more) ≡ size
+    → offset + length (sheet.aggregate name inner ++ more) ≡ size
     → Spells size (room - 1) (inner ++ (end_line name ++ more)) within (end_line name ++ more)
-    → Spells size room more behind rest
-    → Spells size room (sheet.aggregate name inner ++ more) (tags.aggregate place name (ended []) within behind) rest
+    → Spells size room more suffix rest
+    → Spells size room (sheet.aggregate name inner ++ more) (tags.aggregate offset name (ended []) within suffix) rest
 
--- What is written between the tags of OFX reads back as a body. White space may stand in front, as the empty line of a
+-- What is written between the tags of OFX reads back as a body. White space may be in front, as the empty line of a
 -- header does.
 abbrev pub BodiesReadBack : Type 0
 BodiesReadBack =

@@ -1,4 +1,4 @@
--- What a cursor finds is what stands there: a child's value is read exactly where the grammar of values spells it.
+-- What a cursor finds is what is there: a child's value is read exactly where the grammar of values spells it.
 use Rattle.std.specs.Prelude.{◌≡◌, ◌↔◌, ℕ, Bool, List, Option, Ok}
 use Rattle.ofx_types.specs.Nodes.{Item}
 use Rattle.ofx_types.specs.FormWords.{text_in, IsTextIn, flag_in, IsFlagIn, maybe_flag_in, IsMaybeFlagIn, amount_in, IsAmountIn, moment_in, IsMomentIn, maybe_moment_in, IsMaybeMomentIn, number_in, IsNumberIn, id_in, IsIdIn, maybe_id_in, IsMaybeIdIn}

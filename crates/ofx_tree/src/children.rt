@@ -3,7 +3,7 @@
 ghost use Rattle.std.specs.Prelude.{◌≡◌, ◌+◌, ◌<◌, ◌≤◌, ◌^◌, ◌∷◌, [], length, IfNone, IfSome};
 ghost use Rattle.std.specs.Iterator.{YieldsFirst, item_count};
 ghost use Rattle.ofx_tree.specs.ItemView.{items_at, BeginsWithItem};
-ghost use Rattle.ofx_tree.specs.NamedChildren.{standing, standing_as_one_of};
+ghost use Rattle.ofx_tree.specs.NamedChildren.{present, present_as_one_of};
 
 use crate::cursor::Cursor;
 use ofx_tape::Node;
@@ -39,11 +39,11 @@ impl<'t> Children<'t> {
 
     /// The next child of this name. An element whose trimmed value is empty counts as absent.
     pub(crate) fn next_named(&mut self, name: &[u8]) -> Option<Cursor<'t>>
-        ensures none { IfNone result (standing name.now self.old ≡ []) }
-        ensures some { IfSome result (λ child. standing name.now self.old ≡ child ∷ standing name.now self.new) }
+        ensures none { IfNone result (present name.now self.old ≡ []) }
+        ensures some { IfSome result (λ child. present name.now self.old ≡ child ∷ present name.now self.new) }
     {
         while let Some(child) = self.next() {
-            if child.stands(name) {
+            if child.holds(name) {
                 return Some(child);
             }
         }
@@ -57,11 +57,11 @@ impl<'t> Children<'t> {
         second: &[u8],
         third: &[u8],
     ) -> Option<Cursor<'t>>
-        ensures none { IfNone result (standing_as_one_of (first.now ∷ second.now ∷ third.now ∷ []) self.old ≡ []) }
-        ensures some { IfSome result (λ child. standing_as_one_of (first.now ∷ second.now ∷ third.now ∷ []) self.old ≡ child ∷ standing_as_one_of (first.now ∷ second.now ∷ third.now ∷ []) self.new) }
+        ensures none { IfNone result (present_as_one_of (first.now ∷ second.now ∷ third.now ∷ []) self.old ≡ []) }
+        ensures some { IfSome result (λ child. present_as_one_of (first.now ∷ second.now ∷ third.now ∷ []) self.old ≡ child ∷ present_as_one_of (first.now ∷ second.now ∷ third.now ∷ []) self.new) }
     {
         while let Some(child) = self.next() {
-            if child.stands_as_one_of(first, second, third) {
+            if child.holds_one_of(first, second, third) {
                 return Some(child);
             }
         }

@@ -9,7 +9,7 @@ ghost use Rattle.ofx_types.specs.FormWords.{one, one_of, maybe, is_absent, text_
 ghost use Rattle.ofx_types.specs.ValueForm.{value_of};
 ghost use Rattle.ofx_types.specs.Nodes.{IsRoot};
 ghost use Rattle.ofx_tree.specs.ItemView.{item_view};
-ghost use Rattle.ofx_tree.specs.NamedChildren.{stands, stands_as_one_of};
+ghost use Rattle.ofx_tree.specs.NamedChildren.{holds, holds_one_of};
 ghost use Rattle.ofx_tree.specs.Ids.{id_at};
 ghost use Rattle.ofx_tree.specs.Root.{AreRead};
 
@@ -41,7 +41,7 @@ impl<'t> Model for Cursor<'t> {
 }
 
 impl<'t> Cursor<'t> {
-    /// The aggregate OFX of a tape that was read, with all that stands in it.
+    /// The aggregate OFX of a tape that was read, with all that is in it.
     #[tactic(auto, using(crate::proofs::Root::first_node))]
     pub fn root(tape: &'t Tape<'_>) -> Cursor<'t>
         requires { AreRead tape.now }
@@ -66,14 +66,14 @@ impl<'t> Cursor<'t> {
         self.node.name
     }
 
-    /// The place of its start tag: the number of the body's bytes in front of it.
-    pub fn place(&self) -> usize
-        ensures { result ≡ self.now.node.place }
+    /// The offset of its start tag: the number of the body's bytes before it.
+    pub fn offset(&self) -> usize
+        ensures { result ≡ self.now.node.offset }
     {
         self.node.at
     }
 
-    /// The bytes between its start tag and the next `<`: an element's value as it stands in the body.
+    /// The bytes between its start tag and the next `<`: an element's value as it is in the body.
     pub fn value(&self) -> &'t [u8]
         ensures { result.now ≡ self.now.node.text }
     {
@@ -87,9 +87,9 @@ impl<'t> Cursor<'t> {
         Children::new(self.first, self.inner)
     }
 
-    /// The child of this name, which stands once.
+    /// The child of this name, which occurs once.
     ///
-    /// `Missing` at this aggregate's place where none stands, `Repeated` at the second one's where several do. An element
+    /// `Missing` at this aggregate's place where there is none, `Repeated` at the second one's where several do. An element
     /// whose trimmed value is empty counts as absent.
     pub fn one(&self, name: &[u8]) -> Result<Cursor<'t>, TreeFault>
         ensures { result ≡ one name.now self.now }
@@ -100,7 +100,7 @@ impl<'t> Cursor<'t> {
         }
     }
 
-    /// The child of this name, which may stand once.
+    /// The child of this name, which may occur once.
     ///
     /// `Repeated` at the second one's place where several stand. An element whose trimmed value is empty counts as
     /// absent.
@@ -117,9 +117,9 @@ impl<'t> Cursor<'t> {
         }
     }
 
-    /// The child with one of three names, which stands once: just one child has any of them.
+    /// The child with one of three names, which occurs once: just one child has any of them.
     ///
-    /// `Missing` at this aggregate's place where none stands, `Repeated` at the second one's where several do, whether
+    /// `Missing` at this aggregate's place where there is none, `Repeated` at the second one's where several do, whether
     /// they have the same name or not. An element whose trimmed value is empty counts as absent.
     pub fn one_of(&self, first: &[u8], second: &[u8], third: &[u8]) -> Result<Cursor<'t>, TreeFault>
         ensures { result ≡ one_of (first.now ∷ second.now ∷ third.now ∷ []) self.now }
@@ -134,10 +134,10 @@ impl<'t> Cursor<'t> {
         }
     }
 
-    /// The text of the child of this name, which stands once: 1 byte up to the limit, trimmed and with its entities
+    /// The text of the child of this name, which occurs once: 1 byte up to the limit, trimmed and with its entities
     /// decoded.
     ///
-    /// The faults of `one`; `Value` at the child's place where its value is no such text; `OutOfMemory` where memory for
+    /// The faults of `one`; `Value` at the child's offset where its value is no such text; `OutOfMemory` where memory for
     /// it is refused.
     #[tactic(auto, unfolding(ofx_types::specs::FormWords::text_in))]
     pub fn text(&self, alloc: Global, name: &[u8], most: u32) -> Result<Text, TreeFault>
@@ -147,9 +147,9 @@ impl<'t> Cursor<'t> {
         child.own_text(alloc, most)
     }
 
-    /// The flag of the child of this name, which stands once: `Y` or `N`.
+    /// The flag of the child of this name, which occurs once: `Y` or `N`.
     ///
-    /// The faults of `one`; `Value` at the child's place where its value is any other.
+    /// The faults of `one`; `Value` at the child's offset where its value is any other.
     #[tactic(auto, unfolding(ofx_types::specs::FormWords::flag_in))]
     pub fn flag(&self, name: &[u8]) -> Result<bool, TreeFault>
         ensures { result ≡ flag_in name.now self.now }
@@ -158,9 +158,9 @@ impl<'t> Cursor<'t> {
         child.own_flag()
     }
 
-    /// The flag of the child of this name, which may stand once: `Y` or `N`. Where it doesn't stand the flag is `N`.
+    /// The flag of the child of this name, which may occur once: `Y` or `N`. Where it doesn't stand the flag is `N`.
     ///
-    /// The faults of `maybe`; `Value` at the child's place where its value is any other.
+    /// The faults of `maybe`; `Value` at the child's offset where its value is any other.
     #[tactic(auto, unfolding(ofx_types::specs::FormWords::maybe_flag_in))]
     pub fn maybe_flag(&self, name: &[u8]) -> Result<bool, TreeFault>
         ensures { result ≡ maybe_flag_in name.now self.now }
@@ -171,9 +171,9 @@ impl<'t> Cursor<'t> {
         }
     }
 
-    /// The amount of the child of this name, which stands once. It takes no memory.
+    /// The amount of the child of this name, which occurs once. It takes no memory.
     ///
-    /// The faults of `one`; `Value` at the child's place where its value spells no amount.
+    /// The faults of `one`; `Value` at the child's offset where its value spells no amount.
     #[tactic(auto, unfolding(ofx_types::specs::FormWords::amount_in))]
     pub fn amount(&self, name: &[u8]) -> Result<Cents, TreeFault>
         ensures { result ≡ amount_in name.now self.now }
@@ -181,9 +181,9 @@ impl<'t> Cursor<'t> {
         self.one(name)?.own_amount()
     }
 
-    /// The moment of the child of this name, which stands once. It takes no memory.
+    /// The moment of the child of this name, which occurs once. It takes no memory.
     ///
-    /// The faults of `one`; `Value` at the child's place where its value spells no date.
+    /// The faults of `one`; `Value` at the child's offset where its value spells no date.
     #[tactic(auto, unfolding(ofx_types::specs::FormWords::moment_in))]
     pub fn moment(&self, name: &[u8]) -> Result<Moment, TreeFault>
         ensures { result ≡ moment_in name.now self.now }
@@ -191,9 +191,9 @@ impl<'t> Cursor<'t> {
         self.one(name)?.own_moment()
     }
 
-    /// The moment of the child of this name, which may stand once. It takes no memory.
+    /// The moment of the child of this name, which may occur once. It takes no memory.
     ///
-    /// The faults of `maybe`; `Value` at the child's place where its value spells no date.
+    /// The faults of `maybe`; `Value` at the child's offset where its value spells no date.
     #[tactic(auto, unfolding(ofx_types::specs::FormWords::maybe_moment_in))]
     pub fn maybe_moment(&self, name: &[u8]) -> Result<Option<Moment>, TreeFault>
         ensures { result ≡ maybe_moment_in name.now self.now }
@@ -204,10 +204,10 @@ impl<'t> Cursor<'t> {
         }
     }
 
-    /// The number that the child of this name, which stands once, has as its value: 1 digit up to `most` of them, at most
+    /// The number that the child of this name, which occurs once, has as its value: 1 digit up to `most` of them, at most
     /// ten. It takes no memory.
     ///
-    /// The faults of `one`; `Value` at the child's place where its value is no such number.
+    /// The faults of `one`; `Value` at the child's offset where its value is no such number.
     #[tactic(auto, unfolding(ofx_types::specs::FormWords::number_in))]
     pub fn number(&self, name: &[u8], most: usize) -> Result<u64, TreeFault>
         requires { most ≤ 10 }
@@ -218,7 +218,7 @@ impl<'t> Cursor<'t> {
 
     /// The number that its own value is: 1 digit up to `most` of them, at most ten. It takes no memory.
     ///
-    /// `Value` at its place where the value is no such number.
+    /// `Value` at its offset where the value is no such number.
     pub fn own_number(&self, most: usize) -> Result<u64, TreeFault>
         requires { most ≤ 10 }
         ensures { result ≡ number_of most self.now.node }
@@ -229,10 +229,10 @@ impl<'t> Cursor<'t> {
         }
     }
 
-    /// The id that the child of this name, which stands once, has as its value: a number of 1 to 10 digits. Any other
+    /// The id that the child of this name, which occurs once, has as its value: a number of 1 to 10 digits. Any other
     /// text of at most 64 bytes stands for 0, which names nothing. It takes no memory.
     ///
-    /// The faults of `one`; `Value` at the child's place where its value is no text of 1 to 64 bytes.
+    /// The faults of `one`; `Value` at the child's offset where its value is no text of 1 to 64 bytes.
     #[tactic(auto, unfolding(ofx_types::specs::FormWords::id_in, ofx_types::specs::FormWords::text_in))]
     pub fn id(&self, name: &[u8]) -> Result<u64, TreeFault>
         ensures { result ≡ id_in name.now self.now }
@@ -241,9 +241,9 @@ impl<'t> Cursor<'t> {
         child.own_id()
     }
 
-    /// The id of the child of this name, which may stand once: 0 where it doesn't. It takes no memory.
+    /// The id of the child of this name, which may occur once: 0 where it doesn't. It takes no memory.
     ///
-    /// The faults of `maybe`; `Value` at the child's place where its value is no text of 1 to 64 bytes.
+    /// The faults of `maybe`; `Value` at the child's offset where its value is no text of 1 to 64 bytes.
     #[tactic(auto, unfolding(ofx_types::specs::FormWords::maybe_id_in))]
     pub fn maybe_id(&self, name: &[u8]) -> Result<u64, TreeFault>
         ensures { result ≡ maybe_id_in name.now self.now }
@@ -256,7 +256,7 @@ impl<'t> Cursor<'t> {
 
     /// The text that its own value stands for: 1 byte up to the limit, trimmed and with its entities decoded.
     ///
-    /// `Value` at its place where the value is no such text; `OutOfMemory` where memory for it is refused.
+    /// `Value` at its offset where the value is no such text; `OutOfMemory` where memory for it is refused.
     pub fn own_text(&self, alloc: Global, most: u32) -> Result<Text, TreeFault>
         ensures { ReadsForm result (text_at most self.now.node) }
     {
@@ -314,15 +314,15 @@ impl<'t> Cursor<'t> {
     }
 
     /// Whether it has this name and isn't absent.
-    pub(crate) fn stands(&self, name: &[u8]) -> bool
-        ensures { result ≡ stands name.now self.now }
+    pub(crate) fn holds(&self, name: &[u8]) -> bool
+        ensures { result ≡ holds name.now self.now }
     {
         self.node.name == name && !self.is_absent()
     }
 
     /// Whether it has one of three names and isn't absent.
-    pub(crate) fn stands_as_one_of(&self, first: &[u8], second: &[u8], third: &[u8]) -> bool
-        ensures { result ≡ stands_as_one_of (first.now ∷ second.now ∷ third.now ∷ []) self.now }
+    pub(crate) fn holds_one_of(&self, first: &[u8], second: &[u8], third: &[u8]) -> bool
+        ensures { result ≡ holds_one_of (first.now ∷ second.now ∷ third.now ∷ []) self.now }
     {
         self.has_one_of(first, second, third) && !self.is_absent()
     }
@@ -342,7 +342,7 @@ impl<'t> Cursor<'t> {
     }
 }
 
-/// Whether white space alone stands in the bytes.
+/// Whether white space alone is in the bytes.
 fn is_blank(bytes: &[u8]) -> bool
     ensures { result ≡ list_all is_white bytes.now }
 {

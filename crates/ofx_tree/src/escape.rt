@@ -28,7 +28,7 @@ fn has_mark(value: &[u8]) -> bool
     value.iter().any(|byte| matches!(*byte, b'&' | b'<' | b'>'))
 }
 
-#[tactic(auto, using(ofx_types::proofs::Bytes::front_of_front))]
+#[tactic(auto, using(ofx_types::proofs::Bytes::prefix_of_prefix))]
 fn escape_each(value: &[u8], out: &mut Vec<u8>) -> Result<(), OutOfMemory>
     ensures ok { OnOk result (out.new.items ≡ out.old.items ++ escaped value.now) }
     ensures err { OnErr result (StartsWith out.new.items out.old.items) }

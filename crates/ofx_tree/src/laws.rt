@@ -1,4 +1,4 @@
-//! What a sheet writes reads back as it was written, and what a cursor reads is what the grammar says stands there. Nothing
+//! What a sheet writes reads back as it was written, and what a cursor reads is what the grammar says is there. Nothing
 //! here runs: each contract is a law.
 
 ghost use Rattle.ofx_tree.specs.PrintedForm.{ElementsReadBack, AggregatesReadBack, BodiesReadBack};
@@ -21,7 +21,7 @@ pub fn bodies_read_back()
 {}
 
 /// Leaves and branches that are printed spell their tree, also between the tags of OFX. The children of a branch's item are
-/// the items of what stands in it: a name finds those that have it, and a leaf's item stands for its value.
+/// the items of what is there in it: a name finds those that have it, and a leaf's item stands for its value.
 pub fn documents_read_back()
     ensures spelled { DocumentsReadBack }
     ensures body { BodiesHoldTheirDocuments }
@@ -30,7 +30,7 @@ pub fn documents_read_back()
     ensures values { LeavesHaveTheirValues }
 {}
 
-/// `Cursor::text` and its kin give a value exactly where the child stands once and its value spells it in the grammar: texts,
+/// `Cursor::text` and its kin give a value exactly where the child occurs once and its value spells it in the grammar: texts,
 /// flags, amounts, dates, numbers and ids.
 pub fn values_are_found()
     ensures texts { TextsAreFound }

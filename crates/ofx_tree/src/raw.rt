@@ -85,7 +85,7 @@ fn is_text(value: &[u8]) -> bool
     !value.is_empty() && first_refused(value).is_none()
 }
 
-/// The place of the first control byte other than tab, LF and CR.
+/// The offset of the first control byte other than tab, LF and CR.
 fn first_refused(value: &[u8]) -> Option<usize>
     ensures { result ≡ position is_refused_in_text value.now }
 {

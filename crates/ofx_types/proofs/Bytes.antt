@@ -32,13 +32,13 @@ none_is (Some x) h = absurd cc
 
 -- ---- fronts
 
--- what begins with the front of some bytes and more begins with that front
-pub front_of_front : (xs more ys : List ℕ) → take (length (xs ++ more)) ys ≡ xs ++ more → take (length xs) ys ≡ xs
-front_of_front xs more ys h =
-    let behind : List ℕ = drop (length (xs ++ more)) ys in
-    let whole : ys ≡ (xs ++ more) ++ behind = rw h at (sym (take-append-drop (length (xs ++ more)) ys)) in
-    let parts : ys ≡ xs ++ (more ++ behind) = whole ∙ append_assoc xs more behind in
-    rw parts (take-append_seam xs (more ++ behind))
+-- what begins with the prefix of some bytes and more begins with that front
+pub prefix_of_prefix : (xs more ys : List ℕ) → take (length (xs ++ more)) ys ≡ xs ++ more → take (length xs) ys ≡ xs
+prefix_of_prefix xs more ys h =
+    let suffix : List ℕ = drop (length (xs ++ more)) ys in
+    let whole : ys ≡ (xs ++ more) ++ suffix = rw h at (sym (take-append-drop (length (xs ++ more)) ys)) in
+    let parts : ys ≡ xs ++ (more ++ suffix) = whole ∙ append_assoc xs more suffix in
+    rw parts (take-append_seam xs (more ++ suffix))
 
 -- ---- choices
 

@@ -7,17 +7,17 @@ use Rattle.ofx_types.specs.TextOutcome.{text_fault, refused_at, trnuid_fault, fi
 use Rattle.ofx_types.specs.declared.text.TextFault.{TextFault}
 use Rattle.ofx_types.specs.declared.text.TextFault.TheVariants.{Empty, TooLong}
 use Rattle.ofx_types.specs.Bounds.{IsTextWithin}
-use Rattle.ofx_types.specs.ValueForm.{decoded, StandsFor}
+use Rattle.ofx_types.specs.ValueForm.{decoded, Represents}
 use Rattle.ofx_types.specs.Nodes.{Item}
 use Rattle.ofx_types.specs.FormWords.{IsTextIn}
 use Rattle.std.specs.Str.{bytes_eq}
 use Rattle.std.proofs.lemmas.Bool.{le-ltb}
 
--- in front of a byte that is no white space nothing is trimmed
+-- before a byte that is no white space nothing is trimmed
 pub trim_start-kept : (x : ℕ) (xs : List ℕ) → is_white x ≡ false → trim_start (x ∷ xs) ≡ x ∷ xs
 trim_start-kept x xs h = grind (arith, common_steps)
 
--- trimming in front of a last byte that is no white space
+-- trimming before a last byte that is no white space
 trim_start-last : (xs : List ℕ) (x : ℕ) → is_white x ≡ false → trim_start (xs ++ x ∷ []) ≡ trim_start xs ++ x ∷ []
 trim_start-last [] x h = trim_start-kept x [] h
 trim_start-last (y ∷ ys) x h =
@@ -32,8 +32,8 @@ trim_end-kept x xs h =
     ∙ ap reverse (trim_start-last (reverse xs) x h)
     ∙ reverse-append (trim_start (reverse xs)) (x ∷ [])
 
-front_kept : (x : ℕ) (xs : List ℕ) → is_white x ≡ false → trim_start (trim_end (x ∷ xs)) ≡ trim_end (x ∷ xs)
-front_kept x xs h = ap trim_start (trim_end-kept x xs h) ∙ trim_start-kept x _ h ∙ sym (trim_end-kept x xs h)
+prefix_kept : (x : ℕ) (xs : List ℕ) → is_white x ≡ false → trim_start (trim_end (x ∷ xs)) ≡ trim_end (x ∷ xs)
+prefix_kept x xs h = ap trim_start (trim_end-kept x xs h) ∙ trim_start-kept x _ h ∙ sym (trim_end-kept x xs h)
 
 -- trimming at the end leaves a front that is trimmed
 trim_start-trim_end : (xs : List ℕ) → trim_start (trim_end (trim_start xs)) ≡ trim_end (trim_start xs)
@@ -42,7 +42,7 @@ trim_start-trim_end (x ∷ xs) = by_cases (is_white x) refl (trim_start-trim_end
   where
     by_cases : (b : Bool) → is_white x ≡ b → trim_start (trim_end (trim_start xs)) ≡ trim_end (trim_start xs) → trim_start (trim_end (trim_start (x ∷ xs))) ≡ trim_end (trim_start (x ∷ xs))
     by_cases true h again = ap (λ (c : Bool). trim_start (trim_end (cond c (trim_start xs) (x ∷ xs)))) h ∙ again ∙ sym (ap (λ (c : Bool). trim_end (cond c (trim_start xs) (x ∷ xs))) h)
-    by_cases false h again = ap (λ (c : Bool). trim_start (trim_end (cond c (trim_start xs) (x ∷ xs)))) h ∙ front_kept x xs h ∙ sym (ap (λ (c : Bool). trim_end (cond c (trim_start xs) (x ∷ xs))) h)
+    by_cases false h again = ap (λ (c : Bool). trim_start (trim_end (cond c (trim_start xs) (x ∷ xs)))) h ∙ prefix_kept x xs h ∙ sym (ap (λ (c : Bool). trim_end (cond c (trim_start xs) (x ∷ xs))) h)
 
 trim_start-again : (xs : List ℕ) → trim_start (trim_start xs) ≡ trim_start xs
 trim_start-again [] = refl
@@ -124,12 +124,12 @@ file_uid_of_faultless bytes text stored same e h =
     (clean.0, rw same whole)
 
 -- What a value stands for is a text within its limit.
-pub text_within : (most : ℕ) (value text : List ℕ) → most < 2 ^ 32 → StandsFor most value text → IsTextWithin most text
-text_within most value text small stands = record {
-  is_text = text_of_faultless most (decoded value) text text refl stands.value (sym stands.is_faultless) small;
-  is_there = stands.is_there;
-  is_within = (faultless is_refused_in_text most text stands.is_faultless).0;
+pub text_within : (most : ℕ) (value text : List ℕ) → most < 2 ^ 32 → Represents most value text → IsTextWithin most text
+text_within most value text small holds = record {
+  is_text = text_of_faultless most (decoded value) text text refl holds.value (sym holds.is_faultless) small;
+  is_there = holds.is_there;
+  is_within = (faultless is_refused_in_text most text holds.is_faultless).0;
 }
 
 pub text_within_in : (name : List ℕ) (most : ℕ) (parent : Item) (text : List ℕ) → most < 2 ^ 32 → IsTextIn name most parent text → IsTextWithin most text
-text_within_in name most parent text small t = text_within most t.child.node.text text small t.stands
+text_within_in name most parent text small t = text_within most t.child.node.text text small t.holds

@@ -12,7 +12,7 @@ kind_word Savings = codes "SAVINGS"
 kind_word MoneyMarket = codes "MONEYMRKT"
 kind_word CreditLine = codes "CREDITLINE"
 
--- the place of a kind among the kinds
+-- the offset of a kind among the kinds
 abbrev pub kind_number : AcctKind → ℕ
 kind_number Checking = 0
 kind_number Savings = 1

@@ -45,20 +45,20 @@ clock_at text = do
   seconds ← clock_seconds hour.0 minute.0 second.0
   Some (seconds, second.1)
 
--- what stands after three digits
-unfoldable pub behind_three : List ℕ → Option (List ℕ)
-behind_three [] = None
-behind_three (a ∷ []) = None
-behind_three (a ∷ b ∷ []) = None
-behind_three (a ∷ b ∷ c ∷ rest) =
+-- what follows three digits
+unfoldable pub after_three : List ℕ → Option (List ℕ)
+after_three [] = None
+after_three (a ∷ []) = None
+after_three (a ∷ b ∷ []) = None
+after_three (a ∷ b ∷ c ∷ rest) =
     if is_ascii_digit a && is_ascii_digit b && is_ascii_digit c then Some rest else None
 
--- what stands after a point and three digits, where the point stands
-unfoldable pub behind_fraction : List ℕ → Option (List ℕ)
-behind_fraction [] = Some []
-behind_fraction (b ∷ rest) = if b == 46 then behind_three rest else Some (b ∷ rest)
+-- what follows a point and three digits, where the point stands
+unfoldable pub after_fraction : List ℕ → Option (List ℕ)
+after_fraction [] = Some []
+after_fraction (b ∷ rest) = if b == 46 then after_three rest else Some (b ∷ rest)
 
--- no time of day stands here
+-- no time of day is here
 abbrev pub is_timeless : List ℕ → Bool
 is_timeless [] = true
 is_timeless (b ∷ rest) = b == 91
@@ -66,30 +66,30 @@ is_timeless (b ∷ rest) = b == 91
 unfoldable pub clock_and_fraction_at : List ℕ → Option (ℕ × List ℕ)
 clock_and_fraction_at text = do
   clock ← clock_at text
-  rest ← behind_fraction clock.1
+  rest ← after_fraction clock.1
   Some (clock.0, rest)
 
 unfoldable pub time_at : List ℕ → Option (ℕ × List ℕ)
 time_at text = if is_timeless text then Some (0, text) else clock_and_fraction_at text
 
 -- a second digit may stand after the first
-abbrev pub hours_behind : ℕ → List ℕ → ℕ × List ℕ
-hours_behind h [] = (h, [])
-hours_behind h (b ∷ rest) = if is_ascii_digit b then (10 * h + (b - 48), rest) else (h, b ∷ rest)
+abbrev pub hours_after : ℕ → List ℕ → ℕ × List ℕ
+hours_after h [] = (h, [])
+hours_after h (b ∷ rest) = if is_ascii_digit b then (10 * h + (b - 48), rest) else (h, b ∷ rest)
 
 -- whole hours, of one or two digits
 unfoldable pub hours_at : List ℕ → Option (ℕ × List ℕ)
 hours_at [] = None
-hours_at (a ∷ rest) = if is_ascii_digit a then Some (hours_behind (a - 48) rest) else None
+hours_at (a ∷ rest) = if is_ascii_digit a then Some (hours_after (a - 48) rest) else None
 
 -- hundredths of an hour after a digit of tenths
-abbrev pub tenths_behind : ℕ → List ℕ → ℕ × List ℕ
-tenths_behind t [] = (10 * t, [])
-tenths_behind t (b ∷ rest) = if is_ascii_digit b then (10 * t + (b - 48), rest) else (10 * t, b ∷ rest)
+abbrev pub tenths_after : ℕ → List ℕ → ℕ × List ℕ
+tenths_after t [] = (10 * t, [])
+tenths_after t (b ∷ rest) = if is_ascii_digit b then (10 * t + (b - 48), rest) else (10 * t, b ∷ rest)
 
 unfoldable pub tenths_at : List ℕ → Option (ℕ × List ℕ)
 tenths_at [] = None
-tenths_at (a ∷ rest) = if is_ascii_digit a then Some (tenths_behind (a - 48) rest) else None
+tenths_at (a ∷ rest) = if is_ascii_digit a then Some (tenths_after (a - 48) rest) else None
 
 -- hundredths of an hour after a point, where the point stands
 unfoldable pub part_at : List ℕ → Option (ℕ × List ℕ)
@@ -107,7 +107,7 @@ offset_seconds negative hour hundredth =
     if hundredth % 5 == 0 && nat_le (100 * hour + hundredth) (if negative then 1200 else 1400)
     then Some (signed negative (3600 * hour + 36 * hundredth)) else None
 
--- what stands between the brackets of a zone
+-- what is between the brackets of a zone
 unfoldable pub offset_at : List ℕ → Option ℤ
 offset_at text = do
   hour ← hours_at (sign_at text).1

@@ -36,7 +36,7 @@ request_name RecIntra = codes "RECINTRATRNRQ"
 request_name BankMail = codes "BANKMAILTRNRQ"
 request_name Mail = codes "MAILTRNRQ"
 
--- The requests of which just one stands in it. Those of mail have forms of their own.
+-- The requests of which just one is in it. Those of mail have forms of their own.
 abbrev pub requests_in : Family → List (List ℕ)
 requests_in Intra = transfer_requests
 requests_in RecIntra = model_requests
@@ -77,7 +77,7 @@ reply_name RecIntra = codes "RECINTRATRNRS"
 reply_name BankMail = codes "BANKMAILTRNRS"
 reply_name Mail = codes "MAILTRNRS"
 
--- the replies of which just one stands in it where the deed was done
+-- the replies of which just one is in it where the deed was done
 abbrev pub replies_in : Family → List (List ℕ)
 replies_in Intra = transfer_replies
 replies_in RecIntra = model_replies

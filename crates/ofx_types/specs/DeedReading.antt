@@ -17,11 +17,11 @@ use Rattle.ofx_types.specs.declared.transfer.DeedReply.{DeedReply}
 
 -- ---- requests
 
--- The name of a transaction tells its family. One of another name is no deed's: the fault is at its own place.
+-- The name of a transaction tells its family. One of another name is no deed's: the fault is at its own offset.
 abbrev pub family_asked : Item → Result Family TreeFault
 family_asked transaction =
     if has_name (codes "INTRATRNRQ") transaction then Ok Intra
-    else (if has_name (codes "RECINTRATRNRQ") transaction then Ok RecIntra else Err (Value transaction.node.place))
+    else (if has_name (codes "RECINTRATRNRQ") transaction then Ok RecIntra else Err (Value transaction.node.offset))
 
 -- the one request in it
 abbrev pub request_in : Item → Result Item TreeFault
@@ -44,13 +44,13 @@ deed_of transaction = do
 
 -- ---- replies
 
-abbrev pub family_told : Item → Result Family TreeFault
-family_told transaction =
+abbrev pub family_reported : Item → Result Family TreeFault
+family_reported transaction =
     if has_name (codes "INTRATRNRS") transaction then Ok Intra
-    else (if has_name (codes "RECINTRATRNRS") transaction then Ok RecIntra else Err (Value transaction.node.place))
+    else (if has_name (codes "RECINTRATRNRS") transaction then Ok RecIntra else Err (Value transaction.node.offset))
 
 abbrev pub reply_in : Item → Result Item TreeFault
-reply_in transaction = family_told transaction >>= λ family. one_of (replies_in family) transaction
+reply_in transaction = family_reported transaction >>= λ family. one_of (replies_in family) transaction
 
 unfoldable pub change_of : Item → Result Change TreeFault
 change_of reply =
@@ -66,7 +66,7 @@ change_by_code code transaction =
 
 unfoldable pub deed_reply_of : Item → Result DeedReply TreeFault
 deed_reply_of transaction = do
-  family ← family_told transaction
+  family ← family_reported transaction
   trnuid ← text_in (codes "TRNUID") 36 transaction
   code ← status_of transaction
   change ← change_by_code code transaction

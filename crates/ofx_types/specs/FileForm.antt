@@ -42,25 +42,25 @@ pub record SpellsReply (bytes : List ℕ) (reply : ReplyFile) : Type 0 where
   pub form : IsReply ofx reply.signon reply.moment reply.replies
 
 -- where a fault of the header stands
-abbrev pub header_place : HeaderFault → ℕ
-header_place (headers.Line number at) = at
-header_place (headers.Value number at) = at
-header_place (headers.Cut at) = at
+abbrev pub header_offset : HeaderFault → ℕ
+header_offset (headers.Line number at) = at
+header_offset (headers.Value number at) = at
+header_offset (headers.Cut at) = at
 
 -- where a fault of the tags stands, from the body's first byte; want of memory stands nowhere
-abbrev pub tag_place : TapeFault → Option ℕ
-tag_place (tags.Tag at) = Some at
-tag_place (tags.Mismatch at) = Some at
-tag_place (tags.Depth at) = Some at
-tag_place (tags.Cut at) = Some at
-tag_place tags.OutOfMemory = None
+abbrev pub tag_offset : TapeFault → Option ℕ
+tag_offset (tags.Tag at) = Some at
+tag_offset (tags.Mismatch at) = Some at
+tag_offset (tags.Depth at) = Some at
+tag_offset (tags.Cut at) = Some at
+tag_offset tags.OutOfMemory = None
 
 -- where a fault of the forms stands, from the body's first byte
-abbrev pub form_place : TreeFault → Option ℕ
-form_place (forms.Missing at) = Some at
-form_place (forms.Repeated at) = Some at
-form_place (forms.Value at) = Some at
-form_place forms.OutOfMemory = None
+abbrev pub form_offset : TreeFault → Option ℕ
+form_offset (forms.Missing at) = Some at
+form_offset (forms.Repeated at) = Some at
+form_offset (forms.Value at) = Some at
+form_offset forms.OutOfMemory = None
 
 -- A header stands, of this size.
 pub record HasHeader (bytes : List ℕ) (size : ℕ) : Type 0 where
@@ -71,17 +71,17 @@ pub record HasHeader (bytes : List ℕ) (size : ℕ) : Type 0 where
 
 -- the fault of the header
 abbrev pub IsHeaderFault : List ℕ → ℕ → Type 0
-IsHeaderFault bytes at = (fault : HeaderFault) × (header_fault bytes ≡ Some fault) × (at ≡ header_place fault)
+IsHeaderFault bytes at = (fault : HeaderFault) × (header_fault bytes ≡ Some fault) × (at ≡ header_offset fault)
 
 -- after a header, the leftmost fault of the tags
 pub record IsSyntaxFault (bytes : List ℕ) (at : ℕ) : Type 0 where
   pub size : ℕ
   pub fault : TapeFault
-  pub place : ℕ
+  pub offset : ℕ
   pub header : HasHeader bytes size
   pub is_fault : tag_fault (drop size bytes) ≡ Some fault
-  pub has_place : tag_place fault ≡ Some place
-  pub at_is : at ≡ size + place
+  pub has_offset : tag_offset fault ≡ Some offset
+  pub at_is : at ≡ size + offset
 
 -- after a header and in tags without a fault, the first fault of the forms
 pub record IsFormFault {P : Type 0} (parts_of : Item → Result P TreeFault) (bytes : List ℕ) (at : ℕ) : Type 0 where
@@ -89,14 +89,14 @@ pub record IsFormFault {P : Type 0} (parts_of : Item → Result P TreeFault) (by
   pub nodes : List TagNode
   pub ofx : Item
   pub fault : TreeFault
-  pub place : ℕ
+  pub offset : ℕ
   pub header : HasHeader bytes size
   pub body : HasBody bytes size nodes ofx
   pub is_fault : parts_of ofx ≡ Err fault
-  pub has_place : form_place fault ≡ Some place
-  pub at_is : at ≡ size + place
+  pub has_offset : form_offset fault ≡ Some offset
+  pub at_is : at ≡ size + offset
 
--- Why the bytes spell no file whose parts are read so: a kind and a place.
+-- Why the bytes spell no file whose parts are read so: a kind and an offset.
 abbrev pub IsFaultIn : {P : Type 0} → (Item → Result P TreeFault) → List ℕ → FileFault → Type 0
 IsFaultIn parts_of bytes (Header at) = IsHeaderFault bytes at
 IsFaultIn parts_of bytes (Syntax at) = IsSyntaxFault bytes at

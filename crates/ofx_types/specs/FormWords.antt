@@ -5,7 +5,7 @@ use Rattle.std.specs.Str.{bytes_eq}
 pub use Rattle.ofx_types.specs.InOrder.{◌>>=◌}
 use Rattle.ofx_types.specs.TextRules.{is_white, is_refused_in_text}
 use Rattle.ofx_types.specs.TextOutcome.{text_fault}
-use Rattle.ofx_types.specs.ValueForm.{value_of, StandsFor}
+use Rattle.ofx_types.specs.ValueForm.{value_of, Represents}
 use Rattle.ofx_types.specs.AmountForm.{IsAmount}
 use Rattle.ofx_types.specs.AmountReading.{amount_at}
 use Rattle.ofx_types.specs.DateForm.{IsDate}
@@ -25,7 +25,7 @@ is_absent node = node.is_element && list_all is_white node.text
 abbrev pub has_name : List ℕ → Item → Bool
 has_name name item = bytes_eq item.node.name name
 
--- The children of this name, in order. A child that a form doesn't name is skipped, whatever stands in it.
+-- The children of this name, in order. A child that a form doesn't name is skipped, whatever is in it.
 abbrev pub named : List ℕ → Item → List Item
 named name parent = filter (λ child. has_name name child && not (is_absent child.node)) (children parent)
 
@@ -49,7 +49,7 @@ IsNone name parent = named name parent ≡ []
 pub record IsTextIn (name : List ℕ) (most : ℕ) (parent : Item) (text : List ℕ) : Type 0 where
   pub child : Item
   pub is_only : IsOnly name parent child
-  pub stands : StandsFor most child.node.text text
+  pub holds : Represents most child.node.text text
 
 -- `Y` and `N`
 abbrev pub flag_word : Bool → List ℕ
@@ -60,9 +60,9 @@ flag_word false = codes "N"
 pub record IsFlagIn (name : List ℕ) (parent : Item) (flag : Bool) : Type 0 where
   pub child : Item
   pub is_only : IsOnly name parent child
-  pub stands : value_of child.node.text ≡ flag_word flag
+  pub holds : value_of child.node.text ≡ flag_word flag
 
--- A flag that may stand once. Where it doesn't it is `N`.
+-- A flag that may occur once. Where it doesn't it is `N`.
 abbrev pub IsMaybeFlagIn : List ℕ → Item → Bool → Type 0
 IsMaybeFlagIn name parent flag = (IsNone name parent × (flag ≡ false)) ⊎ IsFlagIn name parent flag
 
@@ -70,15 +70,15 @@ IsMaybeFlagIn name parent flag = (IsNone name parent × (flag ≡ false)) ⊎ Is
 pub record IsAmountIn (name : List ℕ) (parent : Item) (amount : Cents) : Type 0 where
   pub child : Item
   pub is_only : IsOnly name parent child
-  pub stands : IsAmount (value_of child.node.text) amount.0
+  pub holds : IsAmount (value_of child.node.text) amount.0
 
 -- The parent has just one child of this name, and its value spells the moment.
 pub record IsMomentIn (name : List ℕ) (parent : Item) (moment : Moment) : Type 0 where
   pub child : Item
   pub is_only : IsOnly name parent child
-  pub stands : IsDate (value_of child.node.text) moment.0
+  pub holds : IsDate (value_of child.node.text) moment.0
 
--- A date that may stand once.
+-- A date that may occur once.
 abbrev pub IsMaybeMomentIn : List ℕ → Item → Option Moment → Type 0
 IsMaybeMomentIn name parent None = IsNone name parent
 IsMaybeMomentIn name parent (Some moment) = IsMomentIn name parent moment
@@ -87,7 +87,7 @@ IsMaybeMomentIn name parent (Some moment) = IsMomentIn name parent moment
 pub record IsNumberIn (name : List ℕ) (most : ℕ) (parent : Item) (number : ℕ) : Type 0 where
   pub child : Item
   pub is_only : IsOnly name parent child
-  pub stands : number_at most (value_of child.node.text) ≡ Some number
+  pub holds : number_at most (value_of child.node.text) ≡ Some number
 
 -- An id that the bank gave: a number of 1 to 10 digits. Any other text of at most 64 bytes stands for 0, which names
 -- nothing.
@@ -99,7 +99,7 @@ pub record IsIdIn (name : List ℕ) (parent : Item) (id : ℕ) : Type 0 where
   pub has_text : IsTextIn name 64 parent text
   pub is_id : id ≡ id_of text
 
--- An id that may stand once. Where it doesn't it is 0.
+-- An id that may occur once. Where it doesn't it is 0.
 abbrev pub IsMaybeIdIn : List ℕ → Item → ℕ → Type 0
 IsMaybeIdIn name parent id = (IsNone name parent × (id ≡ 0)) ⊎ IsIdIn name parent id
 
@@ -114,24 +114,24 @@ abbrev pub ReadsForm : {A : Type 0} → Result A TreeFault → Result A TreeFaul
 ReadsForm (Ok x) read = read ≡ Ok x
 ReadsForm (Err fault) read = FailsSo fault read
 
--- Where a child that must stand once stands twice the second one is the fault, and where it doesn't stand the parent is.
+-- Where a child that must occur once occurs twice the second one is the fault, and where it doesn't stand the parent is.
 abbrev pub only_of : ℕ → List Item → Result Item TreeFault
-only_of place [] = Err (Missing place)
-only_of place (child ∷ []) = Ok child
-only_of place (child ∷ second ∷ more) = Err (Repeated second.node.place)
+only_of offset [] = Err (Missing offset)
+only_of offset (child ∷ []) = Ok child
+only_of offset (child ∷ second ∷ more) = Err (Repeated second.node.offset)
 
 abbrev pub one : List ℕ → Item → Result Item TreeFault
-one name parent = only_of parent.node.place (named name parent)
+one name parent = only_of parent.node.offset (named name parent)
 
 -- one child with one of these names
 abbrev pub one_of : List (List ℕ) → Item → Result Item TreeFault
-one_of names parent = only_of parent.node.place (named_one_of names parent)
+one_of names parent = only_of parent.node.offset (named_one_of names parent)
 
--- A child that may stand once.
+-- A child that may occur once.
 abbrev pub if_any : List Item → Result (Option Item) TreeFault
 if_any [] = Ok None
 if_any (child ∷ []) = Ok (Some child)
-if_any (child ∷ second ∷ more) = Err (Repeated second.node.place)
+if_any (child ∷ second ∷ more) = Err (Repeated second.node.offset)
 
 abbrev pub maybe : List ℕ → Item → Result (Option Item) TreeFault
 maybe name parent = if_any (named name parent)
@@ -142,7 +142,7 @@ is_text_within most text = nat_lt 0 (length text) && is_none (text_fault is_refu
 
 -- the text that a node's value stands for
 abbrev pub text_at : ℕ → TagNode → Result (List ℕ) TreeFault
-text_at most node = if is_text_within most (value_of node.text) then Ok (value_of node.text) else Err (Value node.place)
+text_at most node = if is_text_within most (value_of node.text) then Ok (value_of node.text) else Err (Value node.offset)
 
 unfoldable pub text_in : List ℕ → ℕ → Item → Result (List ℕ) TreeFault
 text_in name most parent = one name parent >>= λ child. text_at most child.node
@@ -151,12 +151,12 @@ text_in name most parent = one name parent >>= λ child. text_at most child.node
 abbrev pub flag_at : TagNode → Result Bool TreeFault
 flag_at node =
     if bytes_eq (value_of node.text) (codes "Y") then Ok true
-    else (if bytes_eq (value_of node.text) (codes "N") then Ok false else Err (Value node.place))
+    else (if bytes_eq (value_of node.text) (codes "N") then Ok false else Err (Value node.offset))
 
 unfoldable pub flag_in : List ℕ → Item → Result Bool TreeFault
 flag_in name parent = one name parent >>= λ child. flag_at child.node
 
--- the flag of a child that may stand once
+-- the flag of a child that may occur once
 abbrev pub flag_if_any : Option Item → Result Bool TreeFault
 flag_if_any None = Ok false
 flag_if_any (Some child) = flag_at child.node
@@ -166,27 +166,27 @@ maybe_flag_in name parent = maybe name parent >>= flag_if_any
 
 -- the amount that a node's value spells
 abbrev pub amount_or : ℕ → Option ℤ → Result Cents TreeFault
-amount_or place None = Err (Value place)
-amount_or place (Some cents) = Ok (record { 0 = cents })
+amount_or offset None = Err (Value offset)
+amount_or offset (Some cents) = Ok (record { 0 = cents })
 
 abbrev pub amount_of : TagNode → Result Cents TreeFault
-amount_of node = amount_or node.place (amount_at (value_of node.text))
+amount_of node = amount_or node.offset (amount_at (value_of node.text))
 
 unfoldable pub amount_in : List ℕ → Item → Result Cents TreeFault
 amount_in name parent = one name parent >>= λ child. amount_of child.node
 
 -- the moment that a node's value spells
 abbrev pub moment_or : ℕ → Option ℤ → Result Moment TreeFault
-moment_or place None = Err (Value place)
-moment_or place (Some seconds) = Ok (record { 0 = seconds })
+moment_or offset None = Err (Value offset)
+moment_or offset (Some seconds) = Ok (record { 0 = seconds })
 
 abbrev pub moment_of : TagNode → Result Moment TreeFault
-moment_of node = moment_or node.place (moment_at (value_of node.text))
+moment_of node = moment_or node.offset (moment_at (value_of node.text))
 
 unfoldable pub moment_in : List ℕ → Item → Result Moment TreeFault
 moment_in name parent = one name parent >>= λ child. moment_of child.node
 
--- the moment of a child that may stand once
+-- the moment of a child that may occur once
 abbrev pub moment_if_any : Option Item → Result (Option Moment) TreeFault
 moment_if_any None = Ok None
 moment_if_any (Some child) = moment_of child.node >>= λ moment. Ok (Some moment)
@@ -196,11 +196,11 @@ maybe_moment_in name parent = maybe name parent >>= moment_if_any
 
 -- the number that a node's value is, of 1 digit up to the limit
 abbrev pub number_or : ℕ → Option ℕ → Result ℕ TreeFault
-number_or place None = Err (Value place)
-number_or place (Some number) = Ok number
+number_or offset None = Err (Value offset)
+number_or offset (Some number) = Ok number
 
 abbrev pub number_of : ℕ → TagNode → Result ℕ TreeFault
-number_of most node = number_or node.place (number_at most (value_of node.text))
+number_of most node = number_or node.offset (number_at most (value_of node.text))
 
 unfoldable pub number_in : List ℕ → ℕ → Item → Result ℕ TreeFault
 number_in name most parent = one name parent >>= λ child. number_of most child.node

@@ -12,7 +12,7 @@ abbrev pub is_line_feed : ℕ → Bool
 is_line_feed b = b == 10
 
 -- A line is its tag, a colon and a value, and ends at its LF. White space at either end of the value is dropped, and a
--- CR in front of the LF with it.
+-- CR before the LF with it.
 pub record IsHeaderLine (tag value line : List ℕ) : Type 0 where
   pub raw : List ℕ
   pub spelled : line ≡ tag ++ 58 ∷ (raw ++ 10 ∷ [])
@@ -33,7 +33,7 @@ IsUidValue value None = value ≡ codes "NONE"
 IsUidValue value (Some uid) = (value ≡ uid) × (file_uid_fault uid ≡ None)
 
 -- The bytes begin with a header of these values, of this number of bytes: nine lines in this order. The body is what
--- stands after them.
+-- comes after them.
 pub record SpellsHeader (bytes : List ℕ) (version : ℕ) (older newer : Option (List ℕ)) (size : ℕ) : Type 0 where
   pub line_1 : List ℕ
   pub line_2 : List ℕ
@@ -93,17 +93,17 @@ header_rules =
     ∷ rule (codes "NEWFILEUID") is_uid_value ∷ []
 
 -- the value of a line that begins with this tag and a colon
-abbrev pub value_behind : List ℕ → List ℕ → List ℕ
-value_behind tag line = trimmed (drop (length tag + 1) line)
+abbrev pub value_after : List ℕ → List ℕ → List ℕ
+value_after tag line = trimmed (drop (length tag + 1) line)
 
--- What is wrong with a whole line of this number, without its LF, which begins at this place: it hasn't its tag, and
+-- What is wrong with a whole line of this number, without its LF, which begins at this offset: it hasn't its tag, and
 -- otherwise its value isn't allowed.
 unfoldable pub line_fault : HeaderRule → ℕ → ℕ → List ℕ → Option HeaderFault
 line_fault r number at line =
-    if starts_with nat_eq line (r.tag ++ 58 ∷ []) then (if r.allows (value_behind r.tag line) then None else Some (Value number at))
+    if starts_with nat_eq line (r.tag ++ 58 ∷ []) then (if r.allows (value_after r.tag line) then None else Some (Value number at))
     else Some (Line number at)
 
--- The first bad line among the lines still to come, of which the first begins at this place. A line is judged where it
+-- The first bad line among the lines still to come, of which the first begins at this offset. A line is judged where it
 -- ends in the bytes; where it doesn't, the header is cut.
 abbrev pub or_else : Option HeaderFault → Option HeaderFault → Option HeaderFault
 or_else None later = later

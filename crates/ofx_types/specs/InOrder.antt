@@ -1,4 +1,4 @@
--- Reading in order: each step goes on with what the one in front of it gave, and the first fault is the answer.
+-- Reading in order: each step goes on with what the one before it gave, and the first fault is the answer.
 use Rattle.std.specs.Prelude.{Result, Ok, Err}
 
 infixl 10 ◌>>=◌

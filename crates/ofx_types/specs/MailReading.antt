@@ -57,11 +57,11 @@ plain_mail_of transaction = do
   text ← mail_in request
   Ok (deeds.Mail text)
 
--- A transaction of another name is no mail's: the fault is at its own place.
+-- A transaction of another name is no mail's: the fault is at its own offset.
 unfoldable pub mail_request_of : Item → Result Deed TreeFault
 mail_request_of transaction =
     if has_name (codes "BANKMAILTRNRQ") transaction then bank_mail_of transaction
-    else (if has_name (codes "MAILTRNRQ") transaction then plain_mail_of transaction else Err (Value transaction.node.place))
+    else (if has_name (codes "MAILTRNRQ") transaction then plain_mail_of transaction else Err (Value transaction.node.offset))
 
 unfoldable pub mail_deed_of : Item → Result (List ℕ × Deed) TreeFault
 mail_deed_of transaction = do
@@ -71,10 +71,10 @@ mail_deed_of transaction = do
 
 -- ---- replies
 
-abbrev pub mail_family_told : Item → Result Family TreeFault
-mail_family_told transaction =
+abbrev pub mail_family_reported : Item → Result Family TreeFault
+mail_family_reported transaction =
     if has_name (codes "BANKMAILTRNRS") transaction then Ok families.BankMail
-    else (if has_name (codes "MAILTRNRS") transaction then Ok families.Mail else Err (Value transaction.node.place))
+    else (if has_name (codes "MAILTRNRS") transaction then Ok families.Mail else Err (Value transaction.node.offset))
 
 abbrev pub row_about : Option AcctName → List ℕ × MailText → MailRow
 row_about about mail = record { about = about; user = mail.0; mail = mail.1 }
@@ -102,7 +102,7 @@ mail_by_code code transaction =
 
 unfoldable pub mail_reply_of : Item → Result DeedReply TreeFault
 mail_reply_of transaction = do
-  family ← mail_family_told transaction
+  family ← mail_family_reported transaction
   trnuid ← text_in (codes "TRNUID") 36 transaction
   code ← status_of transaction
   change ← mail_by_code code transaction

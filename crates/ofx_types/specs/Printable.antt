@@ -29,10 +29,10 @@ abbrev pub HasBodyByCode : ℕ → Option StatementBody → Type 0
 HasBodyByCode code None = code ≢ 0
 HasBodyByCode code (Some body) = (code ≡ 0) × IsPrintableBody body
 
--- A row that is told isn't cancelled. Its day and its stamp lie in the years 1900 to 9999, and so does the first day of a
+-- A row that is reported isn't cancelled. Its day and its stamp lie in the years 1900 to 9999, and so does the first day of a
 -- recurring transfer and the moment at which a mail was written.
 pub record IsPrintableRow (row : TransferRow) : Type 0 where
-  pub told : row.code ≢ Cancelled
+  pub reported : row.code ≢ Cancelled
   pub due : IsDay row.due.0
   pub stamp : IsMoment row.stamp.0
 

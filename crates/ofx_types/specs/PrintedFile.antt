@@ -17,7 +17,7 @@ ask_text (Statement trnuid account period) = statement_request trnuid account pe
 ask_text (One trnuid deed) = deed_text trnuid deed
 ask_text (Sync ask) = sync_text ask
 
--- Mail stands in a message set of its own.
+-- Mail is in a message set of its own.
 abbrev pub is_mail_ask : Ask → Bool
 is_mail_ask (Statement trnuid account period) = false
 is_mail_ask (One trnuid deed) = is_mail_family (family_of deed)

@@ -23,10 +23,10 @@ use Rattle.ofx_types.specs.declared.transfer.Change.TheVariants.{NewModel, SetMo
 
 -- A count of 0 is none.
 abbrev pub not_zero : ℕ → ℕ → Result ℕ TreeFault
-not_zero place count = if count == 0 then Err (Value place) else Ok count
+not_zero offset count = if count == 0 then Err (Value offset) else Ok count
 
 abbrev pub count_at : TagNode → Result ℕ TreeFault
-count_at node = number_of 3 node >>= not_zero node.place
+count_at node = number_of 3 node >>= not_zero node.offset
 
 abbrev pub count_if_any : Option Item → Result (Option ℕ) TreeFault
 count_if_any None = Ok None
@@ -37,15 +37,15 @@ freqs =
     Weekly ∷ Biweekly ∷ TwiceMonthly ∷ Monthly ∷ FourWeeks ∷ Bimonthly ∷ Quarterly ∷ Semiannually ∷ Annually ∷ []
 
 abbrev pub freq_or : ℕ → Option Freq → Result Freq TreeFault
-freq_or place None = Err (Value place)
-freq_or place (Some freq) = Ok freq
+freq_or offset None = Err (Value offset)
+freq_or offset (Some freq) = Ok freq
 
 -- the one whose word it is
 abbrev pub freq_named : List ℕ → Option Freq
 freq_named word = find (λ (freq : Freq). bytes_eq (freq_word freq) word) freqs
 
 abbrev pub freq_at : TagNode → Result Freq TreeFault
-freq_at node = freq_or node.place (freq_named (value_of node.text))
+freq_at node = freq_or node.offset (freq_named (value_of node.text))
 
 unfoldable pub recur_of : Item → Result Recur TreeFault
 recur_of recurrinst = do

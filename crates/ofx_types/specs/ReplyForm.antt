@@ -56,7 +56,7 @@ ask_reply (Statement trnuid code body) = aggregate (codes "STMTTRNRS")
 ask_reply (One reply) = deed_reply_text reply
 ask_reply (Sync reply) = sync_reply_text reply
 
--- Mail stands in a message set of its own.
+-- Mail is in a message set of its own.
 abbrev pub is_mail_reply : AskReply → Bool
 is_mail_reply (Statement trnuid code body) = false
 is_mail_reply (One reply) = is_mail_family reply.family

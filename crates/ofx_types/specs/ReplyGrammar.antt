@@ -60,7 +60,7 @@ pub record IsStatementBody (stmtrs : Item) (body : StatementBody) : Type 0 where
   pub other : Moment
   pub is_available : IsBalance (codes "AVAILBAL") stmtrs body.available other
 
--- With code 0 the answer has a statement. With any other code it has none, and whatever stands there is skipped.
+-- With code 0 the answer has a statement. With any other code it has none, and whatever is there is skipped.
 abbrev pub IsBodyByCode : ℕ → Item → Option StatementBody → Type 0
 IsBodyByCode code stmttrnrs None = code ≢ 0
 IsBodyByCode code stmttrnrs (Some body) =

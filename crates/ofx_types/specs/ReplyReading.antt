@@ -15,13 +15,13 @@ use Rattle.ofx_types.specs.declared.reply.AskReply.TheVariants.{Statement}
 
 -- A code is at most 65,535.
 abbrev pub bounded_code : ℕ → ℕ → Result ℕ TreeFault
-bounded_code place code = if nat_le code 65535 then Ok code else Err (Value place)
+bounded_code offset code = if nat_le code 65535 then Ok code else Err (Value offset)
 
 unfoldable pub code_of : Item → Result ℕ TreeFault
 code_of status = do
   code ← number_in (codes "CODE") 5 status
   child ← one (codes "CODE") status
-  bounded_code child.node.place code
+  bounded_code child.node.offset code
 
 unfoldable pub status_of : Item → Result ℕ TreeFault
 status_of parent = one (codes "STATUS") parent >>= code_of

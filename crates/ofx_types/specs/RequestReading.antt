@@ -21,14 +21,14 @@ signon_of sonrq = do
   Ok (user, pass)
 
 abbrev pub kind_named : List ℕ → ℕ → Result AcctKind TreeFault
-kind_named word place =
+kind_named word offset =
     if bytes_eq word (codes "CHECKING") then Ok Checking
     else (if bytes_eq word (codes "SAVINGS") then Ok Savings
     else (if bytes_eq word (codes "MONEYMRKT") then Ok MoneyMarket
-    else (if bytes_eq word (codes "CREDITLINE") then Ok CreditLine else Err (Value place))))
+    else (if bytes_eq word (codes "CREDITLINE") then Ok CreditLine else Err (Value offset))))
 
 abbrev pub kind_at : TagNode → Result AcctKind TreeFault
-kind_at node = kind_named (value_of node.text) node.place
+kind_at node = kind_named (value_of node.text) node.offset
 
 unfoldable pub account_of : Item → Result AcctName TreeFault
 account_of aggregate = do
@@ -40,13 +40,13 @@ account_of aggregate = do
 
 -- `0` isn't let pass.
 abbrev pub unless_zero : ℕ → List ℕ → Result (List ℕ) TreeFault
-unless_zero place trnuid = if bytes_eq trnuid (codes "0") then Err (Value place) else Ok trnuid
+unless_zero offset trnuid = if bytes_eq trnuid (codes "0") then Err (Value offset) else Ok trnuid
 
 unfoldable pub trnuid_of : Item → Result (List ℕ) TreeFault
 trnuid_of wrapper = do
   text ← text_in (codes "TRNUID") 36 wrapper
   child ← one (codes "TRNUID") wrapper
-  unless_zero child.node.place text
+  unless_zero child.node.offset text
 
 unfoldable pub period_of : Item → Result Period TreeFault
 period_of inctran = do

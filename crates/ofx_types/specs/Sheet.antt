@@ -29,11 +29,11 @@ end_line name = ended (tag (47 ∷ name))
 unfoldable pub element : List ℕ → List ℕ → List ℕ
 element name value = if length value == 0 then [] else ended (tag name ++ escaped value)
 
--- An aggregate is its start tag, what stands in it, and its end tag.
+-- An aggregate is its start tag, what is in it, and its end tag.
 unfoldable pub aggregate : List ℕ → List ℕ → List ℕ
 aggregate name inner = start_line name ++ (inner ++ end_line name)
 
--- An aggregate that is written only where something stands in it.
+-- An aggregate that is written only where something is in it.
 unfoldable pub aggregate_of_some : List ℕ → List ℕ → List ℕ
 aggregate_of_some name inner = if length inner == 0 then [] else aggregate name inner
 

@@ -2,7 +2,7 @@
 -- Synchronization").
 use Rattle.std.specs.Prelude.{◌≡◌, ◌⊎◌, ℕ, Bool, true, false, List, [], ◌∷◌, filter, codes}
 use Rattle.std.specs.List.{AllZip}
-use Rattle.ofx_types.specs.ValueForm.{value_of, StandsFor}
+use Rattle.ofx_types.specs.ValueForm.{value_of, Represents}
 use Rattle.ofx_types.specs.Nodes.{Item, children}
 use Rattle.ofx_types.specs.FormWords.{has_name, IsOnlyOf, IsTextIn, IsFlagIn, IsMaybeFlagIn}
 use Rattle.ofx_types.specs.DeedForm.{request_name, reply_name, IsDeed, IsDeedReply}
@@ -44,7 +44,7 @@ is_mail_family families.RecIntra = false
 is_mail_family families.BankMail = false
 is_mail_family families.Mail = true
 
--- BANKACCTFROM stands in all but the user's other mail.
+-- BANKACCTFROM is in all but the user's other mail.
 abbrev pub HasObject : Item → ObjectName → Type 0
 HasObject sync (Intra account) = HasAccount sync account
 HasObject sync (RecIntra account) = HasAccount sync account
@@ -64,7 +64,7 @@ sync_kinds = codes "TOKEN" ∷ codes "TOKENONLY" ∷ codes "REFRESH" ∷ []
 
 -- TOKEN, TOKENONLY and REFRESH. The last two stand for nothing but `Y`.
 abbrev pub IsKind : Item → SyncKind → Type 0
-IsKind choice (After token) = (choice.node.name ≡ codes "TOKEN") × StandsFor 64 choice.node.text token
+IsKind choice (After token) = (choice.node.name ≡ codes "TOKEN") × Represents 64 choice.node.text token
 IsKind choice TokenOnly = (choice.node.name ≡ codes "TOKENONLY") × (value_of choice.node.text ≡ codes "Y")
 IsKind choice Refresh = (choice.node.name ≡ codes "REFRESH") × (value_of choice.node.text ≡ codes "Y")
 

@@ -46,17 +46,17 @@ object_in families.Mail sync = Ok Mail
 
 -- ---- requests
 
--- The name of a synchronisation tells its family. Any other name is none: the fault is at its own place.
+-- The name of a synchronisation tells its family. Any other name is none: the fault is at its own offset.
 abbrev pub family_synced : Item → Result Family TreeFault
 family_synced sync =
     if has_name (codes "INTRASYNCRQ") sync then Ok families.Intra
     else (if has_name (codes "RECINTRASYNCRQ") sync then Ok families.RecIntra
     else (if has_name (codes "BANKMAILSYNCRQ") sync then Ok families.BankMail
-    else (if has_name (codes "MAILSYNCRQ") sync then Ok families.Mail else Err (Value sync.node.place))))
+    else (if has_name (codes "MAILSYNCRQ") sync then Ok families.Mail else Err (Value sync.node.offset))))
 
 -- TOKENONLY and REFRESH with `N` have no form.
 abbrev pub only_yes : SyncKind → TagNode → Result SyncKind TreeFault
-only_yes kind node = if bytes_eq (value_of node.text) (codes "Y") then Ok kind else Err (Value node.place)
+only_yes kind node = if bytes_eq (value_of node.text) (codes "Y") then Ok kind else Err (Value node.offset)
 
 unfoldable pub kind_of : Item → Result SyncKind TreeFault
 kind_of choice =
@@ -85,12 +85,12 @@ sync_of sync = do
 
 -- ---- replies
 
-abbrev pub family_told_of : Item → Result Family TreeFault
-family_told_of sync =
+abbrev pub family_reported_of : Item → Result Family TreeFault
+family_reported_of sync =
     if has_name (codes "INTRASYNCRS") sync then Ok families.Intra
     else (if has_name (codes "RECINTRASYNCRS") sync then Ok families.RecIntra
     else (if has_name (codes "BANKMAILSYNCRS") sync then Ok families.BankMail
-    else (if has_name (codes "MAILSYNCRS") sync then Ok families.Mail else Err (Value sync.node.place))))
+    else (if has_name (codes "MAILSYNCRS") sync then Ok families.Mail else Err (Value sync.node.offset))))
 
 abbrev pub reply_onto : DeedReply → List DeedReply → Result (List DeedReply) TreeFault
 reply_onto reply replies = Ok (reply ∷ replies)
@@ -103,7 +103,7 @@ replies_of name (child ∷ more) =
 
 unfoldable pub sync_reply_of : Item → Result SyncReply TreeFault
 sync_reply_of sync = do
-  family ← family_told_of sync
+  family ← family_reported_of sync
   token ← text_in (codes "TOKEN") 64 sync
   lost ← maybe_flag_in (codes "LOSTSYNC") sync
   object ← object_in family sync

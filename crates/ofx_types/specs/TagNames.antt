@@ -50,7 +50,7 @@ aggregate_names =
     ∷ codes "BANKMAILTRNRS" ∷ codes "BANKMAILRS" ∷ codes "MAILTRNRS" ∷ codes "MAILRS"
     ∷ codes "INTRASYNCRS" ∷ codes "RECINTRASYNCRS" ∷ codes "BANKMAILSYNCRS" ∷ codes "MAILSYNCRS" ∷ []
 
--- Any other name is an element's where text that isn't white space stands after its start tag.
+-- Any other name is an element's where text that isn't white space comes after its start tag.
 abbrev pub is_element : List ℕ → List ℕ → Bool
 is_element name text =
     is_one_of element_names name || (not (is_one_of aggregate_names name) && not (list_all is_white text))

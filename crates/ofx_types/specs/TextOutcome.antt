@@ -5,7 +5,7 @@ use Rattle.ofx_types.specs.declared.text.TextFault.{TextFault}
 use Rattle.ofx_types.specs.declared.text.TextFault.TheVariants.{Empty, TooLong, BadByte, OutOfMemory}
 use Rattle.ofx_types.specs.TextRules.{trimmed, is_refused_in_text, is_refused_in_uid}
 
--- a byte that is refused, at its place
+-- a byte that is refused, at its offset
 abbrev pub refused_at : Option ℕ → Option TextFault
 refused_at None = None
 refused_at (Some at) = Some (BadByte at)

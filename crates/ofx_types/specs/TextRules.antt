@@ -5,7 +5,7 @@ use Rattle.std.specs.Prelude.{◌≡◌, ℕ, ◌<◌, ◌≤◌, ◌^◌, Bool,
 abbrev pub is_white : ℕ → Bool
 is_white b = (b == 32) || (b == 9) || (b == 13) || (b == 10)
 
--- bytes without the white space at their front
+-- bytes without the white space at their start
 abbrev pub trim_start : List ℕ → List ℕ
 trim_start [] = []
 trim_start (b ∷ bs) = if is_white b then trim_start bs else b ∷ bs
@@ -22,7 +22,7 @@ trimmed bytes = trim_end (trim_start bytes)
 abbrev pub is_refused_in_text : ℕ → Bool
 is_refused_in_text b = nat_lt b 32 && not (is_white b)
 
--- A file uid stands on one line of a header, so no control byte at all may stand in it.
+-- A file uid stands on one line of a header, so no control byte at all may be in it.
 abbrev pub is_refused_in_uid : ℕ → Bool
 is_refused_in_uid b = nat_lt b 32
 

@@ -52,7 +52,7 @@ pub record IsProcessing (parent : Item) (code : XferCode) (stamp : Moment) : Typ
   pub word : Item
   pub has_word : IsOnly (codes "XFERPRCCODE") xferprcsts word
   pub is_word : value_of word.node.text ≡ code_word code
-  pub is_told : code ≢ Cancelled
+  pub is_reported : code ≢ Cancelled
   pub has_stamp : IsMomentIn (codes "DTXFERPRC") xferprcsts stamp
 
 -- what XFERINFO says of a row, whose due day always stands

@@ -54,13 +54,13 @@ cancel_of intracanrq = id_in (codes "SRVRTID") intracanrq >>= λ id. Ok (CancelT
 -- ---- replies
 
 abbrev pub code_named : List ℕ → ℕ → Result XferCode TreeFault
-code_named word place =
+code_named word offset =
     if bytes_eq word (codes "WILLPROCESSON") then Ok Waiting
     else (if bytes_eq word (codes "POSTEDON") then Ok Posted
-    else (if bytes_eq word (codes "NOFUNDSON") then Ok NoFunds else Err (Value place)))
+    else (if bytes_eq word (codes "NOFUNDSON") then Ok NoFunds else Err (Value offset)))
 
 abbrev pub code_at : TagNode → Result XferCode TreeFault
-code_at node = code_named (value_of node.text) node.place
+code_at node = code_named (value_of node.text) node.offset
 
 unfoldable pub processing_of : Item → Result (XferCode × Moment) TreeFault
 processing_of xferprcsts = do
@@ -74,8 +74,8 @@ processing_in parent = one (codes "XFERPRCSTS") parent >>= processing_of
 
 -- In a reply the due day stands.
 abbrev pub day_or : ℕ → Option Day → Result Day TreeFault
-day_or place None = Err (Missing place)
-day_or place (Some day) = Ok day
+day_or offset None = Err (Missing offset)
+day_or offset (Some day) = Ok day
 
 pub record DueInfo : Type 0 where
   pub info : XferInfo
@@ -84,7 +84,7 @@ pub record DueInfo : Type 0 where
 unfoldable pub due_info_of : Item → Result DueInfo TreeFault
 due_info_of xferinfo = do
   info ← info_of xferinfo
-  due ← day_or xferinfo.node.place info.due
+  due ← day_or xferinfo.node.offset info.due
   Ok (record { info = info; due = due })
 
 unfoldable pub due_info_in : Item → Result DueInfo TreeFault

@@ -23,7 +23,7 @@ abbrev pub value_of : List ℕ → List ℕ
 value_of raw = trimmed (decoded raw)
 
 -- The raw bytes stand for a text of 1 byte up to the limit.
-pub record StandsFor (most : ℕ) (raw text : List ℕ) : Type 0 where
+pub record Represents (most : ℕ) (raw text : List ℕ) : Type 0 where
   pub value : text ≡ value_of raw
   pub is_there : 0 < length text
   pub is_faultless : text_fault is_refused_in_text most text ≡ None

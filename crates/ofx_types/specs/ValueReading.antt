@@ -19,7 +19,7 @@ pair_at (a ∷ []) = None
 pair_at (a ∷ b ∷ rest) =
     if is_ascii_digit a && is_ascii_digit b then Some (10 * (a - 48) + (b - 48), rest) else None
 
--- whether a minus stands here, and what stands after a sign
+-- whether a minus is here, and what follows a sign
 unfoldable pub sign_at : List ℕ → Bool × List ℕ
 sign_at [] = (false, [])
 sign_at (b ∷ rest) = if b == 45 then (true, rest) else (if b == 43 then (false, rest) else (false, b ∷ rest))

@@ -21,7 +21,7 @@ pub enum AcctKind {
 }
 
 impl AcctKind {
-    /// Its place among the kinds, from 0: the order in which setups are searched, and its code in a record.
+    /// Its index among the kinds, from 0: the order in which setups are searched, and its code in a record.
     pub fn number(self) -> u8
         ensures { result ≡ kind_number self }
     {

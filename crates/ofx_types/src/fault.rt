@@ -1,17 +1,17 @@
 //! Why bytes are no file: the faults of the header, of the tags, of the forms, and of a whole file.
 
-/// Why bytes begin with no header (OFX 1.6, "Open Financial Exchange Headers"). Places count from the first byte.
+/// Why bytes begin with no header (OFX 1.6, "Open Financial Exchange Headers"). Offsets count from the first byte.
 #[derive(Clone, Copy, Debug, PartialEq, Eq)]
 pub enum HeaderFault {
-    /// The line of this number, from 1, which begins at this place, doesn't begin with its tag and a colon.
+    /// The line of this number, from 1, which begins at this offset, doesn't begin with its tag and a colon.
     Line(u8, u64),
-    /// The line of this number, from 1, which begins at this place, has a value that isn't allowed.
+    /// The line of this number, from 1, which begins at this offset, has a value that isn't allowed.
     Value(u8, u64),
     /// The bytes, of this number, end before the ninth line does.
     Cut(u64),
 }
 
-/// Why bytes are no body (OFX 1.6, "SGML Basics"): the leftmost fault of the tags. Places count from the body's first
+/// Why bytes are no body (OFX 1.6, "SGML Basics"): the leftmost fault of the tags. Offsets count from the body's first
 /// byte.
 #[derive(Clone, Copy, Debug, PartialEq, Eq)]
 pub enum TapeFault {
@@ -28,21 +28,21 @@ pub enum TapeFault {
     OutOfMemory,
 }
 
-/// Why an element or aggregate doesn't have its form. Places are those of the `<` of start tags, from the body's first
+/// Why an element or aggregate doesn't have its form. Offsets are those of the `<` of start tags, from the body's first
 /// byte.
 #[derive(Clone, Copy, Debug, PartialEq, Eq)]
 pub enum TreeFault {
-    /// A child that must stand doesn't: the parent's place.
+    /// A child that must stand doesn't: the parent's offset.
     Missing(u64),
-    /// A child stands twice that may stand once: the second one's place.
+    /// A child occurs twice that may occur once: the second one's place.
     Repeated(u64),
-    /// A value or a form that isn't read: the child's place.
+    /// A value or a form that isn't read: the child's offset.
     Value(u64),
     /// Memory was refused.
     OutOfMemory,
 }
 
-/// Why bytes are no file. Places count from the file's first byte.
+/// Why bytes are no file. Offsets count from the file's first byte.
 #[derive(Clone, Copy, Debug, PartialEq, Eq)]
 pub enum FileFault {
     /// A fault of the header.

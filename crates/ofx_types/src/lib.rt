@@ -1,7 +1,7 @@
 //! The values of the Open Financial Exchange profile that every other crate speaks of.
 //!
 //! Texts and uids, amounts and moments, accounts, request files and reply files. What a written file looks
-//! like, and which bytes spell one, stands in `specs/` as definitions over these values.
+//! like, and which bytes spell one, is in `specs/` as definitions over these values.
 #![tactic(auto)]
 
 mod account;

@@ -18,16 +18,16 @@ pub struct Day(pub i32);
 #[derive(Clone, Copy, Debug, PartialEq, Eq, PartialOrd, Ord)]
 pub struct Moment(pub i64);
 
-/// An account of a setup, by its place among the account lines, from 0.
+/// An account of a setup, by its offset among the account lines, from 0.
 #[derive(Clone, Copy, Debug, PartialEq, Eq, PartialOrd, Ord)]
 pub struct AcctId(pub u32);
 
-/// A user of a setup, by the place among the user lines, from 0.
+/// A user of a setup, by the offset among the user lines, from 0.
 #[derive(Clone, Copy, Debug, PartialEq, Eq, PartialOrd, Ord)]
 pub struct UserId(pub u32);
 
 /// What is synchronised, by its number. Account a has its transfers at 3a, its recurring transfers at 3a + 1 and its
-/// mail at 3a + 2; after those of all accounts the mail of user u stands at u.
+/// mail at 3a + 2; after those of all accounts the mail of user u is at u.
 #[derive(Clone, Copy, Debug, PartialEq, Eq, PartialOrd, Ord)]
 pub struct ObjectId(pub u32);
 

@@ -17,7 +17,7 @@ pub enum TextFault {
     Empty,
     /// The trimmed bytes are more than the limit: this many.
     TooLong(u64),
-    /// A byte that may not stand in the text, by its place in the trimmed bytes.
+    /// A byte that may not stand in the text, by its offset in the trimmed bytes.
     BadByte(u64),
     /// Memory was refused.
     OutOfMemory,
@@ -65,11 +65,11 @@ fn trim_back(bytes: &[u8]) -> &[u8]
     ensures { result.now ≡ trim_end bytes.now }
 {
     let mut rest = bytes;
-    while let [front @ .., last] = rest {
+    while let [prefix @ .., last] = rest {
         if !is_white_space(*last) {
             break;
         }
-        rest = front;
+        rest = prefix;
     }
     rest
 }

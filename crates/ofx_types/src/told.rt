@@ -16,9 +16,9 @@ pub struct Told {
 pub enum Note {
     /// None.
     Plain,
-    /// A place, or the number of a line.
+    /// An offset, or the number of a line.
     Place(u64),
-    /// The record of this number, from 1, has no form at this place.
+    /// The record of this number, from 1, has no form at this offset.
     Record(u64, u64),
     /// The record of this number, from 1, isn't legal after those before it.
     Illegal(u64),

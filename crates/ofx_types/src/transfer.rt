@@ -1,4 +1,4 @@
-//! Transfers inside the bank: what a client asks for, the rows that the bank keeps, and what is told of them
+//! Transfers inside the bank: what a client asks for, the rows that the bank keeps, and what is reported of them
 //! (OFX 1.6, "Intrabank Funds Transfer").
 
 ghost use Rattle.std.specs.Prelude.{◌≡◌};
@@ -107,10 +107,10 @@ pub enum Change {
     DropTransfer(u64),
     /// A new recurring transfer.
     NewModel(ModelRow),
-    /// A recurring transfer has this row from now on and begins anew. The flag tells whether the transfers that
+    /// A recurring transfer has this row from now on and begins anew. The flag says whether the transfers that
     /// wait are changed too.
     SetModel(ModelRow, bool),
-    /// The recurring transfer with this id is cancelled. The flag tells whether the transfers that wait are too.
+    /// The recurring transfer with this id is cancelled. The flag says whether the transfers that wait are too.
     DropModel(u64, bool),
     /// A mail came in, or went out.
     NewMail(MailRow),
@@ -233,7 +233,7 @@ impl Deed {
 impl Family {
     ghost use Rattle.ofx_types.specs.SyncForm.{is_mail_family};
 
-    /// Whether it is mail about nothing in particular, which stands in a message set of its own.
+    /// Whether it is mail about nothing in particular, which is in a message set of its own.
     pub fn is_mail(self) -> bool
         ensures { result ≡ is_mail_family self }
     {

@@ -12,17 +12,17 @@ use std::hash::{Hash, Hasher};
 use std::marker::Model;
 
 /// The most bytes of a uid.
-const MOST: usize = 36;
+const MAX_BYTES: usize = 36;
 
 /// The word of the header that stands for no file uid.
 const NO_UID: &[u8; 4] = b"NONE";
 
 /// A uid that a client gives to one transaction (TRNUID), 1 to 36 bytes.
 ///
-/// No white space stands at either end, and no control byte but tab, LF and CR.
+/// No white space is at either end, and no control byte but tab, LF and CR.
 #[derive(Debug, Drop)]
 pub struct TrnUid {
-    bytes: [u8; MOST],
+    bytes: [u8; MAX_BYTES],
     size: usize,
 }
 
@@ -113,25 +113,25 @@ fn trnuid_fault_in(text: &[u8]) -> Option<TextFault>
     if text.is_empty() {
         return Some(TextFault::Empty);
     }
-    fault_in(text, MOST as u32)
+    fault_in(text, MAX_BYTES as u32)
 }
 
-/// The bytes at the front of an array of the greatest size.
-fn inline(text: &[u8]) -> [u8; MOST]
+/// The bytes at the start of an array of the greatest size.
+fn inline(text: &[u8]) -> [u8; MAX_BYTES]
     requires { length text.now ≤ 36 }
     ensures { take (length text.now) result ≡ text.now }
 {
-    let mut bytes = [0; MOST];
+    let mut bytes = [0; MAX_BYTES];
     bytes[..text.len()].copy_from_slice(text);
     bytes
 }
 
 /// A uid that a client gives to a whole request file (NEWFILEUID, OLDFILEUID), 1 to 36 bytes.
 ///
-/// No white space stands at either end and no control byte inside. `NONE` is the word for none and no uid.
+/// No white space is at either end and no control byte inside. `NONE` is the word for none and no uid.
 #[derive(Debug, Drop)]
 pub struct FileUid {
-    bytes: [u8; MOST],
+    bytes: [u8; MAX_BYTES],
     size: usize,
 }
 
@@ -198,7 +198,7 @@ fn file_uid_fault_in(text: &[u8]) -> Option<TextFault>
 fn line_fault_in(text: &[u8]) -> Option<TextFault>
     ensures { result ≡ text_fault is_refused_in_uid 36 text.now }
 {
-    if text.len() > MOST {
+    if text.len() > MAX_BYTES {
         return Some(TextFault::TooLong(text.len() as u64));
     }
     match first_control(text) {

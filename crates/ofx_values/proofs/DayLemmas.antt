@@ -5,7 +5,7 @@ use Rattle.ofx_types.specs.Digits.{two_digits, four_digits}
 use Rattle.ofx_types.specs.DateForm.{date_text}
 use Rattle.ofx_types.specs.ValueReading.{◌>>=◌, pair_at}
 use Rattle.ofx_types.specs.DateReading.{year_at, day_number, day_at}
-use Rattle.ofx_values.proofs.PartLemmas.{behind_front, bind_some, some_is, pair_takes, pair_again}
+use Rattle.ofx_values.proofs.PartLemmas.{after_prefix, bind_some, some_is, pair_takes, pair_again}
 use Rattle.ofx_values.proofs.CivilLemmas.{number_takes, number_again, civil_bounds}
 
 -- two pairs are a year's four digits
@@ -23,7 +23,7 @@ year_takes text x e =
     let ta = pair_takes text a.0 a.1 in
     let tb = pair_takes a.0.1 b.0 b.1 in
     subst (λ (x : ℕ × List ℕ). text ≡ four_digits x.0 ++ x.1) (some_is (100 * a.0.0 + b.0.0, b.0.1) x b.2)
-    (behind_front text (two_digits a.0.0) a.0.1 (two_digits b.0.0) b.0.1 ta.1 tb.1 ∙ year_spelled a.0.0 b.0.0 b.0.1 tb.0)
+    (after_prefix text (two_digits a.0.0) a.0.1 (two_digits b.0.0) b.0.1 ta.1 tb.1 ∙ year_spelled a.0.0 b.0.0 b.0.1 tb.0)
 
 year_again : (y : ℕ) (rest : List ℕ) → y < 10000 → year_at (four_digits y ++ rest) ≡ Some (y, rest)
 unfolding year_at
@@ -42,7 +42,7 @@ day_takes text x e =
     let td = pair_takes m.0.1 d.0 d.1 in
     let is = number_takes y.0.0 m.0.0 d.0.0 n.0 n.1 in
     let parts : text ≡ four_digits y.0.0 ++ (two_digits m.0.0 ++ (two_digits d.0.0 ++ d.0.1)) =
-    behind_front text (four_digits y.0.0) y.0.1 (two_digits m.0.0) (two_digits d.0.0 ++ d.0.1) (year_takes text y.0 y.1) (behind_front y.0.1 (two_digits m.0.0) m.0.1 (two_digits d.0.0) d.0.1 tm.1 td.1) in
+    after_prefix text (four_digits y.0.0) y.0.1 (two_digits m.0.0) (two_digits d.0.0 ++ d.0.1) (year_takes text y.0 y.1) (after_prefix y.0.1 (two_digits m.0.0) m.0.1 (two_digits d.0.0) d.0.1 tm.1 td.1) in
     let spelled : text ≡ date_text (civil_of n.0) ++ d.0.1 = rw (is.1, is.2, is.3) parts in
     subst (λ (x : ℤ × List ℕ). IsDay x.0 × (text ≡ date_text (civil_of x.0) ++ x.1)) (some_is (n.0, d.0.1) x n.2) (is.0, spelled)
 

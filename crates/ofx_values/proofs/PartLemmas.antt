@@ -20,8 +20,8 @@ pub some_is : {A : Type 0} (x y : A) → done x ≡ done y → x ≡ y
 some_is x y e = cc
 
 -- a front, and another one after it
-pub behind_front : (a x b y c : List ℕ) → a ≡ x ++ b → b ≡ y ++ c → a ≡ x ++ (y ++ c)
-behind_front a x b y c p q = p ∙ ap (λ (t : List ℕ). x ++ t) q
+pub after_prefix : (a x b y c : List ℕ) → a ≡ x ++ b → b ≡ y ++ c → a ≡ x ++ (y ++ c)
+after_prefix a x b y c p q = p ∙ ap (λ (t : List ℕ). x ++ t) q
 
 pub digit_in : (b : ℕ) → is_ascii_digit b ≡ true → IsInRange 48 57 b
 digit_in b e = grind (arith, nat_tests)
@@ -53,16 +53,16 @@ pair_again n rest h =
     let value : 10 * (48 + n / 10 - 48) + (48 + n % 10 - 48) ≡ n = omega arith in
     cond-true _ _ _ (and_from _ _ (digit_from (n / 10) (omega arith)) (digit_from (n % 10) (omega arith))) ∙ ap (λ (k : ℕ). Some (k, rest)) value
 
--- the byte at the front is no sign
+-- the byte at the start is no sign
 pub record IsUnsigned (text : List ℕ) : Type 0 where
   pub no_plus : get_or text 0 0 ≢ 43
   pub no_minus : get_or text 0 0 ≢ 45
 
-pub sign_takes : (text : List ℕ) → (front : List ℕ) × IsSign front (sign_at text).0 × (text ≡ front ++ (sign_at text).1)
+pub sign_takes : (text : List ℕ) → (prefix : List ℕ) × IsSign prefix (sign_at text).0 × (text ≡ prefix ++ (sign_at text).1)
 unfolding sign_at
 sign_takes [] = ([], inl (refl, refl), refl)
 sign_takes (b ∷ rest) =
-    let P : Bool × List ℕ → Type 0 = λ x. (front : List ℕ) × IsSign front x.0 × (b ∷ rest ≡ front ++ x.1) in
+    let P : Bool × List ℕ → Type 0 = λ x. (prefix : List ℕ) × IsSign prefix x.0 × (b ∷ rest ≡ prefix ++ x.1) in
     cond_both (eqb b 45) _ _ P (λ e. (45 ∷ [], inr (inr (refl, refl)), ap (λ (k : ℕ). k ∷ rest) (eqb-true b 45 e)))
     (λ n. cond_both (eqb b 43) _ _ P (λ e. (43 ∷ [], inr (inl (refl, refl)), ap (λ (k : ℕ). k ∷ rest) (eqb-true b 43 e)))
     (λ m. ([], inl (refl, refl), refl)))
@@ -81,10 +81,10 @@ minus_again : (rest : List ℕ) → sign_at (45 ∷ rest) ≡ (true, rest)
 unfolding sign_at
 minus_again rest = refl
 
-pub sign_again : (front rest : List ℕ) (negative : Bool) → IsSign front negative → IsUnsigned rest → sign_at (front ++ rest) ≡ (negative, rest)
-sign_again front rest negative (inl (none, same)) h = rw (none, same) (unsigned_again rest h)
-sign_again front rest negative (inr (inl (plus, same))) h = rw (plus, same) (plus_again rest)
-sign_again front rest negative (inr (inr (minus, same))) h = rw (minus, same) (minus_again rest)
+pub sign_again : (prefix rest : List ℕ) (negative : Bool) → IsSign prefix negative → IsUnsigned rest → sign_at (prefix ++ rest) ≡ (negative, rest)
+sign_again prefix rest negative (inl (none, same)) h = rw (none, same) (unsigned_again rest h)
+sign_again prefix rest negative (inr (inl (plus, same))) h = rw (plus, same) (plus_again rest)
+sign_again prefix rest negative (inr (inr (minus, same))) h = rw (minus, same) (minus_again rest)
 
 -- a step after a test that did not fail
 pub guarded : {A : Type 0} (b : Bool) (o : Option A) (y : A) → cond b o None ≡ Some y → (b ≡ true) × (o ≡ Some y)

@@ -13,7 +13,7 @@ use Rattle.jiff_core.proofs.SignedLemmas.{signed_arith, int_div_euclid-parts, in
 use Rattle.ofx_types.specs.TextRules.{trimmed, trim_start, trim_end, is_white}
 use Rattle.ofx_types.specs.Calendar.{CivilDate, IsMoment, IsDay, civil_of, day_of, second_of_day, midnight}
 use Rattle.ofx_types.specs.Digits.{IsSign, signed, two_digits}
-use Rattle.ofx_types.specs.AmountForm.{IsAmount, amount_text, cents_behind}
+use Rattle.ofx_types.specs.AmountForm.{IsAmount, amount_text, cents_after}
 use Rattle.ofx_types.specs.DateForm.{IsDate, IsClock, date_text, clock_text, moment_text}
 use Rattle.ofx_types.specs.NumberReading.{number_at}
 use Rattle.ofx_types.proofs.Numbers.{numerals, decimal_digits}
@@ -28,11 +28,11 @@ start_kept [] h = refl
 start_kept (b ∷ rest) h = cond-false _ _ _ h
 
 -- nothing is trimmed from a text whose first and last bytes aren't white
-trimmed_same : (front : List ℕ) (x : ℕ) → is_white (get_or (front ++ x ∷ []) 0 0) ≡ false → is_white x ≡ false → trimmed (front ++ x ∷ []) ≡ front ++ x ∷ []
-trimmed_same front x first last =
-    let text = front ++ x ∷ [] in
-    let turned : reverse text ≡ x ∷ reverse front = reverse-append front (x ∷ []) in
-    let kept : trim_start (reverse text) ≡ reverse text = rw turned (start_kept (x ∷ reverse front) last) in
+trimmed_same : (prefix : List ℕ) (x : ℕ) → is_white (get_or (prefix ++ x ∷ []) 0 0) ≡ false → is_white x ≡ false → trimmed (prefix ++ x ∷ []) ≡ prefix ++ x ∷ []
+trimmed_same prefix x first last =
+    let text = prefix ++ x ∷ [] in
+    let turned : reverse text ≡ x ∷ reverse prefix = reverse-append prefix (x ∷ []) in
+    let kept : trim_start (reverse text) ≡ reverse text = rw turned (start_kept (x ∷ reverse prefix) last) in
     ap trim_end (start_kept text first) ∙ ap reverse kept ∙ reverse-reverse text
 
 digit_kept : (b : ℕ) → 47 < b → is_white b ≡ false
@@ -68,7 +68,7 @@ minus_length false = omega arith
 cents_are : (n : ℕ) → n < 100 → list_all is_ascii_digit (two_digits n) ≡ true
 cents_are n h = and_from _ _ (digit_from (n / 10) (omega arith)) (and_from _ _ (digit_from (n % 10) (omega arith)) refl)
 
-cents_value : (n : ℕ) → n < 100 → cents_behind (two_digits n) ≡ n
+cents_value : (n : ℕ) → n < 100 → cents_after (two_digits n) ≡ n
 cents_value n h =
     omega (arith, digit_value_is (48 + n / 10) (omega arith), digit_value_is (48 + n % 10) (omega arith))
 
@@ -81,9 +81,9 @@ first_kept false (d ∷ digits) rest h all =
 
 amount_kept : (sign dollars : List ℕ) (cents : ℕ) → is_white (get_or (sign ++ (dollars ++ 46 ∷ two_digits cents)) 0 0) ≡ false → trimmed (sign ++ (dollars ++ 46 ∷ two_digits cents)) ≡ sign ++ (dollars ++ 46 ∷ two_digits cents)
 amount_kept sign dollars cents first =
-    let front = sign ++ (dollars ++ 46 ∷ (48 + cents / 10) ∷ []) in
-    let ends : sign ++ (dollars ++ 46 ∷ two_digits cents) ≡ front ++ (48 + cents % 10) ∷ [] = simp append_assoc in
-    ap trimmed ends ∙ trimmed_same front (48 + cents % 10) (rw (← ends) first) (digit_kept (48 + cents % 10) (omega arith)) ∙ sym ends
+    let prefix = sign ++ (dollars ++ 46 ∷ (48 + cents / 10) ∷ []) in
+    let ends : sign ++ (dollars ++ 46 ∷ two_digits cents) ≡ prefix ++ (48 + cents % 10) ∷ [] = simp append_assoc in
+    ap trimmed ends ∙ trimmed_same prefix (48 + cents % 10) (rw (← ends) first) (digit_kept (48 + cents % 10) (omega arith)) ∙ sym ends
 
 -- a sign, dollars and two digits of cents spell an amount
 amount_spelled : (negative : Bool) (d r : ℕ) → r < 100 → 100 * d + r ≤ 9999999999999 → IsAmount (minus negative ++ (decimal d ++ 46 ∷ two_digits r)) (signed negative (100 * d + r))
@@ -94,13 +94,13 @@ amount_spelled negative d r small h =
     let value = digits_value-decimal numerals d (omega arith) in
     let same = amount_kept (minus negative) (decimal d) r (first_kept negative (decimal d) (46 ∷ two_digits r) some all) in
     let size : length (minus negative ++ (decimal d ++ 46 ∷ two_digits r)) ≤ 32 = omega (arith, length-append (minus negative) (decimal d ++ 46 ∷ two_digits r), length-append (decimal d) (46 ∷ two_digits r), minus_length negative) in
-    let total : 100 * digits_value 10 (decimal d) + cents_behind (two_digits r) ≡ 100 * d + r = omega (arith, value, cents_value r small) in
+    let total : 100 * digits_value 10 (decimal d) + cents_after (two_digits r) ≡ 100 * d + r = omega (arith, value, cents_value r small) in
     record {
       sign = minus negative;
       negative = negative;
       dollars = decimal d;
       fraction = 46 ∷ two_digits r;
-      behind = two_digits r;
+      suffix = two_digits r;
       spelled = same;
       is_sign = minus_is negative;
       is_fraction = inr (inl refl);

@@ -7,47 +7,47 @@ use Rattle.std.proofs.lemmas.Option.{cond_some}
 use Rattle.ofx_types.specs.Digits.{signed, two_digits}
 use Rattle.ofx_types.specs.DateForm.{IsHours, IsPart, IsName, IsBracketed, IsZone}
 use Rattle.ofx_types.specs.ValueReading.{◌>>=◌, sign_at}
-use Rattle.ofx_types.specs.DateReading.{hours_behind, hours_at, tenths_behind, tenths_at, part_at, is_name, offset_seconds, offset_at, before_bracket, zone_at, is_timeless}
-use Rattle.ofx_values.proofs.PartLemmas.{behind_front, bind_some, some_is, digit_in, digit_from, pair_is, IsUnsigned, sign_takes, sign_again}
+use Rattle.ofx_types.specs.DateReading.{hours_after, hours_at, tenths_after, tenths_at, part_at, is_name, offset_seconds, offset_at, before_bracket, zone_at, is_timeless}
+use Rattle.ofx_values.proofs.PartLemmas.{after_prefix, bind_some, some_is, digit_in, digit_from, pair_is, IsUnsigned, sign_takes, sign_again}
 
--- no digit stands here
+-- no digit is here
 abbrev IsDigitless : List ℕ → Type 0
 IsDigitless text = is_ascii_digit (get_or text 0 0) ≡ false
 
 -- ---- whole hours
 
-hours_take : (text : List ℕ) (x : ℕ × List ℕ) → hours_at text ≡ Some x → (front : List ℕ) × IsHours front x.0 × (text ≡ front ++ x.1)
+hours_take : (text : List ℕ) (x : ℕ × List ℕ) → hours_at text ≡ Some x → (prefix : List ℕ) × IsHours prefix x.0 × (text ≡ prefix ++ x.1)
 unfolding hours_at
 hours_take [] x e = absurd cc
 hours_take (a ∷ []) x e =
     let g = cond_some _ _ _ e in
     let d = digit_in a g.0 in
-    subst (λ (x : ℕ × List ℕ). (front : List ℕ) × IsHours front x.0 × (a ∷ [] ≡ front ++ x.1)) g.1 (a ∷ [], inl (omega arith, ap (λ (k : ℕ). k ∷ []) (omega arith)), refl)
+    subst (λ (x : ℕ × List ℕ). (prefix : List ℕ) × IsHours prefix x.0 × (a ∷ [] ≡ prefix ++ x.1)) g.1 (a ∷ [], inl (omega arith, ap (λ (k : ℕ). k ∷ []) (omega arith)), refl)
 hours_take (a ∷ b ∷ rest) x e =
     let g = cond_some _ _ _ e in
     let d = digit_in a g.0 in
-    subst (λ (x : ℕ × List ℕ). (front : List ℕ) × IsHours front x.0 × (a ∷ b ∷ rest ≡ front ++ x.1)) g.1
-    (cond_both {A = ℕ × List ℕ} (is_ascii_digit b) (10 * (a - 48) + (b - 48), rest) (a - 48, b ∷ rest) (λ x. (front : List ℕ) × IsHours front x.0 × (a ∷ b ∷ rest ≡ front ++ x.1))
+    subst (λ (x : ℕ × List ℕ). (prefix : List ℕ) × IsHours prefix x.0 × (a ∷ b ∷ rest ≡ prefix ++ x.1)) g.1
+    (cond_both {A = ℕ × List ℕ} (is_ascii_digit b) (10 * (a - 48) + (b - 48), rest) (a - 48, b ∷ rest) (λ x. (prefix : List ℕ) × IsHours prefix x.0 × (a ∷ b ∷ rest ≡ prefix ++ x.1))
     (λ two. let is = pair_is a b d (digit_in b two) in (two_digits (10 * (a - 48) + (b - 48)), inr (is.0, refl), ap (λ (t : List ℕ). t ++ rest) is.1))
     (λ one. (a ∷ [], inl (omega arith, ap (λ (k : ℕ). k ∷ []) (omega arith)), refl)))
 
-hours_behind_none : (h : ℕ) (rest : List ℕ) → IsDigitless rest → hours_behind h rest ≡ (h, rest)
-hours_behind_none h [] none = refl
-hours_behind_none h (b ∷ rest) none = cond-false _ _ _ none
+hours_after_none : (h : ℕ) (rest : List ℕ) → IsDigitless rest → hours_after h rest ≡ (h, rest)
+hours_after_none h [] none = refl
+hours_after_none h (b ∷ rest) none = cond-false _ _ _ none
 
-hours_again : (front rest : List ℕ) (h : ℕ) → IsHours front h → IsDigitless rest → hours_at (front ++ rest) ≡ Some (h, rest)
+hours_again : (prefix rest : List ℕ) (h : ℕ) → IsHours prefix h → IsDigitless rest → hours_at (prefix ++ rest) ≡ Some (h, rest)
 unfolding hours_at
-hours_again front rest h (inl (small, e)) none =
+hours_again prefix rest h (inl (small, e)) none =
     let back : 48 + h - 48 ≡ h = omega arith in
-    rw e (cond-true _ _ _ (digit_from h small) ∙ ap Some (ap (λ (k : ℕ). hours_behind k rest) back ∙ hours_behind_none h rest none))
-hours_again front rest h (inr (small, e)) none =
+    rw e (cond-true _ _ _ (digit_from h small) ∙ ap Some (ap (λ (k : ℕ). hours_after k rest) back ∙ hours_after_none h rest none))
+hours_again prefix rest h (inr (small, e)) none =
     let value : 10 * (48 + h / 10 - 48) + (48 + h % 10 - 48) ≡ h = omega arith in
     rw e (cond-true _ _ _ (digit_from (h / 10) (omega arith)) ∙ ap Some (cond-true _ _ _ (digit_from (h % 10) (omega arith)) ∙ ap (λ (k : ℕ). (k, rest)) value))
 
 -- ---- parts of an hour
 
 abbrev HasPart : List ℕ → ℕ × List ℕ → Type 0
-HasPart text x = (front : List ℕ) × IsPart (46 ∷ front) x.0 × (text ≡ front ++ x.1)
+HasPart text x = (prefix : List ℕ) × IsPart (46 ∷ prefix) x.0 × (text ≡ prefix ++ x.1)
 
 tenths_take : (text : List ℕ) (x : ℕ × List ℕ) → tenths_at text ≡ Some x → HasPart text x
 unfolding tenths_at
@@ -64,24 +64,24 @@ tenths_take (a ∷ b ∷ rest) x e =
     (λ two. let is = pair_is a b d (digit_in b two) in (two_digits (10 * (a - 48) + (b - 48)), inr (inr (is.0, refl)), ap (λ (t : List ℕ). t ++ rest) is.1))
     (λ one. (a ∷ [], inr (inl (a - 48, omega arith, ap (λ (k : ℕ). 46 ∷ k ∷ []) (omega arith), refl)), refl)))
 
-part_takes : (text : List ℕ) (x : ℕ × List ℕ) → part_at text ≡ Some x → (front : List ℕ) × IsPart front x.0 × (text ≡ front ++ x.1)
+part_takes : (text : List ℕ) (x : ℕ × List ℕ) → part_at text ≡ Some x → (prefix : List ℕ) × IsPart prefix x.0 × (text ≡ prefix ++ x.1)
 unfolding part_at
 part_takes [] x e =
-    subst (λ (x : ℕ × List ℕ). (front : List ℕ) × IsPart front x.0 × ([] ≡ front ++ x.1)) (some_is (0, []) x e) ([], inl (refl, refl), refl)
+    subst (λ (x : ℕ × List ℕ). (prefix : List ℕ) × IsPart prefix x.0 × ([] ≡ prefix ++ x.1)) (some_is (0, []) x e) ([], inl (refl, refl), refl)
 part_takes (b ∷ rest) x e =
-    cond_both (eqb b 46) (tenths_at rest) (Some (0, b ∷ rest)) (λ o. o ≡ Some x → (front : List ℕ) × IsPart front x.0 × (b ∷ rest ≡ front ++ x.1))
+    cond_both (eqb b 46) (tenths_at rest) (Some (0, b ∷ rest)) (λ o. o ≡ Some x → (prefix : List ℕ) × IsPart prefix x.0 × (b ∷ rest ≡ prefix ++ x.1))
     (λ point taken. let t = tenths_take rest x taken in (46 ∷ t.0, t.1, ap (λ (k : ℕ). k ∷ rest) (eqb-true b 46 point) ∙ ap (λ (s : List ℕ). 46 ∷ s) t.2))
-    (λ none same. subst (λ (x : ℕ × List ℕ). (front : List ℕ) × IsPart front x.0 × (b ∷ rest ≡ front ++ x.1)) (some_is (0, b ∷ rest) x same) ([], inl (refl, refl), refl)) e
+    (λ none same. subst (λ (x : ℕ × List ℕ). (prefix : List ℕ) × IsPart prefix x.0 × (b ∷ rest ≡ prefix ++ x.1)) (some_is (0, b ∷ rest) x same) ([], inl (refl, refl), refl)) e
 
-tenths_behind_none : (t : ℕ) (rest : List ℕ) → IsDigitless rest → tenths_behind t rest ≡ (10 * t, rest)
-tenths_behind_none t [] none = refl
-tenths_behind_none t (b ∷ rest) none = cond-false _ _ _ none
+tenths_after_none : (t : ℕ) (rest : List ℕ) → IsDigitless rest → tenths_after t rest ≡ (10 * t, rest)
+tenths_after_none t [] none = refl
+tenths_after_none t (b ∷ rest) none = cond-false _ _ _ none
 
 one_tenth : (t : ℕ) (rest : List ℕ) → t < 10 → IsDigitless rest → tenths_at ((48 + t) ∷ rest) ≡ Some (10 * t, rest)
 unfolding tenths_at
 one_tenth t rest small none =
     let back : 48 + t - 48 ≡ t = omega arith in
-    cond-true _ _ _ (digit_from t small) ∙ ap Some (ap (λ (k : ℕ). tenths_behind k rest) back ∙ tenths_behind_none t rest none)
+    cond-true _ _ _ (digit_from t small) ∙ ap Some (ap (λ (k : ℕ). tenths_after k rest) back ∙ tenths_after_none t rest none)
 
 two_tenths : (p : ℕ) (rest : List ℕ) → p < 100 → tenths_at (two_digits p ++ rest) ≡ Some (p, rest)
 unfolding tenths_at
@@ -94,11 +94,11 @@ unfolding part_at
 no_part [] h = refl
 no_part (b ∷ rest) h = cond-false _ _ _ (ne_eqb b 46 h)
 
-part_again : (front rest : List ℕ) (p : ℕ) → IsPart front p → IsDigitless rest → get_or rest 0 0 ≢ 46 → part_at (front ++ rest) ≡ Some (p, rest)
+part_again : (prefix rest : List ℕ) (p : ℕ) → IsPart prefix p → IsDigitless rest → get_or rest 0 0 ≢ 46 → part_at (prefix ++ rest) ≡ Some (p, rest)
 unfolding part_at
-part_again front rest p (inl (none, zero_part)) digitless pointless = rw (none, zero_part) (no_part rest pointless)
-part_again front rest p (inr (inl (t, small, e, value))) digitless pointless = rw (e, value) (one_tenth t rest small digitless)
-part_again front rest p (inr (inr (small, e))) digitless pointless = rw e (two_tenths p rest small)
+part_again prefix rest p (inl (none, zero_part)) digitless pointless = rw (none, zero_part) (no_part rest pointless)
+part_again prefix rest p (inr (inl (t, small, e, value))) digitless pointless = rw (e, value) (one_tenth t rest small digitless)
+part_again prefix rest p (inr (inr (small, e))) digitless pointless = rw e (two_tenths p rest small)
 
 -- ---- names
 
@@ -148,24 +148,24 @@ unfolding offset_seconds
 seconds_again negative h p z fifth most e =
     cond-true _ _ _ (and_from _ _ (eq-eqb (p % 5) 0 fifth) (le-leb (100 * h + p) (cond negative 1200 1400) most)) ∙ ap Some (sym e)
 
--- what stands between the brackets of a zone, with its closing bracket
-bracketed : (front rest sign hours part name : List ℕ) → rest ≡ front ++ 93 ∷ [] → front ≡ sign ++ (hours ++ (part ++ name)) → 91 ∷ rest ≡ 91 ∷ sign ++ (hours ++ (part ++ (name ++ 93 ∷ [])))
-bracketed front rest sign hours part name e f = rw (e, f) (ap (λ (t : List ℕ). 91 ∷ t) (simp append_assoc))
+-- what is between the brackets of a zone, with its closing bracket
+bracketed : (prefix rest sign hours part name : List ℕ) → rest ≡ prefix ++ 93 ∷ [] → prefix ≡ sign ++ (hours ++ (part ++ name)) → 91 ∷ rest ≡ 91 ∷ sign ++ (hours ++ (part ++ (name ++ 93 ∷ [])))
+bracketed prefix rest sign hours part name e f = rw (e, f) (ap (λ (t : List ℕ). 91 ∷ t) (simp append_assoc))
 
-offset_takes : (front rest : List ℕ) (z : ℤ) → rest ≡ front ++ 93 ∷ [] → offset_at front ≡ Some z → IsBracketed (91 ∷ rest) z
+offset_takes : (prefix rest : List ℕ) (z : ℤ) → rest ≡ prefix ++ 93 ∷ [] → offset_at prefix ≡ Some z → IsBracketed (91 ∷ rest) z
 unfolding offset_at
-offset_takes front rest z whole e =
-    let s = sign_at front in
+offset_takes prefix rest z whole e =
+    let s = sign_at prefix in
     let h = bind_some (hours_at s.1) (λ hour. part_at hour.1 >>= λ part. cond (is_name part.1) (offset_seconds s.0 hour.0 part.0) None) z e in
     let p = bind_some (part_at h.0.1) (λ part. cond (is_name part.1) (offset_seconds s.0 h.0.0 part.0) None) z h.2 in
-    let ts = sign_takes front in
+    let ts = sign_takes prefix in
     let th = hours_take s.1 h.0 h.1 in
     let tp = part_takes h.0.1 p.0 p.1 in
     let named : (is_name p.0.1 ≡ true) × (offset_seconds s.0 h.0.0 p.0.0 ≡ Some z) =
     cond_both (is_name p.0.1) (offset_seconds s.0 h.0.0 p.0.0) None (λ o. o ≡ Some z → (is_name p.0.1 ≡ true) × (offset_seconds s.0 h.0.0 p.0.0 ≡ Some z)) (λ yes taken. (yes, taken)) (λ no none. absurd cc) p.2 in
     let is = seconds_take s.0 h.0.0 p.0.0 z named.1 in
-    let parts : front ≡ ts.0 ++ (th.0 ++ (tp.0 ++ p.0.1)) =
-    behind_front front ts.0 s.1 th.0 (tp.0 ++ p.0.1) ts.2 (behind_front s.1 th.0 h.0.1 tp.0 p.0.1 th.2 tp.2) in
+    let parts : prefix ≡ ts.0 ++ (th.0 ++ (tp.0 ++ p.0.1)) =
+    after_prefix prefix ts.0 s.1 th.0 (tp.0 ++ p.0.1) ts.2 (after_prefix s.1 th.0 h.0.1 tp.0 p.0.1 th.2 tp.2) in
     record {
       sign = ts.0;
       hours = th.0;
@@ -174,7 +174,7 @@ offset_takes front rest z whole e =
       negative = s.0;
       hour = h.0.0;
       hundredth = p.0.0;
-      spelled = bracketed front rest ts.0 th.0 tp.0 p.0.1 whole parts;
+      spelled = bracketed prefix rest ts.0 th.0 tp.0 p.0.1 whole parts;
       is_sign = ts.1;
       is_hours = th.1;
       is_part = tp.1;
@@ -200,19 +200,19 @@ last_is text h =
     let whole : length text - 1 + 1 ≡ length text = omega arith in
     sym (take_all (length text) text (omega arith)) ∙ sym (ap (λ (n : ℕ). take n text) whole) ∙ take_more text (length text - 1) 0 (omega arith)
 
-bracket_takes : (text front : List ℕ) → before_bracket text ≡ Some front → text ≡ front ++ 93 ∷ []
+bracket_takes : (text prefix : List ℕ) → before_bracket text ≡ Some prefix → text ≡ prefix ++ 93 ∷ []
 unfolding before_bracket
-bracket_takes [] front e = absurd cc
-bracket_takes (b ∷ rest) front e =
+bracket_takes [] prefix e = absurd cc
+bracket_takes (b ∷ rest) prefix e =
     let g = cond_some _ _ _ e in
     let last : get_or (b ∷ rest) (length (b ∷ rest) - 1) 0 ≡ 93 = eqb-true _ 93 g.0 in
     last_is (b ∷ rest) (omega arith) ∙ rw (last, g.1) refl
 
-bracket_again : (front : List ℕ) → before_bracket (front ++ 93 ∷ []) ≡ Some front
+bracket_again : (prefix : List ℕ) → before_bracket (prefix ++ 93 ∷ []) ≡ Some prefix
 unfolding before_bracket
-bracket_again front =
-    let size : length (front ++ 93 ∷ []) - 1 ≡ length front = omega (arith, length-append front (93 ∷ [])) in
-    rw size (cond-true _ _ _ (eq-eqb _ 93 (get_or_at front 93 [] 0 (length front) refl)) ∙ ap Some (take_at front (93 ∷ []) (length front) refl))
+bracket_again prefix =
+    let size : length (prefix ++ 93 ∷ []) - 1 ≡ length prefix = omega (arith, length-append prefix (93 ∷ [])) in
+    rw size (cond-true _ _ _ (eq-eqb _ 93 (get_or_at prefix 93 [] 0 (length prefix) refl)) ∙ ap Some (take_at prefix (93 ∷ []) (length prefix) refl))
 
 pub zone_takes : (text : List ℕ) (z : ℤ) → zone_at text ≡ Some z → IsZone text z
 unfolding zone_at

@@ -1,4 +1,4 @@
-//! Amounts as they stand in a file: a sign, dollars, and cents after a mark.
+//! Amounts as they are in a file: a sign, dollars, and cents after a mark.
 
 ghost use Rattle.std.specs.Prelude.{◌≡◌, ◌==◌, ◌<◌, ◌≤◌, ℤ, length, drop, IsTrue, None, Some, IfSome, IfOk, IfErr, OnErr, MatchResult};
 ghost use Rattle.std.specs.List.{list_all};
@@ -17,7 +17,7 @@ use ofx_types::{Cents, trim};
 const AMOUNT_BYTES: usize = 32;
 
 /// The most cents of an amount, either way.
-const MOST_CENTS: u128 = 9_999_999_999_999;
+const MAX_CENTS: u128 = 9_999_999_999_999;
 
 /// The amount that the bytes spell, after trimming.
 ///
@@ -55,37 +55,37 @@ fn amount_at(text: &[u8]) -> Option<Cents>
 fn magnitude_at(text: &[u8]) -> Option<u64>
     requires { length text.now ≤ AMOUNT_BYTES }
     ensures gives { ReadsValue (λ n. n) result (reading.magnitude_at text.now) }
-    ensures range { IfSome result (λ n. n ≤ MOST_CENTS) }
+    ensures range { IfSome result (λ n. n ≤ MAX_CENTS) }
 {
     let (dollars, rest) = split_digits(text);
-    let behind = behind_mark(rest)?;
-    magnitude_of(dollars, behind)
+    let suffix = after_mark(rest)?;
+    magnitude_of(dollars, suffix)
 }
 
-/// The digits at the front, and the bytes after them.
-#[tactic(auto, using(crate::proofs::DigitLemmas::front_all, crate::proofs::DigitLemmas::front_take))]
+/// The digits at the start, and the bytes after them.
+#[tactic(auto, using(crate::proofs::DigitLemmas::prefix_all, crate::proofs::DigitLemmas::prefix_take))]
 fn split_digits(text: &[u8]) -> (&[u8], &[u8])
-    ensures front { result.0.now ≡ reading.front_digits text.now }
-    ensures behind { result.1.now ≡ reading.behind_digits text.now }
+    ensures prefix { result.0.now ≡ reading.prefix_digits text.now }
+    ensures suffix { result.1.now ≡ reading.after_digits text.now }
     ensures are { IsTrue (list_all is_ascii_digit result.0.now) }
-    ensures front_short { length result.0.now ≤ length text.now }
-    ensures behind_short { length result.1.now ≤ length text.now }
+    ensures prefix_short { length result.0.now ≤ length text.now }
+    ensures after_short { length result.1.now ≤ length text.now }
 {
     text.split_at(digits_at(text))
 }
 
-/// How many digits stand at the front.
+/// How many digits stand at the start.
 fn digits_at(text: &[u8]) -> usize
-    ensures count { result ≡ length (reading.front_digits text.now) }
+    ensures count { result ≡ length (reading.prefix_digits text.now) }
     ensures within { result ≤ length text.now }
 {
     text.iter().take_while(|b| b.is_ascii_digit()).count()
 }
 
 /// The digits after a mark, or none where there is no mark.
-#[tactic(auto, unfolding(ofx_types::specs::AmountReading::behind_mark))]
-fn behind_mark(text: &[u8]) -> Option<&[u8]>
-    ensures gives { ReadsValue (λ x. x.now) result (reading.behind_mark text.now) }
+#[tactic(auto, unfolding(ofx_types::specs::AmountReading::after_mark))]
+fn after_mark(text: &[u8]) -> Option<&[u8]>
+    ensures gives { ReadsValue (λ x. x.now) result (reading.after_mark text.now) }
     ensures digits { IfSome result (λ x. IsTrue (list_all is_ascii_digit x.now)) }
     ensures within { IfSome result (λ x. length x.now ≤ length text.now) }
 {
@@ -98,25 +98,25 @@ fn behind_mark(text: &[u8]) -> Option<&[u8]>
 
 /// The cents of the digits before and after a mark.
 #[tactic(auto, unfolding(ofx_types::specs::AmountReading::magnitude_of))]
-fn magnitude_of(dollars: &[u8], behind: &[u8]) -> Option<u64>
+fn magnitude_of(dollars: &[u8], suffix: &[u8]) -> Option<u64>
     requires dollars_short { length dollars.now ≤ AMOUNT_BYTES }
-    requires behind_short { length behind.now ≤ AMOUNT_BYTES }
+    requires after_short { length suffix.now ≤ AMOUNT_BYTES }
     requires dollars_are { IsTrue (list_all is_ascii_digit dollars.now) }
-    requires behind_are { IsTrue (list_all is_ascii_digit behind.now) }
-    ensures gives { ReadsValue (λ n. n) result (reading.magnitude_of dollars.now behind.now) }
-    ensures range { IfSome result (λ n. n ≤ MOST_CENTS) }
+    requires after_are { IsTrue (list_all is_ascii_digit suffix.now) }
+    ensures gives { ReadsValue (λ n. n) result (reading.magnitude_of dollars.now suffix.now) }
+    ensures range { IfSome result (λ n. n ≤ MAX_CENTS) }
 {
-    let total = 100 * number(dollars) + cents_behind(behind) as u128;
-    if dollars.len() + behind.len() == 0 || !is_whole_cents(behind) || total > MOST_CENTS {
+    let total = 100 * number(dollars) + cents_after(suffix) as u128;
+    if dollars.len() + suffix.len() == 0 || !is_whole_cents(suffix) || total > MAX_CENTS {
         return None;
     }
     Some(total as u64)
 }
 
 /// The cents of the first two digits after a mark.
-fn cents_behind(digits: &[u8]) -> u8
+fn cents_after(digits: &[u8]) -> u8
     requires { IsTrue (list_all is_ascii_digit digits.now) }
-    ensures value { result ≡ form.cents_behind digits.now }
+    ensures value { result ≡ form.cents_after digits.now }
     ensures bound { result < 100 }
 {
     match digits {

@@ -1,4 +1,4 @@
-//! Dates as they stand in a file: a day, perhaps a time of that day, and perhaps a zone.
+//! Dates as they are in a file: a day, perhaps a time of that day, and perhaps a zone.
 
 ghost use Rattle.std.specs.Prelude.{◌≡◌, ◌<◌, ℤ, pos, ◌+ℤ◌, ◌-ℤ◌, None, Some, IfSome, IfOk, IfErr, OnErr, MatchResult};
 ghost use Rattle.jiff_core.specs.Calendar.{IsWithin};
@@ -103,19 +103,19 @@ fn clock_seconds(hour: u8, minute: u8, second: u8) -> Option<u32>
 }
 
 /// The bytes after a point and three digits, or all of them where no point stands.
-#[tactic(auto, unfolding(ofx_types::specs::DateReading::behind_fraction))]
-fn behind_fraction(text: &[u8]) -> Option<&[u8]>
-    ensures { ReadsValue (λ x. x.now) result (reading.behind_fraction text.now) }
+#[tactic(auto, unfolding(ofx_types::specs::DateReading::after_fraction))]
+fn after_fraction(text: &[u8]) -> Option<&[u8]>
+    ensures { ReadsValue (λ x. x.now) result (reading.after_fraction text.now) }
 {
     match text {
-        [b'.', rest @ ..] => behind_three(rest),
+        [b'.', rest @ ..] => after_three(rest),
         _ => Some(text),
     }
 }
 
-#[tactic(auto, unfolding(ofx_types::specs::DateReading::behind_three))]
-fn behind_three(text: &[u8]) -> Option<&[u8]>
-    ensures { ReadsValue (λ x. x.now) result (reading.behind_three text.now) }
+#[tactic(auto, unfolding(ofx_types::specs::DateReading::after_three))]
+fn after_three(text: &[u8]) -> Option<&[u8]>
+    ensures { ReadsValue (λ x. x.now) result (reading.after_three text.now) }
 {
     match text {
         [a, b, c, rest @ ..] if a.is_ascii_digit() && b.is_ascii_digit() && c.is_ascii_digit() => {
@@ -125,7 +125,7 @@ fn behind_three(text: &[u8]) -> Option<&[u8]>
     }
 }
 
-/// The seconds since midnight of the time of day that stands here, or of midnight, and the bytes after it.
+/// The seconds since midnight of the time of day that is here, or of midnight, and the bytes after it.
 #[tactic(auto, unfolding(ofx_types::specs::DateReading::time_at))]
 fn time_at(text: &[u8]) -> Option<(u32, &[u8])>
     ensures gives { ReadsValue (λ x. (x.0, x.1.now)) result (reading.time_at text.now) }
@@ -143,7 +143,7 @@ fn clock_and_fraction_at(text: &[u8]) -> Option<(u32, &[u8])>
     ensures range { IfSome result (λ x. x.0 < 86400) }
 {
     let (seconds, rest) = clock_at(text)?;
-    let rest = behind_fraction(rest)?;
+    let rest = after_fraction(rest)?;
     Some((seconds, rest))
 }
 

@@ -43,7 +43,7 @@ pub(crate) fn pair_at(text: &[u8]) -> Option<(u8, &[u8])>
     }
 }
 
-/// Whether a minus stands here, and the bytes after the sign, if there is one.
+/// Whether a minus is here, and the bytes after the sign, if there is one.
 #[tactic(auto, unfolding(ofx_types::specs::ValueReading::sign_at))]
 pub(crate) fn sign_at(text: &[u8]) -> (bool, &[u8])
     ensures negative { result.0 ≡ (reading.sign_at text.now).0 }

@@ -1,4 +1,4 @@
-//! Numbers as they stand in a file: digits alone.
+//! Numbers as they are in a file: digits alone.
 
 ghost use Rattle.std.specs.Prelude.{◌≡◌, ◌≤◌};
 ghost use Rattle.ofx_types.specs.TextRules.{trimmed};

@@ -1,4 +1,4 @@
-//! Amounts, moments and numbers as they stand in a reply.
+//! Amounts, moments and numbers as they are in a reply.
 
 ghost use Rattle.std.specs.Prelude.{◌≡◌, ◌/◌, ◌%◌, ◌^◌, ◌<◌, ◌≤◌, ◌∷◌, ◌++◌, drop, OnOk, OnErr};
 ghost use Rattle.std.specs.Fmt.{decimal};
@@ -15,7 +15,7 @@ use ofx_types::{Cents, Moment, OutOfMemory};
 /// The most bytes of a printed amount: a sign, 17 digits of dollars, a point and two digits of cents.
 const AMOUNT_ROOM: usize = 21;
 
-/// Where the point stands in that room.
+/// Where the point is in that room.
 const POINT_AT: usize = 18;
 
 /// Appends the digits of a number, without leading zeros. After `OutOfMemory` nothing is appended.

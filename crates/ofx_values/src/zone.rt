@@ -1,4 +1,4 @@
-//! Zones as they stand after a date: an offset in hours, and perhaps a name.
+//! Zones as they are after a date: an offset in hours, and perhaps a name.
 
 ghost use Rattle.std.specs.Prelude.{◌≡◌, ◌<◌, pos, IfSome};
 ghost use Rattle.jiff_core.specs.Calendar.{IsWithin};
@@ -31,12 +31,12 @@ fn before_bracket(text: &[u8]) -> Option<&[u8]>
     ensures { ReadsValue (λ x. x.now) result (reading.before_bracket text.now) }
 {
     match text {
-        [front @ .., b']'] => Some(front),
+        [prefix @ .., b']'] => Some(prefix),
         _ => None,
     }
 }
 
-/// The offset in seconds of what stands between a zone's brackets.
+/// The offset in seconds of what is there between a zone's brackets.
 #[tactic(auto, unfolding(ofx_types::specs::DateReading::offset_at))]
 fn offset_at(text: &[u8]) -> Option<i64>
     ensures gives { ReadsValue (λ n. n) result (reading.offset_at text.now) }

@@ -15,8 +15,8 @@ use Rattle.ofx_types.specs.declared.sync.ObjectName.{ObjectName}
 use Rattle.ofx_types.specs.declared.sync.SyncAsk.{SyncAsk}
 use Rattle.ofx_types.specs.declared.sync.SyncKind.TheVariants.{After, Refresh}
 use Rattle.ofx_types.specs.declared.sync.SyncReply.{SyncReply}
-use Rattle.bank_laws.specs.Histories.{IsInOrder, IsLater}
-use Rattle.bank_laws.specs.Told.{store_after, bank_after}
+use Rattle.sync_laws.specs.Histories.{IsInOrder, IsLater}
+use Rattle.sync_laws.specs.SyncRound.{store_after, bank_after}
 use Rattle.bank_model.specs.Objects.{object_named}
 use Rattle.bank_model.specs.Rules.{raised, ask_answer, ask_answers, reply_file}
 use Rattle.bank_model.specs.SetupForm.{IsWithinLimits}
@@ -39,13 +39,13 @@ use Rattle.ofx_world.proofs.Objects.{object_is}
 
 module _ (laws : Laws) (setup : Setup) (user : UserId) (at : Moment) (within : IsWithinLimits setup) where
   -- the state after the answer to a synchronisation
-  order_behind : (T : State) (ask : SyncAsk) → IsInOrder setup T → IsInOrder setup (bank_after setup T user at ask)
+  order_after : (T : State) (ask : SyncAsk) → IsInOrder setup T → IsInOrder setup (bank_after setup T user at ask)
   unfolding ask_answer
-  order_behind T ask order = laws.histories.ask setup T user at (asks.Sync ask) order
+  order_after T ask order = laws.histories.ask setup T user at (asks.Sync ask) order
 
-  later_behind : (T : State) (ask : SyncAsk) → IsLater T (bank_after setup T user at ask)
+  later_after : (T : State) (ask : SyncAsk) → IsLater T (bank_after setup T user at ask)
   unfolding ask_answer
-  later_behind T ask = laws.histories.ask_grows setup T user at (asks.Sync ask)
+  later_after T ask = laws.histories.ask_grows setup T user at (asks.Sync ask)
 
   lost_is_right : (T : State) (ask : SyncAsk) (store : Store) → store_after setup T user at ask store ≡ marked_lost store
       → IsRight setup user (store_after setup T user at ask store) (bank_after setup T user at ask).entries
@@ -86,7 +86,7 @@ module _ (laws : Laws) (setup : Setup) (user : UserId) (at : Moment) (within : I
     (elim (same_object store.name ask.object) as (λ b. same_object store.name ask.object ≡ b
         → IsRight setup user (cond b (taken store ask.kind (wire_sync (sync_answer setup T user at ask).reply)) store) (bank_after setup T user at ask).entries) [
           | true ↦ (λ is. taken_right T ask store order sound (object_is laws store.name ask.object is) (known.0 is) right.0)
-          | false ↦ (λ is. laws.stores.later setup T (bank_after setup T user at ask) user store order (order_behind T ask order) (later_behind T ask) right.0)
+          | false ↦ (λ is. laws.stores.later setup T (bank_after setup T user at ask) user store order (order_after T ask order) (later_after T ask) right.0)
         ]) refl,
     each_right T ask more order sound known.1 right.1,
   )
@@ -163,7 +163,7 @@ module _ (laws : Laws) (setup : Setup) (user : UserId) (at : Moment) (within : I
       subst (λ (l : List Store). AllByRecursion (λ (store : Store). IsRight setup user store (ask_answers setup next user at more).after.entries)
       (stores_after more (map wire_answer (ask_answers setup next user at more).replies) (map (taken_by ask reply) l)))
       (sym (with_there ask.object stores known.0.0))
-      (asks_right more next (map (taken_by ask reply) stores) (order_behind laws setup user at within T ask order) sound.1
+      (asks_right more next (map (taken_by ask reply) stores) (order_after laws setup user at within T ask order) sound.1
       (known_all laws ask reply stores more apart.0 known.1) apart.1
       (each_right laws setup user at within T ask stores order sound.0 known.0.1 right))
 
@@ -177,7 +177,7 @@ module _ (laws : Laws) (setup : Setup) (user : UserId) (at : Moment) (within : I
   unfolding reply_file
   replies_right before now file stores order order_now later sound known apart right =
       let day : IsInOrder setup (raised before at) = laws.histories.day setup before at order in
-      let behind : State = (ask_answers setup (raised before at) user at file.asks).after in
+      let rest : State = (ask_answers setup (raised before at) user at file.asks).after in
       let there = asks_right file.asks (raised before at) stores day sound known apart (recursion_from_All (λ (store : Store). IsRight setup user store before.entries) stores right) in
-      let all = All-from_recursion (λ (store : Store). IsRight setup user store behind.entries) _ there in
-      λ k d below. laws.stores.later setup behind now user _ (laws.histories.asks setup (raised before at) user at file.asks day) order_now later (all k d below)
+      let all = All-from_recursion (λ (store : Store). IsRight setup user store rest.entries) _ there in
+      λ k d below. laws.stores.later setup rest now user _ (laws.histories.asks setup (raised before at) user at file.asks day) order_now later (all k d below)

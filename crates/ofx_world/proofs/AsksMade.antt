@@ -6,7 +6,7 @@ use Rattle.std.proofs.lemmas.Bool.{true≢false}
 use Rattle.std.proofs.lemmas.List.Folds.{find-append}
 use Rattle.ofx_types.specs.declared.sync.ObjectName.{ObjectName}
 use Rattle.ofx_types.specs.declared.transfer.Deed.{Deed}
-use Rattle.bank_laws.specs.Histories.{IsInOrder}
+use Rattle.sync_laws.specs.Histories.{IsInOrder}
 use Rattle.bank_model.specs.Stores.{Store, IsRight, empty_store}
 use Rattle.bank_model.specs.declared.event.State.{State}
 use Rattle.bank_model.specs.declared.setup.Setup.{Setup}
@@ -14,8 +14,8 @@ use Rattle.ofx_types.specs.declared.number.UserId.{UserId}
 use Rattle.bank_model.proofs.Lists.{all_append, all_map, all_step, all_both}
 use Rattle.client_core.specs.Making.{deed_name, kind_asked, sync_of, looked_at, objects_of, asks_of}
 use Rattle.client_core.specs.Objects.{is_of_object, store_under, with_store, with_stores}
-use Rattle.client_core.specs.declared.errand.Errand.{Errand}
-use Rattle.client_core.specs.declared.errand.Errand.TheVariants.{Look, Do}
+use Rattle.client_core.specs.declared.content.Content.{Content}
+use Rattle.client_core.specs.declared.content.Content.TheVariants.{Look, Do}
 use Rattle.client_saved.specs.Bounds.{same_object, same_store, has_store, AreDistinct}
 use Rattle.client_saved.specs.declared.state.ClientState.{ClientState}
 use Rattle.ofx_world.specs.Laws.{Laws}
@@ -84,12 +84,12 @@ has_last laws object (store ∷ more) = ap (λ (b : Bool). same_object store.nam
     or_true true = refl
     or_true false = refl
 
-has_front : (object : ObjectName) (stores more : List Store) → has_store object stores ≡ true → has_store object (stores ++ more) ≡ true
-has_front object [] more has = cc
-has_front object (store ∷ stores) more has =
+has_prefix : (object : ObjectName) (stores more : List Store) → has_store object stores ≡ true → has_store object (stores ++ more) ≡ true
+has_prefix object [] more has = cc
+has_prefix object (store ∷ stores) more has =
     (elim (same_object store.name object) as (λ b. (b || has_store object stores) ≡ true → (b || has_store object (stores ++ more)) ≡ true) [
       | true ↦ (λ is. refl)
-      | false ↦ (λ is. has_front object stores more is)
+      | false ↦ (λ is. has_prefix object stores more is)
     ]) has
 
 has_here : Laws → (object : ObjectName) (stores : List Store) → has_store object (with_store object stores) ≡ true
@@ -105,7 +105,7 @@ unfolding with_store
 has_more object other stores has =
     elim (has_store other stores) as (λ b. has_store object (cond b stores (stores ++ empty_store other ∷ [])) ≡ true) [
       | true ↦ has
-      | false ↦ has_front object stores (empty_store other ∷ []) has
+      | false ↦ has_prefix object stores (empty_store other ∷ []) has
     ]
 
 has_all : (object : ObjectName) (objects : List ObjectName) (stores : List Store) → has_store object stores ≡ true → has_store object (with_stores objects stores) ≡ true
@@ -135,14 +135,14 @@ module _ (laws : Laws) (client : ClientState) (objects : List ObjectName) (apart
   syncs_known names has = all_map (λ (object : ObjectName). has_store object (with_stores objects client.stores) ≡ true)
       (AsksAsKnown (with_stores objects client.stores)) (λ (object : ObjectName). sync_of client object []) names (sync_known []) has
 
-pub asks_known : Laws → (client : ClientState) (errand : Errand) → AreDistinct (with_stores (objects_of errand) client.stores)
-    → AllByRecursion (AsksAsKnown (with_stores (objects_of errand) client.stores)) (asks_of client errand)
+pub asks_known : Laws → (client : ClientState) (content : Content) → AreDistinct (with_stores (objects_of content) client.stores)
+    → AllByRecursion (AsksAsKnown (with_stores (objects_of content) client.stores)) (asks_of client content)
 asks_known laws client (Look account) apart =
     (tt, syncs_known laws client (looked_at account) apart (looked_at account) (each_has laws (looked_at account) client.stores))
 asks_known laws client (Do object deed) apart =
     (sync_known laws client (object ∷ []) apart ((deed_name client.name client.next 1, deed) ∷ []) object (each_has laws (object ∷ []) client.stores).0, tt)
 
-pub asks_apart : (client : ClientState) (errand : Errand) → AreApart (asks_of client errand)
+pub asks_apart : (client : ClientState) (content : Content) → AreApart (asks_of client content)
 asks_apart client (Look account) = ((refl, (refl, (refl, tt))), ((refl, (refl, tt)), ((refl, tt), (tt, tt))))
 asks_apart client (Do object deed) = (tt, tt)
 

@@ -21,7 +21,7 @@ use Rattle.ofx_world.specs.Kept.{IsNew, AreNew, IsUser, same_name}
 use Rattle.ofx_world.specs.Laws.{Laws}
 use Rattle.ofx_world.specs.Server.{ServerView, fresh}
 use Rattle.ofx_world.specs.Sound.{HaveOwnNames, IsEarlier, IsLast, IsSoundCustomer, IsSentBy, IsSoundKept, IsKnownReply, HasKeptReply, HasAnswer, IsSoundWorld}
-use Rattle.ofx_world.specs.Truths.{IsAtItsPlace, HasRightStores}
+use Rattle.ofx_world.specs.Truths.{IsAtItsIndex, HasRightStores}
 use Rattle.ofx_world.specs.World.{WorldView, HaveSaved, Begins, beginning}
 use Rattle.ofx_world.proofs.Lists.{same_some, none_some}
 
@@ -96,12 +96,12 @@ begun_sound laws setup clients customers within new saved =
       within = within;
       clock = first_moment;
       reopened = refl;
-      tellable = laws.records.told_first setup;
+      reportable = laws.records.reported_first setup;
       customers = All-weaker (IsFresh setup) (IsSoundCustomer setup) (λ customer is. is.is_sound) customers all;
       names = own_names clients customers saved new.names;
       requests = All-nil (IsSentBy setup customers);
       pending = tt;
-      told = All-nil (IsAtItsPlace setup []);
+      reported = All-nil (IsAtItsIndex setup []);
       named = All-nil (IsKnownReply customers);
       recorded = All-nil (IsSoundKept customers);
       kept = All-weaker (IsFresh setup) (HasKeptReply setup opening_state []) (λ customer knows kept name user is. absurd (none_some kept (sym knows.none ∙ is))) customers all;

@@ -29,15 +29,15 @@ pub record Becomes (world : WorldView) (old new : CustomerView) : Type 0 where
   pub answered : HasAnswer world.server.setup world.server.state new
   pub stores : HasRightStores world.server.setup world.server.state.entries new
 
-module _ (world : WorldView) (place : ℕ) (old new : CustomerView) (was : slice_get world.customers place ≡ Some old) (becomes : Becomes world old new) where
+module _ (world : WorldView) (index : ℕ) (old new : CustomerView) (was : slice_get world.customers index ≡ Some old) (becomes : Becomes world old new) where
   abbrev changed : List CustomerView
-  changed = set world.customers place new
+  changed = set world.customers index new
 
   -- where a client stands now, as itself or as what it has become
-  stands : (P : Type 0) (k : ℕ) (customer : CustomerView) → slice_get world.customers k ≡ Some customer
-      → (slice_get changed k ≡ Some customer → P) → (slice_get changed place ≡ Some new → customer ≡ old → P) → P
-  stands P k customer there same other = elim (stays_there world.customers place k new customer there) as (λ w. P) [
-    | inl here ↦ other (got_new world.customers place old new was) (same_some customer old (sym there ∙ ap (slice_get world.customers) here ∙ was))
+  holds : (P : Type 0) (k : ℕ) (customer : CustomerView) → slice_get world.customers k ≡ Some customer
+      → (slice_get changed k ≡ Some customer → P) → (slice_get changed index ≡ Some new → customer ≡ old → P) → P
+  holds P k customer there same other = elim (stays_there world.customers index k new customer there) as (λ w. P) [
+    | inl here ↦ other (got_new world.customers index old new was) (same_some customer old (sym there ∙ ap (slice_get world.customers) here ∙ was))
     | inr stays ↦ same stays
   ]
 
@@ -47,10 +47,10 @@ module _ (world : WorldView) (place : ℕ) (old new : CustomerView) (was : slice
       (omega (arith, more, below), is.1 ∙ ap (λ (n : List ℕ). file_name n number) (sym becomes.name))
 
   given_on : (name : List ℕ) → IsGiven world.customers name → IsGiven changed name
-  given_on name given = stands (IsGiven changed name) given.place given.customer given.there
-      (λ there. record { place = given.place; customer = given.customer; there = there; number = given.number; numbered = given.numbered })
+  given_on name given = holds (IsGiven changed name) given.index given.customer given.there
+      (λ there. record { index = given.index; customer = given.customer; there = there; number = given.number; numbered = given.numbered })
       (λ there same. record {
-        place = place;
+        index = index;
         customer = new;
         there = there;
         number = given.number;
@@ -58,10 +58,10 @@ module _ (world : WorldView) (place : ℕ) (old new : CustomerView) (was : slice
       })
 
   sent_by : (bytes : List ℕ) → IsSentBy world.server.setup world.customers bytes → IsSentBy world.server.setup changed bytes
-  sent_by bytes sent = stands (IsSentBy world.server.setup changed bytes) sent.place sent.customer sent.there
-      (λ there. record { place = sent.place; customer = sent.customer; there = there; request = sent.request; is_of = sent.is_of })
+  sent_by bytes sent = holds (IsSentBy world.server.setup changed bytes) sent.index sent.customer sent.there
+      (λ there. record { index = sent.index; customer = sent.customer; there = there; request = sent.request; is_of = sent.is_of })
       (λ there same. record {
-        place = place;
+        index = index;
         customer = new;
         there = there;
         request = sent.request;
@@ -69,10 +69,10 @@ module _ (world : WorldView) (place : ℕ) (old new : CustomerView) (was : slice
       })
 
   sent_for : (user : UserId) (file : RequestFile) → IsSentFor world.server.setup world.customers user file → IsSentFor world.server.setup changed user file
-  sent_for user file sent = stands (IsSentFor world.server.setup changed user file) sent.place sent.customer sent.there
-      (λ there. record { place = sent.place; customer = sent.customer; there = there; is_of = sent.is_of; acts = sent.acts })
+  sent_for user file sent = holds (IsSentFor world.server.setup changed user file) sent.index sent.customer sent.there
+      (λ there. record { index = sent.index; customer = sent.customer; there = there; is_of = sent.is_of; acts = sent.acts })
       (λ there same. record {
-        place = place;
+        index = index;
         customer = new;
         there = there;
         is_of = becomes.files file (subst (λ (c : CustomerView). IsOf world.server.setup c.client file) same sent.is_of);
@@ -92,35 +92,35 @@ module _ (world : WorldView) (place : ℕ) (old new : CustomerView) (was : slice
 
   own_names : HaveOwnNames world.customers → HaveOwnNames changed
   own_names own j k a b at_j at_k same =
-      elim (got world.customers place j new a at_j) as (λ w. j ≡ k) [
-        | inl here ↦ elim (got world.customers place k new b at_k) as (λ w. j ≡ k) [
+      elim (got world.customers index j new a at_j) as (λ w. j ≡ k) [
+        | inl here ↦ elim (got world.customers index k new b at_k) as (λ w. j ≡ k) [
           | inl there ↦ here.0 ∙ sym there.0
-          | inr there ↦ here.0 ∙ own place k old b was there (sym becomes.name ∙ ap (λ (c : CustomerView). c.client.name) here.1 ∙ same)
+          | inr there ↦ here.0 ∙ own index k old b was there (sym becomes.name ∙ ap (λ (c : CustomerView). c.client.name) here.1 ∙ same)
         ]
-        | inr here ↦ elim (got world.customers place k new b at_k) as (λ w. j ≡ k) [
-          | inl there ↦ own j place a old here was (same ∙ sym (ap (λ (c : CustomerView). c.client.name) there.1) ∙ becomes.name) ∙ sym there.0
+        | inr here ↦ elim (got world.customers index k new b at_k) as (λ w. j ≡ k) [
+          | inl there ↦ own j index a old here was (same ∙ sym (ap (λ (c : CustomerView). c.client.name) there.1) ∙ becomes.name) ∙ sym there.0
           | inr there ↦ own j k a b here there same
         ]
       ]
 
-  pub changed_keeps : IsSoundWorld world → IsSoundWorld (with_customer world place new)
+  pub changed_keeps : IsSoundWorld world → IsSoundWorld (with_customer world index new)
   changed_keeps sound = record {
     within = sound.within;
     clock = sound.clock;
     reopened = sound.reopened;
-    tellable = sound.tellable;
-    customers = All-set (IsSoundCustomer world.server.setup) world.customers place new becomes.is_sound sound.customers;
+    reportable = sound.reportable;
+    customers = All-set (IsSoundCustomer world.server.setup) world.customers index new becomes.is_sound sound.customers;
     names = own_names sound.names;
     requests = All-weaker (IsSentBy world.server.setup world.customers) (IsSentBy world.server.setup changed) sent_by world.requests sound.requests;
     pending = pending_on world.server.pending sound.pending;
-    told = sound.told;
+    reported = sound.reported;
     named = All-weaker (IsKnownReply world.customers) (IsKnownReply changed)
         (λ reply known. record { is_reply = known.is_reply; given = λ name has. given_on name (known.given name has) }) world.replies sound.named;
     recorded = All-weaker (IsSoundKept world.customers) (IsSoundKept changed)
         (λ (kept : KeptReply) is. record { bears = is.bears; given = given_on kept.file is.given }) world.server.state.kept sound.recorded;
-    kept = All-set (HasKeptReply world.server.setup world.server.state world.replies) world.customers place new becomes.kept sound.kept;
-    answered = All-set (HasAnswer world.server.setup world.server.state) world.customers place new becomes.answered sound.answered;
-    stores = All-set (HasRightStores world.server.setup world.server.state.entries) world.customers place new becomes.stores sound.stores;
+    kept = All-set (HasKeptReply world.server.setup world.server.state world.replies) world.customers index new becomes.kept sound.kept;
+    answered = All-set (HasAnswer world.server.setup world.server.state) world.customers index new becomes.answered sound.answered;
+    stores = All-set (HasRightStores world.server.setup world.server.state.entries) world.customers index new becomes.stores sound.stores;
   }
 
 -- ---- a request more, and a client that starts anew
@@ -131,12 +131,12 @@ request_keeps world file sent sound = record {
   within = sound.within;
   clock = sound.clock;
   reopened = sound.reopened;
-  tellable = sound.tellable;
+  reportable = sound.reportable;
   customers = sound.customers;
   names = sound.names;
   requests = All-push (IsSentBy world.server.setup world.customers) world.requests file sound.requests sent;
   pending = sound.pending;
-  told = sound.told;
+  reported = sound.reported;
   named = sound.named;
   recorded = sound.recorded;
   kept = sound.kept;
@@ -148,13 +148,13 @@ abbrev pub seen : ClientState → List ℕ → CustomerView
 seen client saved = record { client = client; saved = saved }
 
 -- A client that starts anew from its saved text knows what it knew.
-pub restarted_keeps : Laws → (world : WorldView) (place : ℕ) (old new : CustomerView) → slice_get world.customers place ≡ Some old
-    → Restarts old new → IsSoundWorld world → IsSoundWorld (with_customer world place new)
-restarted_keeps laws world place old new was restarts sound =
-    let saved = (at_all (IsSoundCustomer world.server.setup) world.customers place old sound.customers was).saved in
+pub restarted_keeps : Laws → (world : WorldView) (index : ℕ) (old new : CustomerView) → slice_get world.customers index ≡ Some old
+    → Restarts old new → IsSoundWorld world → IsSoundWorld (with_customer world index new)
+restarted_keeps laws world index old new was restarts sound =
+    let saved = (at_all (IsSoundCustomer world.server.setup) world.customers index old sound.customers was).saved in
     let client : new.client ≡ old.client = laws.records.one_client old.saved new.client old.client restarts.0 saved in
     let same : new ≡ old = ap (λ (c : ClientState). seen c new.saved) client ∙ ap (seen old.client) restarts.1 in
-    let all : world.customers ≡ set world.customers place new = sym (ap (set world.customers place) same ∙ set_same world.customers place old was) in
+    let all : world.customers ≡ set world.customers index new = sym (ap (set world.customers index) same ∙ set_same world.customers index old was) in
     subst (λ (customers : List CustomerView). IsSoundWorld (record {
       server = world.server;
       customers = customers;

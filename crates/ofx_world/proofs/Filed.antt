@@ -4,8 +4,8 @@ use Rattle.std.specs.Option.{option_map}
 use Rattle.ofx_types.specs.declared.number.Moment.{Moment}
 use Rattle.bank_model.specs.declared.setup.Setup.{Setup}
 use Rattle.client_core.specs.Making.{file_of, made, made_for, with_file}
-use Rattle.client_core.specs.Wishes.{errand_of}
-use Rattle.client_core.specs.declared.errand.Errand.{Errand}
+use Rattle.client_core.specs.Wishes.{content_of}
+use Rattle.client_core.specs.declared.content.Content.{Content}
 use Rattle.client_core.specs.declared.fault.ClientFault.{ClientFault}
 use Rattle.client_core.specs.declared.wish.Wish.{Wish}
 use Rattle.client_saved.specs.declared.state.ClientState.{ClientState}
@@ -17,16 +17,16 @@ use Rattle.ofx_world.proofs.Made.{made_at, none_made, same_made}
 
 -- The client of a file that was made, by the errand that the wish is.
 record IsFiled (before : ClientState) (at : Moment) (after : ClientState) : Type 0 where
-  errand : Errand
-  is : after ≡ with_file before at errand
+  content : Content
+  is : after ≡ with_file before at content
 
-made_for_filed : (before : ClientState) (at : Moment) (found : Result Errand ClientFault) (after : ClientState) → made_for before at found ≡ Ok after → IsFiled before at after
+made_for_filed : (before : ClientState) (at : Moment) (found : Result Content ClientFault) (after : ClientState) → made_for before at found ≡ Ok after → IsFiled before at after
 made_for_filed before at (Err fault) after is = absurd (none_made fault after is)
-made_for_filed before at (Ok errand) after is = record { errand = errand; is = sym (same_made (with_file before at errand) after is) }
+made_for_filed before at (Ok content) after is = record { content = content; is = sym (same_made (with_file before at content) after is) }
 
 made_filed : (before : ClientState) (wish : Wish) (at : Moment) (after : ClientState) → made before wish at ≡ Ok after → IsFiled before at after
 unfolding made
-made_filed before wish at after is = made_for_filed before at (errand_of before wish at) after is
+made_filed before wish at after is = made_for_filed before at (content_of before wish at) after is
 
 bytes_of : (setup : Setup) (found : Option Outstanding) (kept : Outstanding) (file : List ℕ) → found ≡ Some kept → Some file ≡ option_map (sent setup) found
     → file ≡ sent setup kept
@@ -41,7 +41,7 @@ not_unsent setup (Some other) kept is none = cc
 module _ (setup : Setup) (before : ClientState) (wish : Wish) (at : Moment) (client : ClientState) (is : made before wish at ≡ Ok client) (after : CustomerView)
     (saves : Saves client after) where
   abbrev kept_file : Outstanding
-  kept_file = made_at at (file_of before (made_filed before wish at client is).errand)
+  kept_file = made_at at (file_of before (made_filed before wish at client is).content)
 
   is_kept : client.outstanding ≡ Some kept_file
   is_kept = ap (λ (c : ClientState). c.outstanding) (made_filed before wish at client is).is

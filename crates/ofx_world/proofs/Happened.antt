@@ -12,7 +12,7 @@ use Rattle.ofx_types.specs.declared.number.UserId.{UserId}
 use Rattle.ofx_types.specs.declared.reply.ReplyFile.{ReplyFile}
 use Rattle.ofx_types.specs.declared.request.RequestFile.{RequestFile}
 use Rattle.ofx_types.proofs.Bytes.{bytes_eq_is}
-use Rattle.bank_laws.specs.Histories.{IsLater}
+use Rattle.sync_laws.specs.Histories.{IsLater}
 use Rattle.bank_model.specs.Once.{is_named, reply_kept}
 use Rattle.bank_model.specs.Rules.{opening_state, raised, ask_answers, release, keep, kept_for, state_after, answer_to, reply_file}
 use Rattle.bank_model.specs.SetupLookups.{user_of}
@@ -21,9 +21,9 @@ use Rattle.bank_model.specs.declared.event.Event.TheVariants.{File, Post, Spawn,
 use Rattle.bank_model.specs.declared.event.State.{State}
 use Rattle.bank_model.specs.declared.once.KeptReply.{KeptReply}
 use Rattle.bank_model.specs.declared.setup.Setup.{Setup}
-use Rattle.bank_rules.specs.Standing.{IsSoundState}
-use Rattle.bank_rules.proofs.RunLaws.{kept_for-raised}
-use Rattle.bank_laws.proofs.Events.{later_both}
+use Rattle.bank_invariants.specs.SoundStates.{IsSoundState}
+use Rattle.bank_invariants.proofs.RunLaws.{kept_for-raised}
+use Rattle.sync_laws.proofs.Events.{later_both}
 use Rattle.client_core.specs.Making.{file_name}
 use Rattle.client_laws.specs.Answers.{bank_reply}
 use Rattle.client_saved.specs.declared.state.Outstanding.{Outstanding}
@@ -32,10 +32,10 @@ use Rattle.ofx_world.specs.Customer.{CustomerView, with_pass}
 use Rattle.ofx_world.specs.Laws.{Laws}
 use Rattle.ofx_world.specs.Server.{happened}
 use Rattle.ofx_world.specs.Sound.{IsGiven, IsNumbered, IsEarlier, MayHappen, IsLast, IsSoundCustomer, IsSoundKept, IsKnownReply, IsTheKeptOne, HasKeptReply, IsAnswered, HasAnswer, IsSoundWorld}
-use Rattle.ofx_world.specs.Truths.{IsAtItsPlace, Bears, HasRightStores}
+use Rattle.ofx_world.specs.Truths.{IsAtItsIndex, Bears, HasRightStores}
 use Rattle.ofx_world.specs.World.{WorldView, with_server, with_reply}
-use Rattle.ofx_world.proofs.Keeping.{place_stays}
-use Rattle.ofx_world.proofs.KeptReplies.{kept_anew, entries_anew, release_other, keep_other, keep_behind, found_kept}
+use Rattle.ofx_world.proofs.Keeping.{position_stays}
+use Rattle.ofx_world.proofs.KeptReplies.{kept_anew, entries_anew, release_other, keep_other, keep_after, found_kept}
 use Rattle.ofx_world.proofs.Lists.{at_all, all_on, same_some}
 use Rattle.ofx_world.proofs.Names.{one_client}
 
@@ -61,14 +61,14 @@ module _ (laws : Laws) (world : WorldView) (sound : IsSoundWorld world) (at : Mo
   abbrev name : List ℕ
   name = may.sent.is_of.name
 
-  standing : IsSoundState setup S
-  standing =
+  present : IsSoundState setup S
+  present =
       let run = laws.records.runs setup world.server.records S sound.reopened in
       subst (IsSoundState setup) (sym run.leaves) (laws.records.sound setup run.run sound.within run.legal).sound
 
   given : IsGiven world.customers name
   given = record {
-    place = may.sent.place;
+    index = may.sent.index;
     customer = may.sent.customer;
     there = may.sent.there;
     number = may.sent.is_of.number;
@@ -81,7 +81,7 @@ module _ (laws : Laws) (world : WorldView) (sound : IsSoundWorld world) (at : Mo
   answered_anew none =
       subst (λ (bytes : List ℕ). SpellsReply bytes (bank_reply setup S user at file))
       (sym (laws.replies.new setup S user at file (kept_for-raised S user at file.newer ∙ none)))
-      (laws.replies.reads_back setup S user at file sound.within standing sound.tellable may.codes.moment may.legal.0 may.legal.1)
+      (laws.replies.reads_back setup S user at file sound.within present sound.reportable may.codes.moment may.legal.0 may.legal.1)
 
   bears_anew : kept_for S user file.newer ≡ None → Bears name answer
   unfolding reply_file
@@ -116,9 +116,9 @@ module _ (laws : Laws) (world : WorldView) (sound : IsSoundWorld world) (at : Mo
 
   -- ---- what is kept for a client's outstanding file
 
-  module _ (place : ℕ) (customer : CustomerView) (there : slice_get world.customers place ≡ Some customer) (kept : Outstanding) (own : List ℕ) (owner : UserId) (outstanding : customer.client.outstanding ≡ Some kept) (is_own : kept.file.newer ≡ Some own) (is_owner : user_of setup customer.client.user ≡ Some owner) where
+  module _ (index : ℕ) (customer : CustomerView) (there : slice_get world.customers index ≡ Some customer) (kept : Outstanding) (own : List ℕ) (owner : UserId) (outstanding : customer.client.outstanding ≡ Some kept) (is_own : kept.file.newer ≡ Some own) (is_owner : user_of setup customer.client.user ≡ Some owner) where
     last : IsLast customer.client kept
-    last = subst (λ (o : Option Outstanding). IfSome o (IsLast customer.client)) outstanding (at_all (IsSoundCustomer setup) world.customers place customer sound.customers there).outstanding
+    last = subst (λ (o : Option Outstanding). IfSome o (IsLast customer.client)) outstanding (at_all (IsSoundCustomer setup) world.customers index customer sound.customers there).outstanding
 
     own_is : own ≡ file_name customer.client.name last.number
     own_is = same_some own _ (sym is_own ∙ last.name)
@@ -132,7 +132,7 @@ module _ (laws : Laws) (world : WorldView) (sound : IsSoundWorld world) (at : Mo
     unreleased (Some older) earlier = λ same.
         let below = may.sent.is_of.numbered.0 in
         let number : IsNumbered may.sent.customer.client earlier.0 own = (omega (arith, below, earlier.1), sym same ∙ earlier.2) in
-        let one = one_client setup world.customers place may.sent.place customer may.sent.customer last.number earlier.0 own sound.customers sound.names there may.sent.there own_number number in
+        let one = one_client setup world.customers index may.sent.index customer may.sent.customer last.number earlier.0 own sound.customers sound.names there may.sent.there own_number number in
         let most : may.sent.is_of.number < customer.client.next = subst (λ (c : CustomerView). may.sent.is_of.number < c.client.next) (sym one.1) below in
         let next = last.last in
         let same_number = one.2 in
@@ -146,13 +146,13 @@ module _ (laws : Laws) (world : WorldView) (sound : IsSoundWorld world) (at : Mo
     stays_kept reply found = either_way (kept_for S user file.newer)
         (λ bytes again. ap (λ (T : State). reply_kept owner own T.kept) (laws.replies.again_leaves setup S user at file bytes again) ∙ found)
         (λ none. ap (reply_kept owner own) (kept_anew setup S user at file none)
-        ∙ keep_behind owner user own file.newer answer reply (release user file.older S.kept) (release_other owner user own file.older S.kept apart ∙ found))
+        ∙ keep_after owner user own file.newer answer reply (release user file.older S.kept) (release_other owner user own file.older S.kept apart ∙ found))
 
     -- The file is this one, where it has its name.
     same_file : name ≡ own → (file ≡ with_pass setup kept.file) × (user ≡ owner)
     same_file same =
         let number : IsNumbered may.sent.customer.client may.sent.is_of.number own = (may.sent.is_of.numbered.0, sym same ∙ may.sent.is_of.numbered.1) in
-        let one = one_client setup world.customers place may.sent.place customer may.sent.customer last.number may.sent.is_of.number own sound.customers sound.names there may.sent.there own_number number in (
+        let one = one_client setup world.customers index may.sent.index customer may.sent.customer last.number may.sent.is_of.number own sound.customers sound.names there may.sent.there own_number number in (
           may.sent.is_of.same kept (ap (λ (c : CustomerView). c.client.outstanding) (sym one.1) ∙ outstanding) (is_own ∙ ap (λ (n : List ℕ). Some n) (sym same)),
           same_some user owner (sym may.sent.acts ∙ ap (λ (c : CustomerView). user_of setup c.client.user) (sym one.1) ∙ is_owner),
         )
@@ -166,8 +166,8 @@ module _ (laws : Laws) (world : WorldView) (sound : IsSoundWorld world) (at : Mo
         record {
           before = S;
           at = at;
-          order = sound.tellable.order;
-          stores = at_all (HasRightStores setup S.entries) world.customers place customer sound.stores there;
+          order = sound.reportable.order;
+          stores = at_all (HasRightStores setup S.entries) world.customers index customer sound.stores there;
           spells = subst (λ (b : List ℕ). SpellsReply b (bank_reply setup S owner at kept.file)) (sym bytes)
               (subst (λ (f : RequestFile). SpellsReply answer (bank_reply setup S owner at f)) is.0
               (subst (λ (u : UserId). SpellsReply answer (bank_reply setup S u at file)) is.1 (answered_anew none)));
@@ -182,7 +182,7 @@ module _ (laws : Laws) (world : WorldView) (sound : IsSoundWorld world) (at : Mo
 
     answered_on : (T : State) → IsLater S T → (reply : List ℕ) → reply_kept owner own S.kept ≡ Some reply → IsAnswered setup T customer kept owner reply
     answered_on T later reply found =
-        let answered = at_all (HasAnswer setup S) world.customers place customer sound.answered there kept own owner outstanding is_own is_owner reply found in
+        let answered = at_all (HasAnswer setup S) world.customers index customer sound.answered there kept own owner outstanding is_own is_owner reply found in
         record {
           before = answered.before;
           at = answered.at;
@@ -221,7 +221,7 @@ module _ (laws : Laws) (world : WorldView) (sound : IsSoundWorld world) (at : Mo
   recorded_then : (event : Event) → MayHappen world.server.setup world.server.state world.customers at event → All (IsSoundKept world.customers) (then_state event).kept
   recorded_then (File user file) may = recorded_after laws world sound at user file may
   recorded_then (Post id) may = sound.recorded
-  recorded_then (Spawn model place) may = sound.recorded
+  recorded_then (Spawn model index) may = sound.recorded
   recorded_then (Letter user subject body) may = sound.recorded
 
   kept_then : (event : Event) → MayHappen world.server.setup world.server.state world.customers at event → All (HasKeptReply world.server.setup (then_state event) world.replies) world.customers
@@ -229,7 +229,7 @@ module _ (laws : Laws) (world : WorldView) (sound : IsSoundWorld world) (at : Mo
       (λ k customer there has kept own owner outstanding is_own is_owner i d below bears.
       stays_kept laws world sound at user file may k customer there kept own owner outstanding is_own is_owner _ (has kept own owner outstanding is_own is_owner i d below bears)) sound.kept
   kept_then (Post id) may = sound.kept
-  kept_then (Spawn model place) may = sound.kept
+  kept_then (Spawn model index) may = sound.kept
   kept_then (Letter user subject body) may = sound.kept
 
   -- What the bank does by itself changes nothing of what is kept.
@@ -251,7 +251,7 @@ module _ (laws : Laws) (world : WorldView) (sound : IsSoundWorld world) (at : Mo
       (λ k customer there has kept own owner outstanding is_own is_owner reply found.
       answered_after laws world sound at user file may k customer there kept own owner outstanding is_own is_owner reply found) sound.answered
   answered_then (Post id) may = answered_alone (then_state (Post id)) (laws.histories.event_grows world.server.setup world.server.state at (Post id)) refl
-  answered_then (Spawn model place) may = answered_alone (then_state (Spawn model place)) (laws.histories.event_grows world.server.setup world.server.state at (Spawn model place)) refl
+  answered_then (Spawn model index) may = answered_alone (then_state (Spawn model index)) (laws.histories.event_grows world.server.setup world.server.state at (Spawn model index)) refl
   answered_then (Letter user subject body) may = answered_alone (then_state (Letter user subject body)) (laws.histories.event_grows world.server.setup world.server.state at (Letter user subject body)) refl
 
   -- An event that may happen leaves the world sound.
@@ -260,19 +260,19 @@ module _ (laws : Laws) (world : WorldView) (sound : IsSoundWorld world) (at : Mo
     within = sound.within;
     clock = sound.clock;
     reopened = (laws.records.goes_on world.server.setup opening_state world.server.records (coded at event ∷ []) (then_state event)).1 (world.server.state, sound.reopened, (at, event, may.codes, may.legal, refl));
-    tellable = laws.records.told world.server.setup world.server.state at event sound.within sound.tellable may.codes.moment may.legal;
+    reportable = laws.records.reported world.server.setup world.server.state at event sound.within sound.reportable may.codes.moment may.legal;
     customers = sound.customers;
     names = sound.names;
     requests = sound.requests;
     pending = tt;
-    told = All-weaker (IsAtItsPlace world.server.setup world.server.records) (IsAtItsPlace world.server.setup (world.server.records ++ coded at event ∷ [])) (λ reply place. place_stays world.server.setup world.server.records (coded at event ∷ []) reply place) world.replies sound.told;
+    reported = All-weaker (IsAtItsIndex world.server.setup world.server.records) (IsAtItsIndex world.server.setup (world.server.records ++ coded at event ∷ [])) (λ reply index. position_stays world.server.setup world.server.records (coded at event ∷ []) reply index) world.replies sound.reported;
     named = sound.named;
     recorded = recorded_then event may;
     kept = kept_then event may;
     answered = answered_then event may;
     stores = All-weaker (HasRightStores world.server.setup world.server.state.entries) (HasRightStores world.server.setup (then_state event).entries)
-        (λ customer right user is_user k d below. laws.stores.later world.server.setup world.server.state (then_state event) user _ sound.tellable.order
-        (laws.histories.event world.server.setup world.server.state at event sound.tellable.order may.legal) (laws.histories.event_grows world.server.setup world.server.state at event) (right user is_user k d below)) world.customers sound.stores;
+        (λ customer right user is_user k d below. laws.stores.later world.server.setup world.server.state (then_state event) user _ sound.reportable.order
+        (laws.histories.event world.server.setup world.server.state at event sound.reportable.order may.legal) (laws.histories.event_grows world.server.setup world.server.state at event) (right user is_user k d below)) world.customers sound.stores;
   }
 
   -- So does a file, together with the reply that it gets.
@@ -286,18 +286,18 @@ module _ (laws : Laws) (world : WorldView) (sound : IsSoundWorld world) (at : Mo
         within = then_sound.within;
         clock = then_sound.clock;
         reopened = then_sound.reopened;
-        tellable = then_sound.tellable;
+        reportable = then_sound.reportable;
         customers = then_sound.customers;
         names = then_sound.names;
         requests = then_sound.requests;
         pending = tt;
-        told = All-push (IsAtItsPlace world.server.setup (world.server.records ++ coded at (File user file) ∷ [])) world.replies reply then_sound.told (record {
+        reported = All-push (IsAtItsIndex world.server.setup (world.server.records ++ coded at (File user file) ∷ [])) world.replies reply then_sound.reported (record {
           earlier = world.server.records;
           rec = coded at (File user file);
           later = [];
           parts = refl;
           state = world.server.state;
-          stands = sound.reopened;
+          holds = sound.reopened;
           at = at;
           user = user;
           file = file;

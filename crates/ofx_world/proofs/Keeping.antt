@@ -8,7 +8,7 @@ use Rattle.bank_model.specs.declared.event.State.{State}
 use Rattle.bank_model.specs.declared.setup.Setup.{Setup}
 use Rattle.ofx_world.specs.Server.{given_up, put_off, with_fault, with_state}
 use Rattle.ofx_world.specs.Sound.{MayHappen, IsSoundWorld}
-use Rattle.ofx_world.specs.Truths.{IsAtItsPlace}
+use Rattle.ofx_world.specs.Truths.{IsAtItsIndex}
 use Rattle.ofx_world.specs.World.{WorldView, with_server, with_clock}
 
 pub clock_keeps : (world : WorldView) (at : Moment) → IsMoment at.0 → IsSoundWorld world → IsSoundWorld (with_clock world at)
@@ -16,12 +16,12 @@ clock_keeps world at moment sound = record {
   within = sound.within;
   clock = moment;
   reopened = sound.reopened;
-  tellable = sound.tellable;
+  reportable = sound.reportable;
   customers = sound.customers;
   names = sound.names;
   requests = sound.requests;
   pending = sound.pending;
-  told = sound.told;
+  reported = sound.reported;
   named = sound.named;
   recorded = sound.recorded;
   kept = sound.kept;
@@ -34,12 +34,12 @@ fault_keeps world landed sound = record {
   within = sound.within;
   clock = sound.clock;
   reopened = sound.reopened;
-  tellable = sound.tellable;
+  reportable = sound.reportable;
   customers = sound.customers;
   names = sound.names;
   requests = sound.requests;
   pending = sound.pending;
-  told = sound.told;
+  reported = sound.reported;
   named = sound.named;
   recorded = sound.recorded;
   kept = sound.kept;
@@ -52,12 +52,12 @@ given_up_keeps world sound = record {
   within = sound.within;
   clock = sound.clock;
   reopened = sound.reopened;
-  tellable = sound.tellable;
+  reportable = sound.reportable;
   customers = sound.customers;
   names = sound.names;
   requests = sound.requests;
   pending = tt;
-  told = sound.told;
+  reported = sound.reported;
   named = sound.named;
   recorded = sound.recorded;
   kept = sound.kept;
@@ -72,12 +72,12 @@ put_off_keeps world at event landed may sound = record {
   within = sound.within;
   clock = sound.clock;
   reopened = sound.reopened;
-  tellable = sound.tellable;
+  reportable = sound.reportable;
   customers = sound.customers;
   names = sound.names;
   requests = sound.requests;
   pending = may;
-  told = sound.told;
+  reported = sound.reported;
   named = sound.named;
   recorded = sound.recorded;
   kept = sound.kept;
@@ -92,12 +92,12 @@ restart_keeps world state same sound = subst (λ (s : State). IsSoundWorld (with
   within = sound.within;
   clock = sound.clock;
   reopened = sound.reopened;
-  tellable = sound.tellable;
+  reportable = sound.reportable;
   customers = sound.customers;
   names = sound.names;
   requests = sound.requests;
   pending = sound.pending;
-  told = sound.told;
+  reported = sound.reported;
   named = sound.named;
   recorded = sound.recorded;
   kept = sound.kept;
@@ -106,17 +106,17 @@ restart_keeps world state same sound = subst (λ (s : State). IsSoundWorld (with
 })
 
 -- A place among records is one among more of them.
-pub place_stays : (setup : Setup) (records more : List (List ℕ)) (reply : List ℕ) → IsAtItsPlace setup records reply → IsAtItsPlace setup (records ++ more) reply
-place_stays setup records more reply place = record {
-  earlier = place.earlier;
-  rec = place.rec;
-  later = place.later ++ more;
-  parts = ap (λ (all : List (List ℕ)). all ++ more) place.parts ∙ append_assoc place.earlier (place.rec ∷ place.later) more;
-  state = place.state;
-  stands = place.stands;
-  at = place.at;
-  user = place.user;
-  file = place.file;
-  codes = place.codes;
-  is_answer = place.is_answer;
+pub position_stays : (setup : Setup) (records more : List (List ℕ)) (reply : List ℕ) → IsAtItsIndex setup records reply → IsAtItsIndex setup (records ++ more) reply
+position_stays setup records more reply index = record {
+  earlier = index.earlier;
+  rec = index.rec;
+  later = index.later ++ more;
+  parts = ap (λ (all : List (List ℕ)). all ++ more) index.parts ∙ append_assoc index.earlier (index.rec ∷ index.later) more;
+  state = index.state;
+  holds = index.holds;
+  at = index.at;
+  user = index.user;
+  file = index.file;
+  codes = index.codes;
+  is_answer = index.is_answer;
 }

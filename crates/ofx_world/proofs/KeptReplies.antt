@@ -16,8 +16,8 @@ use Rattle.bank_model.specs.declared.event.Event.TheVariants.{File}
 use Rattle.bank_model.specs.declared.event.State.{State}
 use Rattle.bank_model.specs.declared.once.KeptReply.{KeptReply}
 use Rattle.bank_model.specs.declared.setup.Setup.{Setup}
-use Rattle.bank_rules.proofs.StageLemmas.{kept-asks}
-use Rattle.bank_rules.proofs.RunLaws.{kept_for-raised}
+use Rattle.bank_invariants.proofs.StageLemmas.{kept-asks}
+use Rattle.bank_invariants.proofs.RunLaws.{kept_for-raised}
 use Rattle.ofx_world.proofs.Lists.{same_some, none_some, find_filtered}
 
 -- ---- a file that is answered anew
@@ -77,10 +77,10 @@ module _ (user other : UserId) (name : List ℕ) where
   found_first (Some reply) rest bytes found = found
 
   -- What is kept already is found first.
-  pub keep_behind : (newer : Option (List ℕ)) (reply bytes : List ℕ) (kept : List KeptReply) → reply_kept user name kept ≡ Some bytes
+  pub keep_after : (newer : Option (List ℕ)) (reply bytes : List ℕ) (kept : List KeptReply) → reply_kept user name kept ≡ Some bytes
       → reply_kept user name (keep other newer reply kept) ≡ Some bytes
-  keep_behind None reply bytes kept found = found
-  keep_behind (Some newer) reply bytes kept found =
+  keep_after None reply bytes kept found = found
+  keep_after (Some newer) reply bytes kept found =
       ap (option_map bytes_of) (find-append (is_named user name) kept (record { user = other; file = newer; reply = reply } ∷ []))
       ∙ found_first (find (is_named user name) kept) _ bytes found
 

@@ -25,7 +25,7 @@ got_new [] i old new there = absurd (none_some old there)
 got_new (x ∷ xs) zero old new there = refl
 got_new (x ∷ xs) (suc i) old new there = got_new xs i old new there
 
--- What stands in the changed list is what was there, or the new element at its place.
+-- What is in the changed list is what was there, or the new element at its place.
 pub got : {X : Type 0} (xs : List X) (i j : ℕ) (new x : X) → slice_get (set xs i new) j ≡ Some x → ((j ≡ i) × (new ≡ x)) ⊎ (slice_get xs j ≡ Some x)
 got [] i j new x there = inr there
 got (y ∷ xs) zero zero new x there = inl (refl, same_some new x there)

@@ -8,8 +8,8 @@ use Rattle.bank_model.specs.Stores.{Store, IsRight}
 use Rattle.bank_model.specs.declared.setup.Setup.{Setup}
 use Rattle.client_core.specs.Making.{file_name, file_of, objects_of, with_file, made_for, made}
 use Rattle.client_core.specs.Objects.{with_stores}
-use Rattle.client_core.specs.Wishes.{errand_of}
-use Rattle.client_core.specs.declared.errand.Errand.{Errand}
+use Rattle.client_core.specs.Wishes.{content_of}
+use Rattle.client_core.specs.declared.content.Content.{Content}
 use Rattle.client_core.specs.declared.fault.ClientFault.{ClientFault}
 use Rattle.client_core.specs.declared.wish.Wish.{Wish}
 use Rattle.client_saved.specs.SavedText.{IsSavedText}
@@ -34,33 +34,33 @@ earlier_on client (Some older) is = let below = is.1 in (is.0, omega (arith, bel
 abbrev pub made_at : Moment → RequestFile → Outstanding
 made_at at file = record { at = at; file = file }
 
-module _ (laws : Laws) (world : WorldView) (sound : IsSoundWorld world) (place : ℕ) (old : CustomerView) (was : slice_get world.customers place ≡ Some old) (at : Moment) (errand : Errand) (saved : List ℕ) (is_saved : IsSavedText saved (with_file old.client at errand)) where
+module _ (laws : Laws) (world : WorldView) (sound : IsSoundWorld world) (index : ℕ) (old : CustomerView) (was : slice_get world.customers index ≡ Some old) (at : Moment) (content : Content) (saved : List ℕ) (is_saved : IsSavedText saved (with_file old.client at content)) where
   abbrev setup : Setup
   setup = world.server.setup
 
   abbrev client : ClientState
-  client = with_file old.client at errand
+  client = with_file old.client at content
 
   abbrev outstanding : Outstanding
-  outstanding = made_at at (file_of old.client errand)
+  outstanding = made_at at (file_of old.client content)
 
   abbrev own : List ℕ
   own = file_name old.client.name old.client.next
 
   customer : IsSoundCustomer setup old
-  customer = at_all (IsSoundCustomer setup) world.customers place old sound.customers was
+  customer = at_all (IsSoundCustomer setup) world.customers index old sound.customers was
 
   -- No client has given the name of the file.
   new_to_all : IsGiven world.customers own → ⊥
-  new_to_all given = new_name setup world.customers place given.place old given.customer given.number sound.customers sound.names was given.there given.numbered
+  new_to_all given = new_name setup world.customers index given.index old given.customer given.number sound.customers sound.names was given.there given.numbered
 
   last : IsLast client outstanding
   last = record {
     number = old.client.next;
     last = refl;
     name = refl;
-    asks = asks_known laws old.client errand is_saved.sound.distinct;
-    apart = asks_apart old.client errand;
+    asks = asks_known laws old.client content is_saved.sound.distinct;
+    apart = asks_apart old.client content;
     older = customer.done;
   }
 
@@ -98,17 +98,17 @@ module _ (laws : Laws) (world : WorldView) (sound : IsSoundWorld world) (place :
         (recursion_from_All (IsSoundKept world.customers) world.server.state.kept sound.recorded) found in
         absurd (new_to_all (subst (IsGiven world.customers) (there.file ∙ named_so kept name holds named) there.holds.given));
     stores = λ owner is_owner.
-        let right = at_all (HasRightStores setup world.server.state.entries) world.customers place old sound.stores was owner is_owner in
-        All-from_recursion (λ (store : Store). IsRight setup owner store world.server.state.entries) (with_stores (objects_of errand) old.client.stores)
-        (right_with laws setup world.server.state owner sound.tellable.order (objects_of errand) old.client.stores
+        let right = at_all (HasRightStores setup world.server.state.entries) world.customers index old sound.stores was owner is_owner in
+        All-from_recursion (λ (store : Store). IsRight setup owner store world.server.state.entries) (with_stores (objects_of content) old.client.stores)
+        (right_with laws setup world.server.state owner sound.reportable.order (objects_of content) old.client.stores
         (recursion_from_All (λ (store : Store). IsRight setup owner store world.server.state.entries) old.client.stores right));
   }
 
   -- The world is sound with the client that has made the file, and with the file on its way.
-  pub file_made : IsSoundWorld (with_request (with_customer world place (seen client saved)) (sent setup outstanding))
+  pub file_made : IsSoundWorld (with_request (with_customer world index (seen client saved)) (sent setup outstanding))
   file_made =
-      sent_again_keeps laws (with_customer world place (seen client saved)) place (seen client saved) outstanding
-      (got_new world.customers place old (seen client saved) was) refl (changed_keeps world place old (seen client saved) was made_becomes sound)
+      sent_again_keeps laws (with_customer world index (seen client saved)) index (seen client saved) outstanding
+      (got_new world.customers index old (seen client saved) was) refl (changed_keeps world index old (seen client saved) was made_becomes sound)
 
 pub same_made : (a b : ClientState) → ◌≡◌ {A = Result ClientState ClientFault} (Ok a) (Ok b) → a ≡ b
 same_made a b same = cc
@@ -117,20 +117,20 @@ pub none_made : (fault : ClientFault) (a : ClientState) → ◌≡◌ {A = Resul
 none_made fault a same = cc
 
 -- A client that makes the file of a wish, saves that and sends the file, leaves the world sound.
-pub made_keeps : Laws → (world : WorldView) (place : ℕ) (old new : CustomerView) (wish : Wish) (at : Moment) (file : List ℕ)
-    → slice_get world.customers place ≡ Some old → Makes world.server.setup old wish at new file
-    → IsSoundWorld world → IsSoundWorld (with_request (with_customer world place new) file)
+pub made_keeps : Laws → (world : WorldView) (index : ℕ) (old new : CustomerView) (wish : Wish) (at : Moment) (file : List ℕ)
+    → slice_get world.customers index ≡ Some old → Makes world.server.setup old wish at new file
+    → IsSoundWorld world → IsSoundWorld (with_request (with_customer world index new) file)
 unfolding made
-made_keeps laws world place old new wish at file was makes sound = go (errand_of old.client wish at) makes.makes
+made_keeps laws world index old new wish at file was makes sound = go (content_of old.client wish at) makes.makes
   where
-    go : (found : Result Errand ClientFault) → made_for old.client at found ≡ Ok makes.client → IsSoundWorld (with_request (with_customer world place new) file)
+    go : (found : Result Content ClientFault) → made_for old.client at found ≡ Ok makes.client → IsSoundWorld (with_request (with_customer world index new) file)
     go (Err fault) is = absurd (none_made fault makes.client is)
-    go (Ok errand) is =
-        let same : with_file old.client at errand ≡ makes.client = same_made (with_file old.client at errand) makes.client is in
-        let new_is : seen (with_file old.client at errand) new.saved ≡ new = ap (λ (c : ClientState). seen c new.saved) (same ∙ sym makes.saves.0) in
-        let kept : made_at at (file_of old.client errand) ≡ makes.kept =
+    go (Ok content) is =
+        let same : with_file old.client at content ≡ makes.client = same_made (with_file old.client at content) makes.client is in
+        let new_is : seen (with_file old.client at content) new.saved ≡ new = ap (λ (c : ClientState). seen c new.saved) (same ∙ sym makes.saves.0) in
+        let kept : made_at at (file_of old.client content) ≡ makes.kept =
         same_some _ makes.kept (ap (λ (c : ClientState). c.outstanding) same ∙ makes.outstanding) in
-        let file_is : sent world.server.setup (made_at at (file_of old.client errand)) ≡ file = ap (sent world.server.setup) kept ∙ sym makes.is_sent in
-        subst (λ (c : CustomerView). IsSoundWorld (with_request (with_customer world place c) file)) new_is
-        (subst (λ (bytes : List ℕ). IsSoundWorld (with_request (with_customer world place (seen (with_file old.client at errand) new.saved)) bytes)) file_is
-        (file_made laws world sound place old was at errand new.saved (subst (IsSavedText new.saved) (sym same) makes.saves.1)))
+        let file_is : sent world.server.setup (made_at at (file_of old.client content)) ≡ file = ap (sent world.server.setup) kept ∙ sym makes.is_sent in
+        subst (λ (c : CustomerView). IsSoundWorld (with_request (with_customer world index c) file)) new_is
+        (subst (λ (bytes : List ℕ). IsSoundWorld (with_request (with_customer world index (seen (with_file old.client at content) new.saved)) bytes)) file_is
+        (file_made laws world sound index old was at content new.saved (subst (IsSavedText new.saved) (sym same) makes.saves.1)))

@@ -29,7 +29,7 @@ split (x ∷ a) (y ∷ b) xs ys of_a of_b same =
     let rest : a ++ 45 ∷ xs ≡ b ++ 45 ∷ ys = cc in
     let both = split a b xs ys (and_parts (is_ascii_alphanumeric x) (list_all is_ascii_alphanumeric a) of_a).1
     (and_parts (is_ascii_alphanumeric y) (list_all is_ascii_alphanumeric b) of_b).1 rest in
-    let front : a ≡ b = both.0 in
+    let prefix : a ≡ b = both.0 in
     let whole : x ∷ a ≡ y ∷ b = cc in
     (whole, both.1)
 
@@ -54,8 +54,8 @@ one_client setup customers j k a b m n name sound own at_j at_k is_m is_n =
     let of_b = at_all (IsSoundCustomer setup) customers k b sound at_k in
     let same = one_name a.client.name b.client.name m n of_a.saved.sound.name of_b.saved.sound.name
     (short setup a m of_a is_m.0) (short setup b n of_b is_n.0) (sym is_m.1 ∙ is_n.1) in
-    let place : j ≡ k = own j k a b at_j at_k same.0 in
-    (place, same_some a b (sym at_j ∙ ap (slice_get customers) place ∙ at_k), same.1)
+    let index : j ≡ k = own j k a b at_j at_k same.0 in
+    (index, same_some a b (sym at_j ∙ ap (slice_get customers) index ∙ at_k), same.1)
 
 -- The number that a client gives next is no number that it has given.
 pub new_number : (setup : Setup) (customer : CustomerView) (number : ℕ) → IsSoundCustomer setup customer → number < customer.client.next
@@ -76,8 +76,8 @@ new_name setup customers j k a b n sound own at_j at_k is =
     let few = of_a.saved.sound.next in
     let same = one_name a.client.name b.client.name a.client.next n of_a.saved.sound.name of_b.saved.sound.name
     (omega (arith, few)) (short setup b n of_b is.0) is.1 in
-    let place : j ≡ k = own j k a b at_j at_k same.0 in
-    let one : a ≡ b = same_some a b (sym at_j ∙ ap (slice_get customers) place ∙ at_k) in
+    let index : j ≡ k = own j k a b at_j at_k same.0 in
+    let one : a ≡ b = same_some a b (sym at_j ∙ ap (slice_get customers) index ∙ at_k) in
     let next : a.client.next ≡ b.client.next = ap (λ (c : CustomerView). c.client.next) one in
     let numbers = same.1 in
     let below = is.0 in

@@ -1,7 +1,7 @@
 -- What the calls of the world's parts ask for, as a sound world has it, and the steps that they are.
 use Rattle.std.proofs.Common.{◌≡◌, inl, inr, ℕ, List, [], ◌∷◌, ◌++◌, slice_get, Option, Some, refl, sym, ap, subst, ◌∙◌}
 use Rattle.client_core.specs.declared.wish.Wish.{Wish}
-use Rattle.ofx_world.specs.Customer.{CustomerView, Makes, MakesNone, Takes}
+use Rattle.ofx_world.specs.Customer.{CustomerView, Makes, MakesNone, Accepts}
 use Rattle.ofx_world.specs.Kept.{IsReply, IsRequest}
 use Rattle.ofx_world.specs.Sound.{IsKnownReply, IsSentBy, IsSoundWorld}
 use Rattle.ofx_world.specs.World.{WorldView, DeliverReplyStep, MakeStep, with_customer}
@@ -13,12 +13,12 @@ module _ (inside old : WorldView) (same : inside ≡ old) (sound : IsSoundWorld 
   inside_sound : IsSoundWorld inside
   inside_sound = subst IsSoundWorld (sym same) sound
 
-  pub request_is : (place : ℕ) (bytes : List ℕ) → slice_get inside.requests place ≡ Some bytes → IsRequest inside.server.setup bytes
-  request_is place bytes there =
-      (at_all (IsSentBy inside.server.setup inside.customers) inside.requests place bytes inside_sound.requests there).request
+  pub request_is : (index : ℕ) (bytes : List ℕ) → slice_get inside.requests index ≡ Some bytes → IsRequest inside.server.setup bytes
+  request_is index bytes there =
+      (at_all (IsSentBy inside.server.setup inside.customers) inside.requests index bytes inside_sound.requests there).request
 
-  pub reply_is : (place : ℕ) (bytes : List ℕ) → slice_get inside.replies place ≡ Some bytes → IsReply bytes
-  reply_is place bytes there = (at_all (IsKnownReply inside.customers) inside.replies place bytes inside_sound.named there).is_reply
+  pub reply_is : (index : ℕ) (bytes : List ℕ) → slice_get inside.replies index ≡ Some bytes → IsReply bytes
+  reply_is index bytes there = (at_all (IsKnownReply inside.customers) inside.replies index bytes inside_sound.named there).is_reply
 
 -- ---- the steps
 
@@ -50,16 +50,16 @@ module _ (inside old : WorldView) (same : inside ≡ old) (number : ℕ) (custom
       of_client (λ (w : WorldView) found. MakeStep w number wish found (with_requests inside requests))
       (inr (none, ap (λ (files : List (List ℕ)). with_requests inside files) are))
 
-  module _ (place : ℕ) (bytes : List ℕ) (here : slice_get inside.replies place ≡ Some bytes) where
-    pub reply_is_taken : (new : CustomerView) → Takes customer bytes new
-        → DeliverReplyStep old number (slice_get old.customers number) (slice_get old.replies place) (with_customer inside number new)
+  module _ (index : ℕ) (bytes : List ℕ) (here : slice_get inside.replies index ≡ Some bytes) where
+    pub reply_is_taken : (new : CustomerView) → Accepts customer bytes new
+        → DeliverReplyStep old number (slice_get old.customers number) (slice_get old.replies index) (with_customer inside number new)
     reply_is_taken new takes =
-        of_client (λ (w : WorldView) found. DeliverReplyStep w number found (slice_get w.replies place) (with_customer inside number new))
+        of_client (λ (w : WorldView) found. DeliverReplyStep w number found (slice_get w.replies index) (with_customer inside number new))
         (subst (λ (file : Option (List ℕ)). DeliverReplyStep inside number (Some customer) file (with_customer inside number new)) (sym here) (new, takes, refl))
 
-    pub reply_is_refused : Takes customer bytes customer → DeliverReplyStep old number (slice_get old.customers number) (slice_get old.replies place) old
+    pub reply_is_refused : Accepts customer bytes customer → DeliverReplyStep old number (slice_get old.customers number) (slice_get old.replies index) old
     reply_is_refused takes =
-        of_client (λ (w : WorldView) found. DeliverReplyStep w number found (slice_get w.replies place) old)
+        of_client (λ (w : WorldView) found. DeliverReplyStep w number found (slice_get w.replies index) old)
         (subst (λ (file : Option (List ℕ)). DeliverReplyStep inside number (Some customer) file old) (sym here) (
           customer,
           takes,

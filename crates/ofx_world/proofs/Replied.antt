@@ -49,12 +49,12 @@ same_names name (Some other) same = ap (λ (n : List ℕ). Some n) (sym (bytes_e
 
 -- ---- what the client becomes
 
-module _ (laws : Laws) (world : WorldView) (sound : IsSoundWorld world) (place : ℕ) (old : CustomerView) (was : slice_get world.customers place ≡ Some old) (kept : Outstanding) (outstanding : old.client.outstanding ≡ Some kept) where
+module _ (laws : Laws) (world : WorldView) (sound : IsSoundWorld world) (index : ℕ) (old : CustomerView) (was : slice_get world.customers index ≡ Some old) (kept : Outstanding) (outstanding : old.client.outstanding ≡ Some kept) where
   abbrev setup : Setup
   setup = world.server.setup
 
   customer : IsSoundCustomer setup old
-  customer = at_all (IsSoundCustomer setup) world.customers place old sound.customers was
+  customer = at_all (IsSoundCustomer setup) world.customers index old sound.customers was
 
   abbrev user : UserId
   user = customer.user.0
@@ -72,8 +72,8 @@ module _ (laws : Laws) (world : WorldView) (sound : IsSoundWorld world) (place :
   is_answered : (number : ℕ) (bytes : List ℕ) (reply : ReplyFile) → slice_get world.replies number ≡ Some bytes → SpellsReply bytes reply
       → reply.newer ≡ Some own → IsAnswered setup world.server.state old kept user bytes
   is_answered number bytes reply there spelled named =
-      let has = at_all (HasKeptReply setup world.server.state world.replies) world.customers place old sound.kept was kept own user outstanding last.name customer.user.1 in
-      at_all (HasAnswer setup world.server.state) world.customers place old sound.answered was kept own user outstanding last.name customer.user.1 bytes
+      let has = at_all (HasKeptReply setup world.server.state world.replies) world.customers index old sound.kept was kept own user outstanding last.name customer.user.1 in
+      at_all (HasAnswer setup world.server.state) world.customers index old sound.answered was kept own user outstanding last.name customer.user.1 bytes
       (at_all (IsTheKeptOne world.server.state user own) world.replies number bytes has there (reply, spelled, named))
 
   module _ (bytes : List ℕ) (answered : IsAnswered setup world.server.state old kept user bytes) where
@@ -85,7 +85,7 @@ module _ (laws : Laws) (world : WorldView) (sound : IsSoundWorld world) (place :
 
     stores_right : All (λ (store : Store). IsRight setup user store world.server.state.entries) stores
     stores_right = replies_right laws setup user answered.at sound.within answered.before world.server.state kept.file old.client.stores answered.order
-        sound.tellable.order answered.later of_client.file.asks last.asks last.apart (answered.stores user customer.user.1)
+        sound.reportable.order answered.later of_client.file.asks last.asks last.apart (answered.stores user customer.user.1)
 
     done_numbered : IfSome kept.file.newer (IsEarlier client client.next)
     done_numbered = subst (λ (o : Option (List ℕ)). IfSome o (IsEarlier old.client old.client.next)) (sym last.name)
@@ -122,22 +122,22 @@ module _ (laws : Laws) (world : WorldView) (sound : IsSoundWorld world) (place :
         (sym is ∙ ap (accepted old.client) same ∙ laws.stores.accepted setup answered.before user answered.at old.client kept sound.within answered.order outstanding))
 
 -- A client that accepts one of the replies that were given, and saves what it knows then, leaves the world sound.
-pub accepted_keeps : Laws → (world : WorldView) (place number : ℕ) (old new : CustomerView) (bytes : List ℕ) (reply : ReplyFile) (taken : Accepted)
-    → slice_get world.customers place ≡ Some old → slice_get world.replies number ≡ Some bytes → SpellsReply bytes reply
-    → accepted old.client reply ≡ Ok taken → Saves taken.after new → IsSoundWorld world → IsSoundWorld (with_customer world place new)
+pub accepted_keeps : Laws → (world : WorldView) (index number : ℕ) (old new : CustomerView) (bytes : List ℕ) (reply : ReplyFile) (taken : Accepted)
+    → slice_get world.customers index ≡ Some old → slice_get world.replies number ≡ Some bytes → SpellsReply bytes reply
+    → accepted old.client reply ≡ Ok taken → Saves taken.after new → IsSoundWorld world → IsSoundWorld (with_customer world index new)
 unfolding accepted
-accepted_keeps laws world place number old new bytes reply taken was there spelled is saves sound = go old.client.outstanding refl is
+accepted_keeps laws world index number old new bytes reply taken was there spelled is saves sound = go old.client.outstanding refl is
   where
-    go : (found : Option Outstanding) → old.client.outstanding ≡ found → accepted_to old.client found reply ≡ Ok taken → IsSoundWorld (with_customer world place new)
+    go : (found : Option Outstanding) → old.client.outstanding ≡ found → accepted_to old.client found reply ≡ Ok taken → IsSoundWorld (with_customer world index new)
     go None none took = absurd (err_ok NotMine taken took)
     go (Some kept) outstanding took =
-        let last_one = last laws world sound place old was kept outstanding in
+        let last_one = last laws world sound index old was kept outstanding in
         let same : same_name kept.file.newer reply.newer ≡ true = bears_name old.client kept.file reply taken took in
         let named : reply.newer ≡ Some (file_name old.client.name last_one.number) =
         same_names _ reply.newer (sym (ap (λ (n : Option (List ℕ)). same_name n reply.newer) last_one.name) ∙ same) in
-        let answered = is_answered laws world sound place old was kept outstanding number bytes reply there spelled named in
-        let after : taken.after ≡ client laws world sound place old was kept outstanding bytes answered = accepted_is laws world sound place old was kept outstanding bytes answered reply taken spelled is in
-        let new_is : new ≡ seen (client laws world sound place old was kept outstanding bytes answered) new.saved = ap (λ (c : ClientState). seen c new.saved) (saves.0 ∙ after) in
-        subst (λ (c : CustomerView). IsSoundWorld (with_customer world place c)) (sym new_is)
-        (changed_keeps world place old _ was (accepted_becomes laws world sound place old was kept outstanding bytes answered new.saved
+        let answered = is_answered laws world sound index old was kept outstanding number bytes reply there spelled named in
+        let after : taken.after ≡ client laws world sound index old was kept outstanding bytes answered = accepted_is laws world sound index old was kept outstanding bytes answered reply taken spelled is in
+        let new_is : new ≡ seen (client laws world sound index old was kept outstanding bytes answered) new.saved = ap (λ (c : ClientState). seen c new.saved) (saves.0 ∙ after) in
+        subst (λ (c : CustomerView). IsSoundWorld (with_customer world index c)) (sym new_is)
+        (changed_keeps world index old _ was (accepted_becomes laws world sound index old was kept outstanding bytes answered new.saved
         (subst (IsSavedText new.saved) after saves.1)) sound)

@@ -18,7 +18,7 @@ use Rattle.bank_model.specs.Sound.{IsSound}
 use Rattle.bank_model.specs.declared.setup.Setup.{Setup}
 use Rattle.bank_model.specs.declared.setup.User.{User}
 use Rattle.bank_model.proofs.SetupSignon.{one_signs, none_signs}
-use Rattle.bank_replies.proofs.Words.{ink_text, word_ink}
+use Rattle.reply_laws.proofs.Arguments.{visible_text, word_visible}
 use Rattle.client_core.specs.Making.{file_name}
 use Rattle.client_saved.specs.Bounds.{IsSoundOutstanding}
 use Rattle.client_saved.specs.declared.state.Outstanding.{Outstanding}
@@ -33,18 +33,18 @@ use Rattle.ofx_world.proofs.Lists.{same_some, none_some, at_all}
 -- ---- the user who signs on
 
 abbrev user_at : ℕ → UserId
-user_at place = record { 0 = place }
+user_at index = record { 0 = index }
 
--- where a name stands among users
+-- where a name is among users
 place_of : (user : UserId) (found : Option ℕ) → option_map user_at found ≡ Some user → found ≡ Some user.0
 place_of user None is = cc
-place_of user (Some place) is = ap (λ (u : UserId). Some u.0) (same_some (user_at place) user is)
+place_of user (Some index) is = ap (λ (u : UserId). Some u.0) (same_some (user_at index) user is)
 
 -- The words of a setup are texts.
 word_within : (word : List ℕ) → IsWord word → IsTextWithin 64 word
 word_within word is =
     let few = is.is_within in
-    ink_text 64 word (word_ink word is.is_plain) is.is_there (omega arith) (omega arith)
+    visible_text 64 word (word_visible word is.is_plain) is.is_there (omega arith) (omega arith)
 
 module _ (setup : Setup) (within : IsWithinLimits setup) (name : List ℕ) (user : UserId) (is : user_of setup name ≡ Some user) where
   found : position (λ (u : User). bytes_eq u.name name) setup.users ≡ Some user.0
@@ -68,10 +68,10 @@ module _ (setup : Setup) (within : IsWithinLimits setup) (name : List ℕ) (user
       (one_signs name (pass_at setup (user_of setup name)) setup.users within.lines.names user.0 found nobody
       (ap (λ (pass : List ℕ). bytes_eq pass (pass_at setup (user_of setup name))) (sym pass_is) ∙ bytes_eq_self (pass_at setup (user_of setup name))))
 
-  words : (users : List User) (place : ℕ) (d : User) → place < length users → AllByRecursion IsWordUser users → IsWordUser (get_or users place d)
-  words [] place d below all = absurd (omega (arith, below))
+  words : (users : List User) (index : ℕ) (d : User) → index < length users → AllByRecursion IsWordUser users → IsWordUser (get_or users index d)
+  words [] index d below all = absurd (omega (arith, below))
   words (u ∷ users) zero d below all = all.0
-  words (u ∷ users) (suc place) d below all = words users place d (omega (arith, below)) all.1
+  words (u ∷ users) (suc index) d below all = words users index d (omega (arith, below)) all.1
 
   pub signon : (at : Moment) → IsMoment at.0 → IsTextWithin 32 name → IsSoundSignon name (pass_at setup (user_of setup name)) at
   signon at moment text = record {
@@ -144,10 +144,10 @@ module _ (laws : Laws) (setup : Setup) (within : IsWithinLimits setup) (customer
         same = λ other is named. ap (λ (o : Outstanding). with_pass setup o.file) (same_some kept other (sym outstanding ∙ is));
       }
 
-  pub sent_by : (customers : List CustomerView) (place : ℕ) → slice_get customers place ≡ Some customer → IsSentBy setup customers (sent setup kept)
+  pub sent_by : (customers : List CustomerView) (index : ℕ) → slice_get customers index ≡ Some customer → IsSentBy setup customers (sent setup kept)
   unfolding sent
-  sent_by customers place there = record {
-    place = place;
+  sent_by customers index there = record {
+    index = index;
     customer = customer;
     there = there;
     request = record {
@@ -168,10 +168,10 @@ module _ (laws : Laws) (setup : Setup) (within : IsWithinLimits setup) (customer
   }
 
 -- A client's outstanding file is on its way again.
-pub sent_again_keeps : Laws → (world : WorldView) (place : ℕ) (customer : CustomerView) (kept : Outstanding)
-    → slice_get world.customers place ≡ Some customer → customer.client.outstanding ≡ Some kept
+pub sent_again_keeps : Laws → (world : WorldView) (index : ℕ) (customer : CustomerView) (kept : Outstanding)
+    → slice_get world.customers index ≡ Some customer → customer.client.outstanding ≡ Some kept
     → IsSoundWorld world → IsSoundWorld (with_request world (sent world.server.setup kept))
-sent_again_keeps laws world place customer kept there outstanding sound =
-    let of_client = at_all (IsSoundCustomer world.server.setup) world.customers place customer sound.customers there in
+sent_again_keeps laws world index customer kept there outstanding sound =
+    let of_client = at_all (IsSoundCustomer world.server.setup) world.customers index customer sound.customers there in
     request_keeps world (sent world.server.setup kept)
-    (sent_by laws world.server.setup sound.within customer of_client kept outstanding world.customers place there) sound
+    (sent_by laws world.server.setup sound.within customer of_client kept outstanding world.customers index there) sound

@@ -85,13 +85,13 @@ module _ (laws : Laws) where
           spelled = refl;
         };
         sent = record {
-          place = sent.place;
+          index = sent.index;
           customer = sent.customer;
           there = sent.there;
           is_of = sent.is_of;
           acts = user_is sent.request.user sent.customer.client.user sent.request.file.pass
               (ap (λ (name : List ℕ). signed_on world.server.setup name sent.request.file.pass) (sym sent.is_of.user) ∙ sent.request.of_user.signed_on.signed)
-              (at_all (IsSoundCustomer world.server.setup) world.customers sent.place sent.customer sound.customers sent.there).user;
+              (at_all (IsSoundCustomer world.server.setup) world.customers sent.index sent.customer sound.customers sent.there).user;
         };
       }))
     where

@@ -17,7 +17,7 @@ use Rattle.bank_engine.specs.Calls.{IsAsBefore, Answers, FailsToKeep, FailsToCom
 use Rattle.bank_engine.specs.Solo.{Sends, AppendsOne}
 use Rattle.bank_engine.specs.Views as engines
 use Rattle.bank_engine.specs.Views.{JournalView}
-use Rattle.bank_replay.specs.Opening.{Stands}
+use Rattle.bank_replay.specs.Opening.{RecordsGive}
 use Rattle.bank_signon.specs.Signon.{IsOfUser}
 use Rattle.event_codec.specs.Coding.{coded}
 use Rattle.event_codec.specs.Records.{Codes, Reopens}
@@ -261,11 +261,11 @@ same_records before after settled_before settled_after same =
     ∙ append-nil before.records
 
 reopens_as : (setup : Setup) (keeper : KeeperView) (state : State) → is_some keeper.unsettled ≡ false
-    → Stands setup (Some (keeper.records ++ landed_record keeper.unsettled)) state → Reopens setup opening_state keeper.records state
-reopens_as setup keeper state settled stands =
+    → RecordsGive setup (Some (keeper.records ++ landed_record keeper.unsettled)) state → Reopens setup opening_state keeper.records state
+reopens_as setup keeper state settled holds =
     subst (λ (records : List (List ℕ)). Reopens setup opening_state records state)
-    (sym stands.are_told ∙ ap (λ (more : List (List ℕ)). keeper.records ++ more) (no_record keeper.unsettled settled) ∙ append-nil keeper.records)
-    stands.reopens
+    (sym holds.are_known ∙ ap (λ (more : List (List ℕ)). keeper.records ++ more) (no_record keeper.unsettled settled) ∙ append-nil keeper.records)
+    holds.reopens
 
 none_unsettled : (unsettled : Option Unsettled) → unsettled ≡ None → is_some unsettled ≡ false
 none_unsettled unsettled none = ap (λ (u : Option Unsettled). is_some u) none
@@ -330,15 +330,15 @@ module _ (setup : Setup) (state : State) (keeper : KeeperView) (pending : Option
         ∙ subst (λ (server : ServerView). with_state server state ≡ server) same refl
 
     pub restarted : (old : ServerView) (used setup' : Setup) (book state' : State) (pending' : Option engines.PendingView) → pending' ≡ None → now ≡ settled old → used ≡ now.setup → setup' ≡ used → state' ≡ book
-        → Stands used (Some (keeper.records ++ landed_record keeper.unsettled)) book → Restarts old (seen setup' state' after pending')
-    restarted old used setup' book state' pending' none settled_is used_is same_setup same_state stands =
+        → RecordsGive used (Some (keeper.records ++ landed_record keeper.unsettled)) book → Restarts old (seen setup' state' after pending')
+    restarted old used setup' book state' pending' none settled_is used_is same_setup same_state holds =
         let of_old : used ≡ old.setup = used_is ∙ ap (λ (server : ServerView). server.setup) settled_is ∙ settled_setup old in
         let kept : keeper.records ≡ (settled old).records =
         ap (λ (server : ServerView). server.records) same ∙ ap (λ (server : ServerView). server.records) settled_is in (
           state',
           subst (λ (s : Setup). Reopens s opening_state (settled old).records state') of_old
               (subst (λ (records : List (List ℕ)). Reopens used opening_state records state') kept
-              (subst (λ (s : State). Reopens used opening_state keeper.records s) (sym same_state) (reopens_as used keeper book is_quiet stands))),
+              (subst (λ (s : State). Reopens used opening_state keeper.records s) (sym same_state) (reopens_as used keeper book is_quiet holds))),
           anew setup' state' pending' (same_setup ∙ used_is) none ∙ ap (λ (server : ServerView). with_state server state') settled_is,
         )
 

@@ -68,19 +68,19 @@ module _ (laws : Laws) (before : WorldView) (sound : IsSoundWorld before) where
         clock = before.clock;
       })) all sound
 
-  goes : (number place : ℕ) (customer new : CustomerView) (bytes : List ℕ) (reply : ReplyFile) (found : Result Accepted ClientFault)
-      → slice_get before.customers number ≡ Some customer → slice_get before.replies place ≡ Some bytes → SpellsReply bytes reply
+  goes : (number index : ℕ) (customer new : CustomerView) (bytes : List ℕ) (reply : ReplyFile) (found : Result Accepted ClientFault)
+      → slice_get before.customers number ≡ Some customer → slice_get before.replies index ≡ Some bytes → SpellsReply bytes reply
       → accepted customer.client reply ≡ found → Goes customer found new → IsSoundWorld (with_customer before number new)
-  goes number place customer new bytes reply (Ok taken) there here spelled is saves =
-      accepted_keeps laws before number place customer new bytes reply taken there here spelled is saves sound
-  goes number place customer new bytes reply (Err fault) there here spelled is same = same_customer number customer new there same
+  goes number index customer new bytes reply (Ok taken) there here spelled is saves =
+      accepted_keeps laws before number index customer new bytes reply taken there here spelled is saves sound
+  goes number index customer new bytes reply (Err fault) there here spelled is same = same_customer number customer new there same
 
-  reply_step : (number place : ℕ) (found : Option CustomerView) (file : Option (List ℕ)) (after : WorldView) → slice_get before.customers number ≡ found
-      → slice_get before.replies place ≡ file → DeliverReplyStep before number found file after → IsSoundWorld after
-  reply_step number place None file after there here step = stays after step
-  reply_step number place (Some customer) None after there here step = stays after step
-  reply_step number place (Some customer) (Some bytes) after there here (new, (reply, spelled, went), is) =
-      becomes after _ is (goes number place customer new bytes reply (accepted customer.client reply) there here spelled refl went)
+  reply_step : (number index : ℕ) (found : Option CustomerView) (file : Option (List ℕ)) (after : WorldView) → slice_get before.customers number ≡ found
+      → slice_get before.replies index ≡ file → DeliverReplyStep before number found file after → IsSoundWorld after
+  reply_step number index None file after there here step = stays after step
+  reply_step number index (Some customer) None after there here step = stays after step
+  reply_step number index (Some customer) (Some bytes) after there here (new, (reply, spelled, went), is) =
+      becomes after _ is (goes number index customer new bytes reply (accepted customer.client reply) there here spelled refl went)
 
   -- ---- the bank
 

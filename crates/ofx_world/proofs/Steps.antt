@@ -41,7 +41,7 @@ cut_now before after step more cut = record {
 
 -- ---- steps that are left
 
--- The first of them, and those behind it.
+-- The first of them, and those after it.
 parts : (left : List Step) (step : Step) → 1 ≤ length left → step ≡ get_or left 0 step → left ≡ step ∷ take (length left - 1) (drop 1 left)
 parts [] step some here = absurd (omega (arith, some))
 parts (first ∷ more) step some here = ap (λ (s : Step). s ∷ more) (sym here) ∙ ap (λ (steps : List Step). step ∷ steps) (sym (take_rest (first ∷ more) 1))

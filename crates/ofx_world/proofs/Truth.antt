@@ -37,7 +37,7 @@ pub true_of_sound : Laws → (world : WorldView) → IsSoundWorld world → IsRi
 true_of_sound laws world sound = record {
   reopened = sound.reopened;
   books = laws.records.books world.server.setup world.server.records world.server.state sound.within sound.reopened;
-  told = sound.told;
+  reported = sound.reported;
   alike = all_on (HasKeptReply world.server.setup world.server.state world.replies) (HasOneReply world.replies) world.customers
       (λ k customer there kept. one_reply world.server.setup world.server.state world.replies customer
       (at_all (IsSoundCustomer world.server.setup) world.customers k customer sound.customers there) kept) sound.kept;

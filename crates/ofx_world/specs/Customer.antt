@@ -84,8 +84,8 @@ Goes before (Ok taken) after = Saves taken.after after
 Goes before (Err fault) after = after ≡ before
 
 -- The client takes in the reply that the bytes spell.
-abbrev pub Takes : CustomerView → List ℕ → CustomerView → Type 0
-Takes before bytes after =
+abbrev pub Accepts : CustomerView → List ℕ → CustomerView → Type 0
+Accepts before bytes after =
     (reply : ReplyFile) × SpellsReply bytes reply × Goes before (accepted before.client reply) after
 
 -- ---- starting anew

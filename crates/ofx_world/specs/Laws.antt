@@ -15,8 +15,8 @@ use Rattle.ofx_types.specs.declared.sync.SyncAsk.{SyncAsk}
 use Rattle.ofx_types.specs.declared.sync.SyncKind.{SyncKind}
 use Rattle.ofx_types.specs.declared.sync.SyncKind.TheVariants.{After, Refresh}
 use Rattle.ofx_types.specs.declared.sync.SyncReply.{SyncReply}
-use Rattle.bank_laws.specs.Histories.{IsInOrder, IsLater}
-use Rattle.bank_laws.specs.Told.{store_after, bank_after}
+use Rattle.sync_laws.specs.Histories.{IsInOrder, IsLater}
+use Rattle.sync_laws.specs.SyncRound.{store_after, bank_after}
 use Rattle.bank_model.specs.Objects.{object_named}
 use Rattle.bank_model.specs.Once.{reply_kept}
 use Rattle.bank_model.specs.Rules.{IsLegal, opening_state, raised, ask_answer, ask_answers, kept_for, state_after, answer_to, due}
@@ -29,11 +29,11 @@ use Rattle.bank_model.specs.declared.event.Event.TheVariants.{File}
 use Rattle.bank_model.specs.declared.event.State.{State}
 use Rattle.bank_model.specs.declared.setup.Setup.{Setup}
 use Rattle.bank_replay.specs.Laws.{ReopeningsAreRuns, ReopenedBooksAreRight}
-use Rattle.bank_replies.specs.Replies.{new_reply, ReadsBack}
-use Rattle.bank_replies.specs.Telling.{IsTellable}
-use Rattle.bank_rules.specs.Next.{ExtendsTo}
-use Rattle.bank_rules.specs.Runs.{Happening, after_all, AreLegal}
-use Rattle.bank_rules.specs.Standing.{IsSoundState}
+use Rattle.reply_laws.specs.Replies.{new_reply, ReadsBack}
+use Rattle.reply_laws.specs.Reportable.{IsReportable}
+use Rattle.bank_invariants.specs.Next.{ExtendsTo}
+use Rattle.bank_invariants.specs.Runs.{Happening, after_all, AreLegal}
+use Rattle.bank_invariants.specs.SoundStates.{IsSoundState}
 use Rattle.client_core.specs.Accepting.{accepted, with_replies}
 use Rattle.client_laws.specs.Answers.{bank_reply}
 use Rattle.client_saved.specs.Bounds.{same_object}
@@ -98,7 +98,7 @@ pub record ReplyLaws : Type 0 where
       → kept_for (raised S at) user file.newer ≡ None
       → answer_to setup S at (File user file) ≡ reply_text (new_reply setup S user at file)
   pub reads_back : (setup : Setup) (S : State) (user : UserId) (at : Moment) (file : RequestFile) → IsWithinLimits setup
-      → IsSoundState setup S → IsTellable setup S → IsMoment at.0 → user.0 < length setup.users → IsSound file
+      → IsSoundState setup S → IsReportable setup S → IsMoment at.0 → user.0 < length setup.users → IsSound file
       → ReadsBack (new_reply setup S user at file)
   pub requests : (file : RequestFile) (at : Moment) → IsSound file → IsSoundSignon file.user file.pass at → SpellsFile (file_text file at) file
   pub one_reply : OneReply
@@ -115,9 +115,9 @@ pub record RecordLaws : Type 0 where
   pub books : ReopenedBooksAreRight
   pub sound : (setup : Setup) (run : List Happening) → IsWithinLimits setup → AreLegal setup opening_state run
       → ExtendsTo setup opening_state (after_all setup opening_state run)
-  pub told_first : (setup : Setup) → IsTellable setup opening_state
-  pub told : (setup : Setup) (S : State) (at : Moment) (event : Event) → IsWithinLimits setup → IsTellable setup S
-      → IsMoment at.0 → IsLegal setup S at event → IsTellable setup (state_after setup S at event)
+  pub reported_first : (setup : Setup) → IsReportable setup opening_state
+  pub reported : (setup : Setup) (S : State) (at : Moment) (event : Event) → IsWithinLimits setup → IsReportable setup S
+      → IsMoment at.0 → IsLegal setup S at event → IsReportable setup (state_after setup S at event)
   pub due : (setup : Setup) (S : State) (at : Moment) (event : Event) → due setup S at ≡ Some event → IsLegal setup S at event
   pub one_client : (text : List ℕ) (state other : ClientState) → IsSavedText text state → IsSavedText text other → state ≡ other
 

@@ -11,7 +11,7 @@ use Rattle.bank_model.specs.Rules.{IsLegal, opening_state, state_after, answer_t
 use Rattle.event_codec.specs.Coding.{coded}
 use Rattle.event_codec.specs.Records.{Reopens}
 
--- An event whose append failed at its moment, and whether its record stands all the same.
+-- An event whose append failed at its moment, and whether its record is stored all the same.
 pub record PendingView : Type 0 where
   pub event : Event
   pub at : Moment
@@ -32,7 +32,7 @@ fresh setup = record { setup = setup; state = opening_state; records = []; pendi
 
 -- ---- events
 
--- An event happens: the bank is in the state that it leaves, its record stands after the others, and nothing is pending.
+-- An event happens: the bank is in the state that it leaves, its record is stored after the others, and nothing is pending.
 abbrev pub happened : ServerView → Moment → Event → ServerView
 happened server at event = record {
   setup = server.setup;
@@ -80,7 +80,7 @@ given_up server = record {
   fault = server.fault;
 }
 
--- What is pending has happened at its moment where its record stands. Otherwise it is given up.
+-- What is pending has happened at its moment where its record is stored. Otherwise it is given up.
 abbrev pub settled_as : ServerView → Option PendingView → ServerView
 settled_as server None = server
 settled_as server (Some pending) = if pending.landed then happened server pending.at pending.event else given_up server

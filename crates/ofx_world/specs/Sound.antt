@@ -10,7 +10,7 @@ use Rattle.ofx_types.specs.declared.request.RequestFile.{RequestFile}
 use Rattle.ofx_types.specs.declared.request.Ask.{Ask}
 use Rattle.ofx_types.specs.declared.request.Ask.TheVariants as asks
 use Rattle.ofx_types.specs.declared.sync.ObjectName.{ObjectName}
-use Rattle.bank_laws.specs.Histories.{IsInOrder, IsLater}
+use Rattle.sync_laws.specs.Histories.{IsInOrder, IsLater}
 use Rattle.bank_model.specs.Once.{reply_kept}
 use Rattle.bank_model.specs.Rules.{IsLegal, opening_state, raised, ask_answers}
 use Rattle.bank_model.specs.SetupForm.{IsWithinLimits}
@@ -21,7 +21,7 @@ use Rattle.bank_model.specs.declared.event.Event.TheVariants as events
 use Rattle.bank_model.specs.declared.event.State.{State}
 use Rattle.bank_model.specs.declared.once.KeptReply.{KeptReply}
 use Rattle.bank_model.specs.declared.setup.Setup.{Setup}
-use Rattle.bank_replies.specs.Telling.{IsTellable}
+use Rattle.reply_laws.specs.Reportable.{IsReportable}
 use Rattle.client_core.specs.Making.{file_name, kind_asked}
 use Rattle.client_laws.specs.Answers.{bank_reply}
 use Rattle.client_saved.specs.Bounds.{same_object, has_store}
@@ -33,7 +33,7 @@ use Rattle.event_codec.specs.Records.{Codes, Reopens}
 use Rattle.ofx_world.specs.Customer.{CustomerView, with_pass}
 use Rattle.ofx_world.specs.Kept.{IsReply, IsRequest, IsUser}
 use Rattle.ofx_world.specs.Server.{PendingView}
-use Rattle.ofx_world.specs.Truths.{IsAtItsPlace, Bears, HasRightStores}
+use Rattle.ofx_world.specs.Truths.{IsAtItsIndex, Bears, HasRightStores}
 use Rattle.ofx_world.specs.World.{WorldView}
 
 -- ---- names of files
@@ -49,9 +49,9 @@ IsNumbered client number name = (number < client.next) × (name ≡ file_name cl
 
 -- One of the clients has given the name.
 pub record IsGiven (customers : List CustomerView) (name : List ℕ) : Type 0 where
-  pub place : ℕ
+  pub index : ℕ
   pub customer : CustomerView
-  pub there : slice_get customers place ≡ Some customer
+  pub there : slice_get customers index ≡ Some customer
   pub number : ℕ
   pub numbered : IsNumbered customer.client number name
 
@@ -74,17 +74,17 @@ pub record IsOf (setup : Setup) (client : ClientState) (file : RequestFile) : Ty
 
 -- A request is the file of one of the clients, and an event of its user.
 pub record IsSentBy (setup : Setup) (customers : List CustomerView) (bytes : List ℕ) : Type 0 where
-  pub place : ℕ
+  pub index : ℕ
   pub customer : CustomerView
-  pub there : slice_get customers place ≡ Some customer
+  pub there : slice_get customers index ≡ Some customer
   pub request : IsRequest setup bytes
   pub is_of : IsOf setup customer.client request.file
 
 -- A user's file is one of a client's who acts for this user.
 pub record IsSentFor (setup : Setup) (customers : List CustomerView) (user : UserId) (file : RequestFile) : Type 0 where
-  pub place : ℕ
+  pub index : ℕ
   pub customer : CustomerView
-  pub there : slice_get customers place ≡ Some customer
+  pub there : slice_get customers index ≡ Some customer
   pub is_of : IsOf setup customer.client file
   pub acts : user_of setup customer.client.user ≡ Some user
 
@@ -92,7 +92,7 @@ pub record IsSentFor (setup : Setup) (customers : List CustomerView) (user : Use
 abbrev pub IsSentEvent : Setup → List CustomerView → Event → Type 0
 IsSentEvent setup customers (events.File user file) = IsSentFor setup customers user file
 IsSentEvent setup customers (events.Post id) = Unit {0}
-IsSentEvent setup customers (events.Spawn model place) = Unit {0}
+IsSentEvent setup customers (events.Spawn model index) = Unit {0}
 IsSentEvent setup customers (events.Letter user subject body) = Unit {0}
 
 -- An event may happen in a state, and its record codes it. Where it is a file, one of the clients has sent it.
@@ -190,12 +190,12 @@ pub record IsSoundWorld (world : WorldView) : Type 0 where
   pub within : IsWithinLimits world.server.setup
   pub clock : IsMoment world.clock.0
   pub reopened : Reopens world.server.setup opening_state world.server.records world.server.state
-  pub tellable : IsTellable world.server.setup world.server.state
+  pub reportable : IsReportable world.server.setup world.server.state
   pub customers : All (IsSoundCustomer world.server.setup) world.customers
   pub names : HaveOwnNames world.customers
   pub requests : All (IsSentBy world.server.setup world.customers) world.requests
   pub pending : MayBePending world.server.setup world.server.state world.customers world.server.pending
-  pub told : All (IsAtItsPlace world.server.setup world.server.records) world.replies
+  pub reported : All (IsAtItsIndex world.server.setup world.server.records) world.replies
   pub named : All (IsKnownReply world.customers) world.replies
   pub recorded : All (IsSoundKept world.customers) world.server.state.kept
   pub kept : All (HasKeptReply world.server.setup world.server.state world.replies) world.customers

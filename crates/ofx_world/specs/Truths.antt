@@ -12,7 +12,7 @@ use Rattle.bank_model.specs.declared.entry.Entry.{Entry}
 use Rattle.bank_model.specs.declared.event.Event.TheVariants.{File}
 use Rattle.bank_model.specs.declared.event.State.{State}
 use Rattle.bank_model.specs.declared.setup.Setup.{Setup}
-use Rattle.bank_rules.specs.Books.{AreBooksRight}
+use Rattle.bank_invariants.specs.Books.{AreBooksRight}
 use Rattle.client_saved.specs.declared.state.Outstanding.{Outstanding}
 use Rattle.event_codec.specs.Records.{Codes, Reopens}
 use Rattle.ofx_world.specs.Customer.{CustomerView}
@@ -23,13 +23,13 @@ use Rattle.ofx_world.specs.World.{WorldView}
 
 -- A reply is the one-thread bank's at its place: among the records stands that of a user's file, and in the state to which those
 -- before it lead, this is what the bank answers to it.
-pub record IsAtItsPlace (setup : Setup) (records : List (List ℕ)) (reply : List ℕ) : Type 0 where
+pub record IsAtItsIndex (setup : Setup) (records : List (List ℕ)) (reply : List ℕ) : Type 0 where
   pub earlier : List (List ℕ)
   pub rec : List ℕ
   pub later : List (List ℕ)
   pub parts : records ≡ earlier ++ rec ∷ later
   pub state : State
-  pub stands : Reopens setup opening_state earlier state
+  pub holds : Reopens setup opening_state earlier state
   pub at : Moment
   pub user : UserId
   pub file : RequestFile
@@ -64,7 +64,7 @@ HasRightStores setup entries customer = (user : UserId) → user_of setup custom
 pub record IsRightWorld (world : WorldView) : Type 0 where
   pub reopened : Reopens world.server.setup opening_state world.server.records world.server.state
   pub books : AreBooksRight world.server.setup world.server.state
-  pub told : All (IsAtItsPlace world.server.setup world.server.records) world.replies
+  pub reported : All (IsAtItsIndex world.server.setup world.server.records) world.replies
   pub alike : All (HasOneReply world.replies) world.customers
   pub users : All (λ (customer : CustomerView). IsUser world.server.setup customer.client.user) world.customers
   pub stores : All (HasRightStores world.server.setup world.server.state.entries) world.customers

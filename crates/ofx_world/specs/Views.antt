@@ -10,7 +10,7 @@ pub record BagView : Type 0 where
   pub files : List (List ℕ)
   pub room : ℕ
 
--- a record whose append failed, and whether it stands
+-- a record whose append failed, and whether it is there
 pub record Unsettled : Type 0 where
   pub rec : List ℕ
   pub landed : Bool
@@ -23,7 +23,7 @@ pub record KeeperView : Type 0 where
   pub fault : Option Bool
   pub faults : ℕ
 
--- An unsettled record that landed stands after the others.
+-- An unsettled record that landed comes after the others.
 abbrev pub landed_record : Option Unsettled → List (List ℕ)
 landed_record None = []
 landed_record (Some unsettled) = if unsettled.landed then unsettled.rec ∷ [] else []
@@ -56,11 +56,11 @@ Fetches (Ok done) = Unit {0}
 Fetches (Err fetches.Failed) = ⊥
 Fetches (Err fetches.OutOfMemory) = Unit {0}
 
--- Settling never fails. It answers whether the record landed, which then stands after the others; what was set stays set.
+-- Settling never fails. It answers whether the record landed, which then comes after the others; what was set stays set.
 abbrev pub SettlesAs : KeeperView → KeeperView → Option Bool → Type 0
 SettlesAs before after None = ⊥
-SettlesAs before after (Some stands) =
-    (stands ≡ is_landed before.unsettled)
+SettlesAs before after (Some holds) =
+    (holds ≡ is_landed before.unsettled)
     × (after ≡ record {
       records = before.records ++ landed_record before.unsettled;
       unsettled = None;

@@ -10,7 +10,7 @@ use Rattle.client_saved.specs.declared.state.ClientState.{ClientState}
 use Rattle.client_saved.specs.declared.state.Outstanding.{Outstanding}
 use Rattle.client_core.specs.declared.wish.Wish.{Wish}
 use Rattle.ofx_world.specs.Customer as of_client
-use Rattle.ofx_world.specs.Customer.{CustomerView, Makes, MakesNone, Takes, Saves, sent}
+use Rattle.ofx_world.specs.Customer.{CustomerView, Makes, MakesNone, Accepts, Saves, sent}
 use Rattle.ofx_world.specs.Server as of_bank
 use Rattle.ofx_world.specs.Server.{ServerView, committed, reply_to, settled, due_done, with_fault, WritesLetter}
 use Rattle.ofx_world.specs.declared.step.Step.{Step}
@@ -135,7 +135,7 @@ abbrev pub DeliverReplyStep : WorldView → ℕ → Option CustomerView → Opti
 DeliverReplyStep before number None bytes after = after ≡ before
 DeliverReplyStep before number (Some customer) None after = after ≡ before
 DeliverReplyStep before number (Some customer) (Some bytes) after =
-    (new : CustomerView) × Takes customer bytes new × (after ≡ with_customer before number new)
+    (new : CustomerView) × Accepts customer bytes new × (after ≡ with_customer before number new)
 
 -- The bank writes a letter.
 abbrev pub LetterStep : WorldView → UserId → List ℕ → List ℕ → WorldView → Type 0

@@ -8,7 +8,7 @@ ghost use Rattle.bank_model.specs.SetupForm.{IsWithinLimits};
 ghost use Rattle.bank_model.specs.SetupLookups.{user_of};
 ghost use Rattle.ofx_file.specs.Printable.{IsPrintableFile};
 ghost use Rattle.ofx_world.specs.Customer as rules;
-ghost use Rattle.ofx_world.specs.Customer.{MayMake, Makes, MakesNone, Saves, Takes, Restarts, with_pass, pass_at};
+ghost use Rattle.ofx_world.specs.Customer.{MayMake, Makes, MakesNone, Saves, Accepts, Restarts, with_pass, pass_at};
 ghost use Rattle.ofx_world.specs.Kept.{IsReply, IsUser};
 
 use crate::fault::want_of_memory;
@@ -24,7 +24,7 @@ use std::alloc::Global;
 use std::marker::Model;
 
 /// The number at which no further file has a name.
-const MOST_NEXT: u64 = 9_999_999_999;
+const MAX_NEXT: u64 = 9_999_999_999;
 
 /// A client, with its saved text.
 #[derive(Drop)]
@@ -86,7 +86,7 @@ impl Customer {
     fn may_make(&self, wish: &Wish) -> bool
         ensures { IsTrue result ↔ MayMake self.now.client wish.now }
     {
-        self.client.outstanding().is_none() && self.client.next() < MOST_NEXT && is_sound_wish(wish)
+        self.client.outstanding().is_none() && self.client.next() < MAX_NEXT && is_sound_wish(wish)
     }
 
     /// The customer who has made the file of a wish and saved that, and the file as it is sent. None where no file is made. It is
@@ -146,8 +146,8 @@ impl Customer {
         bytes: &[u8],
     ) -> Result<Option<Customer>, OutOfMemory>
         requires { IsReply bytes.now }
-        ensures { IfOk result (λ done. MatchOption done (Takes self.now bytes.now self.now)
-            (λ customer. Takes self.now bytes.now customer)) }
+        ensures { IfOk result (λ done. MatchOption done (Accepts self.now bytes.now self.now)
+            (λ customer. Accepts self.now bytes.now customer)) }
     {
         // For the proof alone: what bytes spell may be taken in.
         spelled_replies_are_sound();

@@ -1,10 +1,10 @@
-//! A keeper of records in memory, whose next append can be told to fail.
+//! A keeper of records in memory, whose next append can be reported to fail.
 
 ghost use Rattle.std.specs.Prelude.{◌≡◌, ◌-◌, ◌≤◌, true, false, [], ◌++◌, Some, None, length, slice_get, is_ok, is_some, IfOk, IfSome, OnOk, OnErr, IsErr, IsErrOf};
 ghost use Rattle.std.specs.Option.{option_map};
 ghost use Rattle.ofx_ports.specs.Faults.{CountsFaults};
-ghost use Rattle.ofx_ports.specs.Told.{Stays};
-ghost use Rattle.ofx_ports.specs.Kept.{Appended, TellsLanding, counted, stands_if};
+ghost use Rattle.ofx_ports.specs.Known.{Stays};
+ghost use Rattle.ofx_ports.specs.Kept.{Appended, KnowsLanding, counted, stands_if};
 ghost use Rattle.ofx_world.specs.Views.{Unsettled, landed_record, Tries, SettlesAs, Fetches};
 
 use ofx_ports::{Failed, FetchFault, Keeper, PutFault};
@@ -12,7 +12,7 @@ use ofx_types::Sequence;
 use std::alloc::Global;
 use std::marker::Model;
 
-/// A record whose append failed, and whether it stands.
+/// A record whose append failed, and whether it is there.
 #[derive(Debug, Drop)]
 struct UnsettledRecord {
     rec: Sequence<u8>,
@@ -135,9 +135,9 @@ impl Keeper for FaultyKeeper {
 
     fn settle(&mut self) -> Result<bool, Failed>
         ensures list { Stays (Some (self.old.records ++ landed_record self.old.unsettled)) (Some (self.new.records ++ landed_record self.new.unsettled)) }
-        ensures answer { IfOk result (TellsLanding (is_some self.old.unsettled) (option_map (λ (unsettled : Unsettled). unsettled.landed) self.old.unsettled)) }
+        ensures answer { IfOk result (KnowsLanding (is_some self.old.unsettled) (option_map (λ (unsettled : Unsettled). unsettled.landed) self.old.unsettled)) }
         ensures settled { OnOk result (is_some self.new.unsettled ≡ false) }
-        ensures size { IfOk result (λ stands. length self.new.records ≡ counted (length self.old.records) stands) }
+        ensures size { IfOk result (λ holds. length self.new.records ≡ counted (length self.old.records) holds) }
         ensures open { OnErr result (is_some self.new.unsettled ≡ is_some self.old.unsettled) }
         ensures kept { OnErr result ((option_map (λ (unsettled : Unsettled). unsettled.landed) self.new.unsettled ≡ option_map (λ (unsettled : Unsettled). unsettled.landed) self.old.unsettled)
             × (length self.new.records ≡ length self.old.records)) }

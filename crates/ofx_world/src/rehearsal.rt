@@ -12,7 +12,7 @@ ghost use Rattle.ofx_world.specs.Rehearsal.{IsRehearsed};
 use crate::rehearsal::bank::rehearsed_world;
 use crate::rehearsal::chance::Chance;
 use crate::rehearsal::summary::summary_of;
-use crate::rehearsal::turn::take_turn;
+use crate::rehearsal::turn::run_turn;
 use ofx_types::OutOfMemory;
 use std::alloc::Global;
 use std::hash::RandomState;
@@ -30,7 +30,7 @@ pub fn rehearse(alloc: Global, keys: RandomState, seed: u64) -> Result<Summary, 
     let mut world = rehearsed_world(alloc, keys)?;
     let mut chance = Chance::new(seed);
     for turn in 0..TURNS {
-        take_turn(alloc, &mut world, &mut chance, turn)?;
+        run_turn(alloc, &mut world, &mut chance, turn)?;
     }
     summary_of(alloc, world)
 }

@@ -21,7 +21,7 @@ pub enum Step {
     Due,
     /// The bank writes this user a letter of this subject and this body.
     Letter(UserId, Text, Text),
-    /// The next append of a record fails: its record stands nonetheless, or doesn't.
+    /// The next append of a record fails: its record is stored nonetheless, or doesn't.
     Fault(bool),
     /// The server starts anew from its records.
     RestartServer,

@@ -73,11 +73,11 @@ impl World {
         ensures truth { IsRightWorld self.new }
     {
         let mut left = steps;
-        while let [step, behind @ ..] = left {
+        while let [step, rest @ ..] = left {
             let taken = self.take(step);
             self.known();
             taken?;
-            left = behind;
+            left = rest;
         }
         self.known();
         Ok(())

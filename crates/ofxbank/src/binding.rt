@@ -27,22 +27,26 @@ pub enum Unbound {
 
 /// Binds the records that the third word names to the setup: new ones, and ones that are bound to none and open under it. Under
 /// a setup that has no form nothing is opened or made.
-pub fn bind_records(rt: &HostRuntime, words: &[Text], setup: &SetupFile) -> Result<(), Unbound> {
+pub fn bind_records(
+    rt: &HostRuntime,
+    arguments: &[Text],
+    setup: &SetupFile,
+) -> Result<(), Unbound> {
     if let Err(stop) = setup.setup(rt.alloc()) {
         return Err(Unbound::Setup(stop));
     }
-    match bind_to(rt, words, setup) {
+    match bind_to(rt, arguments, setup) {
         Ok(()) => Ok(()),
         Err(cause) => Err(Unbound::Records(cause)),
     }
 }
 
 /// Binds the records to a setup that has its form.
-fn bind_to(rt: &HostRuntime, words: &[Text], setup: &SetupFile) -> Result<(), Cause> {
+fn bind_to(rt: &HostRuntime, arguments: &[Text], setup: &SetupFile) -> Result<(), Cause> {
     let Ok(lines) = setup.lines(rt.alloc()) else {
         return Err(Cause::NoMemory);
     };
-    match named(words, RECORDS) {
+    match named(arguments, RECORDS) {
         None | Some("-") => Ok(()),
         Some(path) => match path.strip_prefix(ON_DISK) {
             Some(file) => bind_on_disk(rt, file, setup, lines.as_str()),

@@ -3,13 +3,13 @@
 ghost use Rattle.std.specs.Prelude.{◌≡◌, false};
 
 use crate::keepers::ON_DISK;
+use crate::messages::{plain, report};
 use crate::paths::{RECORDS, SETUP, named};
 use crate::setup_file::SetupFile;
-use crate::told::{plain, tell};
 use crate::totals::{Totals, amount_text, day_text, totals_of};
-use crate::why::{tell_open_files, tell_why};
+use crate::why::{report_open_files, report_why};
 use bank_model::Setup;
-use bank_session::end_told;
+use bank_session::report_of_end;
 use command_help::text_at;
 use ofx_ports::Keeper;
 use ofx_types::{Text, Told};
@@ -19,40 +19,40 @@ use record_files::{
 use std::hash::RandomState;
 use std::io;
 
-/// The end of a check: what is told of it, and why the records can't be opened.
+/// The end of a check: what is reported of it, and why the records can't be opened.
 type End = (Told, Option<Cause>);
 
-/// Checks the setup and the records that the words name, and answers the status.
-pub fn checked(rt: &HostRuntime, words: &[Text]) -> u8 {
-    let Ok(setup) = SetupFile::read(rt, words) else {
-        return tell(rt, plain(7));
+/// Checks the setup and the records that the arguments name, and answers the status.
+pub fn checked(rt: &HostRuntime, arguments: &[Text]) -> u8 {
+    let Ok(setup) = SetupFile::read(rt, arguments) else {
+        return report(rt, plain(7));
     };
-    let (end, cause) = checked_setup(rt, words, &setup);
-    let status = tell(rt, end);
-    tell_why(rt, end, words, &setup, cause);
-    tell_open_files(rt, words, status == 0);
+    let (end, cause) = checked_setup(rt, arguments, &setup);
+    let status = report(rt, end);
+    report_why(rt, end, arguments, &setup, cause);
+    report_open_files(rt, arguments, status == 0);
     status
 }
 
 /// Checks the setup, and then the records, where there are any.
-fn checked_setup(rt: &HostRuntime, words: &[Text], file: &SetupFile) -> End {
+fn checked_setup(rt: &HostRuntime, arguments: &[Text], file: &SetupFile) -> End {
     let setup = match file.setup(rt.alloc()) {
         Ok(setup) => setup,
-        Err(stop) => return (end_told(Err(stop)), None),
+        Err(stop) => return (report_of_end(Err(stop)), None),
     };
-    if tell_of_setup(rt, text_at(words, SETUP), &setup).is_err() {
+    if report_of_setup(rt, text_at(arguments, SETUP), &setup).is_err() {
         return (plain(6), None);
     }
     drop(setup);
-    match named(words, RECORDS) {
+    match named(arguments, RECORDS) {
         None => (plain(0), None),
         Some("-") => ended(rt.println("records -: a run keeps none")),
-        Some(path) => checked_at(rt, words, path, file),
+        Some(path) => checked_at(rt, arguments, path, file),
     }
 }
 
 /// Prints what was found in the setup.
-fn tell_of_setup(rt: &HostRuntime, path: &str, setup: &Setup) -> io::Result<()> {
+fn report_of_setup(rt: &HostRuntime, path: &str, setup: &Setup) -> io::Result<()> {
     let users = setup.users.items().len();
     let accounts = setup.accounts.items().len();
     let objects = accounts.saturating_mul(3).saturating_add(users);
@@ -68,41 +68,41 @@ fn ended(printed: io::Result<()>) -> End {
 }
 
 /// Checks the records at a path.
-fn checked_at(rt: &HostRuntime, words: &[Text], path: &str, file: &SetupFile) -> End {
-    let place = path.strip_prefix(ON_DISK).unwrap_or(path);
-    if !is_there(rt, place) {
-        return match cause_at(rt, place) {
+fn checked_at(rt: &HostRuntime, arguments: &[Text], path: &str, file: &SetupFile) -> End {
+    let offset = path.strip_prefix(ON_DISK).unwrap_or(path);
+    if !is_there(rt, offset) {
+        return match cause_at(rt, offset) {
             Some(cause) => (plain(8), Some(cause)),
-            None => ended(tell_none(rt, path)),
+            None => ended(report_none(rt, path)),
         };
     }
     let found = match path.strip_prefix(ON_DISK) {
-        Some(place) => checked_on_disk(rt, place, file),
-        None => checked_in_sqlite(rt, place, file),
+        Some(offset) => checked_on_disk(rt, offset, file),
+        None => checked_in_sqlite(rt, offset, file),
     };
     match found {
-        Ok((totals, binding)) => told_of(rt, path, totals, binding),
+        Ok((totals, binding)) => reported_of(rt, path, totals, binding),
         Err(end) => end,
     }
 }
 
-fn tell_none(rt: &HostRuntime, path: &str) -> io::Result<()> {
+fn report_none(rt: &HostRuntime, path: &str) -> io::Result<()> {
     println!(rt; "records {path}: there is no such file; a run makes it")
 }
 
-/// Tells what was found in records that open.
-fn told_of(rt: &HostRuntime, path: &str, totals: Totals, binding: Binding) -> End {
+/// Says what was found in records that open.
+fn reported_of(rt: &HostRuntime, path: &str, totals: Totals, binding: Binding) -> End {
     let (Ok(day), Ok(sum)) = (
         day_text(rt.alloc(), totals.last),
         amount_text(rt.alloc(), totals.sum),
     ) else {
         return (plain(7), None);
     };
-    ended(tell_totals(rt, path, totals, (day.as_str(), sum.as_str()), binding))
+    ended(report_totals(rt, path, totals, (day.as_str(), sum.as_str()), binding))
 }
 
 /// Prints what was found in records, with the business day and the sum of balances.
-fn tell_totals(
+fn report_totals(
     rt: &HostRuntime,
     path: &str,
     totals: Totals,
@@ -195,6 +195,6 @@ fn counted<K: Keeper>(rt: &HostRuntime, keeper: &mut K, file: &SetupFile) -> Res
     };
     match totals_of(rt.alloc(), keys, keeper, file) {
         Ok(totals) => Ok(totals),
-        Err(told) => Err((told, None)),
+        Err(reported) => Err((reported, None)),
     }
 }

@@ -4,7 +4,7 @@ ghost use Rattle.std.specs.Prelude.{◌≡◌, false, None};
 
 use ofx_ports::{Failed, FetchFault, Keeper, PutFault};
 
-/// The front of a word that names a file of records on a disk.
+/// The prefix of a word that names a file of records on a disk.
 pub const ON_DISK: &str = "disk:";
 
 /// A keeper of records that couldn't be opened: it has one record and refuses every call, so that whoever goes over the

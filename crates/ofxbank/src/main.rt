@@ -6,32 +6,32 @@ mod binding;
 mod check;
 mod command_line;
 mod keepers;
+mod messages;
 mod paths;
 mod run;
 mod serve;
 mod setup_file;
-mod told;
 mod totals;
 mod usage;
 mod why;
 
 use crate::check::checked;
-use crate::command_line::{Request, read_words};
+use crate::command_line::{Request, read_arguments};
+use crate::messages::{plain, report};
 use crate::run::run;
-use crate::told::{plain, tell};
-use crate::usage::{helped, tell_mistake, tell_usage, versioned};
+use crate::usage::{helped, report_mistake, report_usage, versioned};
 use command_help::Topic;
 use std::process::ExitCode;
 
 fn main(rt: HostRuntime) -> ExitCode {
-    let status = match read_words(&rt) {
-        Request::Help(topic) => tell(&rt, helped(&rt, topic)),
-        Request::Version => tell(&rt, versioned(&rt)),
-        Request::Check(words) => checked(&rt, &words),
-        Request::Run(words) => run(&rt, &rt, &words),
-        Request::Usage(words) => tell_usage(&rt, &words),
-        Request::Unread(mistake) => tell_mistake(&rt, Topic::Program, mistake),
-        Request::NoMemory => tell(&rt, plain(7)),
+    let status = match read_arguments(&rt) {
+        Request::Help(topic) => report(&rt, helped(&rt, topic)),
+        Request::Version => report(&rt, versioned(&rt)),
+        Request::Check(arguments) => checked(&rt, &arguments),
+        Request::Run(arguments) => run(&rt, &rt, &arguments),
+        Request::Usage(arguments) => report_usage(&rt, &arguments),
+        Request::Unread(mistake) => report_mistake(&rt, Topic::Program, mistake),
+        Request::NoMemory => report(&rt, plain(7)),
     };
     ExitCode::from(status)
 }

@@ -1,4 +1,4 @@
-//! The files that the words of a command name.
+//! The files that the arguments of a command name.
 
 use ofx_types::Text;
 use std::{fs, io};
@@ -10,14 +10,14 @@ pub const SETUP: usize = 1;
 pub const RECORDS: usize = 2;
 
 /// The file that the second word names. An error where there is none; `-` names none.
-pub fn setup_file(rt: &HostRuntime, words: &[Text]) -> io::Result<fs::File> {
-    match named(words, SETUP) {
+pub fn setup_file(rt: &HostRuntime, arguments: &[Text]) -> io::Result<fs::File> {
+    match named(arguments, SETUP) {
         None | Some("-") => Err(io::Error::from(io::ErrorKind::NotFound)),
         Some(path) => fs::open(rt, path),
     }
 }
 
 /// The word at a place, from 0. None where there is none.
-pub fn named(words: &[Text], place: usize) -> Option<&str> {
-    str::from_utf8(words.get(place)?.as_bytes()).ok()
+pub fn named(arguments: &[Text], offset: usize) -> Option<&str> {
+    str::from_utf8(arguments.get(offset)?.as_bytes()).ok()
 }

@@ -3,17 +3,17 @@
 ghost use Rattle.std.specs.Prelude.{◌≡◌, false};
 
 use crate::keepers::{ON_DISK, Unopened};
+use crate::messages::{plain, report_listening, report_served};
 use crate::paths::{RECORDS, SETUP, named};
 use crate::setup_file::SetupFile;
-use crate::told::{plain, tell_listening, tell_served};
-use crate::why::tell_open_files;
+use crate::why::report_open_files;
 use bank_server::{AllEnd, Plan, serve_all, serve_open};
 use bank_shared::{BankName, Opened};
 use ofx_file::OfxPrinter;
 use ofx_ports::{Keeper, LINK_SECONDS, MemKeeper, OpenGate, SystemClock, TcpDoor, listen};
 use ofx_types::{OutOfMemory, Text, Told};
 use record_files::on_disk;
-use serve_log::{Journal, Level, LoggedDoor, LoggedKeeper};
+use serve_log::{AccessLog, Level, LoggedDoor, LoggedKeeper};
 use sqlite_keeper::SqliteKeeper;
 use std::hash::RandomState;
 use std::marker::Brand;
@@ -34,14 +34,14 @@ type Worker = (Door, SystemClock<HostRuntime>);
 pub fn served<R: Threads + Wait + Sync>(
     threads: &R,
     rt: &HostRuntime,
-    words: &[Text],
+    arguments: &[Text],
     setup: &SetupFile,
 ) -> Told {
-    match named(words, RECORDS) {
-        Some("-") => served_over(threads, rt, words, setup, MemKeeper::new(rt.alloc())),
+    match named(arguments, RECORDS) {
+        Some("-") => served_over(threads, rt, arguments, setup, MemKeeper::new(rt.alloc())),
         Some(path) => match path.strip_prefix(ON_DISK) {
-            Some(file) => served_on_disk(threads, rt, words, setup, file),
-            None => served_over(threads, rt, words, setup, SqliteKeeper::open(rt, path)),
+            Some(file) => served_on_disk(threads, rt, arguments, setup, file),
+            None => served_over(threads, rt, arguments, setup, SqliteKeeper::open(rt, path)),
         },
         None => plain(2),
     }
@@ -51,13 +51,13 @@ pub fn served<R: Threads + Wait + Sync>(
 fn served_on_disk<R: Threads + Wait + Sync>(
     threads: &R,
     rt: &HostRuntime,
-    words: &[Text],
+    arguments: &[Text],
     setup: &SetupFile,
     path: &str,
 ) -> Told {
     match on_disk(rt, path) {
-        Ok(keeper) => served_over(threads, rt, words, setup, keeper),
-        Err(_) => served_over(threads, rt, words, setup, Unopened::new()),
+        Ok(keeper) => served_over(threads, rt, arguments, setup, keeper),
+        Err(_) => served_over(threads, rt, arguments, setup, Unopened::new()),
     }
 }
 
@@ -65,7 +65,7 @@ fn served_on_disk<R: Threads + Wait + Sync>(
 fn served_over<R: Threads + Wait + Sync, K: Keeper + Send>(
     threads: &R,
     rt: &HostRuntime,
-    words: &[Text],
+    arguments: &[Text],
     setup: &SetupFile,
     keeper: K,
 ) -> Told
@@ -78,9 +78,9 @@ fn served_over<R: Threads + Wait + Sync, K: Keeper + Send>(
         return plain(7);
     };
     let count = keeper.len();
-    let journal = Journal::new(*rt, log_level(rt));
+    let journal = AccessLog::new(*rt, log_level(rt));
     let logged = LoggedKeeper::over(keeper, journal);
-    match serve_open(rt.alloc(), keys, words, &mut setup, logged, OfxPrinter) {
+    match serve_open(rt.alloc(), keys, arguments, &mut setup, logged, OfxPrinter) {
         Ok((plan, opened)) => {
             let Ok(room) = Vec::with_capacity(rt.alloc(), plan.workers as usize) else {
                 return plain(7);
@@ -88,27 +88,27 @@ fn served_over<R: Threads + Wait + Sync, K: Keeper + Send>(
             let Ok(workers) = workers_at(rt, journal, plan, room) else {
                 return plain(5);
             };
-            tell_listening(
+            report_listening(
                 rt,
                 plan.port,
-                named(words, SETUP),
-                named(words, RECORDS),
+                named(arguments, SETUP),
+                named(arguments, RECORDS),
                 count,
             );
-            tell_open_files(rt, words, false);
+            report_open_files(rt, arguments, false);
             all_served::<Brand, _, _>(threads, rt, opened, workers, plan.most)
         }
-        Err((told, _keeper)) => told,
+        Err((reported, _keeper)) => reported,
     }
 }
 
-/// The name of the environment's word that says how much is told.
+/// The name of the environment's word that says how much is reported.
 const LOG_WORD: &str = "OFXBANK_LOG";
 
-/// How much is told: what the environment says, and each exchange where it says nothing, or another word.
+/// How much is reported: what the environment says, and each exchange where it says nothing, or another word.
 fn log_level(rt: &HostRuntime) -> Level {
     match env::var(rt, LOG_WORD) {
-        Ok(word) => Level::named(word.as_str()).unwrap_or(Level::Info),
+        Ok(argument) => Level::named(argument.as_str()).unwrap_or(Level::Info),
         Err(_) => Level::Info,
     }
 }
@@ -117,16 +117,16 @@ fn log_level(rt: &HostRuntime) -> Level {
 /// bound.
 fn workers_at(
     rt: &HostRuntime,
-    journal: Journal<HostRuntime>,
+    journal: AccessLog<HostRuntime>,
     plan: Plan,
     room: Vec<Worker>,
 ) -> io::Result<Vec<Worker>> {
     let listener = listen(rt, plan.port)?;
     let limit = Duration::from_secs(LINK_SECONDS);
     let mut workers = room;
-    for place in 0..plan.workers {
+    for offset in 0..plan.workers {
         let door = TcpDoor::at(*rt, listener.try_clone()?, limit);
-        let logged = LoggedDoor::over(door, rt.alloc(), journal, place + 1);
+        let logged = LoggedDoor::over(door, rt.alloc(), journal, offset + 1);
         workers.push((logged, SystemClock::new(*rt)))?;
     }
     Ok(workers)
@@ -153,7 +153,7 @@ fn all_served<N: BankName + Send + Sync, R: Threads + Wait + Sync, K: Keeper + S
         most,
     ) {
         Ok(all) => {
-            tell_served(rt, served_in(&all));
+            report_served(rt, served_in(&all));
             plain(all.status.0)
         }
         Err(OutOfMemory) => plain(7),

@@ -22,9 +22,9 @@ pub struct SetupFile {
 
 impl SetupFile {
     /// Reads the file that the second word names.
-    pub fn read(rt: &HostRuntime, words: &[Text]) -> Result<SetupFile, OutOfMemory> {
+    pub fn read(rt: &HostRuntime, arguments: &[Text]) -> Result<SetupFile, OutOfMemory> {
         let mut ahead = Ahead::new(rt.alloc())?;
-        let cause = match setup_file(rt, words) {
+        let cause = match setup_file(rt, arguments) {
             Ok(file) => read_into(file, &mut ahead),
             Err(error) => Some(cause_of(error)),
         };

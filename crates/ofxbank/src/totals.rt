@@ -6,7 +6,7 @@ use crate::setup_file::SetupFile;
 use bank_accounts::Account;
 use bank_core::Book;
 use bank_replay::reopen;
-use bank_session::{Stop, end_told, opening_stop};
+use bank_session::{Stop, opening_stop, report_of_end};
 use ofx_file::OfxPrinter;
 use ofx_ports::{FetchFault, Keeper};
 use ofx_types::{Cents, Moment, OutOfMemory, Told};
@@ -43,7 +43,7 @@ pub fn totals_of<K: Keeper>(
 {
     match last_moment(alloc, keeper) {
         Ok(last) => opened(alloc, keys, keeper, file, last),
-        Err(stop) => Err(end_told(Err(stop))),
+        Err(stop) => Err(report_of_end(Err(stop))),
     }
 }
 
@@ -66,9 +66,9 @@ fn opened<K: Keeper>(
                 last,
                 sum: sum_of(&accounts),
             }),
-            Err(fault) => Err(end_told(Err(opening_stop(fault)))),
+            Err(fault) => Err(report_of_end(Err(opening_stop(fault)))),
         },
-        Err(stop) => Err(end_told(Err(stop))),
+        Err(stop) => Err(report_of_end(Err(stop))),
     }
 }
 

@@ -1,6 +1,6 @@
-//! Help, the version, and what is told of words that have no form.
+//! Help, the version, and what is reported of arguments that have no form.
 
-use crate::told::{plain, tell};
+use crate::messages::{plain, report};
 use command_help::{Mistake, Topic, VERSION, mistake_in};
 use ofx_types::{Text, Told};
 use std::io;
@@ -27,20 +27,20 @@ pub fn versioned(rt: &HostRuntime) -> Told {
     }
 }
 
-/// Tells on the error stream what is wrong with words that have no form, and answers the status.
-pub fn tell_usage(rt: &HostRuntime, words: &[Text]) -> u8 {
-    let (topic, mistake) = mistake_in(words);
-    tell_mistake(rt, topic, mistake)
+/// Prints on the error stream what is wrong with arguments that have no form, and answers the status.
+pub fn report_usage(rt: &HostRuntime, arguments: &[Text]) -> u8 {
+    let (topic, mistake) = mistake_in(arguments);
+    report_mistake(rt, topic, mistake)
 }
 
-/// Tells on the error stream what is wrong with the words of a command, its form, and how to ask for help. Answers the status.
-pub fn tell_mistake(rt: &HostRuntime, topic: Topic, mistake: Mistake<'_>) -> u8 {
-    let status = tell(rt, plain(2));
-    let _ = tell_form(rt, topic, mistake);
+/// Prints on the error stream what is wrong with the arguments of a command, its form, and how to ask for help. Answers the status.
+pub fn report_mistake(rt: &HostRuntime, topic: Topic, mistake: Mistake<'_>) -> u8 {
+    let status = report(rt, plain(2));
+    let _ = report_form(rt, topic, mistake);
     status
 }
 
-fn tell_form(rt: &HostRuntime, topic: Topic, mistake: Mistake<'_>) -> io::Result<()> {
+fn report_form(rt: &HostRuntime, topic: Topic, mistake: Mistake<'_>) -> io::Result<()> {
     let form = topic.forms();
     let way = topic.way();
     eprintln!(rt; "{mistake}\n\nUsage: {form}\n\nFor more, try '{way}'.")

@@ -10,38 +10,43 @@ use record_files::{
 };
 use std::io;
 
-/// Tells on the error stream where and why a run ended that has told its first line. `unopened` is why its records weren't opened,
+/// Prints on the error stream where and why a run ended that has told its first line. `unopened` is why its records weren't opened,
 /// where they weren't.
-pub fn tell_why(
+pub fn report_why(
     rt: &HostRuntime,
     end: Told,
-    words: &[Text],
+    arguments: &[Text],
     setup: &SetupFile,
     unopened: Option<Cause>,
 ) {
     let _ = match end.status.0 {
-        3 | 10 => tell_setup(rt, end.note, words, setup),
-        4 => tell_input(rt, words),
-        5 => tell_read(rt, words, setup),
+        3 | 10 => report_setup(rt, end.note, arguments, setup),
+        4 => report_input(rt, arguments),
+        5 => report_read(rt, arguments, setup),
         6 => rt.eprintln(
             "standard output: it can't be written; the disk is full, or its reader is gone",
         ),
-        8 => tell_records(rt, words, unopened),
-        9 => tell_record(rt, end.note, words),
+        8 => report_records(rt, arguments, unopened),
+        9 => report_record(rt, end.note, arguments),
         _ => Ok(()),
     };
 }
 
-/// Tells what is wrong with the setup, or missing in it.
-fn tell_setup(rt: &HostRuntime, note: Note, words: &[Text], setup: &SetupFile) -> io::Result<()> {
-    let path = text_at(words, SETUP);
+/// Says what is wrong with the setup, or missing in it.
+fn report_setup(
+    rt: &HostRuntime,
+    note: Note,
+    arguments: &[Text],
+    setup: &SetupFile,
+) -> io::Result<()> {
+    let path = text_at(arguments, SETUP);
     match note {
         Note::Place(line) => {
             let wanted = wanted_in(setup.bytes(), line);
             eprintln!(rt; "{path}: line {line}: {wanted}")
         }
         Note::NoUser => {
-            let user = text_at(words, 3);
+            let user = text_at(arguments, 3);
             eprintln!(rt; "{path}: no line USER has the name '{user}'")
         }
         Note::Full => eprintln!(rt; "{path}: all numbers that its line ENTRIES allows are given"),
@@ -49,9 +54,9 @@ fn tell_setup(rt: &HostRuntime, note: Note, words: &[Text], setup: &SetupFile) -
     }
 }
 
-/// Tells what the standard input wants.
-fn tell_input(rt: &HostRuntime, words: &[Text]) -> io::Result<()> {
-    match text_at(words, 0) {
+/// Says what the standard input wants.
+fn report_input(rt: &HostRuntime, arguments: &[Text]) -> io::Result<()> {
+    match text_at(arguments, 0) {
         "mail" => rt.eprintln(
             "standard input: a letter has 1 to 10000 bytes, and of those below a blank only tab, CR and LF",
         ),
@@ -61,17 +66,17 @@ fn tell_input(rt: &HostRuntime, words: &[Text]) -> io::Result<()> {
     }
 }
 
-/// Tells what couldn't be read.
-fn tell_read(rt: &HostRuntime, words: &[Text], setup: &SetupFile) -> io::Result<()> {
-    let path = text_at(words, SETUP);
+/// Says what couldn't be read.
+fn report_read(rt: &HostRuntime, arguments: &[Text], setup: &SetupFile) -> io::Result<()> {
+    let path = text_at(arguments, SETUP);
     match setup.cause() {
         Some(Cause::NoRights) => return eprintln!(rt; "{path}: no rights to read it"),
         Some(cause) => return eprintln!(rt; "{path}: {cause}"),
         None => {}
     }
-    match text_at(words, 0) {
+    match text_at(arguments, 0) {
         "serve" => {
-            let port = text_at(words, 3);
+            let port = text_at(arguments, 3);
             eprintln!(rt;
                 "port {port}: no more connections can be taken; another program may have it, rights may be missing, or too many files are open"
             )
@@ -81,15 +86,15 @@ fn tell_read(rt: &HostRuntime, words: &[Text], setup: &SetupFile) -> io::Result<
 }
 
 /// Tells why the records failed.
-fn tell_records(rt: &HostRuntime, words: &[Text], unopened: Option<Cause>) -> io::Result<()> {
+fn report_records(rt: &HostRuntime, arguments: &[Text], unopened: Option<Cause>) -> io::Result<()> {
     match unopened {
-        Some(cause) => tell_cause(rt, words, Some(cause)),
-        None => tell_cause(rt, words, stopped_cause(rt, words)),
+        Some(cause) => report_cause(rt, arguments, Some(cause)),
+        None => report_cause(rt, arguments, stopped_cause(rt, arguments)),
     }
 }
 
-fn tell_cause(rt: &HostRuntime, words: &[Text], cause: Option<Cause>) -> io::Result<()> {
-    let path = text_at(words, RECORDS);
+fn report_cause(rt: &HostRuntime, arguments: &[Text], cause: Option<Cause>) -> io::Result<()> {
+    let path = text_at(arguments, RECORDS);
     match cause {
         Some(cause) => eprintln!(rt; "{path}: {cause}"),
         None => eprintln!(rt;
@@ -99,8 +104,8 @@ fn tell_cause(rt: &HostRuntime, words: &[Text], cause: Option<Cause>) -> io::Res
 }
 
 /// Why records failed that were opened, by a look at them now.
-fn stopped_cause(rt: &HostRuntime, words: &[Text]) -> Option<Cause> {
-    let path = named(words, RECORDS)?;
+fn stopped_cause(rt: &HostRuntime, arguments: &[Text]) -> Option<Cause> {
+    let path = named(arguments, RECORDS)?;
     match path.strip_prefix(ON_DISK) {
         Some(file) => match open_on_disk(rt, file) {
             Ok(_) => why_stopped_on_disk(rt, file),
@@ -110,9 +115,9 @@ fn stopped_cause(rt: &HostRuntime, words: &[Text]) -> Option<Cause> {
     }
 }
 
-/// Tells what is wrong with a record.
-fn tell_record(rt: &HostRuntime, note: Note, words: &[Text]) -> io::Result<()> {
-    let path = text_at(words, RECORDS);
+/// Says what is wrong with a record.
+fn report_record(rt: &HostRuntime, note: Note, arguments: &[Text]) -> io::Result<()> {
+    let path = text_at(arguments, RECORDS);
     match note {
         Note::Record(number, at) => {
             eprintln!(rt;
@@ -129,10 +134,10 @@ fn tell_record(rt: &HostRuntime, note: Note, words: &[Text]) -> io::Result<()> {
 }
 
 /// Says on the error stream where the setup or the records can be read by others. After a run that told nothing an empty line
-/// stands in front, since the first line is that of a run that failed.
-pub fn tell_open_files(rt: &HostRuntime, words: &[Text], is_first: bool) {
-    let setup = named(words, SETUP).unwrap_or("");
-    let records = named(words, RECORDS).unwrap_or("");
+/// comes first, since the first line is that of a run that failed.
+pub fn report_open_files(rt: &HostRuntime, arguments: &[Text], is_first: bool) {
+    let setup = named(arguments, SETUP).unwrap_or("");
+    let records = named(arguments, RECORDS).unwrap_or("");
     let file = records.strip_prefix(ON_DISK).unwrap_or(records);
     let is_setup_open = is_open_to_others(rt, setup);
     let are_records_open = records != "-" && is_open_to_others(rt, file);
@@ -140,18 +145,18 @@ pub fn tell_open_files(rt: &HostRuntime, words: &[Text], is_first: bool) {
         let _ = rt.eprintln("");
     }
     if is_setup_open {
-        let _ = tell_open_setup(rt, setup);
+        let _ = report_open_setup(rt, setup);
     }
     if are_records_open {
-        let _ = tell_open_records(rt, file);
+        let _ = report_open_records(rt, file);
     }
 }
 
-fn tell_open_setup(rt: &HostRuntime, path: &str) -> io::Result<()> {
+fn report_open_setup(rt: &HostRuntime, path: &str) -> io::Result<()> {
     eprintln!(rt; "warning: {path}: others can read it, and it has the passwords; chmod 600 {path}")
 }
 
-fn tell_open_records(rt: &HostRuntime, path: &str) -> io::Result<()> {
+fn report_open_records(rt: &HostRuntime, path: &str) -> io::Result<()> {
     eprintln!(rt;
         "warning: {path}: others can read it, and it has all that the bank knows; chmod 600 {path}"
     )

@@ -1,4 +1,4 @@
-//! The words of the command line.
+//! The arguments of the command line.
 
 use ofx_types::{Text, TextFault};
 use std::alloc::Global;
@@ -6,16 +6,16 @@ use std::rt::Env;
 use std::{env, io};
 
 /// The most bytes of a word.
-const MOST_WORD: u32 = 10_000;
+const MAX_WORD: u32 = 10_000;
 
-/// What the words ask.
+/// What the arguments ask.
 #[derive(Drop)]
 pub enum Request {
     /// `--help`
     Help,
     /// `--version`
     Version,
-    /// A command, by the words after the program's name.
+    /// A command, by the arguments after the program's name.
     Run(Vec<Text>),
     /// A word is no text.
     Usage,
@@ -23,23 +23,23 @@ pub enum Request {
     NoMemory,
 }
 
-/// What the program is asked, by the words after its name. A word that isn't UTF-8 is no text.
-pub fn read_words<R: Env + AllocGlobal>(rt: &R) -> Request {
-    let arguments = match env::args(rt) {
-        Ok(arguments) => arguments,
+/// What the program is asked, by the arguments after its name. A word that isn't UTF-8 is no text.
+pub fn read_arguments<R: Env + AllocGlobal>(rt: &R) -> Request {
+    let raw_arguments = match env::args(rt) {
+        Ok(raw_arguments) => raw_arguments,
         Err(error) => return refused(&error),
     };
-    let mut words = Vec::new(rt.alloc());
-    for argument in arguments.skip(1) {
-        if words.is_empty() && argument.as_str() == "--help" {
+    let mut arguments = Vec::new(rt.alloc());
+    for raw_argument in raw_arguments.skip(1) {
+        if arguments.is_empty() && raw_argument.as_str() == "--help" {
             return Request::Help;
         }
-        if words.is_empty() && argument.as_str() == "--version" {
+        if arguments.is_empty() && raw_argument.as_str() == "--version" {
             return Request::Version;
         }
-        match Text::new(rt.alloc(), argument.as_bytes(), MOST_WORD) {
-            Ok(word) => {
-                if words.push(word).is_err() {
+        match Text::new(rt.alloc(), raw_argument.as_bytes(), MAX_WORD) {
+            Ok(argument) => {
+                if arguments.push(argument).is_err() {
                     return Request::NoMemory;
                 }
             }
@@ -47,7 +47,7 @@ pub fn read_words<R: Env + AllocGlobal>(rt: &R) -> Request {
             Err(_) => return Request::Usage,
         }
     }
-    Request::Run(words)
+    Request::Run(arguments)
 }
 
 /// What arguments that couldn't be had come to.

@@ -28,7 +28,7 @@ const PARTIES: [(&str, &str); 6] = [
     ("BANK", "the bank's id (BANKID)"),
 ];
 
-/// Each command: its word, and the words after it and what it does.
+/// Each command: its word, and the arguments after it and what it does.
 const COMMANDS: [(&str, &str); 9] = [
     (
         "sync",
@@ -59,8 +59,8 @@ const COMMANDS: [(&str, &str); 9] = [
     ("show", "what the store has; the bank isn't asked"),
 ];
 
-/// What stands after all else.
-const BEHIND: &str = "\
+/// What follows all else.
+const AFTER: &str = "\
 Words:
   NUMBER   an account's number (ACCTID)
   KIND     CHECKING, SAVINGS, MONEYMRKT or CREDITLINE
@@ -81,7 +81,7 @@ pub fn help_text(alloc: Global) -> Result<String, AllocError> {
     let mut command = Command::new(alloc, "ofxclient")
         .version(VERSION)
         .about(ABOUT)
-        .after_help(BEHIND)
+        .after_help(AFTER)
         .disable_help_subcommand(true)
         .subcommand_required(true)
         .subcommand_value_name("COMMAND");

@@ -1,4 +1,4 @@
--- What stands once still does with one more that isn't there, and without those that are let go.
+-- What is once still does with one more that isn't there, and without those that are let go.
 use Rattle.std.proofs.Common.{◌≡◌, ℕ, Bool, true, false, not, ◌||◌, cond, List, [], ◌∷◌, ◌++◌, None, Some, filter, refl}
 use Rattle.std.proofs.lemmas.Map.Keys.{IsDistinct-head, IsDistinct-tail, IsDistinct-cons}
 use Rattle.std.specs.List.{AllByRecursion, IsDistinct, find, list_any}

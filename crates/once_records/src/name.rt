@@ -8,7 +8,7 @@ use std::hash::{Hash, Hasher};
 use std::marker::Model;
 
 /// The most bytes of a uid.
-const MOST: usize = 36;
+const MAX_BYTES: usize = 36;
 
 /// A user's name for a deed or a file.
 #[derive(PartialEq, Eq, Hash, Drop)]
@@ -33,7 +33,7 @@ impl Name {
 /// The bytes of a uid, which lie in it.
 #[derive(Drop)]
 pub(crate) struct UidBytes {
-    bytes: [u8; MOST],
+    bytes: [u8; MAX_BYTES],
     size: u8,
 }
 
@@ -52,7 +52,7 @@ impl UidBytes {
         requires { length uid.now ≤ 36 }
         ensures { result ≡ uid.now }
     {
-        let mut bytes = [0; MOST];
+        let mut bytes = [0; MAX_BYTES];
         bytes[..uid.len()].copy_from_slice(uid);
         UidBytes {
             bytes,

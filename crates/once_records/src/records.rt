@@ -12,7 +12,7 @@ use std::alloc::Global;
 use std::hash::RandomState;
 use std::marker::Model;
 
-/// The uids that users have used up, and the replies that are kept for users' files. Each stands here once.
+/// The uids that users have used up, and the replies that are kept for users' files. Each is here once.
 ///
 /// Clients choose the names, so their hashes have keys that no client knows.
 pub struct Records {
@@ -51,7 +51,7 @@ impl Records {
         }
     }
 
-    /// That each pair and each file stands here once. Does nothing.
+    /// That each pair and each file is here once. Does nothing.
     pub fn known(&self)
         ensures used { UsedOnce self.now.used }
         ensures kept { KeptOnce self.now.kept }

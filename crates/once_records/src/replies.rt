@@ -58,7 +58,7 @@ impl Replies {
         }
     }
 
-    /// That each file's reply stands here once. Does nothing.
+    /// That each file's reply is here once. Does nothing.
     pub(crate) fn known(&self)
         ensures { KeptOnce self.now.kept }
     {

@@ -31,7 +31,7 @@ fn reads_reply(rt: &impl Abort, bytes: &[u8], wanted: Result<ReplyHead, HeadFaul
 }
 
 /// The head of a request for the bank's path, by its body's length, whether it is the last one, and its own size.
-fn told(length: Option<u64>, last: bool, size: usize) -> Head {
+fn reported(length: Option<u64>, last: bool, size: usize) -> Head {
     Head {
         method_is_post: true,
         path_is_ofx: true,
@@ -42,13 +42,13 @@ fn told(length: Option<u64>, last: bool, size: usize) -> Head {
 }
 
 #[test]
-fn a_head_is_told_once_it_is_whole(rt: HostRuntime) {
+fn a_head_is_reported_once_it_is_whole(rt: HostRuntime) {
     for size in 0..HEAD.len() {
         reads(&rt, &HEAD[..size], Err(HeadFault::NotYet));
     }
-    reads(&rt, HEAD, Ok(told(Some(5), false, 58)));
+    reads(&rt, HEAD, Ok(reported(Some(5), false, 58)));
     let followed = joined(&rt, rt.alloc(), &[HEAD, b"hello\0\r\n"]);
-    reads(&rt, &followed, Ok(told(Some(5), false, 58)));
+    reads(&rt, &followed, Ok(reported(Some(5), false, 58)));
 }
 
 /// First lines: whether the method is POST, the target is the bank's path, and the connection ends.
@@ -67,17 +67,17 @@ const FIRST_LINES: &[(&[u8], bool, bool, bool)] = &[
 ];
 
 #[test]
-fn first_lines_are_told(rt: HostRuntime) {
+fn first_lines_are_reported(rt: HostRuntime) {
     for (line, method_is_post, path_is_ofx, last) in FIRST_LINES {
         let head = joined(&rt, rt.alloc(), &[line, b"Content-Length: 5\r\n\r\n"]);
-        let told = Head {
+        let reported = Head {
             method_is_post: *method_is_post,
             path_is_ofx: *path_is_ofx,
             length: Some(5),
             last: *last,
             size: head.len(),
         };
-        reads(&rt, &head, Ok(told));
+        reads(&rt, &head, Ok(reported));
     }
 }
 
@@ -130,14 +130,14 @@ const FIELDS: &[(&[u8], Option<u64>, bool)] = &[
 ];
 
 #[test]
-fn fields_are_told(rt: HostRuntime) {
+fn fields_are_reported(rt: HostRuntime) {
     for (fields, length, last) in FIELDS {
         let head = joined(
             &rt,
             rt.alloc(),
             &[b"POST /ofx HTTP/1.1\r\n", fields, b"\r\n"],
         );
-        reads(&rt, &head, Ok(told(*length, *last, head.len())));
+        reads(&rt, &head, Ok(reported(*length, *last, head.len())));
     }
 }
 
@@ -262,14 +262,14 @@ const NO_REPLIES: &[&[u8]] = &[
 ];
 
 #[test]
-fn replies_are_told(rt: HostRuntime) {
+fn replies_are_reported(rt: HostRuntime) {
     for (head, code, length) in REPLIES {
-        let told = ReplyHead {
+        let reported = ReplyHead {
             code: *code,
             length: *length,
             size: head.len(),
         };
-        reads_reply(&rt, head, Ok(told));
+        reads_reply(&rt, head, Ok(reported));
         for size in 0..head.len() {
             reads_reply(&rt, &head[..size], Err(HeadFault::NotYet));
         }
@@ -331,7 +331,7 @@ const WRITTEN: &[(u16, bool, &[u8], &[u8])] = &[
     ),
 ];
 
-/// The head of a reply of 1,234 bytes is written so, after what stands there, and is read as what was written.
+/// The head of a reply of 1,234 bytes is written so, after what is there there, and is read as what was written.
 fn check_head(rt: &impl Abort, alloc: Global, code: u16, last: bool, text: &[u8])
     requires { IsReplyCode code }
 {
@@ -339,12 +339,12 @@ fn check_head(rt: &impl Abort, alloc: Global, code: u16, last: bool, text: &[u8]
     write_head(code, 1234, last, &mut written).expect(rt, "room");
     let wanted = joined(rt, alloc, &[b"before", text]);
     assert!(rt; written.as_slice() == wanted.as_slice());
-    let told = ReplyHead {
+    let reported = ReplyHead {
         code,
         length: Some(1234),
         size: text.len(),
     };
-    reads_reply(rt, text, Ok(told));
+    reads_reply(rt, text, Ok(reported));
 }
 
 #[test]

@@ -103,7 +103,7 @@ module _ (e : Engine) (recs : List (List ℕ)) (sound : IsSound e recs) (k : ℕ
     current = h.current;
     taken = done-stays other token h.taken;
     more = h.more;
-    front = h.front;
+    prefix = h.prefix;
     whole = h.whole;
     alone = λ is n by first group g. elim (waiting n by (Append e.log.epoch first group) g) [
       | inl new ↦ absurd (quiet token first group h.taken is new.1)
@@ -254,7 +254,7 @@ module _ (e : Engine) (recs : List (List ℕ)) (sound : IsSound e recs) (k : ℕ
           current = h.current;
           taken = done-stays e recs sound k (Append held.epoch (next_number held) group) k held.token h.taken;
           more = h.more;
-          front = h.front;
+          prefix = h.prefix;
           whole = h.whole;
           alone = λ is n by first rest g. elim (waiting e recs sound k (Append held.epoch (next_number held) group) n by (Append e.log.epoch first rest) g) [
             | inl new ↦ new.0

@@ -128,7 +128,7 @@ module _ (e : Engine) (recs : List (List ℕ)) (sound : IsSound e recs) (i by to
       current = λ is. absurd (let a = h.past in omega arith);
       taken = taken-after e recs sound i by (Take token) waits (Took (suc e.log.epoch) e.log.rows) k holder h.taken;
       more = h.more;
-      front = h.front;
+      prefix = h.prefix;
       whole = λ is. absurd (done-apart e recs sound i by (Take token) waits k holder h.taken (sym is ∙ its-token));
       alone = λ is. absurd (done-apart e recs sound i by (Take token) waits k holder h.taken (sym is ∙ its-token));
     };
@@ -140,7 +140,7 @@ module _ (e : Engine) (recs : List (List ℕ)) (sound : IsSound e recs) (i by to
         current = λ same. its-token;
         taken = subst (IsDoneBy by) (sym (updated-here e.calls i (Done by (Take token) (Took (suc e.log.epoch) e.log.rows)))) refl;
         more = [];
-        front = sym (append-nil recs);
+        prefix = sym (append-nil recs);
         whole = λ same. refl;
         alone = λ same n other first group h. absurd (fresh e recs sound i by (Take token) waits (Took (suc e.log.epoch) e.log.rows) n other first group h);
       },
@@ -185,7 +185,7 @@ module _ (e : Engine) (recs : List (List ℕ)) (sound : IsSound e recs) (i by to
       current = λ is. absurd (let a = h.past in omega arith);
       taken = taken-after e recs sound i by (Retake token) waits (Took (suc e.log.epoch) e.log.rows) k holder h.taken;
       more = h.more;
-      front = h.front;
+      prefix = h.prefix;
       whole = λ is. h.whole (holds ∙ is);
       alone = λ same n other first group g. absurd (fresh e recs sound i by (Retake token) waits (Took (suc e.log.epoch) e.log.rows) n other first group g);
     };
@@ -259,7 +259,7 @@ module _ (e : Engine) (recs : List (List ℕ)) (sound : IsSound e recs) (i by fi
     current = h.current;
     taken = taken-after e recs sound i by (Append e.log.epoch first group) waits (Inserted (length group)) k token h.taken;
     more = h.more ++ group;
-    front = ap (λ xs. xs ++ group) h.front ∙ append_assoc known h.more group;
+    prefix = ap (λ xs. xs ++ group) h.prefix ∙ append_assoc known h.more group;
     whole = λ is. absurd (ne (sym (h.alone is i by first group waits)));
     alone = λ is. absurd (ne (sym (h.alone is i by first group waits)));
   }
@@ -274,7 +274,7 @@ module _ (e : Engine) (recs : List (List ℕ)) (sound : IsSound e recs) (i by fi
         current = h.current;
         taken = taken-after e recs sound i by (Append e.log.epoch first group) waits (Inserted (length group)) k held.token h.taken;
         more = [];
-        front = whole ∙ sym (append-nil (held.records ++ mine));
+        prefix = whole ∙ sym (append-nil (held.records ++ mine));
         whole = λ is. whole;
         alone = λ is n other second rest g. absurd (only n other second rest g);
       }
@@ -366,7 +366,7 @@ module _ (e : Engine) (recs : List (List ℕ)) (sound : IsSound e recs) (i by : 
     current = h.current;
     taken = taken-after e recs sound i by request waits answer k token h.taken;
     more = h.more;
-    front = h.front;
+    prefix = h.prefix;
     whole = h.whole;
     alone = λ is n other first group g. h.alone is n other first group (back e recs sound i by request waits answer n other (Append e.log.epoch first group) g).1;
   }

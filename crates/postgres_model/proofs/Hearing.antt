@@ -10,10 +10,10 @@ use Rattle.postgres_model.proofs.Lists.{IsAt}
 use Rattle.postgres_model.proofs.Tables.{fetched-whole, fetched-rest, fetched-end, length-numbered}
 use Rattle.postgres_model.proofs.Invariant.{IsDoneBy, IsLive, IsSound, Knows, IsTook, IsTaking, IsCall, with_landed, IsPending, IsRetookAt, IsRetook, IsRetaking, IsKeeper, IsAcknowledged, IsOver, IsSettled}
 
-pub record IsTold (e : Engine) (recs : List (List ℕ)) (k : ℕ) (told : Told) : Type 0 where
-  pub keeper : IsKeeper e recs k told.keeper
-  pub acknowledged : (i : ℕ) (a : Acknowledged) → slice_get told.acknowledged i ≡ Some a → IsAcknowledged e recs a
-  pub settled : (i : ℕ) (s : Settled) → slice_get told.settled i ≡ Some s → IsSettled e s
+pub record IsTold (e : Engine) (recs : List (List ℕ)) (k : ℕ) (reported : Told) : Type 0 where
+  pub keeper : IsKeeper e recs k reported.keeper
+  pub acknowledged : (i : ℕ) (a : Acknowledged) → slice_get reported.acknowledged i ≡ Some a → IsAcknowledged e recs a
+  pub settled : (i : ℕ) (s : Settled) → slice_get reported.settled i ≡ Some s → IsSettled e s
 
 no-item : {A : Type 0} (P : A → Type 0) (i : ℕ) (x : A) → slice_get [] i ≡ Some x → P x
 no-item P i x is = absurd cc
@@ -33,8 +33,8 @@ module _ (e : Engine) (recs : List (List ℕ)) (sound : IsSound e recs) (k : ℕ
   pub is-silent : (keeper : Keeper) → IsKeeper e recs k keeper → IsTold e recs k (silent keeper)
   is-silent keeper h = record { keeper = h; acknowledged = no-item (IsAcknowledged e recs); settled = no-item (IsSettled e) }
 
-  told-took : (call epoch : ℕ) (rows : List Row) → IsTook e recs k call (Took epoch rows) → IsTold e recs k (told_take call (Took epoch rows))
-  told-took call epoch rows h =
+  reported-took : (call epoch : ℕ) (rows : List Row) → IsTook e recs k call (Took epoch rows) → IsTold e recs k (told_take call (Took epoch rows))
+  reported-took call epoch rows h =
       let all : fetched 1 (length rows) rows ≡ h.0 =
       ap (λ xs. fetched 1 (length xs) xs) h.1 ∙ ap (λ n. fetched 1 n (numbered 1 h.0)) (length-numbered 1 h.0) ∙ fetched-whole h.0 in
       is-silent (Idle (record { epoch = epoch; token = call; records = fetched 1 (length rows) rows }))
@@ -43,7 +43,7 @@ module _ (e : Engine) (recs : List (List ℕ)) (sound : IsSound e recs) (k : ℕ
   hear-take : (call : ℕ) (c : Call) → IsTaking e recs k call c → IsKeeper e recs k (Taking call) → IsTold e recs k (heard_call (Taking call) (told_take call) c)
   hear-take call Unsent h before = absurd h
   hear-take call (Waits by request) h before = is-silent (Taking call) before
-  hear-take call (Done by request (Took epoch rows)) h before = told-took call epoch rows h
+  hear-take call (Done by request (Took epoch rows)) h before = reported-took call epoch rows h
   hear-take call (Done by request NotHolder) h before = is-silent Closed tt
   hear-take call (Done by request (Inserted count)) h before = is-silent Closed tt
   hear-take call (Done by request Duplicate) h before = is-silent Closed tt
@@ -64,7 +64,7 @@ module _ (e : Engine) (recs : List (List ℕ)) (sound : IsSound e recs) (k : ℕ
     current = current;
     taken = h.taken;
     more = h.more;
-    front = h.front;
+    prefix = h.prefix;
     whole = h.whole;
     alone = λ is n other first group live. absurd (none n other first group live (h.alone is n other first group live));
   }
@@ -89,8 +89,8 @@ module _ (e : Engine) (recs : List (List ℕ)) (sound : IsSound e recs) (k : ℕ
     inserted-some zero is = absurd (let a = p.some in omega arith)
     inserted-some (suc count) is = refl
 
-    told-inserted : (by : ℕ) (request : Request) (count : ℕ) → e.calls append ≡ Done by request (Inserted count) → IsTold e recs k (told_append k held group append (Inserted count))
-    told-inserted by request count done =
+    reported-inserted : (by : ℕ) (request : Request) (count : ℕ) → e.calls append ≡ Done by request (Inserted count) → IsTold e recs k (told_append k held group append (Inserted count))
+    reported-inserted by request count done =
         elim (cases_Bool (eqb count (length group))) [
           | inl whole ↦
               let inserted = inserted-some count (eqb-true _ _ whole) in
@@ -108,7 +108,7 @@ module _ (e : Engine) (recs : List (List ℕ)) (sound : IsSound e recs) (k : ℕ
     hear-append (Waits by request) is = is-silent (Appending held group append) p
     hear-append (Done by request (Took epoch rows)) is = is-silent (Unsettled held group append) p
     hear-append (Done by request NotHolder) is = is-silent (Unsettled held group append) p
-    hear-append (Done by request (Inserted count)) is = told-inserted by request count is
+    hear-append (Done by request (Inserted count)) is = reported-inserted by request count is
     hear-append (Done by request Duplicate) is = is-silent (Unsettled held group append) p
 
     -- ---- settling
@@ -136,8 +136,8 @@ module _ (e : Engine) (recs : List (List ℕ)) (sound : IsSound e recs) (k : ℕ
           omega arith
       its-over (Done by request answer) call = tt
 
-      is-settled : (stands : Bool) → has_landed (e.calls append) ≡ stands → IsSettled e (record { append = append; stands = stands })
-      is-settled stands landed = (landed, its-over (e.calls append) p.call)
+      is-settled : (holds : Bool) → has_landed (e.calls append) ≡ holds → IsSettled e (record { append = append; holds = holds })
+      is-settled holds landed = (landed, its-over (e.calls append) p.call)
 
       found-none : has_landed (e.calls append) ≡ false → fetched (next_number held) (length group) rows ≡ []
       found-none none =
@@ -149,13 +149,13 @@ module _ (e : Engine) (recs : List (List ℕ)) (sound : IsSound e recs) (k : ℕ
           ap (fetched (next_number held) (length group)) (h.rows ∙ ap (λ b. numbered 1 (cond b (held.records ++ group) held.records)) landed)
           ∙ fetched-rest held.records group
 
-      told-none : has_landed (e.calls append) ≡ false → IsTold e recs k (told_settle k held group append epoch [])
-      told-none none = record {
+      reported-none : has_landed (e.calls append) ≡ false → IsTold e recs k (told_settle k held group append epoch [])
+      reported-none none = record {
         keeper = settled-knows held.epoch held.token held.records append epoch
             (subst (λ known. Knows e recs k held.epoch held.token known append) (ap (λ b. cond b (held.records ++ group) held.records) none) p.knows)
             h.past h.current past-live;
         acknowledged = no-item (IsAcknowledged e recs);
-        settled = one-item (IsSettled e) (record { append = append; stands = false }) (is-settled false none);
+        settled = one-item (IsSettled e) (record { append = append; holds = false }) (is-settled false none);
       }
 
       has-answer : (c : Call) → has_landed c ≡ true → (by : ℕ) × (request : Request) × (answer : Answer) × (c ≡ Done by request answer) × (has_inserted answer ≡ true)
@@ -163,32 +163,32 @@ module _ (e : Engine) (recs : List (List ℕ)) (sound : IsSound e recs) (k : ℕ
       has-answer (Waits by request) is = absurd cc
       has-answer (Done by request answer) is = (by, request, answer, refl, is)
 
-      told-all : (one : List ℕ) (more : List (List ℕ)) → one ∷ more ≡ group → has_landed (e.calls append) ≡ true → IsTold e recs k (told_settle k held group append epoch (one ∷ more))
-      told-all one more is landed =
+      reported-all : (one : List ℕ) (more : List (List ℕ)) → one ∷ more ≡ group → has_landed (e.calls append) ≡ true → IsTold e recs k (told_settle k held group append epoch (one ∷ more))
+      reported-all one more is landed =
           let same : same_records (one ∷ more) group ≡ true = ap (λ g. same_records (one ∷ more) g) (sym is) ∙ same-itself (one ∷ more) in
           let done = has-answer (e.calls append) landed in
           rw same (record {
             keeper = settled-knows held.epoch held.token (held.records ++ group) append epoch (landed-knows done.0 done.1 done.2 done.3 done.4) h.past h.current past-live;
             acknowledged = one-item (IsAcknowledged e recs) (record { keeper = k; first = next_number held; group = group }) (ack done.0 done.1 done.2 done.3 done.4);
-            settled = one-item (IsSettled e) (record { append = append; stands = true }) (is-settled true landed);
+            settled = one-item (IsSettled e) (record { append = append; holds = true }) (is-settled true landed);
           })
 
-      told-found : (g : List (List ℕ)) → g ≡ group → has_landed (e.calls append) ≡ true → IsTold e recs k (told_settle k held group append epoch g)
-      told-found [] is landed = absurd (let a = p.some in let b : 0 ≡ length group = ap length is in omega arith)
-      told-found (one ∷ more) is landed = told-all one more is landed
+      reported-found : (g : List (List ℕ)) → g ≡ group → has_landed (e.calls append) ≡ true → IsTold e recs k (told_settle k held group append epoch g)
+      reported-found [] is landed = absurd (let a = p.some in let b : 0 ≡ length group = ap length is in omega arith)
+      reported-found (one ∷ more) is landed = reported-all one more is landed
 
-      pub told-retook : IsTold e recs k (told_settle k held group append epoch (fetched (next_number held) (length group) rows))
-      told-retook =
+      pub reported-retook : IsTold e recs k (told_settle k held group append epoch (fetched (next_number held) (length group) rows))
+      reported-retook =
           elim (cases_Bool (has_landed (e.calls append))) [
-            | inl landed ↦ subst (λ g. IsTold e recs k (told_settle k held group append epoch g)) (sym (found-all landed)) (told-found group refl landed)
-            | inr none ↦ subst (λ g. IsTold e recs k (told_settle k held group append epoch g)) (sym (found-none none)) (told-none none)
+            | inl landed ↦ subst (λ g. IsTold e recs k (told_settle k held group append epoch g)) (sym (found-all landed)) (reported-found group refl landed)
+            | inr none ↦ subst (λ g. IsTold e recs k (told_settle k held group append epoch g)) (sym (found-none none)) (reported-none none)
           ]
 
     pub hear-retake : (retake : ℕ) (c : Call) → IsRetaking e k held group append c → IsKeeper e recs k (Settling held group append retake)
         → IsTold e recs k (heard_call (Settling held group append retake) (told_retake k held group append) c)
     hear-retake retake Unsent h before = is-silent (Settling held group append retake) before
     hear-retake retake (Waits by request) h before = is-silent (Settling held group append retake) before
-    hear-retake retake (Done by request (Took epoch rows)) h before = told-retook epoch rows h
+    hear-retake retake (Done by request (Took epoch rows)) h before = reported-retook epoch rows h
     hear-retake retake (Done by request NotHolder) h before = is-silent Closed tt
     hear-retake retake (Done by request (Inserted count)) h before = is-silent Closed tt
     hear-retake retake (Done by request Duplicate) h before = is-silent Closed tt

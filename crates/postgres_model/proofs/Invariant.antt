@@ -8,11 +8,11 @@ use Rattle.postgres_model.proofs.Lists.{IsAt}
 
 -- ---- a function with another value at one place
 
-pub updated-here : {A : Type 0} (f : ℕ → A) (place : ℕ) (new : A) → updated f place new place ≡ new
-updated-here f place new = let t : eqb place place ≡ true = eq-eqb _ _ refl in rw t refl
+pub updated-here : {A : Type 0} (f : ℕ → A) (offset : ℕ) (new : A) → updated f offset new offset ≡ new
+updated-here f offset new = let t : eqb offset offset ≡ true = eq-eqb _ _ refl in rw t refl
 
-pub updated-else : {A : Type 0} (f : ℕ → A) (place : ℕ) (new : A) (n : ℕ) → n ≢ place → updated f place new n ≡ f n
-updated-else f place new n ne = let t : eqb n place ≡ false = ne_eqb _ _ ne in rw t refl
+pub updated-else : {A : Type 0} (f : ℕ → A) (offset : ℕ) (new : A) (n : ℕ) → n ≢ offset → updated f offset new n ≡ f n
+updated-else f offset new n ne = let t : eqb n offset ≡ false = ne_eqb _ _ ne in rw t refl
 
 -- ---- the engine
 
@@ -49,7 +49,7 @@ pub record Knows (e : Engine) (recs : List (List ℕ)) (k epoch token : ℕ) (kn
   pub current : e.log.epoch ≡ epoch → e.log.holder ≡ token
   pub taken : IsDoneBy k (e.calls token)
   pub more : List (List ℕ)
-  pub front : recs ≡ known ++ more
+  pub prefix : recs ≡ known ++ more
   pub whole : e.log.holder ≡ token → recs ≡ known
   pub alone : e.log.holder ≡ token → (i by first : ℕ) (group : List (List ℕ)) → IsLive e i by first group → i ≡ own
 
@@ -79,7 +79,7 @@ pub record IsPending (e : Engine) (recs : List (List ℕ)) (k : ℕ) (held : Hel
   pub call : IsCall k (Append held.epoch (suc (length held.records)) group) (e.calls append)
   pub some : 0 < length group
 
--- What a retake was told is what stands of the append for ever, which can't land any more.
+-- What a retake was told is what is left of the append for ever, which can't land any more.
 pub record IsRetookAt (e : Engine) (held : Held) (group : List (List ℕ)) (append epoch : ℕ) (table : List Row) : Type 0 where
   pub rows : table ≡ numbered 1 (with_landed held group (e.calls append))
   pub later : held.epoch < epoch
@@ -108,7 +108,7 @@ IsKeeper e recs k (Settling held group append retake) =
 
 -- ---- what was told
 
--- The group stands at its numbers, and the keeper's append put it there.
+-- The group is at its numbers, and the keeper's append put it there.
 abbrev pub IsAcknowledged : Engine → List (List ℕ) → Acknowledged → Type 0
 IsAcknowledged e recs a = IsAt recs a.first a.group × IsAt e.makers a.first (replicate (length a.group) a.keeper)
 
@@ -121,7 +121,7 @@ IsOver e (Waits by (Append epoch first group)) = epoch < e.log.epoch
 IsOver e (Done by request answer) = Unit {0}
 
 abbrev pub IsSettled : Engine → Settled → Type 0
-IsSettled e s = (has_landed (e.calls s.append) ≡ s.stands) × IsOver e (e.calls s.append)
+IsSettled e s = (has_landed (e.calls s.append) ≡ s.holds) × IsOver e (e.calls s.append)
 
 pub record IsWorld (w : World) (recs : List (List ℕ)) : Type 0 where
   pub engine : IsSound w.engine recs

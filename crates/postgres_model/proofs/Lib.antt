@@ -7,5 +7,5 @@ pub mod Asking
 pub mod Hearing
 pub mod Runs
 pub mod Told
-pub mod Telling
+pub mod Reporting
 pub mod MemRows

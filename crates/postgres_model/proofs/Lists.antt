@@ -2,29 +2,29 @@
 use Rattle.std.proofs.Common.{◌≡◌, ℕ, zero, suc, ◌+◌, ◌<◌, ◌≤◌, List, [], ◌∷◌, ◌++◌, length, replicate, slice_get, Option, Some, None, refl, sym, ap, subst, ◌∙◌, append_assoc, append-nil, arith}
 use Rattle.std.proofs.lemmas.List.{length-append}
 
--- The part stands in the list, its first item under this number, counted from 1.
+-- The part is in the list, its first item under this number, counted from 1.
 pub record IsAt {A : Type 0} (list : List A) (first : ℕ) (part : List A) : Type 0 where
   pub before : List A
-  pub behind : List A
-  pub parts : list ≡ before ++ (part ++ behind)
-  pub place : first ≡ suc (length before)
+  pub rest : List A
+  pub parts : list ≡ before ++ (part ++ rest)
+  pub offset : first ≡ suc (length before)
 
 -- It still does when the list has grown.
 pub at-grown : {A : Type 0} (list : List A) (first : ℕ) (part more : List A) → IsAt list first part → IsAt (list ++ more) first part
 at-grown list first part more h = record {
   before = h.before;
-  behind = h.behind ++ more;
-  parts = ap (λ xs. xs ++ more) h.parts ∙ append_assoc h.before (part ++ h.behind) more ∙ ap (λ xs. h.before ++ xs) (append_assoc part h.behind more);
-  place = h.place;
+  rest = h.rest ++ more;
+  parts = ap (λ xs. xs ++ more) h.parts ∙ append_assoc h.before (part ++ h.rest) more ∙ ap (λ xs. h.before ++ xs) (append_assoc part h.rest more);
+  offset = h.offset;
 }
 
--- What a list grows by stands at its end.
+-- What a list grows by is at its end.
 pub at-end : {A : Type 0} (list part : List A) → IsAt (list ++ part) (suc (length list)) part
 at-end list part = record {
   before = list;
-  behind = [];
+  rest = [];
   parts = ap (λ xs. list ++ xs) (sym (append-nil part));
-  place = refl;
+  offset = refl;
 }
 
 pub get-append : {A : Type 0} (xs ys : List A) (i : ℕ) (x : A) → slice_get xs i ≡ Some x → slice_get (xs ++ ys) i ≡ Some x
@@ -51,10 +51,10 @@ get-replicate (suc n) (suc i) x h = get-replicate n i x (omega arith)
 -- An item of a part is an item of the list.
 pub get-at : {A : Type 0} (list : List A) (first : ℕ) (part : List A) (i j : ℕ) → IsAt list first part → i < length part → suc j ≡ first + i → slice_get list j ≡ slice_get part i
 get-at list first part i j h lt e =
-    let here : j ≡ length h.before + i = omega (arith, h.place) in
+    let here : j ≡ length h.before + i = omega (arith, h.offset) in
     subst (λ n. slice_get list n ≡ slice_get part i) (sym here)
-    (ap (λ xs. slice_get xs (length h.before + i)) h.parts ∙ get-after h.before (part ++ h.behind) i ∙ get-before part h.behind i lt)
+    (ap (λ xs. slice_get xs (length h.before + i)) h.parts ∙ get-after h.before (part ++ h.rest) i ∙ get-before part h.rest i lt)
 
 pub within : {A : Type 0} (list : List A) (first : ℕ) (part : List A) → IsAt list first part → first + length part ≤ suc (length list)
 within list first part h =
-    omega (arith, ap length h.parts, length-append h.before (part ++ h.behind), length-append part h.behind, h.place)
+    omega (arith, ap length h.parts, length-append h.before (part ++ h.rest), length-append part h.rest, h.offset)

@@ -30,12 +30,12 @@ in-either P [] ys before after i x is = after i x is
 in-either P (y ∷ xs) ys before after zero x is = before zero x is
 in-either P (y ∷ xs) ys before after (suc i) x is = in-either P xs ys (λ j z at. before (suc j) z at) after i x is
 
-learnt-world : (w : World) (recs : List (List ℕ)) (k : ℕ) (told : Told) → IsWorld w recs → IsTold w.engine recs k told → IsWorld (learnt w k told) recs
-learnt-world w recs k told h t = record {
+learnt-world : (w : World) (recs : List (List ℕ)) (k : ℕ) (reported : Told) → IsWorld w recs → IsTold w.engine recs k reported → IsWorld (learnt w k reported) recs
+learnt-world w recs k reported h t = record {
   engine = h.engine;
-  keepers = keepers-with w.engine recs w.keepers k told.keeper (λ j ne. h.keepers j) t.keeper;
-  acknowledged = in-either (IsAcknowledged w.engine recs) w.acknowledged told.acknowledged h.acknowledged t.acknowledged;
-  settled = in-either (IsSettled w.engine) w.settled told.settled h.settled t.settled;
+  keepers = keepers-with w.engine recs w.keepers k reported.keeper (λ j ne. h.keepers j) t.keeper;
+  acknowledged = in-either (IsAcknowledged w.engine recs) w.acknowledged reported.acknowledged h.acknowledged t.acknowledged;
+  settled = in-either (IsSettled w.engine) w.settled reported.settled h.settled t.settled;
 }
 
 -- ---- the engine does a call
@@ -96,7 +96,7 @@ module _ (w : World) (recs : List (List ℕ)) (h : IsWorld w recs) (i by : ℕ) 
   do-landing : (first : ℕ) (group : List (List ℕ)) → w.engine.calls i ≡ Waits by (Append w.engine.log.epoch first group) → eqb w.engine.log.epoch w.engine.log.epoch ≡ true
       → Reached (with_engine w (done w.engine i (Waits by (Append w.engine.log.epoch first group))))
   do-landing first group waits same =
-      let place = h.engine.next i by first group waits in
+      let offset = h.engine.next i by first group waits in
       let none : is_taken first group w.engine.log.rows ≡ false = ap (is_taken first group) h.engine.rows ∙ free first group recs (omega arith) in
       by-effect (Append w.engine.log.epoch first group) (Inserted (length group)) (grown w.engine recs h.engine i by first group waits) (rw (same, none) refl) (rw (same, none) refl) (
         recs ++ group,
@@ -231,53 +231,53 @@ every-world events = run-world start [] start-world events
 
 -- ---- what was told stays told
 
-opened-tells : (w : World) (k : ℕ) (keeper : Keeper) → (w.acknowledged ≡ (opened w k keeper).acknowledged) × (w.settled ≡ (opened w k keeper).settled)
-opened-tells w k Closed = (refl, refl)
-opened-tells w k (Taking call) = (refl, refl)
-opened-tells w k (Idle held) = (refl, refl)
-opened-tells w k (Appending held group append) = (refl, refl)
-opened-tells w k (Unsettled held group append) = (refl, refl)
-opened-tells w k (Settling held group append retake) = (refl, refl)
+opened-reports : (w : World) (k : ℕ) (keeper : Keeper) → (w.acknowledged ≡ (opened w k keeper).acknowledged) × (w.settled ≡ (opened w k keeper).settled)
+opened-reports w k Closed = (refl, refl)
+opened-reports w k (Taking call) = (refl, refl)
+opened-reports w k (Idle held) = (refl, refl)
+opened-reports w k (Appending held group append) = (refl, refl)
+opened-reports w k (Unsettled held group append) = (refl, refl)
+opened-reports w k (Settling held group append retake) = (refl, refl)
 
-added-tells : (w : World) (k : ℕ) (new : List (List ℕ)) (keeper : Keeper) → (w.acknowledged ≡ (added w k new keeper).acknowledged) × (w.settled ≡ (added w k new keeper).settled)
-added-tells w k new Closed = (refl, refl)
-added-tells w k new (Taking call) = (refl, refl)
-added-tells w k new (Idle held) = (refl, refl)
-added-tells w k new (Appending held group append) = (refl, refl)
-added-tells w k new (Unsettled held group append) = (refl, refl)
-added-tells w k new (Settling held group append retake) = (refl, refl)
+added-reports : (w : World) (k : ℕ) (new : List (List ℕ)) (keeper : Keeper) → (w.acknowledged ≡ (added w k new keeper).acknowledged) × (w.settled ≡ (added w k new keeper).settled)
+added-reports w k new Closed = (refl, refl)
+added-reports w k new (Taking call) = (refl, refl)
+added-reports w k new (Idle held) = (refl, refl)
+added-reports w k new (Appending held group append) = (refl, refl)
+added-reports w k new (Unsettled held group append) = (refl, refl)
+added-reports w k new (Settling held group append retake) = (refl, refl)
 
-settling-tells : (w : World) (k : ℕ) (keeper : Keeper) → (w.acknowledged ≡ (settling w k keeper).acknowledged) × (w.settled ≡ (settling w k keeper).settled)
-settling-tells w k Closed = (refl, refl)
-settling-tells w k (Taking call) = (refl, refl)
-settling-tells w k (Idle held) = (refl, refl)
-settling-tells w k (Appending held group append) = (refl, refl)
-settling-tells w k (Unsettled held group append) = (refl, refl)
-settling-tells w k (Settling held group append retake) = (refl, refl)
+settling-reports : (w : World) (k : ℕ) (keeper : Keeper) → (w.acknowledged ≡ (settling w k keeper).acknowledged) × (w.settled ≡ (settling w k keeper).settled)
+settling-reports w k Closed = (refl, refl)
+settling-reports w k (Taking call) = (refl, refl)
+settling-reports w k (Idle held) = (refl, refl)
+settling-reports w k (Appending held group append) = (refl, refl)
+settling-reports w k (Unsettled held group append) = (refl, refl)
+settling-reports w k (Settling held group append retake) = (refl, refl)
 
-pub tells-on : (w : World) (event : Event) → ((j : ℕ) (a : Acknowledged) → slice_get w.acknowledged j ≡ Some a → slice_get (happens w event).acknowledged j ≡ Some a)
+pub reports-on : (w : World) (event : Event) → ((j : ℕ) (a : Acknowledged) → slice_get w.acknowledged j ≡ Some a → slice_get (happens w event).acknowledged j ≡ Some a)
     × ((j : ℕ) (s : Settled) → slice_get w.settled j ≡ Some s → slice_get (happens w event).settled j ≡ Some s)
-tells-on w (Open k) = let t = opened-tells w k (w.keepers k) in
+reports-on w (Open k) = let t = opened-reports w k (w.keepers k) in
     (λ j a is. ap (λ xs. slice_get xs j) (sym t.0) ∙ is, λ j s is. ap (λ xs. slice_get xs j) (sym t.1) ∙ is)
-tells-on w (Add k one more) = let t = added-tells w k (one ∷ more) (w.keepers k) in
+reports-on w (Add k one more) = let t = added-reports w k (one ∷ more) (w.keepers k) in
     (λ j a is. ap (λ xs. slice_get xs j) (sym t.0) ∙ is, λ j s is. ap (λ xs. slice_get xs j) (sym t.1) ∙ is)
-tells-on w (Settle k) = let t = settling-tells w k (w.keepers k) in
+reports-on w (Settle k) = let t = settling-reports w k (w.keepers k) in
     (λ j a is. ap (λ xs. slice_get xs j) (sym t.0) ∙ is, λ j s is. ap (λ xs. slice_get xs j) (sym t.1) ∙ is)
-tells-on w (Do call) = (λ j a is. is, λ j s is. is)
-tells-on w (Hear k) = (
+reports-on w (Do call) = (λ j a is. is, λ j s is. is)
+reports-on w (Hear k) = (
   λ j a is. get-append w.acknowledged (heard k (w.keepers k) w.engine.calls).acknowledged j a is,
   λ j s is. get-append w.settled (heard k (w.keepers k) w.engine.calls).settled j s is,
 )
-tells-on w (GiveUp k) = (λ j a is. get-append w.acknowledged [] j a is, λ j s is. get-append w.settled [] j s is)
-tells-on w (Crash k) = (λ j a is. get-append w.acknowledged [] j a is, λ j s is. get-append w.settled [] j s is)
+reports-on w (GiveUp k) = (λ j a is. get-append w.acknowledged [] j a is, λ j s is. get-append w.settled [] j s is)
+reports-on w (Crash k) = (λ j a is. get-append w.acknowledged [] j a is, λ j s is. get-append w.settled [] j s is)
 
 pub stays-acknowledged : (w : World) (events : List Event) (j : ℕ) (a : Acknowledged) → slice_get w.acknowledged j ≡ Some a → slice_get (run w events).acknowledged j ≡ Some a
 stays-acknowledged w [] j a is = is
-stays-acknowledged w (event ∷ events) j a is = stays-acknowledged (happens w event) events j a ((tells-on w event).0 j a is)
+stays-acknowledged w (event ∷ events) j a is = stays-acknowledged (happens w event) events j a ((reports-on w event).0 j a is)
 
 pub stays-settled : (w : World) (events : List Event) (j : ℕ) (s : Settled) → slice_get w.settled j ≡ Some s → slice_get (run w events).settled j ≡ Some s
 stays-settled w [] j s is = is
-stays-settled w (event ∷ events) j s is = stays-settled (happens w event) events j s ((tells-on w event).1 j s is)
+stays-settled w (event ∷ events) j s is = stays-settled (happens w event) events j s ((reports-on w event).1 j s is)
 
 -- one schedule after another
 pub run-on : (w : World) (early late : List Event) → run w (early ++ late) ≡ run (run w early) late

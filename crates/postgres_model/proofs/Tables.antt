@@ -47,16 +47,16 @@ fetched-end recs first zero h = refl
 fetched-end recs first (suc limit) h = rw (record_at-past first recs h) refl
 
 -- What is fetched from the next number after a front on is what comes after it.
-pub fetched-rest : (front rest : List (List ℕ)) → fetched (suc (length front)) (length rest) (numbered 1 (front ++ rest)) ≡ rest
-fetched-rest front [] = refl
-fetched-rest front (x ∷ rest) =
-    let same : (front ++ x ∷ []) ++ rest ≡ front ++ (x ∷ rest) = append_assoc front (x ∷ []) rest in
-    let n : length (front ++ x ∷ []) ≡ suc (length front) = omega (arith, length-append front (x ∷ [])) in
-    let first : record_at (suc (length front)) (numbered 1 (front ++ (x ∷ rest))) ≡ Some x =
-    record_at-table (length front) (front ++ (x ∷ rest)) ∙ (let z : length front + 0 ≡ length front = omega arith in subst (λ m. slice_get (front ++ (x ∷ rest)) m ≡ Some x) z (get-after front (x ∷ rest) 0)) in
-    let more : fetched (suc (suc (length front))) (length rest) (numbered 1 (front ++ (x ∷ rest))) ≡ rest =
-    subst (λ xs. fetched (suc (suc (length front))) (length rest) (numbered 1 xs) ≡ rest) same
-    (subst (λ m. fetched (suc m) (length rest) (numbered 1 ((front ++ x ∷ []) ++ rest)) ≡ rest) n (fetched-rest (front ++ x ∷ []) rest)) in
+pub fetched-rest : (prefix rest : List (List ℕ)) → fetched (suc (length prefix)) (length rest) (numbered 1 (prefix ++ rest)) ≡ rest
+fetched-rest prefix [] = refl
+fetched-rest prefix (x ∷ rest) =
+    let same : (prefix ++ x ∷ []) ++ rest ≡ prefix ++ (x ∷ rest) = append_assoc prefix (x ∷ []) rest in
+    let n : length (prefix ++ x ∷ []) ≡ suc (length prefix) = omega (arith, length-append prefix (x ∷ [])) in
+    let first : record_at (suc (length prefix)) (numbered 1 (prefix ++ (x ∷ rest))) ≡ Some x =
+    record_at-table (length prefix) (prefix ++ (x ∷ rest)) ∙ (let z : length prefix + 0 ≡ length prefix = omega arith in subst (λ m. slice_get (prefix ++ (x ∷ rest)) m ≡ Some x) z (get-after prefix (x ∷ rest) 0)) in
+    let more : fetched (suc (suc (length prefix))) (length rest) (numbered 1 (prefix ++ (x ∷ rest))) ≡ rest =
+    subst (λ xs. fetched (suc (suc (length prefix))) (length rest) (numbered 1 xs) ≡ rest) same
+    (subst (λ m. fetched (suc m) (length rest) (numbered 1 ((prefix ++ x ∷ []) ++ rest)) ≡ rest) n (fetched-rest (prefix ++ x ∷ []) rest)) in
     rw (first, more) refl
 
 pub fetched-whole : (recs : List (List ℕ)) → fetched 1 (length recs) (numbered 1 recs) ≡ recs

@@ -13,7 +13,7 @@ pub data Call : Type 0 where
 
 -- the function with another value at one place
 abbrev pub updated : {A : Type 0} → (ℕ → A) → ℕ → A → ℕ → A
-updated f place new n = if n == place then new else f n
+updated f offset new n = if n == offset then new else f n
 
 -- The log, and all calls that were ever sent, numbered from 1. For each row, the keeper whose append inserted it.
 pub record Engine : Type 0 where
@@ -70,7 +70,7 @@ pub record Acknowledged : Type 0 where
 -- Settling answered whether the group of this append stands.
 pub record Settled : Type 0 where
   pub append : ℕ
-  pub stands : Bool
+  pub holds : Bool
 
 -- what a keeper is after an answer, and what it has learnt by it
 pub record Told : Type 0 where
@@ -119,18 +119,18 @@ told_settle k held group append epoch [] =
     record {
       keeper = Idle (record { epoch = epoch; token = held.token; records = held.records });
       acknowledged = [];
-      settled = record { append = append; stands = false } ∷ [];
+      settled = record { append = append; holds = false } ∷ [];
     }
 told_settle k held group append epoch (one ∷ more) =
     if same_records (one ∷ more) group
     then record {
       keeper = Idle (record { epoch = epoch; token = held.token; records = with_group held group });
       acknowledged = record { keeper = k; first = next_number held; group = group } ∷ [];
-      settled = record { append = append; stands = true } ∷ [];
+      settled = record { append = append; holds = true } ∷ [];
     }
     else silent Closed
 
--- A retake is answered with what stands from the group's first number on. Who isn't the holder any more gives the log up.
+-- A retake is answered with what is from the group's first number on. Who isn't the holder any more gives the log up.
 abbrev pub told_retake : (keeper : ℕ) → Held → List (List ℕ) → (append : ℕ) → Answer → Told
 told_retake k held group append (Took epoch rows) =
     told_settle k held group append epoch (fetched (next_number held) (length group) rows)
@@ -138,8 +138,8 @@ told_retake k held group append _ = silent Closed
 
 -- A keeper hears the answer of the call that it waits for, where the engine has done it.
 abbrev pub heard_call : Keeper → (Answer → Told) → Call → Told
-heard_call keeper told (Done by request found) = told found
-heard_call keeper told _ = silent keeper
+heard_call keeper reported (Done by request found) = reported found
+heard_call keeper reported _ = silent keeper
 
 abbrev pub heard : (keeper : ℕ) → Keeper → (ℕ → Call) → Told
 heard k Closed calls = silent Closed
@@ -207,12 +207,12 @@ abbrev pub with_engine : World → Engine → World
 with_engine w e = record { engine = e; keepers = w.keepers; acknowledged = w.acknowledged; settled = w.settled }
 
 abbrev pub learnt : World → ℕ → Told → World
-learnt w k told =
+learnt w k reported =
     record {
       engine = w.engine;
-      keepers = updated w.keepers k told.keeper;
-      acknowledged = w.acknowledged ++ told.acknowledged;
-      settled = w.settled ++ told.settled;
+      keepers = updated w.keepers k reported.keeper;
+      acknowledged = w.acknowledged ++ reported.acknowledged;
+      settled = w.settled ++ reported.settled;
     }
 
 abbrev pub happens : World → Event → World

@@ -6,7 +6,7 @@ ghost use Rattle.postgres_model.specs.Engine.{numbered, Row, Request, Append, To
 ghost use Rattle.postgres_model.specs.World.{Acknowledged, Settled, Held, Keeper, Idle, Event, Done};
 ghost use Rattle.postgres_model.specs.Laws.{reached, StandsFrom, has_landed, HasLog, texts};
 
-/// A record whose append a keeper was told to stand stands under its number for ever, whatever happens later.
+/// A record whose append a keeper was told to stand is under its number for ever, whatever happens later.
 pub fn acknowledged_records_stand()
     ensures { (early late : List Event) (j : ℕ) (a : Acknowledged) → slice_get (reached early).acknowledged j ≡ Some a
         → StandsFrom a.first a.group (reached (early ++ late)).engine.log }
@@ -19,11 +19,11 @@ pub fn one_keeper_has_each_number()
         → m < length a.group → n < length b.group → a.first + m ≡ b.first + n → a.keeper ≡ b.keeper }
 {}
 
-/// After settling has answered whether an append's records stand, nothing changes it. An append that is told not to stand
+/// After settling has answered whether an append's records stand, nothing changes it. An append that is reported not to stand
 /// never lands later.
 pub fn settled_appends_stay_settled()
     ensures { (early late : List Event) (j : ℕ) (s : Settled) → slice_get (reached early).settled j ≡ Some s
-        → has_landed ((reached (early ++ late)).engine.calls s.append) ≡ s.stands }
+        → has_landed ((reached (early ++ late)).engine.calls s.append) ≡ s.holds }
 {}
 
 /// What a keeper holds is a prefix of the log, and the whole of it while its epoch is the log's and it has sent no append.

@@ -12,7 +12,7 @@ use Rattle.ofx_types.proofs.Numbers.{le_from, le_holds}
 use Rattle.bank_model.specs.Sound.{IsId}
 use Rattle.record_fields.specs.FieldCoding.{u16_bytes, u32_bytes, u64_bytes, i32_bytes, i64_bytes, moment_bytes, day_bytes}
 use Rattle.record_fields.specs.FieldReading.{u16_at, u32_at, u64_at, i32_at, i64_at, id_at, amount_at, moment_at, day_at, count_at, is_moment, is_day}
-use Rattle.record_fields.specs.Fields.{StandsAt, IsField}
+use Rattle.record_fields.specs.Fields.{IsCodedAt, IsField}
 use Rattle.record_fields.proofs.Steps.{pass_ok, ok_is, step}
 use Rattle.record_fields.proofs.NumberLaws.{number_field, signed_field, wide16, wide32, wide64}
 
@@ -34,11 +34,11 @@ i64_field = signed_field w64 (2 ^ 64) wide64
 pub id_field : IsField id_at u64_bytes IsId
 unfolding id_at
 id_field = record {
-  stands = λ rec at found bytes le e.
+  holds = λ rec at found bytes le e.
       let s = step u64_field rec at _ found bytes le e in
       let g = pass_ok (leb s.value 9999999999) at (Ok (s.value, s.next)) found s.rest in
       let small : s.value ≤ 9999999999 = leb-true _ _ g.0 in
-      subst (λ (f : ℕ × ℕ). StandsAt rec at (u64_bytes f.0) f.1 × IsId f.0) (ok_is (s.value, s.next) found g.1) (s.stands, small);
+      subst (λ (f : ℕ × ℕ). IsCodedAt rec at (u64_bytes f.0) f.1 × IsId f.0) (ok_is (s.value, s.next) found g.1) (s.holds, small);
   again = λ rec at id next le p fits.
       let small : leb id 9999999999 ≡ true = le-leb _ _ fits in
       rw (u64_field.again rec at id next le p (omega arith), small) refl;
@@ -47,13 +47,13 @@ id_field = record {
 pub count_field : IsField count_at u16_bytes (λ n. (0 < n) × (n ≤ 999))
 unfolding count_at
 count_field = record {
-  stands = λ rec at found bytes le e.
+  holds = λ rec at found bytes le e.
       let s = step u16_field rec at _ found bytes le e in
       let g = pass_ok (leb 1 s.value && leb s.value 999) at (Ok (s.value, s.next)) found s.rest in
       let b = and_parts (leb 1 s.value) (leb s.value 999) g.0 in
       let low : 1 ≤ s.value = leb-true _ _ b.0 in
       let high : s.value ≤ 999 = leb-true _ _ b.1 in
-      subst (λ (f : ℕ × ℕ). StandsAt rec at (u16_bytes f.0) f.1 × ((0 < f.0) × (f.0 ≤ 999))) (ok_is (s.value, s.next) found g.1) (s.stands, (omega arith, high));
+      subst (λ (f : ℕ × ℕ). IsCodedAt rec at (u16_bytes f.0) f.1 × ((0 < f.0) × (f.0 ≤ 999))) (ok_is (s.value, s.next) found g.1) (s.holds, (omega arith, high));
   again = λ rec at n next le p fits.
       let low : leb 1 n ≡ true = le-leb _ _ (omega (arith, fits.0)) in
       let high : leb n 999 ≡ true = le-leb _ _ fits.1 in
@@ -73,12 +73,12 @@ amount_fits (negsuc n) h = record { sfits = omega arith }
 pub amount_field : IsField amount_at (λ cents. i64_bytes cents.0) (λ cents. unsigned_abs cents.0 ≤ 9999999999999)
 unfolding amount_at
 amount_field = record {
-  stands = λ rec at found bytes le e.
+  holds = λ rec at found bytes le e.
       let s = step i64_field rec at _ found bytes le e in
       let made : Cents × ℕ = (record { 0 = s.value }, s.next) in
       let g = pass_ok (leb (unsigned_abs s.value) 9999999999999) at (Ok made) found s.rest in
       let small : unsigned_abs s.value ≤ 9999999999999 = leb-true _ _ g.0 in
-      subst (λ (f : Cents × ℕ). StandsAt rec at (amount_bytes f.0) f.1 × IsAmount f.0) (ok_is made found g.1) (s.stands, small);
+      subst (λ (f : Cents × ℕ). IsCodedAt rec at (amount_bytes f.0) f.1 × IsAmount f.0) (ok_is made found g.1) (s.holds, small);
   again = λ rec at cents next le p fits.
       let small : leb (unsigned_abs cents.0) 9999999999999 ≡ true = le-leb _ _ fits in
       rw (i64_field.again rec at cents.0 next le p (amount_fits cents.0 fits), small) refl;
@@ -107,11 +107,11 @@ is_day-true z h = rw (le_from (negsuc 25566) z h.0, le_from z (pos 2932896) h.1)
 pub moment_field : IsField moment_at moment_bytes (λ (at : Moment). IsMoment at.0)
 unfolding moment_at
 moment_field = record {
-  stands = λ rec at found bytes le e.
+  holds = λ rec at found bytes le e.
       let s = step i64_field rec at _ found bytes le e in
       let made : Moment × ℕ = (record { 0 = s.value }, s.next) in
       let g = pass_ok (is_moment s.value) at (Ok made) found s.rest in
-      subst (λ (f : Moment × ℕ). StandsAt rec at (moment_bytes f.0) f.1 × IsMoment f.0.0) (ok_is made found g.1) (s.stands, moment_is s.value g.0);
+      subst (λ (f : Moment × ℕ). IsCodedAt rec at (moment_bytes f.0) f.1 × IsMoment f.0.0) (ok_is made found g.1) (s.holds, moment_is s.value g.0);
   again = λ rec at moment next le p fits.
       rw (i64_field.again rec at moment.0 next le p (moment_fits moment.0 fits), is_moment-true moment.0 fits) refl;
 }
@@ -119,11 +119,11 @@ moment_field = record {
 pub day_field : IsField day_at day_bytes (λ (day : Day). IsDay day.0)
 unfolding day_at
 day_field = record {
-  stands = λ rec at found bytes le e.
+  holds = λ rec at found bytes le e.
       let s = step i32_field rec at _ found bytes le e in
       let made : Day × ℕ = (record { 0 = s.value }, s.next) in
       let g = pass_ok (is_day s.value) at (Ok made) found s.rest in
-      subst (λ (f : Day × ℕ). StandsAt rec at (day_bytes f.0) f.1 × IsDay f.0.0) (ok_is made found g.1) (s.stands, day_is s.value g.0);
+      subst (λ (f : Day × ℕ). IsCodedAt rec at (day_bytes f.0) f.1 × IsDay f.0.0) (ok_is made found g.1) (s.holds, day_is s.value g.0);
   again = λ rec at day next le p fits.
       rw (i32_field.again rec at day.0 next le p (day_fits day.0 fits), is_day-true day.0 fits) refl;
 }

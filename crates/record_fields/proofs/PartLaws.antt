@@ -15,7 +15,7 @@ use Rattle.bank_model.specs.Sound.{IsTextWithin, IsSoundAccount, IsSoundRecur, I
 use Rattle.record_fields.specs.FieldCoding.{u16_bytes, i64_bytes, day_bytes, text_bytes, optional_bytes, kind_number, acct_bytes, freq_number, recur_bytes, info_bytes, mail_bytes}
 use Rattle.record_fields.specs.FieldReading.{filled_text_at, choice_at, optional_at, day_at, count_at}
 use Rattle.record_fields.specs.PartReading.{account_kinds, acct_at, freqs, recur_at, info_at, mail_at}
-use Rattle.record_fields.specs.Fields.{StandsAt, IsField}
+use Rattle.record_fields.specs.Fields.{IsCodedAt, IsField}
 use Rattle.record_fields.proofs.Steps.{ok_is, joined, apart, step}
 use Rattle.record_fields.proofs.NumberLaws.{choice_field, optional_field}
 use Rattle.record_fields.proofs.BoundedLaws.{count_field, amount_field, moment_field, day_field}
@@ -69,13 +69,13 @@ text10000 = filled_field 10000 (omega arith)
 pub acct_field : IsField acct_at acct_bytes IsSoundAccount
 unfolding acct_at acct_bytes
 acct_field = record {
-  stands = λ rec at found bytes le e.
+  holds = λ rec at found bytes le e.
       let a = step text32 rec at _ found bytes le e in
-      let b = step text32 rec a.next _ found bytes a.stands.within a.rest in
-      let c = step kind_field rec b.next _ found bytes b.stands.within b.rest in
+      let b = step text32 rec a.next _ found bytes a.holds.within a.rest in
+      let c = step kind_field rec b.next _ found bytes b.holds.within b.rest in
       let made : AcctName × ℕ = (record { bank = a.value; number = b.value; kind = c.value }, c.next) in
-      subst (λ (f : AcctName × ℕ). StandsAt rec at (acct_bytes f.0) f.1 × IsSoundAccount f.0) {x = made} (ok_is made found c.rest)
-      (joined (joined a.stands b.stands) c.stands, (a.fits, b.fits));
+      subst (λ (f : AcctName × ℕ). IsCodedAt rec at (acct_bytes f.0) f.1 × IsSoundAccount f.0) {x = made} (ok_is made found c.rest)
+      (joined (joined a.holds b.holds) c.holds, (a.fits, b.fits));
   again = λ rec at x next le p fits.
       let c = apart rec at (text_bytes x.bank ++ text_bytes x.number) (kind_number x.kind ∷ []) next le p in
       let b = apart rec at (text_bytes x.bank) (text_bytes x.number) c.mid le c.first in
@@ -131,11 +131,11 @@ optional_count = optional_field count_field
 pub recur_field : IsField recur_at recur_bytes IsSoundRecur
 unfolding recur_at recur_bytes
 recur_field = record {
-  stands = λ rec at found bytes le e.
+  holds = λ rec at found bytes le e.
       let a = step optional_count rec at _ found bytes le e in
-      let b = step freq_field rec a.next _ found bytes a.stands.within a.rest in
+      let b = step freq_field rec a.next _ found bytes a.holds.within a.rest in
       let made : Recur × ℕ = (record { count = a.value; freq = b.value }, b.next) in
-      subst (λ (f : Recur × ℕ). StandsAt rec at (recur_bytes f.0) f.1 × IsSoundRecur f.0) {x = made} (ok_is made found b.rest) (joined a.stands b.stands, a.fits);
+      subst (λ (f : Recur × ℕ). IsCodedAt rec at (recur_bytes f.0) f.1 × IsSoundRecur f.0) {x = made} (ok_is made found b.rest) (joined a.holds b.holds, a.fits);
   again = λ rec at x next le p fits.
       let b = apart rec at (optional_bytes u16_bytes x.count) (freq_number x.freq ∷ []) next le p in
       rw (optional_count.again rec at x.count b.mid le b.first fits, freq_field.again rec b.mid x.freq next b.first.within b.second tt) refl;
@@ -147,14 +147,14 @@ optional_day = optional_field day_field
 pub info_field : IsField info_at info_bytes IsSoundInfo
 unfolding info_at info_bytes
 info_field = record {
-  stands = λ rec at found bytes le e.
+  holds = λ rec at found bytes le e.
       let a = step acct_field rec at _ found bytes le e in
-      let b = step acct_field rec a.next _ found bytes a.stands.within a.rest in
-      let c = step amount_field rec b.next _ found bytes b.stands.within b.rest in
-      let d = step optional_day rec c.next _ found bytes c.stands.within c.rest in
+      let b = step acct_field rec a.next _ found bytes a.holds.within a.rest in
+      let c = step amount_field rec b.next _ found bytes b.holds.within b.rest in
+      let d = step optional_day rec c.next _ found bytes c.holds.within c.rest in
       let made : XferInfo × ℕ = (record { from = a.value; to = b.value; amount = c.value; due = d.value }, d.next) in
-      subst (λ (f : XferInfo × ℕ). StandsAt rec at (info_bytes f.0) f.1 × IsSoundInfo f.0) {x = made} (ok_is made found d.rest)
-      (joined (joined (joined a.stands b.stands) c.stands) d.stands, record { from = a.fits; to = b.fits; amount = c.fits; due = d.fits });
+      subst (λ (f : XferInfo × ℕ). IsCodedAt rec at (info_bytes f.0) f.1 × IsSoundInfo f.0) {x = made} (ok_is made found d.rest)
+      (joined (joined (joined a.holds b.holds) c.holds) d.holds, record { from = a.fits; to = b.fits; amount = c.fits; due = d.fits });
   again = λ rec at x next le p fits.
       let d = apart rec at (acct_bytes x.from ++ acct_bytes x.to ++ i64_bytes x.amount.0) (optional_bytes day_bytes x.due) next le p in
       let c = apart rec at (acct_bytes x.from ++ acct_bytes x.to) (i64_bytes x.amount.0) d.mid le d.first in
@@ -172,15 +172,15 @@ info_field = record {
 pub mail_field : IsField mail_at mail_bytes IsSoundMail
 unfolding mail_at mail_bytes
 mail_field = record {
-  stands = λ rec at found bytes le e.
+  holds = λ rec at found bytes le e.
       let a = step moment_field rec at _ found bytes le e in
-      let b = step text32 rec a.next _ found bytes a.stands.within a.rest in
-      let c = step text32 rec b.next _ found bytes b.stands.within b.rest in
-      let d = step text64 rec c.next _ found bytes c.stands.within c.rest in
-      let f = step text10000 rec d.next _ found bytes d.stands.within d.rest in
+      let b = step text32 rec a.next _ found bytes a.holds.within a.rest in
+      let c = step text32 rec b.next _ found bytes b.holds.within b.rest in
+      let d = step text64 rec c.next _ found bytes c.holds.within c.rest in
+      let f = step text10000 rec d.next _ found bytes d.holds.within d.rest in
       let made : MailText × ℕ = (record { created = a.value; sender = b.value; target = c.value; subject = d.value; body = f.value }, f.next) in
-      subst (λ (m : MailText × ℕ). StandsAt rec at (mail_bytes m.0) m.1 × IsSoundMail m.0) {x = made} (ok_is made found f.rest) (
-        joined (joined (joined (joined a.stands b.stands) c.stands) d.stands) f.stands,
+      subst (λ (m : MailText × ℕ). IsCodedAt rec at (mail_bytes m.0) m.1 × IsSoundMail m.0) {x = made} (ok_is made found f.rest) (
+        joined (joined (joined (joined a.holds b.holds) c.holds) d.holds) f.holds,
         record { created = a.fits; sender = b.fits; target = c.fits; subject = d.fits; body = f.fits },
       );
   again = λ rec at x next le p fits.

@@ -12,12 +12,12 @@ use Rattle.ofx_types.proofs.Bytes.{bytes_eq_is, bytes_eq_self, bytes_eq_other, n
 use Rattle.bank_model.specs.Sound.{IsTextWithin, IsClientUid}
 use Rattle.record_fields.specs.FieldCoding.{u16_bytes, text_bytes, uid_bytes, file_uid_bytes}
 use Rattle.record_fields.specs.FieldReading.{◌>>=◌, bytes_at, is_text, text_at, filled_text_at, is_trnuid, trnuid_at, given_uid_at, is_file_uid, file_uid_at}
-use Rattle.record_fields.specs.Fields.{StandsAt, IsField}
-use Rattle.record_fields.proofs.Steps.{bind_ok, guard_ok, pass_ok, ok_is, stands_then, apart, step}
-use Rattle.record_fields.proofs.NumberLaws.{u8_field, bytes_stand, bytes_again}
+use Rattle.record_fields.specs.Fields.{IsCodedAt, IsField}
+use Rattle.record_fields.proofs.Steps.{bind_ok, guard_ok, pass_ok, ok_is, holds_then, apart, step}
+use Rattle.record_fields.proofs.NumberLaws.{u8_field, bytes_hold, bytes_again}
 use Rattle.record_fields.proofs.BoundedLaws.{u16_field}
 
--- ---- which bytes are texts and uids as they stand
+-- ---- which bytes are texts and uids as they are
 
 text_is : (most : ℕ) (text : List ℕ) → most < 2 ^ 32 → is_text most text ≡ true → (length text ≤ most) × IsText text
 text_is most text small h =
@@ -70,14 +70,14 @@ is_file_uid-true uid fits =
 pub text_field : (most : ℕ) → most < 2 ^ 16 → IsField (text_at most) text_bytes (λ text. (length text ≤ most) × IsText text)
 unfolding text_at text_bytes
 text_field most small = record {
-  stands = λ rec at found bytes le e.
+  holds = λ rec at found bytes le e.
       let s = step u16_field rec at (λ size. bytes_at size.0 rec at size.1 >>= λ text. cond (is_text most text.0) (Ok text) (Err at)) found bytes le e in
       let b = bind_ok (bytes_at s.value rec at s.next) (λ text. cond (is_text most text.0) (Ok text) (Err at)) found s.rest in
-      let cut = bytes_stand s.value rec at s.next b.0 bytes b.1 in
+      let cut = bytes_hold s.value rec at s.next b.0 bytes b.1 in
       let g = pass_ok (is_text most b.0.0) at (Ok b.0) found b.2 in
-      let head : StandsAt rec at (u16_bytes (length b.0.0)) s.next = subst (λ (n : ℕ). StandsAt rec at (u16_bytes n) s.next) (sym cut.sized) s.stands in
-      subst (λ (f : List ℕ × ℕ). StandsAt rec at (text_bytes f.0) f.1 × ((length f.0 ≤ most) × IsText f.0)) (ok_is b.0 found g.1)
-      (stands_then rec at (u16_bytes (length b.0.0)) s.next b.0.0 b.0.1 head cut.stands, text_is most b.0.0 (omega arith) g.0);
+      let head : IsCodedAt rec at (u16_bytes (length b.0.0)) s.next = subst (λ (n : ℕ). IsCodedAt rec at (u16_bytes n) s.next) (sym cut.sized) s.holds in
+      subst (λ (f : List ℕ × ℕ). IsCodedAt rec at (text_bytes f.0) f.1 × ((length f.0 ≤ most) × IsText f.0)) (ok_is b.0 found g.1)
+      (holds_then rec at (u16_bytes (length b.0.0)) s.next b.0.0 b.0.1 head cut.holds, text_is most b.0.0 (omega arith) g.0);
   again = λ rec at text next le p fits.
       let a = apart rec at (u16_bytes (length text)) text next le p in
       rw (u16_field.again rec at (length text) a.mid le a.first (omega (arith, fits.0)), bytes_again (length text) rec at a.mid text next a.first.within a.second refl, is_text-true most text fits.0 fits.1) refl;
@@ -86,11 +86,11 @@ text_field most small = record {
 pub filled_field : (most : ℕ) → most < 2 ^ 16 → IsField (filled_text_at most) text_bytes (IsTextWithin most)
 unfolding filled_text_at
 filled_field most small = record {
-  stands = λ rec at found bytes le e.
+  holds = λ rec at found bytes le e.
       let s = step (text_field most small) rec at (λ text. cond (nat_eq (length text.0) 0) (Err at) (Ok text)) found bytes le e in
       let g = guard_ok (nat_eq (length s.value) 0) at (Ok (s.value, s.next)) found s.rest in
-      subst (λ (f : List ℕ × ℕ). StandsAt rec at (text_bytes f.0) f.1 × IsTextWithin most f.0) (ok_is (s.value, s.next) found g.1)
-      (s.stands, record { is_text = s.fits.1; is_there = not_empty s.value g.0; is_within = s.fits.0 });
+      subst (λ (f : List ℕ × ℕ). IsCodedAt rec at (text_bytes f.0) f.1 × IsTextWithin most f.0) (ok_is (s.value, s.next) found g.1)
+      (s.holds, record { is_text = s.fits.1; is_there = not_empty s.value g.0; is_within = s.fits.0 });
   again = λ rec at text next le p fits.
       rw ((text_field most small).again rec at text next le p (fits.is_within, fits.is_text), not_zero (length text) fits.is_there) refl;
 }
@@ -100,14 +100,14 @@ filled_field most small = record {
 pub trnuid_field : IsField trnuid_at uid_bytes IsTrnUid
 unfolding trnuid_at uid_bytes
 trnuid_field = record {
-  stands = λ rec at found bytes le e.
+  holds = λ rec at found bytes le e.
       let s = step u8_field rec at (λ size. bytes_at size.0 rec at size.1 >>= λ uid. cond (is_trnuid uid.0) (Ok uid) (Err at)) found bytes le e in
       let b = bind_ok (bytes_at s.value rec at s.next) (λ uid. cond (is_trnuid uid.0) (Ok uid) (Err at)) found s.rest in
-      let cut = bytes_stand s.value rec at s.next b.0 bytes b.1 in
+      let cut = bytes_hold s.value rec at s.next b.0 bytes b.1 in
       let g = pass_ok (is_trnuid b.0.0) at (Ok b.0) found b.2 in
-      let head : StandsAt rec at (length b.0.0 ∷ []) s.next = subst (λ (n : ℕ). StandsAt rec at (n ∷ []) s.next) (sym cut.sized) s.stands in
-      subst (λ (f : List ℕ × ℕ). StandsAt rec at (uid_bytes f.0) f.1 × IsTrnUid f.0) (ok_is b.0 found g.1)
-      (stands_then rec at (length b.0.0 ∷ []) s.next b.0.0 b.0.1 head cut.stands, trnuid_is b.0.0 g.0);
+      let head : IsCodedAt rec at (length b.0.0 ∷ []) s.next = subst (λ (n : ℕ). IsCodedAt rec at (n ∷ []) s.next) (sym cut.sized) s.holds in
+      subst (λ (f : List ℕ × ℕ). IsCodedAt rec at (uid_bytes f.0) f.1 × IsTrnUid f.0) (ok_is b.0 found g.1)
+      (holds_then rec at (length b.0.0 ∷ []) s.next b.0.0 b.0.1 head cut.holds, trnuid_is b.0.0 g.0);
   again = λ rec at uid next le p fits.
       let a = apart rec at (length uid ∷ []) uid next le p in
       rw (u8_field.again rec at (length uid) a.mid le a.first (omega (arith, fits.is_within)), bytes_again (length uid) rec at a.mid uid next a.first.within a.second refl, is_trnuid-true uid fits) refl;
@@ -116,19 +116,19 @@ trnuid_field = record {
 pub given_uid_field : IsField given_uid_at uid_bytes IsClientUid
 unfolding given_uid_at
 given_uid_field = record {
-  stands = λ rec at found bytes le e.
+  holds = λ rec at found bytes le e.
       let s = step trnuid_field rec at (λ uid. cond (bytes_eq uid.0 (codes "0")) (Err at) (Ok uid)) found bytes le e in
       let g = guard_ok (bytes_eq s.value (codes "0")) at (Ok (s.value, s.next)) found s.rest in
       let differ : s.value ≢ codes "0" = λ same. let word : bytes_eq s.value (codes "0") ≡ true = ap (λ (t : List ℕ). bytes_eq t (codes "0")) same in cc in
-      subst (λ (f : List ℕ × ℕ). StandsAt rec at (uid_bytes f.0) f.1 × IsClientUid f.0) (ok_is (s.value, s.next) found g.1)
-      (s.stands, (differ, s.fits));
+      subst (λ (f : List ℕ × ℕ). IsCodedAt rec at (uid_bytes f.0) f.1 × IsClientUid f.0) (ok_is (s.value, s.next) found g.1)
+      (s.holds, (differ, s.fits));
   again = λ rec at uid next le p fits.
       rw (trnuid_field.again rec at uid next le p fits.1, bytes_eq_other uid (codes "0") fits.0) refl;
 }
 
-file_uid_went : (rec : List ℕ) (at size next : ℕ) (uid : List ℕ × ℕ) (found : Option (List ℕ) × ℕ) → StandsAt rec at (size ∷ []) next → StandsAt rec next uid.0 uid.1 → length uid.0 ≡ size
+file_uid_went : (rec : List ℕ) (at size next : ℕ) (uid : List ℕ × ℕ) (found : Option (List ℕ) × ℕ) → IsCodedAt rec at (size ∷ []) next → IsCodedAt rec next uid.0 uid.1 → length uid.0 ≡ size
     → cond (nat_eq size 0) (Ok (None, uid.1)) (cond (is_file_uid uid.0) (Ok (Some uid.0, uid.1)) (Err at)) ≡ Ok found
-    → StandsAt rec at (file_uid_bytes found.0) found.1 × IfSome found.0 IsFileUid
+    → IsCodedAt rec at (file_uid_bytes found.0) found.1 × IfSome found.0 IsFileUid
 unfolding uid_bytes
 file_uid_went rec at size next uid found p q sized e =
     elim (went (nat_eq size 0) (Ok (None, uid.1)) (cond (is_file_uid uid.0) (Ok (Some uid.0, uid.1)) (Err at)) (Ok found) e) [
@@ -136,26 +136,26 @@ file_uid_went rec at size next uid found p q sized e =
           let none : size ≡ 0 = eqb-true _ _ h.0 in
           let made : Option (List ℕ) × ℕ = (None, uid.1) in
           let nothing : uid.0 ≡ [] = nil_from_length uid.0 (sized ∙ none) in
-          let head : StandsAt rec at (0 ∷ []) next = subst (λ (n : ℕ). StandsAt rec at (n ∷ []) next) none p in
-          let tail : StandsAt rec next [] uid.1 = subst (λ (t : List ℕ). StandsAt rec next t uid.1) nothing q in
-          subst (λ (f : Option (List ℕ) × ℕ). StandsAt rec at (file_uid_bytes f.0) f.1 × IfSome f.0 IsFileUid) (ok_is made found h.1)
-          (stands_then rec at (0 ∷ []) next [] uid.1 head tail, tt)
+          let head : IsCodedAt rec at (0 ∷ []) next = subst (λ (n : ℕ). IsCodedAt rec at (n ∷ []) next) none p in
+          let tail : IsCodedAt rec next [] uid.1 = subst (λ (t : List ℕ). IsCodedAt rec next t uid.1) nothing q in
+          subst (λ (f : Option (List ℕ) × ℕ). IsCodedAt rec at (file_uid_bytes f.0) f.1 × IfSome f.0 IsFileUid) (ok_is made found h.1)
+          (holds_then rec at (0 ∷ []) next [] uid.1 head tail, tt)
       | inr h ↦
           let g = pass_ok (is_file_uid uid.0) at (Ok (Some uid.0, uid.1)) found h.1 in
           let made : Option (List ℕ) × ℕ = (Some uid.0, uid.1) in
-          let head : StandsAt rec at (length uid.0 ∷ []) next = subst (λ (n : ℕ). StandsAt rec at (n ∷ []) next) (sym sized) p in
-          subst (λ (f : Option (List ℕ) × ℕ). StandsAt rec at (file_uid_bytes f.0) f.1 × IfSome f.0 IsFileUid) (ok_is made found g.1)
-          (stands_then rec at (length uid.0 ∷ []) next uid.0 uid.1 head q, file_uid_is uid.0 g.0)
+          let head : IsCodedAt rec at (length uid.0 ∷ []) next = subst (λ (n : ℕ). IsCodedAt rec at (n ∷ []) next) (sym sized) p in
+          subst (λ (f : Option (List ℕ) × ℕ). IsCodedAt rec at (file_uid_bytes f.0) f.1 × IfSome f.0 IsFileUid) (ok_is made found g.1)
+          (holds_then rec at (length uid.0 ∷ []) next uid.0 uid.1 head q, file_uid_is uid.0 g.0)
     ]
 
--- nothing stands at each place
-pub nothing_stands : (rec : List ℕ) (next : ℕ) → next ≤ length rec → StandsAt rec next [] next
-nothing_stands rec next le = record { parts = refl; within = le }
+-- nothing is at each place
+pub nothing_holds : (rec : List ℕ) (next : ℕ) → next ≤ length rec → IsCodedAt rec next [] next
+nothing_holds rec next le = record { parts = refl; within = le }
 
-file_uid_again : (rec : List ℕ) (at : ℕ) (uid : Option (List ℕ)) (next : ℕ) → at ≤ length rec → StandsAt rec at (file_uid_bytes uid) next → IfSome uid IsFileUid → file_uid_at rec at ≡ Ok (uid, next)
+file_uid_again : (rec : List ℕ) (at : ℕ) (uid : Option (List ℕ)) (next : ℕ) → at ≤ length rec → IsCodedAt rec at (file_uid_bytes uid) next → IfSome uid IsFileUid → file_uid_at rec at ≡ Ok (uid, next)
 unfolding file_uid_at uid_bytes
 file_uid_again rec at None next le p fits =
-    rw (u8_field.again rec at 0 next le p (omega arith), bytes_again 0 rec at next [] next p.within (nothing_stands rec next p.within) refl) refl
+    rw (u8_field.again rec at 0 next le p (omega arith), bytes_again 0 rec at next [] next p.within (nothing_holds rec next p.within) refl) refl
 file_uid_again rec at (Some uid) next le p fits =
     let a = apart rec at (length uid ∷ []) uid next le p in
     rw (u8_field.again rec at (length uid) a.mid le a.first (omega (arith, fits.is_within)), bytes_again (length uid) rec at a.mid uid next a.first.within a.second refl, is_file_uid-true uid fits, not_zero (length uid) fits.is_there) refl
@@ -163,10 +163,10 @@ file_uid_again rec at (Some uid) next le p fits =
 pub file_uid_field : IsField file_uid_at file_uid_bytes (λ uid. IfSome uid IsFileUid)
 unfolding file_uid_at
 file_uid_field = record {
-  stands = λ rec at found bytes le e.
+  holds = λ rec at found bytes le e.
       let s = step u8_field rec at (λ size. bytes_at size.0 rec at size.1 >>= λ uid. cond (nat_eq size.0 0) (Ok (None, uid.1)) (cond (is_file_uid uid.0) (Ok (Some uid.0, uid.1)) (Err at))) found bytes le e in
       let b = bind_ok (bytes_at s.value rec at s.next) (λ uid. cond (nat_eq s.value 0) (Ok (None, uid.1)) (cond (is_file_uid uid.0) (Ok (Some uid.0, uid.1)) (Err at))) found s.rest in
-      let cut = bytes_stand s.value rec at s.next b.0 bytes b.1 in
-      file_uid_went rec at s.value s.next b.0 found s.stands cut.stands cut.sized b.2;
+      let cut = bytes_hold s.value rec at s.next b.0 bytes b.1 in
+      file_uid_went rec at s.value s.next b.0 found s.holds cut.holds cut.sized b.2;
   again = λ rec at uid next le p fits. file_uid_again rec at uid next le p fits;
 }

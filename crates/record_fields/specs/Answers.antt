@@ -3,7 +3,7 @@ use Rattle.std.specs.Prelude.{◌≡◌, ℕ, Result, Ok, Err}
 use Rattle.record_fields.specs.declared.fault.RecordFault.{RecordFault}
 use Rattle.record_fields.specs.declared.fault.RecordFault.TheVariants as faults
 
--- A refusal is the place of the first field without a form, unless memory was refused.
+-- A refusal is the offset of the first field without a form, unless memory was refused.
 abbrev pub Fails : {A : Type 0} → RecordFault → Result A ℕ → Type 0
 Fails (faults.Version n) read = ⊥
 Fails (faults.Bad at) read = read ≡ Err at

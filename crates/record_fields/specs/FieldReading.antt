@@ -1,4 +1,4 @@
--- Reading a record from left to right: the value that stands at a place and the place after it, or the place of the first
+-- Reading a record from left to right: the value that is at an offset and the offset after it, or the offset of the first
 -- field that has no form. A field is a number, a flag, a text or a uid with its length, or the byte that leads a choice.
 use Rattle.std.specs.Prelude.{ℕ, ◌+◌, ℤ, pos, negsuc, unsigned_abs, int_le, nat_lt, nat_le, ◌==◌, ◌&&◌, Bool, true, false, if◌then◌else◌, List, length, slice_get, slice_index, slice_range, codes, Option, None, Some, is_none, Result, Ok, Err}
 use Rattle.std.specs.Str.{bytes_eq}
@@ -16,7 +16,7 @@ use Rattle.ofx_types.specs.declared.number.Cents.{Cents}
 unfoldable pub u8_at : List ℕ → ℕ → Result (ℕ × ℕ) ℕ
 u8_at rec at = if nat_lt at (length rec) then Ok (slice_index rec at, at + 1) else Err at
 
--- this many bytes from a place on, in a field that begins there or earlier
+-- this many bytes from an offset on, in a field that begins there or earlier
 unfoldable pub bytes_at : ℕ → List ℕ → ℕ → ℕ → Result (List ℕ × ℕ) ℕ
 bytes_at size rec at start =
     if nat_lt (length rec) (start + size) then Err at else Ok (slice_range rec start (start + size), start + size)
@@ -106,7 +106,7 @@ count_at rec at = do
 
 -- ---- texts and uids
 
--- A text is proper as it stands: nothing is left to trim, it isn't above the limit, and no byte is refused.
+-- A text is proper as it is: nothing is left to trim, it isn't above the limit, and no byte is refused.
 abbrev pub is_text : ℕ → List ℕ → Bool
 is_text most text = bytes_eq (trimmed text) text && is_none (text_fault is_refused_in_text most text)
 

@@ -5,14 +5,14 @@ use Rattle.std.specs.Prelude.{◌≡◌, ℕ, ◌<◌, ◌≤◌, List, ◌++◌
 abbrev pub IsBytes : List ℕ → Type 0
 IsBytes rec = (i : ℕ) → slice_index rec i < 256
 
--- These bytes stand in a record from a place up to the next.
-pub record StandsAt (rec : List ℕ) (at : ℕ) (bytes : List ℕ) (next : ℕ) : Type 0 where
+-- These bytes stand in a record from an offset up to the next.
+pub record IsCodedAt (rec : List ℕ) (at : ℕ) (bytes : List ℕ) (next : ℕ) : Type 0 where
   pub parts : drop at rec ≡ bytes ++ drop next rec
   pub within : next ≤ length rec
 
 -- Reading gives a value exactly where its coding stands, of the values that are within their bounds.
 pub record IsField {A : Type 0} (read : List ℕ → ℕ → Result (A × ℕ) ℕ) (coding : A → List ℕ) (Fits : A → Type 0) : Type 0 where
-  pub stands : (rec : List ℕ) (at : ℕ) (found : A × ℕ) → IsBytes rec → at ≤ length rec → read rec at ≡ Ok found
-      → StandsAt rec at (coding found.0) found.1 × Fits found.0
-  pub again : (rec : List ℕ) (at : ℕ) (value : A) (next : ℕ) → at ≤ length rec → StandsAt rec at (coding value) next → Fits value
+  pub holds : (rec : List ℕ) (at : ℕ) (found : A × ℕ) → IsBytes rec → at ≤ length rec → read rec at ≡ Ok found
+      → IsCodedAt rec at (coding found.0) found.1 × Fits found.0
+  pub again : (rec : List ℕ) (at : ℕ) (value : A) (next : ℕ) → at ≤ length rec → IsCodedAt rec at (coding value) next → Fits value
       → read rec at ≡ Ok (value, next)

@@ -10,10 +10,10 @@ use crate::number::{get_i32, get_i64, get_u16, get_u64};
 use ofx_types::{Cents, Day, Moment};
 
 /// The greatest id, which has ten digits.
-const MOST_ID: u64 = 9_999_999_999;
+const MAX_ID: u64 = 9_999_999_999;
 
 /// The greatest amount in cents, either way.
-const MOST_CENTS: u64 = 9_999_999_999_999;
+const MAX_CENTS: u64 = 9_999_999_999_999;
 
 /// An id of at most ten digits.
 #[tactic(auto, unfolding(crate::specs::FieldReading::id_at))]
@@ -23,7 +23,7 @@ pub fn get_id(rec: &[u8], at: usize) -> Result<(u64, usize), RecordFault>
     ensures within { IfOk result (λ found. found.1 ≤ length rec.now) }
 {
     let (id, next) = get_u64(rec, at)?;
-    if id > MOST_ID {
+    if id > MAX_ID {
         return Err(RecordFault::Bad(at as u64));
     }
     Ok((id, next))
@@ -37,7 +37,7 @@ pub fn get_amount(rec: &[u8], at: usize) -> Result<(Cents, usize), RecordFault>
     ensures within { IfOk result (λ found. found.1 ≤ length rec.now) }
 {
     let (cents, next) = get_i64(rec, at)?;
-    if cents.unsigned_abs() > MOST_CENTS {
+    if cents.unsigned_abs() > MAX_CENTS {
         return Err(RecordFault::Bad(at as u64));
     }
     Ok((Cents(cents), next))

@@ -1,8 +1,8 @@
 //! The fields of kept records: one coding of numbers, flags, texts, uids, accounts, series, transfers and mails, with
 //! its readers and writers.
 //!
-//! Each field has a writer, which appends its coding, and a reader, which gives the value that stands at a place and the
-//! place after it, or the place of the first field without a form. Where memory is refused, a writer may have appended a
+//! Each field has a writer, which appends its coding, and a reader, which gives the value that is at an offset and the
+//! place after it, or the offset of the first field without a form. Where memory is refused, a writer may have appended a
 //! part of the coding, and what stood before it is kept. The laws tell that reading finds just what the coding says.
 #![tactic(auto)]
 

@@ -11,7 +11,7 @@ use crate::number::{get_bytes, get_u16, put_u16};
 use ofx_types::{OutOfMemory, Text, TextFault, trim};
 use std::alloc::Global;
 
-/// The text that the bytes are as they stand, with nothing to trim.
+/// The text that the bytes are as they are, with nothing to trim.
 fn text_of(alloc: Global, bytes: &[u8], most: u32) -> Result<Option<Text>, OutOfMemory>
     ensures { IfOk result (λ found. MatchOption found (is_text most bytes.now ≡ false)
         (λ text. (is_text most bytes.now ≡ true) × (text ≡ bytes.now))) }
@@ -28,8 +28,8 @@ fn text_of(alloc: Global, bytes: &[u8], most: u32) -> Result<Option<Text>, OutOf
 
 /// The text of at most `most` bytes at `at`, which may be empty.
 ///
-/// `Bad(at)` where the record ends within it, where it is longer, where white space stands at either end, and where a
-/// control byte other than tab, LF and CR stands in it.
+/// `Bad(at)` where the record ends within it, where it is longer, where white space is at either end, and where a
+/// control byte other than tab, LF and CR is in it.
 #[tactic(auto, unfolding(crate::specs::FieldReading::text_at))]
 pub fn get_text(
     alloc: Global,

@@ -14,7 +14,7 @@ use ofx_types::{FileUid, OutOfMemory, TrnUid, trim};
 /// The uid of the bank's own deeds.
 const NO_CLIENT: &[u8; 1] = b"0";
 
-/// The uid that the bytes are as they stand.
+/// The uid that the bytes are as they are.
 fn trnuid_of(bytes: &[u8]) -> Option<TrnUid>
     ensures { MatchOption result (is_trnuid bytes.now ≡ false) (λ uid. (is_trnuid bytes.now ≡ true) × (uid ≡ bytes.now)) }
 {
@@ -29,7 +29,7 @@ fn trnuid_of(bytes: &[u8]) -> Option<TrnUid>
 
 /// The uid of a transaction at `at`.
 ///
-/// `Bad(at)` where the record ends within it, and where its bytes are no uid as they stand.
+/// `Bad(at)` where the record ends within it, and where its bytes are no uid as they are.
 #[tactic(auto, unfolding(crate::specs::FieldReading::trnuid_at))]
 pub fn get_trnuid(rec: &[u8], at: usize) -> Result<(TrnUid, usize), RecordFault>
     requires { at ≤ length rec.now }
@@ -60,7 +60,7 @@ pub fn get_given_uid(rec: &[u8], at: usize) -> Result<(TrnUid, usize), RecordFau
     Ok((uid, next))
 }
 
-/// The uid that the bytes are as they stand.
+/// The uid that the bytes are as they are.
 fn file_uid_of(bytes: &[u8]) -> Option<FileUid>
     ensures { MatchOption result (is_file_uid bytes.now ≡ false) (λ uid. (is_file_uid bytes.now ≡ true) × (uid ≡ bytes.now)) }
 {
@@ -75,7 +75,7 @@ fn file_uid_of(bytes: &[u8]) -> Option<FileUid>
 
 /// The uid of a file at `at`, or none.
 ///
-/// `Bad(at)` where the record ends within it, and where its bytes are no uid as they stand.
+/// `Bad(at)` where the record ends within it, and where its bytes are no uid as they are.
 #[tactic(auto, unfolding(crate::specs::FieldReading::file_uid_at))]
 pub fn get_file_uid(rec: &[u8], at: usize) -> Result<(Option<FileUid>, usize), RecordFault>
     requires { at ≤ length rec.now }

@@ -13,7 +13,7 @@ use std::{fs, io};
 const MODE: u32 = 0o600;
 
 /// The most bytes of a setup.
-const MOST: u64 = 262_144;
+const MAX_BYTES: u64 = 262_144;
 
 /// Whether the records at this path are bound to a setup, whose text without passwords is `lines`.
 pub fn find_beside(rt: &HostRuntime, path: &str, lines: &str) -> Result<Binding, Cause> {
@@ -57,6 +57,6 @@ fn beside(rt: &HostRuntime, path: &str) -> Result<String, AllocError> {
 fn text_of(rt: &HostRuntime, path: &str) -> io::Result<String> {
     let file = File::open(rt, path)?;
     let mut text = String::new(rt.alloc());
-    file.take(MOST).read_to_string(&mut text)?;
+    file.take(MAX_BYTES).read_to_string(&mut text)?;
     Ok(text)
 }

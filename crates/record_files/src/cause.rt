@@ -75,7 +75,7 @@ impl Drop for Cause {
 impl fmt::Display for Cause {
     fn fmt<W: fmt::Write>(&self, f: &mut fmt::Formatter<W>) -> fmt::Result {
         match self {
-            Cause::OtherSetup(line, was) => tell_other_setup(f, *line, was.as_str()),
+            Cause::OtherSetup(line, was) => report_other_setup(f, *line, was.as_str()),
             Cause::Gap(number) => write!(f, "record {number} is missing; restore a copy"),
             Cause::Cut(number) => write!(f, "the file ends within record {number}; restore a copy"),
             Cause::System(error) => write!(f, "{error}"),
@@ -85,7 +85,11 @@ impl fmt::Display for Cause {
 }
 
 /// What is said of records that began with another setup.
-fn tell_other_setup<W: fmt::Write>(f: &mut fmt::Formatter<W>, line: u64, was: &str) -> fmt::Result {
+fn report_other_setup<W: fmt::Write>(
+    f: &mut fmt::Formatter<W>,
+    line: u64,
+    was: &str,
+) -> fmt::Result {
     if was.is_empty() {
         return write!(
             f,

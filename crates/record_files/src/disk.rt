@@ -9,7 +9,7 @@ use disk_keeper::{Disk, DiskFault, DiskKeeper, FileDisk, MemDisk};
 use std::io::ErrorKind;
 
 /// The most bytes of a file that is copied.
-const MOST: u64 = i64::MAX as u64;
+const MAX_BYTES: u64 = i64::MAX as u64;
 
 /// The keeper on the file of this path. One that isn't there or is empty is made, with no records.
 pub fn on_disk(rt: &HostRuntime, path: &str) -> Result<DiskKeeper<FileDisk>, Cause>
@@ -83,7 +83,7 @@ pub fn read_disk(rt: &HostRuntime, path: &str) -> Result<Option<DiskKeeper<MemDi
         return Ok(None);
     }
     let size = bytes.len() as u64;
-    if size > MOST {
+    if size > MAX_BYTES {
         return Err(Cause::NoMemory);
     }
     match MemDisk::new(rt.alloc(), bytes.as_slice(), size) {

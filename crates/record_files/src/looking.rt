@@ -22,7 +22,7 @@ pub fn cause_of(error: io::Error) -> Cause {
     }
 }
 
-/// Whether anything stands at this path.
+/// Whether anything is at this path.
 pub fn is_there(rt: &HostRuntime, path: &str) -> bool {
     fs::symlink_metadata(rt, path).is_ok()
 }

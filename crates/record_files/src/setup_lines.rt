@@ -8,7 +8,7 @@ fn without_password(line: &str) -> &str {
         return line;
     }
     match line.rsplit_once(' ') {
-        Some((front, _password)) => front,
+        Some((prefix, _password)) => prefix,
         None => line,
     }
 }

@@ -109,7 +109,7 @@ fn records_in<S: Alter>(
     Ok(Ok(records))
 }
 
-/// What stands where the record of a number is looked for.
+/// What is where the record of a number is looked for.
 #[derive(Drop)]
 enum Next {
     /// It.

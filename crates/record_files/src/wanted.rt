@@ -1,6 +1,6 @@
 //! What a line of a setup has to be.
 
-/// What a line has to be that stands at this number, from 1, and has no form there. It isn't shown, since it may have a
+/// What a line has to be that is at this number, from 1, and has no form there. It isn't shown, since it may have a
 /// password.
 pub fn wanted_in(setup: &[u8], number: u64) -> &'static str {
     match number {

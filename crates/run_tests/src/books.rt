@@ -34,7 +34,7 @@ impl Printer for NoPrinter {
 }
 
 /// A keeper of two records, of which the first is a letter.
-fn behind_a_letter(rt: &impl Abort, alloc: Global, rec: &[u8]) -> MemKeeper
+fn after_a_letter(rt: &impl Abort, alloc: Global, rec: &[u8]) -> MemKeeper
     ensures { is_some result.landed ≡ false }
 {
     let mut keeper = MemKeeper::new(alloc);
@@ -58,7 +58,7 @@ fn an_empty_keeper_opens_the_bank(rt: HostRuntime) {
 #[test]
 fn what_was_kept_has_happened(rt: HostRuntime) {
     let alloc = rt.alloc();
-    let mut keeper = behind_a_letter(&rt, alloc, LETTER);
+    let mut keeper = after_a_letter(&rt, alloc, LETTER);
     let opened = reopen(alloc, keys(&rt), &mut keeper, setup(&rt, alloc), NoPrinter);
     let (book, accounts) = opened.expect(&rt, "a bank");
     assert_eq!(rt; book.next_number(), Some(3));
@@ -66,8 +66,8 @@ fn what_was_kept_has_happened(rt: HostRuntime) {
 }
 
 /// Why no bank opens from records of which the first is a letter.
-fn fault_behind_a_letter(rt: &impl Abort, alloc: Global, rec: &[u8]) -> Option<OpenFault> {
-    let mut keeper = behind_a_letter(rt, alloc, rec);
+fn fault_after_a_letter(rt: &impl Abort, alloc: Global, rec: &[u8]) -> Option<OpenFault> {
+    let mut keeper = after_a_letter(rt, alloc, rec);
     reopen(alloc, keys(rt), &mut keeper, setup(rt, alloc), NoPrinter).err()
 }
 
@@ -83,10 +83,10 @@ const STRANGE: &[(&[u8], OpenFault)] = &[
 ];
 
 #[test]
-fn the_record_that_stops_a_bank_is_told(rt: HostRuntime) {
+fn the_record_that_stops_a_bank_is_reported(rt: HostRuntime) {
     for case in STRANGE.iter() {
         let (rec, fault) = *case;
-        assert_eq!(rt; fault_behind_a_letter(&rt, rt.alloc(), rec), Some(fault));
+        assert_eq!(rt; fault_after_a_letter(&rt, rt.alloc(), rec), Some(fault));
     }
 }
 

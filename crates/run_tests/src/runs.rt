@@ -28,19 +28,19 @@ const NAMES: [&[u8; 2]; 3] = [b"s1", b"s2", b"s3"];
 
 /// What a run with these words, this keeper and this clock told, and what it wrote, by the sample's setup. First it is settled
 /// which records stand.
-fn told_over(
+fn reported_over(
     rt: &impl Abort,
     alloc: Global,
-    words: &[&str],
+    arguments: &[&str],
     mut input: MemSource,
     mut out: MemSink,
     keeper: &mut MemKeeper,
     clock: &mut MemClock,
 ) -> (Told, Vec<u8>) {
-    let texts = texts(rt, alloc, words);
+    let texts = texts(rt, alloc, arguments);
     let mut setup = source(rt, alloc, SETUP);
     let _ = keeper.settle().expect(rt, "the records that stand");
-    let told = answer_told(
+    let reported = answer_told(
         alloc,
         keys(rt),
         &texts,
@@ -50,7 +50,7 @@ fn told_over(
         keeper,
         clock,
     );
-    (told, written_to(rt, alloc, &out))
+    (reported, written_to(rt, alloc, &out))
 }
 
 /// What was written to a sink.
@@ -80,8 +80,8 @@ fn written_over(
 ) -> String {
     let input = source(rt, alloc, joined(rt, alloc, frames).as_bytes());
     let out = sink(rt, alloc);
-    let (told, written) = told_over(rt, alloc, &BY_CLOCK, input, out, keeper, clock);
-    if told.status != Status(0) {
+    let (reported, written) = reported_over(rt, alloc, &BY_CLOCK, input, out, keeper, clock);
+    if reported.status != Status(0) {
         return String::new(alloc);
     }
     spelled(rt, alloc, &written)
@@ -131,7 +131,7 @@ fn failing_sink(rt: &impl Abort, alloc: Global, most: usize, failing: &[u64]) ->
     MemSink::failing(alloc, ROOM, most, failing).expect(rt, "a sink")
 }
 
-/// What is told of an end.
+/// What is reported of an end.
 fn end(status: u8, note: Note) -> Told {
     Told {
         status: Status(status),
@@ -224,10 +224,10 @@ fn words_of_no_command_touch_nothing(rt: HostRuntime) {
     let mut input = source(&rt, alloc, b"DUE\n");
     let mut out = sink(&rt, alloc);
     let mut clock = MemClock::new(alloc, &[Moment(0), Moment(1)]).expect(&rt, "a clock");
-    for words in NO_COMMANDS.iter() {
-        let texts = texts(&rt, alloc, *words);
+    for arguments in NO_COMMANDS.iter() {
+        let texts = texts(&rt, alloc, *arguments);
         let mut keeper = MemKeeper::new(alloc);
-        let told = answer_told(
+        let reported = answer_told(
             alloc,
             keys(&rt),
             &texts,
@@ -237,7 +237,7 @@ fn words_of_no_command_touch_nothing(rt: HostRuntime) {
             &mut keeper,
             &mut clock,
         );
-        assert_eq!(rt; told, end(2, Note::Plain));
+        assert_eq!(rt; reported, end(2, Note::Plain));
         assert_eq!(rt; keeper.calls(), 0);
     }
     assert_eq!(rt; setup.calls(), 0);

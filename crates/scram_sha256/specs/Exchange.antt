@@ -35,7 +35,7 @@ None >>= f = None
 abbrev pub is_comma : ℕ → Bool
 is_comma b = b == 44
 
--- An attribute is a letter, an equals sign, and what stands before the next comma.
+-- An attribute is a letter, an equals sign, and what precedes the next comma.
 abbrev pub attribute : (letter : ℕ) → List ℕ → Option (List ℕ × List ℕ)
 attribute letter [] = None
 attribute letter (x ∷ []) = None

@@ -52,7 +52,7 @@ pub fn read_challenge(alloc: Global, text: &[u8]) -> Result<Challenge, ScramFaul
     })
 }
 
-/// The attribute of this letter at the front, and what follows its comma.
+/// The attribute of this letter at the start, and what follows its comma.
 fn read_attribute(letter: u8, text: &[u8]) -> Result<(&[u8], &[u8]), ScramFault>
     ensures { Answers (λ x. (x.0.now, x.1.now)) result (attribute letter text.now) }
 {
@@ -62,7 +62,7 @@ fn read_attribute(letter: u8, text: &[u8]) -> Result<(&[u8], &[u8]), ScramFault>
     }
 }
 
-/// What stands before the first comma, and after it.
+/// What precedes the first comma, and after it.
 fn split_at_comma(text: &[u8]) -> (&[u8], &[u8])
     ensures before { result.0.now ≡ before_first is_comma text.now }
     ensures after { result.1.now ≡ after_first is_comma text.now }
@@ -74,7 +74,7 @@ fn split_at_comma(text: &[u8]) -> (&[u8], &[u8])
 }
 
 fn comma_in(text: &[u8]) -> Option<usize>
-    ensures place { result ≡ position is_comma text.now }
+    ensures offset { result ≡ position is_comma text.now }
     ensures within { IfSome result (λ n. n < length text.now) }
 {
     text.iter().position(|b| *b == b',')

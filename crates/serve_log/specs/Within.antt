@@ -12,6 +12,6 @@ door_within logged = logged.door
 abbrev pub link_within : {L R : Type 0} → LoggedLink L R → L
 link_within logged = logged.link
 
--- the keeper whose faults are told
+-- the keeper whose faults are reported
 abbrev pub keeper_within : {K R : Type 0} → LoggedKeeper K R → K
 keeper_within logged = logged.keeper

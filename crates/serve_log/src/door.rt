@@ -4,7 +4,7 @@ ghost use Rattle.std.specs.Prelude.{◌≡◌, None};
 ghost use Rattle.ofx_ports.specs.Adapters.{door_faults, door_closings};
 ghost use Rattle.serve_log.specs.Within.{door_within};
 
-use crate::journal::Journal;
+use crate::access_log::AccessLog;
 use crate::link::LoggedLink;
 use ofx_ports::{Doorway, Failed, TcpDoor, TcpLink};
 use std::alloc::Global;
@@ -17,7 +17,7 @@ use std::rt;
 pub struct LoggedDoor<T, C, R: Copy> {
     door: TcpDoor<T, C>,
     alloc: Global,
-    journal: Journal<R>,
+    journal: AccessLog<R>,
     worker: u32,
     links: u64,
 }
@@ -27,7 +27,7 @@ impl<T: OpenListener + Drop, C: rt::Clock + Drop, R: Copy> LoggedDoor<T, C, R> {
     pub fn over(
         door: TcpDoor<T, C>,
         alloc: Global,
-        journal: Journal<R>,
+        journal: AccessLog<R>,
         worker: u32,
     ) -> LoggedDoor<T, C, R> {
         LoggedDoor {

@@ -1,19 +1,19 @@
-//! A keeper whose faults are told.
+//! A keeper whose faults are reported.
 
 ghost use Rattle.std.specs.Prelude.{◌≡◌};
 ghost use Rattle.serve_log.specs.Within.{keeper_within};
 
-use crate::journal::Journal;
+use crate::access_log::AccessLog;
 use crate::stamp::Stamp;
 use ofx_ports::{Failed, FetchFault, Keeper, PutFault};
 use std::{fmt, rt};
 
-/// A keeper of records, of which each append that fails is told in a line, and each try to settle one. It tells what the keeper
+/// A keeper of records, of which each append that fails is told in a line, and each try to settle one. It says what the keeper
 /// within tells. A fetch that fails isn't told: records are read where the bank opens, and that run tells of it by its end.
 #[derive(Drop)]
 pub struct LoggedKeeper<K: Keeper, R: Copy> {
     keeper: K,
-    journal: Journal<R>,
+    journal: AccessLog<R>,
 }
 
 /// The line of a call that failed.
@@ -35,17 +35,17 @@ impl fmt::Display for FaultEntry {
 }
 
 impl<K: Keeper, R: Eprint + rt::Clock + Copy> LoggedKeeper<K, R> {
-    /// This keeper, whose faults are told.
-    pub fn over(keeper: K, journal: Journal<R>) -> LoggedKeeper<K, R>
+    /// This keeper, whose faults are reported.
+    pub fn over(keeper: K, journal: AccessLog<R>) -> LoggedKeeper<K, R>
         ensures { keeper_within result ≡ keeper }
     {
         LoggedKeeper { keeper, journal }
     }
 
     /// Tells that a call failed.
-    fn tell(&self, call: &'static str) {
+    fn write_line(&self, call: &'static str) {
         if self.journal.level().is_on() {
-            self.journal.tell(FaultEntry {
+            self.journal.write_line(FaultEntry {
                 stamp: self.journal.stamp(),
                 call,
                 faults: self.keeper.faults(),
@@ -68,7 +68,7 @@ impl<K: Keeper, R: Eprint + rt::Clock + Copy + Drop> Keeper for LoggedKeeper<K, 
     fn append(&mut self, rec: &[u8]) -> Result<(), PutFault> {
         let result = self.keeper.append(rec);
         if matches!(result, Err(PutFault::Failed)) {
-            self.tell("append");
+            self.write_line("append");
         }
         result
     }
@@ -76,7 +76,7 @@ impl<K: Keeper, R: Eprint + rt::Clock + Copy + Drop> Keeper for LoggedKeeper<K, 
     fn settle(&mut self) -> Result<bool, Failed> {
         let result = self.keeper.settle();
         if result.is_err() {
-            self.tell("settle");
+            self.write_line("settle");
         }
         result
     }

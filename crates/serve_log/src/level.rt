@@ -28,7 +28,7 @@ impl Level {
     }
 
     /// Whether an exchange is told, which is a warning or not.
-    pub(crate) fn tells(self, is_warning: bool) -> bool {
+    pub(crate) fn covers(self, is_warning: bool) -> bool {
         match self {
             Level::Off => false,
             Level::Warn => is_warning,

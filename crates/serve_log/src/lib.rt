@@ -4,9 +4,9 @@
 //! these tell. No line has a password, the number of an account or a body.
 #![tactic(auto)]
 
+mod access_line;
+mod access_log;
 mod door;
-mod entry;
-mod journal;
 mod keeper;
 mod level;
 mod link;
@@ -15,8 +15,8 @@ mod request;
 mod stamp;
 mod watch;
 
+pub use access_log::AccessLog;
 pub use door::LoggedDoor;
-pub use journal::Journal;
 pub use keeper::LoggedKeeper;
 pub use level::Level;
 pub use link::LoggedLink;

@@ -3,17 +3,17 @@
 ghost use Rattle.std.specs.Prelude.{◌≡◌};
 ghost use Rattle.serve_log.specs.Within.{link_within};
 
-use crate::journal::Journal;
+use crate::access_log::AccessLog;
 use crate::watch::Watch;
 use ofx_ports::{Failed, Link};
 use std::alloc::Global;
 use std::rt;
 
-/// A link of which each exchange is told in a line. It tells what the link within tells.
+/// A link of which each exchange is told in a line. It says what the link within tells.
 #[derive(Drop)]
 pub struct LoggedLink<L, R: Copy> {
     link: L,
-    journal: Journal<R>,
+    journal: AccessLog<R>,
     watch: Watch,
 }
 
@@ -22,7 +22,7 @@ impl<L, R: Copy> LoggedLink<L, R> {
     pub fn over(
         link: L,
         alloc: Global,
-        journal: Journal<R>,
+        journal: AccessLog<R>,
         worker: u32,
         number: u64,
     ) -> LoggedLink<L, R> {

@@ -51,7 +51,7 @@ impl ReplyNote {
     }
 }
 
-/// What the reply at the front of the bytes tells. None where they are no reply. A body that doesn't stand whole after the head
+/// What the reply at the start of the bytes tells. None where they are no reply. A body that doesn't stand whole after the head
 /// tells nothing.
 pub(crate) fn note_of(bytes: &[u8]) -> Option<ReplyNote> {
     let head = read_response(bytes).ok()?;
@@ -73,13 +73,13 @@ fn read_file(body: &[u8], note: &mut ReplyNote) {
     let mut inside = None;
     for line in body.split(|byte| *byte == b'\n') {
         let line = match line {
-            [front @ .., b'\r'] => front,
+            [prefix @ .., b'\r'] => prefix,
             _ => line,
         };
         if note.signon == Signon::Absent {
             note.signon = signon_of(line);
         } else if line.ends_with(b"RS>") {
-            inside = behind_tag(line, inside, note);
+            inside = after_tag(line, inside, note);
         }
     }
 }
@@ -93,8 +93,8 @@ fn signon_of(line: &[u8]) -> Signon {
     }
 }
 
-/// Counts the answer that a tag begins. Takes and answers the end of the synchronisation that the tag stands in.
-fn behind_tag(
+/// Counts the answer that a tag begins. Takes and answers the end of the synchronisation that the tag is in.
+fn after_tag(
     tag: &[u8],
     inside: Option<&'static [u8]>,
     note: &mut ReplyNote,
@@ -102,11 +102,11 @@ fn behind_tag(
     if let Some(end) = inside {
         return if tag == end { None } else { inside };
     }
-    for place in 0..KIND_COUNT {
-        let (start, end, _name) = KINDS[place];
+    for offset in 0..KIND_COUNT {
+        let (start, end, _name) = KINDS[offset];
         if tag == start {
-            note.asks[place] = note.asks[place].saturating_add(1);
-            return if place < SYNC_COUNT { Some(end) } else { None };
+            note.asks[offset] = note.asks[offset].saturating_add(1);
+            return if offset < SYNC_COUNT { Some(end) } else { None };
         }
     }
     None

@@ -16,25 +16,25 @@ pub(crate) fn body_of(bytes: &[u8]) -> Option<&[u8]> {
 
 /// The user's name in a file that was signed on, as the file spells it.
 ///
-/// Such a file has a SONRQ with a USERID. Where only one SONRQ stands in it, and one USERID in that, they are these; otherwise
+/// Such a file has a SONRQ with a USERID. Where only one SONRQ is in it, and one USERID in that, they are these; otherwise
 /// the name isn't told, since a file may have others in parts that nobody reads.
 pub(crate) fn user_in(body: &[u8]) -> Option<&[u8]> {
-    let signon = before(behind_only(body, b"<SONRQ>")?, b"</SONRQ>")?;
-    let name = before(behind_only(signon, b"<USERID>")?, b"<")?;
+    let signon = before(after_only(body, b"<SONRQ>")?, b"</SONRQ>")?;
+    let name = before(after_only(signon, b"<USERID>")?, b"<")?;
     Some(trim(name))
 }
 
-/// What stands after a tag that stands once.
-fn behind_only<'a>(text: &'a [u8], tag: &[u8]) -> Option<&'a [u8]> {
-    let rest = behind(text, tag)?;
-    match behind(rest, tag) {
+/// What follows a tag that occurs once.
+fn after_only<'a>(text: &'a [u8], tag: &[u8]) -> Option<&'a [u8]> {
+    let rest = suffix(text, tag)?;
+    match suffix(rest, tag) {
         None => Some(rest),
         Some(_) => None,
     }
 }
 
-/// What stands after the first of these tags.
-fn behind<'a>(text: &'a [u8], tag: &[u8]) -> Option<&'a [u8]> {
+/// What follows the first of these tags.
+fn suffix<'a>(text: &'a [u8], tag: &[u8]) -> Option<&'a [u8]> {
     for at in 0..text.len() {
         if text[at] == b'<'
             && let Some(rest) = text[at..].strip_prefix(tag)
@@ -45,7 +45,7 @@ fn behind<'a>(text: &'a [u8], tag: &[u8]) -> Option<&'a [u8]> {
     None
 }
 
-/// What stands before the first place at which this text stands.
+/// What precedes the first place at which this text stands.
 fn before<'a>(text: &'a [u8], end: &[u8]) -> Option<&'a [u8]> {
     for at in 0..text.len() {
         if text[at..].starts_with(end) {

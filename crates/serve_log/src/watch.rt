@@ -1,7 +1,7 @@
 //! What was seen of a link's exchange.
 
-use crate::entry::Entry;
-use crate::journal::Journal;
+use crate::access_line::AccessLine;
+use crate::access_log::AccessLog;
 use crate::reply::{ReplyNote, Signon, note_of};
 use crate::request::{body_of, user_in};
 use crate::stamp::Stamp;
@@ -57,7 +57,7 @@ impl Watch {
         &mut self,
         bytes: &[u8],
         count: usize,
-        journal: &Journal<R>,
+        journal: &AccessLog<R>,
     ) {
         if self.left == 0 {
             self.begin(bytes);
@@ -72,7 +72,7 @@ impl Watch {
     pub(crate) fn failed<R: Eprint + rt::Clock + Copy>(
         &mut self,
         bytes: &[u8],
-        journal: &Journal<R>,
+        journal: &AccessLog<R>,
     ) {
         if self.left == 0 {
             self.begin(bytes);
@@ -91,10 +91,10 @@ impl Watch {
     }
 
     /// Tells of the exchange, which has ended, and looks for the next one.
-    fn end<R: Eprint + rt::Clock + Copy>(&mut self, journal: &Journal<R>) {
+    fn end<R: Eprint + rt::Clock + Copy>(&mut self, journal: &AccessLog<R>) {
         if let Some(note) = self.reply {
-            if journal.level().tells(note.is_warning()) {
-                journal.tell(self.entry(note, journal.stamp(), journal.instant()));
+            if journal.level().covers(note.is_warning()) {
+                journal.write_line(self.entry(note, journal.stamp(), journal.instant()));
             }
         }
         self.is_clear = self.is_clear && body_of(&self.come).is_some();
@@ -104,7 +104,7 @@ impl Watch {
     }
 
     /// The line of an exchange that ends now.
-    fn entry(&self, note: ReplyNote, stamp: Stamp, now: Option<Instant>) -> Entry<'_> {
+    fn entry(&self, note: ReplyNote, stamp: Stamp, now: Option<Instant>) -> AccessLine<'_> {
         let user = match (note.signon, body_of(&self.come)) {
             (Signon::Taken, Some(body)) => user_in(body),
             _ => None,
@@ -113,7 +113,7 @@ impl Watch {
             (Some(at), Some(now)) => Some(now.duration_since(at)),
             _ => None,
         };
-        Entry {
+        AccessLine {
             stamp,
             worker: self.worker,
             link: self.link,

@@ -23,7 +23,7 @@ const FRAME_HEAD: usize = 9;
 /// How a connection ended, and what was written.
 type Outcome = (Result<Served, ServeError>, Vec<u8>);
 
-/// What becomes of a link, over a bank of the sample's setup whose clock stands at noon.
+/// What becomes of a link, over a bank of the sample's setup whose clock is at noon.
 fn served_over(
     rt: &impl Abort,
     alloc: Global,
@@ -49,7 +49,7 @@ fn served_by(
     (served, link.held().to_vec(alloc).expect(rt, "room"))
 }
 
-/// A clock that stands at noon.
+/// A clock that is at noon.
 pub fn at_noon(rt: &impl Abort, alloc: Global) -> MemClock {
     MemClock::new(alloc, &[NOON]).expect(rt, "a clock")
 }
@@ -221,8 +221,8 @@ fn a_link_ends_between_requests_or_within_one(rt: HostRuntime) {
         (short, Err(ServeError::Cut(short as u64))),
         (bytes.len(), Ok(Served::End(1))),
     ] {
-        let (told, _written) = served(&rt, alloc, bytes.get(..size).unwrap_or(b""));
-        assert_eq!(rt; told, end);
+        let (reported, _written) = served(&rt, alloc, bytes.get(..size).unwrap_or(b""));
+        assert_eq!(rt; reported, end);
     }
 }
 
@@ -305,7 +305,7 @@ fn a_failed_signon_is_answered_by_itself(rt: HostRuntime) {
 }
 
 #[test]
-fn a_failing_keeper_is_told_and_the_next_request_is_answered(rt: HostRuntime) {
+fn a_failing_keeper_is_reported_and_the_next_request_is_answered(rt: HostRuntime) {
     let alloc = rt.alloc();
     let incoming = source(&rt, alloc, &sample_times(&rt, alloc, 2));
     let (end, written) = served_over(&rt, alloc, incoming, sink(&rt, alloc, ROOM), 1);

@@ -24,15 +24,15 @@ pub fn written_over(
 ) -> String
     ensures { is_some keeper.new.landed ≡ false }
 {
-    let words = texts(rt, alloc, &["answer", "setup", "-"]);
+    let arguments = texts(rt, alloc, &["answer", "setup", "-"]);
     let mut setup = MemSource::new(alloc, SETUP).expect(rt, "the setup");
     let mut input = MemSource::new(alloc, frame.as_bytes()).expect(rt, "the input");
     let mut out = MemSink::new(alloc, ROOM).expect(rt, "the output");
     let _ = keeper.settle().expect(rt, "the records that stand");
-    let told = answer_told(
+    let reported = answer_told(
         alloc,
         keys(rt),
-        &words,
+        &arguments,
         &mut setup,
         &mut input,
         &mut out,
@@ -40,7 +40,7 @@ pub fn written_over(
         clock,
     );
     let _ = keeper.settle().expect(rt, "the records that stand");
-    if told.status != Status(0) {
+    if reported.status != Status(0) {
         return String::new(alloc);
     }
     let text = str::from_utf8(out.held()).expect(rt, "a text");

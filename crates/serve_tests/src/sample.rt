@@ -48,7 +48,7 @@ pub fn reply_with(rt: &impl Abort, alloc: Global, changes: &[(&str, &str)]) -> S
     sample::reply_with(alloc, changes).expect(rt, "a reply")
 }
 
-/// Puts bytes behind others.
+/// Puts bytes after others.
 pub fn put(rt: &impl Abort, bytes: &mut Vec<u8>, more: &[u8]) {
     bytes.extend_from_slice(more).expect(rt, "room");
 }

@@ -10,7 +10,7 @@ use crate::connections::{at_noon, posted, sample_reply, sample_request, sample_t
 use crate::one_thread::written_over;
 use crate::sample::{keys, put, request_with, setup, texts};
 use bank_connection::Served;
-use bank_counter::serve_connection;
+use bank_offices::serve_connection;
 use bank_samples::sample::SETUP;
 use bank_samples::transfer::TRANSFER;
 use bank_server::{AllEnd, serve_all, serve_open};
@@ -67,7 +67,7 @@ pub fn opened_from<K: Keeper>(rt: &impl Abort, alloc: Global, keeper: K) -> Open
     }
 }
 
-/// How a link is served by a bank that has opened and whose clock stands at noon.
+/// How a link is served by a bank that has opened and whose clock is at noon.
 fn connected<N: BankName, R: Abort + Wait>(
     rt: &R,
     alloc: Global,
@@ -198,8 +198,8 @@ fn kept_by_one(rt: &impl Abort, alloc: Global) -> MemKeeper
     let mut kept = MemKeeper::new(alloc);
     let waiting = request_with(rt, alloc, &WAITING);
     let mut clock = at_noon(rt, alloc);
-    let told = written_over(rt, alloc, &waiting, &mut kept, &mut clock);
-    assert!(rt; told.contains("<XFERPRCCODE>WILLPROCESSON\r\n"));
+    let reported = written_over(rt, alloc, &waiting, &mut kept, &mut clock);
+    assert!(rt; reported.contains("<XFERPRCCODE>WILLPROCESSON\r\n"));
     kept
 }
 
@@ -223,14 +223,14 @@ fn what_is_due_is_done_before_a_link_is_served(rt: HostRuntime) {
 }
 
 /// What `serve_open` tells of these words over these records. None where the bank opens.
-fn refused(rt: &impl Abort, alloc: Global, words: &[&str], keeper: MemKeeper) -> Option<Told>
+fn refused(rt: &impl Abort, alloc: Global, arguments: &[&str], keeper: MemKeeper) -> Option<Told>
     requires { is_some keeper.landed ≡ false }
 {
-    let words = texts(rt, alloc, words);
+    let arguments = texts(rt, alloc, arguments);
     let mut setup = MemSource::new(alloc, SETUP).expect(rt, "the setup");
-    match serve_open(alloc, keys(rt), &words, &mut setup, keeper, OfxPrinter) {
+    match serve_open(alloc, keys(rt), &arguments, &mut setup, keeper, OfxPrinter) {
         Ok(_) => None,
-        Err((told, _keeper)) => Some(told),
+        Err((reported, _keeper)) => Some(reported),
     }
 }
 
@@ -245,12 +245,15 @@ fn words_and_records_are_judged_before_the_bank_serves(rt: HostRuntime) {
             note: Note::Plain
         })
     );
-    let words = ["serve", "setup", "-", "65535", "64", "4294967295"];
-    assert_eq!(rt; refused(&rt, alloc, &words, MemKeeper::new(alloc)), None);
+    let arguments = ["serve", "setup", "-", "65535", "64", "4294967295"];
+    assert_eq!(rt;
+        refused(&rt, alloc, &arguments, MemKeeper::new(alloc)),
+        None
+    );
     let mut keeper = MemKeeper::new(alloc);
     keeper.append(POST).expect(&rt, "room");
     assert_eq!(rt;
-        refused(&rt, alloc, &words, keeper),
+        refused(&rt, alloc, &arguments, keeper),
         Some(Told {
             status: Status(9),
             note: Note::Illegal(1)
@@ -279,7 +282,7 @@ fn by_both(rt: &impl Abort, alloc: Global) -> [Vec<u8>; 2] {
 }
 
 #[test]
-fn two_workers_stand_at_the_gate_at_once(rt: HostRuntime) {
+fn two_workers_wait_at_the_gate_at_once(rt: HostRuntime) {
     let alloc = rt.alloc();
     let workers = workers_of(&rt, alloc, &by_both(&rt, alloc));
     let gate = BothGate::new(&rt);

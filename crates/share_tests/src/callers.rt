@@ -3,7 +3,7 @@
 ghost use Rattle.std.specs.Prelude.{◌≡◌};
 ghost use Rattle.ofx_types.specs.Calendar.{IsMoment};
 
-use crate::sample::{failing, opened_over, request_with, tell, text};
+use crate::sample::{failing, opened_over, report, request_with, text};
 use crate::script::{framed, refusal};
 use bank_samples::changes::{DUE_LATER, NEXT_DAY, NOON, POLL};
 use bank_samples::transfer::TRANSFER;
@@ -65,7 +65,7 @@ fn advanced<N: BankName, R: Abort + Wait>(
 }
 
 /// What two callers of a bank of the sample's setup are told by turns.
-fn told_by_turns<N: BankName, R: Abort + Wait>(
+fn reported_by_turns<N: BankName, R: Abort + Wait>(
     rt: &R,
     alloc: Global,
     opened: Opened<MemKeeper, OfxPrinter>,
@@ -76,12 +76,12 @@ fn told_by_turns<N: BankName, R: Abort + Wait>(
 {
     let (bank, mut first) = Bank::<N, _, _>::begin(opened);
     let mut second = bank.door(&mut first);
-    told_to_both(rt, alloc, &bank, &mut first, &mut second)
+    reported_to_both(rt, alloc, &bank, &mut first, &mut second)
 }
 
 /// What both callers are told: of a transfer that is due on the next day, of a poll, of what is due on that day, and of a poll
 /// again.
-fn told_to_both<N: BankName, R: Abort + Wait>(
+fn reported_to_both<N: BankName, R: Abort + Wait>(
     rt: &R,
     alloc: Global,
     bank: &Bank<N, MemKeeper, OfxPrinter>,
@@ -90,16 +90,28 @@ fn told_to_both<N: BankName, R: Abort + Wait>(
 ) -> String {
     let waiting = request_with(rt, alloc, &[TRANSFER, DUE_LATER]);
     let poll = request_with(rt, alloc, &POLL);
-    let mut told = asked(rt, alloc, bank, first, &waiting, NOON);
-    tell(rt, &mut told, &asked(rt, alloc, bank, second, &poll, NOON));
-    tell(rt, &mut told, &advanced(rt, alloc, bank, first, NEXT_DAY));
-    tell(
+    let mut reported = asked(rt, alloc, bank, first, &waiting, NOON);
+    report(
         rt,
-        &mut told,
+        &mut reported,
+        &asked(rt, alloc, bank, second, &poll, NOON),
+    );
+    report(
+        rt,
+        &mut reported,
+        &advanced(rt, alloc, bank, first, NEXT_DAY),
+    );
+    report(
+        rt,
+        &mut reported,
         &asked(rt, alloc, bank, second, &poll, NEXT_DAY),
     );
-    tell(rt, &mut told, &advanced(rt, alloc, bank, second, NEXT_DAY));
-    told
+    report(
+        rt,
+        &mut reported,
+        &advanced(rt, alloc, bank, second, NEXT_DAY),
+    );
+    reported
 }
 
 /// The second append fails and its record has landed, so the transfer is posted when due work is looked for once more.
@@ -108,10 +120,10 @@ fn callers_take_turns_at_one_bank(rt: HostRuntime) {
     let alloc = rt.alloc();
     let keeper = failing(&rt, alloc, &[2], &[2]);
     let opened = opened_over(&rt, alloc, keeper);
-    let told = told_by_turns::<Brand, _>(&rt, alloc, opened);
-    let (before, behind) = told.split_once("keeper 1\n").unwrap_or(("", ""));
-    assert!(rt; before.contains("<SRVRTID>1\r\n"), "{told}");
-    assert!(rt; before.contains("<TOKEN>1\r\n"), "{told}");
-    assert!(rt; behind.contains("<TOKEN>1\r\n"), "{told}");
-    assert!(rt; behind.strip_suffix("nothing due\n").is_some(), "{told}");
+    let reported = reported_by_turns::<Brand, _>(&rt, alloc, opened);
+    let (before, rest) = reported.split_once("keeper 1\n").unwrap_or(("", ""));
+    assert!(rt; before.contains("<SRVRTID>1\r\n"), "{reported}");
+    assert!(rt; before.contains("<TOKEN>1\r\n"), "{reported}");
+    assert!(rt; rest.contains("<TOKEN>1\r\n"), "{reported}");
+    assert!(rt; rest.strip_suffix("nothing due\n").is_some(), "{reported}");
 }

@@ -4,7 +4,7 @@ ghost use Rattle.std.specs.Prelude.{◌≡◌, false, is_some};
 ghost use Rattle.ofx_types.specs.Calendar.{IsMoment};
 
 use crate::callers::asked;
-use crate::sample::{failing, numbered, opened_over, request_with, tell, text};
+use crate::sample::{failing, numbered, opened_over, report, request_with, text};
 use bank_due::{DueFault, due_run};
 use bank_samples::changes::{DUE_LATER, NEXT_DAY, NOON};
 use bank_samples::transfer::TRANSFER;
@@ -45,7 +45,7 @@ fn run_at<N: BankName, R: Abort + Wait>(
 }
 
 /// What runs of due work answer in a bank that has opened, and what the statement after them tells.
-fn told_of_runs<N: BankName, R: Abort + Wait>(
+fn reported_of_runs<N: BankName, R: Abort + Wait>(
     rt: &R,
     alloc: Global,
     opened: Opened<MemKeeper, OfxPrinter>,
@@ -68,19 +68,19 @@ fn runs_at<N: BankName, R: Abort + Wait>(
     let waiting = [TRANSFER, DUE_LATER, RENAMED, TRANSFER, DUE_LATER_TOO];
     let file = request_with(rt, alloc, &waiting);
     let _waits = asked(rt, alloc, bank, pass, &file, NOON);
-    let mut told = run_at(rt, alloc, bank, pass, NOON);
-    tell(rt, &mut told, &run_at(rt, alloc, bank, pass, NEXT_DAY));
-    tell(rt, &mut told, &run_at(rt, alloc, bank, pass, NEXT_DAY));
+    let mut reported = run_at(rt, alloc, bank, pass, NOON);
+    report(rt, &mut reported, &run_at(rt, alloc, bank, pass, NEXT_DAY));
+    report(rt, &mut reported, &run_at(rt, alloc, bank, pass, NEXT_DAY));
     let plain = request_with(rt, alloc, &[]);
     let statement = asked(rt, alloc, bank, pass, &plain, NEXT_DAY);
-    (told, statement)
+    (reported, statement)
 }
 
 /// The same over a keeper without records.
 fn runs_over<R: Abort + Wait>(rt: &R, alloc: Global, keeper: MemKeeper) -> (String, String)
     requires { is_some keeper.landed ≡ false }
 {
-    told_of_runs::<Brand, _>(rt, alloc, opened_over(rt, alloc, keeper))
+    reported_of_runs::<Brand, _>(rt, alloc, opened_over(rt, alloc, keeper))
 }
 
 /// Which calls of the keeper fail and which of these land, and what the runs answer.
@@ -98,8 +98,8 @@ fn all_that_is_due_happens_in_a_run(rt: HostRuntime) {
     for case in RUNS.iter() {
         let (refused, landing, answers) = *case;
         let keeper = failing(&rt, alloc, refused, landing);
-        let (told, statement) = runs_over(&rt, alloc, keeper);
-        assert_eq!(rt; told.as_str(), answers);
+        let (reported, statement) = runs_over(&rt, alloc, keeper);
+        assert_eq!(rt; reported.as_str(), answers);
         assert!(rt; statement.contains("<BALAMT>80.00\r\n"), "{statement}");
     }
 }

@@ -7,8 +7,8 @@ mod callers;
 #[cfg(test)]
 mod due;
 #[cfg(test)]
+mod locked_banks;
+#[cfg(test)]
 mod sample;
 #[cfg(test)]
 mod script;
-#[cfg(test)]
-mod tellers;

@@ -68,6 +68,6 @@ pub fn numbered(rt: &impl Abort, alloc: Global, word: &str, number: u64) -> Stri
 }
 
 /// Puts a text behind what was told.
-pub fn tell(rt: &impl Abort, told: &mut String, more: &str) {
-    told.push_str(more).expect(rt, "room");
+pub fn report(rt: &impl Abort, reported: &mut String, more: &str) {
+    reported.push_str(more).expect(rt, "room");
 }

@@ -1,11 +1,11 @@
-//! Calls of a teller, one after another, in lines of text: what each is told and leaves pending, and how many entries there are.
+//! Calls of a locked bank, one after another, in lines of text: what each is told and leaves pending, and how many entries there are.
 
 ghost use Rattle.std.specs.Prelude.{◌≡◌, ◌<◌, false, is_some, length, All};
 ghost use Rattle.ofx_types.specs.Calendar.{IsMoment};
 
-use crate::sample::{numbered, opened_over, tell, text};
+use crate::sample::{numbered, opened_over, report, text};
 use bank_model::{Event, SubmitFault};
-use bank_shared::{Advance, BankName, Opened, Teller};
+use bank_shared::{Advance, BankName, LockedBank, Opened};
 use bank_signon::{Judgement, judge};
 use ofx_file::OfxPrinter;
 use ofx_ports::{Clock, MemClock, MemKeeper};
@@ -23,9 +23,9 @@ pub enum Call<'a> {
     Due,
 }
 
-/// What the calls of a bank of the sample's setup tell and leave pending, at the moments of a clock, which then stands still, and
+/// What the calls of a bank of the sample's setup tell and leave pending, at the moments of a clock, which then stays the same, and
 /// the number of the entry that would come next.
-pub fn told_over<R: Abort>(
+pub fn reported_over<R: Abort>(
     rt: &R,
     alloc: Global,
     keeper: MemKeeper,
@@ -37,10 +37,10 @@ pub fn told_over<R: Abort>(
     requires lawful { All (λ moment. IsMoment moment.0) moments.now }
 {
     let mut clock = MemClock::new(alloc, moments).expect(rt, "a clock");
-    told::<Brand, _>(rt, alloc, opened_over(rt, alloc, keeper), &mut clock, calls)
+    reported::<Brand, _>(rt, alloc, opened_over(rt, alloc, keeper), &mut clock, calls)
 }
 
-fn told<N: BankName, R: Abort>(
+fn reported<N: BankName, R: Abort>(
     rt: &R,
     alloc: Global,
     opened: Opened<MemKeeper, OfxPrinter>,
@@ -52,33 +52,33 @@ fn told<N: BankName, R: Abort>(
     requires first { opened.opened ≡ N.first }
 {
     let (_, journal, accounts) = opened.solo::<N>();
-    let teller = Teller::with_accounts(alloc, journal, accounts);
-    told_by(rt, alloc, &mut teller.expect(rt, "a teller"), clock, calls)
+    let locked = LockedBank::with_accounts(alloc, journal, accounts);
+    reported_by(rt, alloc, &mut locked.expect(rt, "a teller"), clock, calls)
 }
 
-/// What the calls of a teller tell and leave pending, and the number of the next entry.
-fn told_by<N: BankName, R: Abort>(
+/// What the calls of a locked bank tell and leave pending, and the number of the next entry.
+fn reported_by<N: BankName, R: Abort>(
     rt: &R,
     alloc: Global,
-    teller: &mut Teller<N, MemKeeper, OfxPrinter>,
+    locked: &mut LockedBank<N, MemKeeper, OfxPrinter>,
     clock: &mut MemClock,
     calls: &[Call<'_>],
 ) -> String {
-    let mut told = String::new(alloc);
+    let mut reported = String::new(alloc);
     for call in calls {
         let at = clock.now();
-        tell(rt, &mut told, &answer(rt, alloc, teller, call, at));
-        tell(rt, &mut told, &pending(rt, alloc, teller));
+        report(rt, &mut reported, &answer(rt, alloc, locked, call, at));
+        report(rt, &mut reported, &pending(rt, alloc, locked));
     }
-    tell(rt, &mut told, &next_entry(rt, alloc, teller));
-    told
+    report(rt, &mut reported, &next_entry(rt, alloc, locked));
+    reported
 }
 
 /// What one call tells.
 fn answer<N: BankName, R: Abort>(
     rt: &R,
     alloc: Global,
-    teller: &mut Teller<N, MemKeeper, OfxPrinter>,
+    locked: &mut LockedBank<N, MemKeeper, OfxPrinter>,
     call: &Call<'_>,
     at: Moment,
 ) -> String
@@ -87,9 +87,9 @@ fn answer<N: BankName, R: Abort>(
     match call {
         Call::File(framed) => {
             let (_, text) = framed.split_once("\n").unwrap_or(("", ""));
-            file_answer(rt, alloc, teller, text.as_bytes(), at)
+            file_answer(rt, alloc, locked, text.as_bytes(), at)
         }
-        Call::Due => match teller.advance(at) {
+        Call::Due => match locked.advance(at) {
             Ok(Advance::Done(Event::Post(id))) => numbered(rt, alloc, "posted", id),
             Ok(Advance::Done(_)) => text(rt, alloc, "done\n"),
             Ok(Advance::Gone(_)) => text(rt, alloc, "gone\n"),
@@ -103,7 +103,7 @@ fn answer<N: BankName, R: Abort>(
 fn file_answer<N: BankName, R: Abort>(
     rt: &R,
     alloc: Global,
-    teller: &mut Teller<N, MemKeeper, OfxPrinter>,
+    locked: &mut LockedBank<N, MemKeeper, OfxPrinter>,
     bytes: &[u8],
     at: Moment,
 ) -> String
@@ -112,18 +112,18 @@ fn file_answer<N: BankName, R: Abort>(
     if bytes.len() > 262_144 {
         return text(rt, alloc, "too long\n");
     }
-    let judged = judge(alloc, teller.journal().book().setup(), bytes);
+    let judged = judge(alloc, locked.journal().book().setup(), bytes);
     match judged.expect(rt, "a judgement") {
-        Judgement::Event(user, file) => match teller.submit(user, &file, at) {
+        Judgement::Event(user, file) => match locked.submit(user, &file, at) {
             Ok(reply) => framed(rt, alloc, &reply),
             Err(fault) => refusal(rt, alloc, fault),
         },
         Judgement::Poll(user, file) => {
-            let reply = teller.poll(user, &file, at).expect(rt, "a reply");
+            let reply = locked.poll(user, &file, at).expect(rt, "a reply");
             framed(rt, alloc, &reply)
         }
         Judgement::Denied(_) => text(rt, alloc, "denied\n"),
-        Judgement::Refused(place) => numbered(rt, alloc, "refused at", place),
+        Judgement::Refused(offset) => numbered(rt, alloc, "refused at", offset),
     }
 }
 
@@ -145,9 +145,9 @@ pub fn refusal(rt: &impl Abort, alloc: Global, fault: SubmitFault) -> String {
 fn pending<N: BankName, R: Abort>(
     rt: &R,
     alloc: Global,
-    teller: &Teller<N, MemKeeper, OfxPrinter>,
+    locked: &LockedBank<N, MemKeeper, OfxPrinter>,
 ) -> String {
-    match teller.journal().pending() {
+    match locked.journal().pending() {
         Some(event) => format!(in alloc; "pending {}\n", kind(event)).expect(rt, "room"),
         None => String::new(alloc),
     }
@@ -157,9 +157,9 @@ fn pending<N: BankName, R: Abort>(
 fn next_entry<N: BankName, R: Abort>(
     rt: &R,
     alloc: Global,
-    teller: &Teller<N, MemKeeper, OfxPrinter>,
+    locked: &LockedBank<N, MemKeeper, OfxPrinter>,
 ) -> String {
-    match teller.journal().book().next_number() {
+    match locked.journal().book().next_number() {
         Some(number) => numbered(rt, alloc, "next entry", number),
         None => text(rt, alloc, "no more entries\n"),
     }

@@ -3,7 +3,7 @@
 ghost use Rattle.std.specs.Prelude.{◌≡◌, ◌^◌, ◌<◌, ◌≤◌, false, [], Some, None, is_ok, is_err, if◌then◌else◌, IsSome, IsErr, IsErrOf, IfOk, IfSome, OnOk, OnErr};
 ghost use Rattle.ofx_ports.specs.Calls.{one_more};
 ghost use Rattle.ofx_ports.specs.Faults.{CountsFaults, Rose};
-ghost use Rattle.ofx_ports.specs.Kept.{Appended, TellsLanding, counted, put_failed, fetch_failed};
+ghost use Rattle.ofx_ports.specs.Kept.{Appended, KnowsLanding, counted, put_failed, fetch_failed};
 ghost use Rattle.sqlite_keeper.specs.SqliteKeeperView.{put_fault, fetch_fault};
 
 use crate::file::RecordFile;
@@ -154,10 +154,10 @@ impl SqliteKeeper {
         }
     }
 
-    // Whether the record after the others stands in the file.
+    // Whether the record after the others is in the file.
     fn has_landed(&mut self) -> Result<bool, Refusal>
         ensures same { self.new ≡ self.old }
-        ensures room { IfOk result (λ stands. counted self.old.size stands < 2 ^ 63) }
+        ensures room { IfOk result (λ holds. counted self.old.size holds < 2 ^ 63) }
         ensures unopened { IfSome self.old.refusal (λ why. result ≡ Err why) }
     {
         if let Some(why) = self.refusal {
@@ -188,7 +188,7 @@ impl SqliteKeeper {
 
 // Whether a file whose greatest number is this one has a record more than so many. It has neither fewer nor two more.
 fn is_one_more(count: u64, greatest: u64) -> Result<bool, Refusal>
-    ensures { IfOk result (λ stands. (greatest ≡ counted count stands) × (greatest < 2 ^ 63)) }
+    ensures { IfOk result (λ holds. (greatest ≡ counted count holds) × (greatest < 2 ^ 63)) }
 {
     if greatest > i64::MAX as u64 {
         return Err(Refusal::Failed);
@@ -239,9 +239,9 @@ impl Keeper for SqliteKeeper {
     }
 
     fn settle(&mut self) -> Result<bool, Failed>
-        ensures answer { IfOk result (TellsLanding self.old.unsettled None) }
+        ensures answer { IfOk result (KnowsLanding self.old.unsettled None) }
         ensures settled { OnOk result (self.new.unsettled ≡ false) }
-        ensures size { IfOk result (λ stands. self.new.size ≡ counted self.old.size stands) }
+        ensures size { IfOk result (λ holds. self.new.size ≡ counted self.old.size holds) }
         ensures open { OnErr result (self.new.unsettled ≡ self.old.unsettled) }
         ensures kept { OnErr result (self.new.size ≡ self.old.size) }
         ensures faults { CountsFaults self.old.faults self.new.faults (IsErr result) }
@@ -255,12 +255,12 @@ impl Keeper for SqliteKeeper {
             return Ok(false);
         }
         match self.has_landed() {
-            Ok(stands) => {
-                if stands {
+            Ok(holds) => {
+                if holds {
                     self.count += 1;
                 }
                 self.is_unsettled = false;
-                Ok(stands)
+                Ok(holds)
             }
             Err(_) => {
                 self.count_fault();

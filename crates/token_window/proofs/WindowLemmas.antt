@@ -12,7 +12,7 @@ use Rattle.circular_buffer.specs.Buffer.{last_item}
 use Rattle.bank_model.specs.declared.entry.Entry.{Entry}
 use Rattle.bank_model.specs.Objects.{last_number}
 use Rattle.bank_model.specs.Sync.{is_above}
-use Rattle.token_window.specs.WindowView.{WindowView, RiseFrom, last_number_from, newest_held, entry_before, number_of, StandsFor, IsWindow}
+use Rattle.token_window.specs.WindowView.{WindowView, RiseFrom, last_number_from, newest_held, entry_before, number_of, Represents, IsWindow}
 
 abbrev number_after : ℕ → Entry → ℕ
 number_after number entry = entry.number
@@ -133,7 +133,7 @@ full width capacity floor room held is some = split (cases_lt (length held) capa
     split : (length held < capacity) ⊎ (capacity ≤ length held) → (capacity < width) ⊎ (width ≤ capacity) → (length held < capacity) ⊎ ((capacity ≡ width) × (length held ≡ width))
     split (inl less) other = inl less
     split (inr all) (inl less) = absurd (let roomy = is.roomy less in omega (arith, roomy, all, some))
-    split (inr all) (inr wide) = inr (omega (arith, is.narrow, wide), omega (arith, is.narrow, is.placed, wide, all))
+    split (inr all) (inr wide) = inr (omega (arith, is.narrow, wide), omega (arith, is.narrow, is.located, wide, all))
 
 size_more : (held : List Entry) (entry : Entry) → length (held ++ entry ∷ []) ≡ length held + 1
 size_more held entry = length-append held (entry ∷ [])
@@ -186,7 +186,7 @@ still_window width capacity floor room left_room held entry is less above =
     record {
       wide = is.wide;
       rising = rise_in_ring capacity floor held entry is.rising above (either (full width capacity floor room held is (omega (arith, less))));
-      placed = omega (arith, rest);
+      located = omega (arith, rest);
       narrow = is.narrow;
       roomy = (λ narrow. let roomy = is.roomy narrow in omega (arith, rest, size, less, roomy));
     }
@@ -197,23 +197,23 @@ still_window width capacity floor room left_room held entry is less above =
 
 -- ---- the history that a window stands for
 
-pub held_cut : (history : List Entry) (width : ℕ) (window : WindowView) → StandsFor history width window → window.held ≡ drop (length history - width) history
-held_cut history width window stands =
-    stands.held
-    ∙ ap (λ (n : ℕ). filter (is_above n) history) stands.floor
-    ∙ cut_above 0 (length history - width) history stands.rising
+pub held_cut : (history : List Entry) (width : ℕ) (window : WindowView) → Represents history width window → window.held ≡ drop (length history - width) history
+held_cut history width window holds =
+    holds.held
+    ∙ ap (λ (n : ℕ). filter (is_above n) history) holds.floor
+    ∙ cut_above 0 (length history - width) history holds.rising
 
-pub newest_stands : (history : List Entry) (width : ℕ) (window : WindowView) → StandsFor history width window → newest_held window ≡ last_number history
-newest_stands history width window stands =
+pub newest_holds : (history : List Entry) (width : ℕ) (window : WindowView) → Represents history width window → newest_held window ≡ last_number history
+newest_holds history width window holds =
     let k : ℕ = length history - width in
-    ap (λ (n : ℕ). last_number_from n window.held) stands.floor
-    ∙ ap (last_number_from (last_number_from 0 (take k history))) (held_cut history width window stands)
+    ap (λ (n : ℕ). last_number_from n window.held) holds.floor
+    ∙ ap (last_number_from (last_number_from 0 (take k history))) (held_cut history width window holds)
     ∙ sym (last_over 0 (take k history) (drop k history))
     ∙ ap (last_number_from 0) (take-append-drop k history)
 
-pub above_stands : (history : List Entry) (width token : ℕ) (window : WindowView) → StandsFor history width window → window.floor ≤ token → filter (is_above token) window.held ≡ filter (is_above token) history
-above_stands history width token window stands less =
-    ap (filter (is_above token)) stands.held ∙ above_both window.floor token history less
+pub above_holds : (history : List Entry) (width token : ℕ) (window : WindowView) → Represents history width window → window.floor ≤ token → filter (is_above token) window.held ≡ filter (is_above token) history
+above_holds history width token window holds less =
+    ap (filter (is_above token)) holds.held ∙ above_both window.floor token history less
 
 -- ---- the entry before the last ones
 
@@ -242,20 +242,20 @@ some_there (x ∷ xs) count last size more is =
     cc
 
 -- A window that stands for a history tells of the entries before its last ones what the history does.
-pub before_stands : (history : List Entry) (width last : ℕ) (window : WindowView) → StandsFor history width window → last ≤ width → last_number_from window.floor (take (length window.held - last) window.held) ≡ last_number (take (length history - last) history)
-before_stands history width last window stands narrow =
+pub before_holds : (history : List Entry) (width last : ℕ) (window : WindowView) → Represents history width window → last ≤ width → last_number_from window.floor (take (length window.held - last) window.held) ≡ last_number (take (length history - last) history)
+before_holds history width last window holds narrow =
     let k : ℕ = length history - width in
-    let front : List Entry = take k history in
+    let prefix : List Entry = take k history in
     let back : List Entry = drop k history in
-    let cut : window.held ≡ back = held_cut history width window stands in
+    let cut : window.held ≡ back = held_cut history width window holds in
     let size = length-drop k history in
-    let front_size : length front ≡ k = length-take-le k history (omega arith) in
-    let places : length history - last ≡ length front + (length back - last) = omega (arith, size, front_size, narrow) in
-    ap (λ (n : ℕ). last_number_from n (take (length window.held - last) window.held)) stands.floor
-    ∙ ap (λ (ys : List Entry). last_number_from (last_number front) (take (length ys - last) ys)) cut
-    ∙ sym (last_over 0 front (take (length back - last) back))
-    ∙ ap last_number (sym (take-append-add front back (length back - last)))
-    ∙ ap (λ (n : ℕ). last_number (take n (front ++ back))) (sym places)
+    let prefix_size : length prefix ≡ k = length-take-le k history (omega arith) in
+    let offsets : length history - last ≡ length prefix + (length back - last) = omega (arith, size, prefix_size, narrow) in
+    ap (λ (n : ℕ). last_number_from n (take (length window.held - last) window.held)) holds.floor
+    ∙ ap (λ (ys : List Entry). last_number_from (last_number prefix) (take (length ys - last) ys)) cut
+    ∙ sym (last_over 0 prefix (take (length back - last) back))
+    ∙ ap last_number (sym (take-append-add prefix back (length back - last)))
+    ∙ ap (λ (n : ℕ). last_number (take n (prefix ++ back))) (sym offsets)
     ∙ ap (λ (xs : List Entry). last_number (take (length history - last) xs)) (take-append-drop k history)
 
 -- ---- one entry more
@@ -271,17 +271,17 @@ before_some history width entry many wide =
     let X : List Entry = history ++ entry ∷ [] in
     let k : ℕ = length history - width in
     let size = size_more history entry in
-    let place : length X - width - 1 ≡ k = omega (arith, size) in
+    let index : length X - width - 1 ≡ k = omega (arith, size) in
     let within : k < length X = omega (arith, size) in
     cond-true (ltb width (length X)) (slice_get X (length X - width - 1)) None (lt-ltb width (length X) (omega (arith, size, many)))
-    ∙ ap (slice_get X) place
+    ∙ ap (slice_get X) index
     ∙ slice_get-get_or X k entry within
     ∙ ap (λ (x : Entry). Some x) (get_or_append_left history (entry ∷ []) entry k (omega (arith, many, wide)))
 
-pub left_stands : (history : List Entry) (width : ℕ) (window : WindowView) (entry : Entry) → StandsFor history width window → 0 < width → window_left window.width window.held ≡ entry_before width (history ++ entry ∷ [])
-left_stands history width window entry stands wide =
-    ap (λ (n : ℕ). window_left n window.held) stands.as_wide
-    ∙ ap (window_left width) (held_cut history width window stands)
+pub left_holds : (history : List Entry) (width : ℕ) (window : WindowView) (entry : Entry) → Represents history width window → 0 < width → window_left window.width window.held ≡ entry_before width (history ++ entry ∷ [])
+left_holds history width window entry holds wide =
+    ap (λ (n : ℕ). window_left n window.held) holds.as_wide
+    ∙ ap (window_left width) (held_cut history width window holds)
     ∙ split (cases_lt (length history) width)
   where
     k : ℕ
@@ -331,31 +331,31 @@ floor_more history width floor entry wide is = split (cases_lt (length history) 
         ∙ ap last_number (sym (take_more X k entry within))
         ∙ sym (ap (λ (n : ℕ). last_number (take n X)) next)
 
-pub stands_more : (history : List Entry) (width : ℕ) (old new : WindowView) (entry : Entry) → StandsFor history width old → 0 < width → newest_held old < entry.number → new.width ≡ old.width → new.held ≡ ring_with old.width old.held entry → new.floor ≡ number_of old.floor (window_left old.width old.held) → StandsFor (history ++ entry ∷ []) width new
-stands_more history width old new entry stands wide above same held floor =
+pub holds_more : (history : List Entry) (width : ℕ) (old new : WindowView) (entry : Entry) → Represents history width old → 0 < width → newest_held old < entry.number → new.width ≡ old.width → new.held ≡ ring_with old.width old.held entry → new.floor ≡ number_of old.floor (window_left old.width old.held) → Represents (history ++ entry ∷ []) width new
+holds_more history width old new entry holds wide above same held floor =
     let X : List Entry = history ++ entry ∷ [] in
     let k : ℕ = length history - width in
     let size = size_more history entry in
-    let newest = newest_stands history width old stands in
-    let rising : RiseFrom 0 X = rise_more 0 history entry stands.rising (omega (arith, newest, above)) in
+    let newest = newest_holds history width old holds in
+    let rising : RiseFrom 0 X = rise_more 0 history entry holds.rising (omega (arith, newest, above)) in
     let at : new.floor ≡ last_number (take (length X - width) X) =
     floor
-    ∙ ap (number_of old.floor) (left_stands history width old entry stands wide)
-    ∙ floor_more history width old.floor entry wide stands.floor in
+    ∙ ap (number_of old.floor) (left_holds history width old entry holds wide)
+    ∙ floor_more history width old.floor entry wide holds.floor in
     let back : drop k X ≡ drop k history ++ entry ∷ [] = drop-append-le k history (entry ∷ []) (omega arith) in
     let m : ℕ = length (drop k X) - width in
-    let places : k + m ≡ length X - width = omega (arith, size, length-drop k X) in
+    let offsets : k + m ≡ length X - width = omega (arith, size, length-drop k X) in
     record {
       rising = rising;
-      as_wide = same ∙ stands.as_wide;
+      as_wide = same ∙ holds.as_wide;
       floor = at;
       held =
           held
-          ∙ ap (λ (n : ℕ). ring_with n old.held entry) stands.as_wide
-          ∙ ap (λ (ys : List Entry). ring_with width ys entry) (held_cut history width old stands)
+          ∙ ap (λ (n : ℕ). ring_with n old.held entry) holds.as_wide
+          ∙ ap (λ (ys : List Entry). ring_with width ys entry) (held_cut history width old holds)
           ∙ ap (λ (ys : List Entry). drop (length ys - width) ys) (sym back)
           ∙ drop-drop m k X
-          ∙ ap (λ (n : ℕ). drop n X) places
+          ∙ ap (λ (n : ℕ). drop n X) offsets
           ∙ sym (cut_above 0 (length X - width) X rising)
           ∙ ap (λ (n : ℕ). filter (is_above n) X) (sym at);
     }

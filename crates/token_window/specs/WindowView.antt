@@ -29,7 +29,7 @@ entry_before width history =
 
 -- A window stands for a history whose numbers rise: its floor is the number of the entry before the last so many, or 0, and
 -- it holds those above its floor, in order.
-pub record StandsFor (history : List Entry) (width : ℕ) (window : WindowView) : Type 0 where
+pub record Represents (history : List Entry) (width : ℕ) (window : WindowView) : Type 0 where
   pub rising : RiseFrom 0 history
   pub as_wide : window.width ≡ width
   pub floor : window.floor ≡ last_number (take (length history - width) history)
@@ -47,6 +47,6 @@ number_of before (Some entry) = entry.number
 pub record IsWindow (width capacity floor room : ℕ) (held : List Entry) : Type 0 where
   pub wide : 0 < width
   pub rising : RiseFrom floor held
-  pub placed : length held ≤ capacity
+  pub located : length held ≤ capacity
   pub narrow : capacity ≤ width
   pub roomy : capacity < width → length held + room ≤ capacity

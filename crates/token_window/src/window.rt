@@ -8,7 +8,7 @@ ghost use Rattle.bank_model.specs.Objects as objects;
 ghost use Rattle.bank_model.specs.Objects.{history_of, last_number, last_number_from};
 ghost use Rattle.bank_model.specs.Sync.{is_above};
 ghost use Rattle.circular_buffer.specs.Buffer.{keep_last};
-ghost use Rattle.token_window.specs.WindowView.{newest_held, entry_before, number_of, StandsFor};
+ghost use Rattle.token_window.specs.WindowView.{newest_held, entry_before, number_of, Represents};
 
 use crate::since::Since;
 use bank_model::Entry;
@@ -54,7 +54,7 @@ impl Window {
     pub fn new(alloc: Global, width: u32) -> Result<Window, OutOfMemory>
         requires width { (0 < width) × (width < 10001) }
         ensures empty { IfOk result (λ window. window ≡ record { width = width; held = []; floor = 0; room = 0 }) }
-        ensures stands { IfOk result (λ window. StandsFor [] width window) }
+        ensures holds { IfOk result (λ window. Represents [] width window) }
     {
         let entries = HeapCircularBuffer::with_capacity(alloc, 0)?;
         Ok(Window {
@@ -68,8 +68,8 @@ impl Window {
     /// The number of the last entry that came, 0 where none has. Takes no memory.
     pub fn newest(&self) -> u64
         ensures held { result ≡ newest_held self.now }
-        ensures stood_for { (object : ObjectId) (entries : List Entry) (width : ℕ)
-            → StandsFor (history_of object entries) width self.now → result ≡ objects.newest object entries }
+        ensures represented { (object : ObjectId) (entries : List Entry) (width : ℕ)
+            → Represents (history_of object entries) width self.now → result ≡ objects.newest object entries }
     {
         match self.entries.back() {
             Some(entry) => entry.number,
@@ -80,8 +80,8 @@ impl Window {
     /// The number of the last entry that left, 0 where none has. Takes no memory.
     pub fn floor(&self) -> u64
         ensures held { result ≡ self.now.floor }
-        ensures stood_for { (object : ObjectId) (entries : List Entry) (width : ℕ)
-            → StandsFor (history_of object entries) width self.now → result ≡ objects.floor width object entries }
+        ensures represented { (object : ObjectId) (entries : List Entry) (width : ℕ)
+            → Represents (history_of object entries) width self.now → result ≡ objects.floor width object entries }
     {
         self.floor
     }
@@ -90,8 +90,8 @@ impl Window {
     pub fn since(&self, token: u64) -> Since<'_>
         requires floor { self.now.floor ≤ token }
         ensures held { result ≡ filter (is_above token) self.now.held }
-        ensures stood_for { (history : List Entry) (width : ℕ)
-            → StandsFor history width self.now → result ≡ filter (is_above token) history }
+        ensures represented { (history : List Entry) (width : ℕ)
+            → Represents history width self.now → result ≡ filter (is_above token) history }
         ensures runs { ShowsInOrder (deref {X = Entry}) }
     {
         // What it ensures of runs holds of each iterator that is seen as the list of what is left, so of `Since` as well.
@@ -107,8 +107,8 @@ impl Window {
         requires narrow { last ≤ self.now.width }
         ensures held { result
             ≡ last_number_from self.now.floor (take (length self.now.held - last) self.now.held) }
-        ensures stood_for { (history : List Entry) (width : ℕ)
-            → StandsFor history width self.now → result ≡ last_number (take (length history - last) history) }
+        ensures represented { (history : List Entry) (width : ℕ)
+            → Represents history width self.now → result ≡ last_number (take (length history - last) history) }
     {
         let count = self.entries.len();
         if count <= last {
@@ -125,16 +125,16 @@ impl Window {
         ensures width { self.new.width ≡ self.old.width }
         ensures held { self.new.held ≡ self.old.held }
         ensures floor { self.new.floor ≡ self.old.floor }
-        ensures stands { (history : List Entry) (width : ℕ)
-            → StandsFor history width self.old → StandsFor history width self.new }
+        ensures holds { (history : List Entry) (width : ℕ)
+            → Represents history width self.old → Represents history width self.new }
         ensures room { OnOk result (entries ≤ self.new.room) }
         ensures room_stays { self.old.room ≤ self.new.room }
         ensures err { OnErr result (self.new ≡ self.old) }
     {
         let room = self.room.max(entries);
         let wanted = self.entries.len() + room as usize;
-        let places = places(self.width as usize, self.entries.capacity(), wanted);
-        self.entries.resize(places)?;
+        let offsets = offsets(self.width as usize, self.entries.capacity(), wanted);
+        self.entries.resize(offsets)?;
         self.room = room;
         Ok(())
     }
@@ -150,10 +150,10 @@ impl Window {
         ensures held { self.new.held ≡ keep_last self.old.width (self.old.held ++ entry ∷ []) }
         ensures floor { self.new.floor ≡ number_of self.old.floor result }
         ensures room { self.new.room + 1 ≡ self.old.room }
-        ensures stood_for { (history : List Entry) (width : ℕ)
-            → StandsFor history width self.old → result ≡ entry_before width (history ++ entry ∷ []) }
-        ensures stands { (history : List Entry) (width : ℕ)
-            → StandsFor history width self.old → StandsFor (history ++ entry ∷ []) width self.new }
+        ensures represented { (history : List Entry) (width : ℕ)
+            → Represents history width self.old → result ≡ entry_before width (history ++ entry ∷ []) }
+        ensures holds { (history : List Entry) (width : ℕ)
+            → Represents history width self.old → Represents (history ++ entry ∷ []) width self.new }
     {
         let left = self.entries.push_back(entry);
         self.floor = floor_after(self.floor, &left);
@@ -174,7 +174,7 @@ fn floor_after(floor: u64, left: &Option<Entry>) -> u64
 
 /// How many places a ring gets that wants so many: at least twice as many as before where it grows, so that entries are seldom
 /// moved, and no more than the window is wide.
-fn places(width: usize, before: usize, wanted: usize) -> usize
+fn offsets(width: usize, before: usize, wanted: usize) -> usize
     requires narrow { (before ≤ width) × (width < 2 ^ 32) }
     ensures narrow { result ≤ width }
     ensures more { before ≤ result }

@@ -21,7 +21,7 @@ use std::test::Fail;
 const NOON: Moment = Moment(1_706_702_400);
 
 /// It as replies tell it.
-const NOON_TOLD: &[u8] = b"<DTSERVER>20240131120000";
+const NOON_REPORTED: &[u8] = b"<DTSERVER>20240131120000";
 
 /// An hour later.
 const LATER: Moment = Moment(1_706_706_000);
@@ -394,8 +394,8 @@ fn is_at_noon(replies: &[Sequence<u8>]) -> bool {
     match replies {
         [first, ..] => first
             .items()
-            .windows(NOON_TOLD.len())
-            .any(|part| part == NOON_TOLD),
+            .windows(NOON_REPORTED.len())
+            .any(|part| part == NOON_REPORTED),
         [] => false,
     }
 }

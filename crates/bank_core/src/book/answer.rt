@@ -88,10 +88,10 @@ impl<P: Printer> Book<P> {
         }) }
     {
         let draft = self.draft(alloc, held, sent);
-        let told = Vec::from_slice(alloc, reply)?;
+        let reported = Vec::from_slice(alloc, reply)?;
         let bytes = ReplyBytes {
             kept: Vec::new(alloc),
-            told,
+            reported,
         };
         let added = draft.finish();
         Ok(Prepared::new(&self.setup, &self.ledger, event, added, None, None, bytes))
@@ -124,11 +124,11 @@ impl<P: Printer> Book<P> {
         let replies = answer_asks(&mut draft, alloc, file.asks.items())?;
         let added = draft.finish();
         let reply = reply_file(sent.1, file, replies)?;
-        let told = self.printer.print(alloc, &reply)?;
-        let kept = kept_copy(alloc, &file.newer, &told)?;
+        let reported = self.printer.print(alloc, &reply)?;
+        let kept = kept_copy(alloc, &file.newer, &reported)?;
         let older = file.older.copy()?;
         let newer = file.newer.copy()?;
-        let bytes = ReplyBytes { kept, told };
+        let bytes = ReplyBytes { kept, reported };
         Ok(Prepared::new(&self.setup, &self.ledger, event, added, older, newer, bytes))
     }
 

@@ -20,7 +20,7 @@ impl<P: Printer> Book<P> {
     /// Whether the event may happen at that moment.
     ///
     /// A file is of a user of the setup, all its values are within their bounds, and it is no poll. A transfer that is posted waits, and is
-    /// due on or before the business day. A recurring transfer makes the transfer at just the next place of its series, for
+    /// due on or before the business day. A recurring transfer makes the transfer at just the next occurrence of its series, for
     /// a date at most the setup's LEAD days after the business day. A letter is to a user of the setup, its subject has 1 to 64
     /// bytes and its body 1 to 10,000. For all but a file a number is left. Takes no memory.
     pub fn legal(&self, event: &Event, at: Moment) -> bool
@@ -30,7 +30,7 @@ impl<P: Printer> Book<P> {
         match event {
             Event::File(user, file) => self.may_ask(*user, file),
             Event::Post(id) => self.may_post(*id, at),
-            Event::Spawn(id, place) => self.may_spawn(*id, *place, at),
+            Event::Spawn(id, occurrence) => self.may_spawn(*id, *occurrence, at),
             Event::Letter(user, subject, body) => self.may_write(*user, subject, body),
         }
     }
@@ -70,13 +70,13 @@ impl<P: Printer> Book<P> {
         }
     }
 
-    /// Whether the recurring transfer with this id may make the transfer at that place of its series at that moment.
-    fn may_spawn(&self, id: u64, place: u32, at: Moment) -> bool
+    /// Whether the recurring transfer with this id may make the transfer at that occurrence of its series at that moment.
+    fn may_spawn(&self, id: u64, occurrence: u32, at: Moment) -> bool
         requires { IsMoment at.0 }
-        ensures { result ≡ rules.may_spawn self.now.setup (raised self.now.state at) id place }
+        ensures { result ≡ rules.may_spawn self.now.setup (raised self.now.state at) id occurrence }
     {
         let last = last_day(&self.setup, self.raised_day(at));
-        self.ledger.makes(id, place, last) && self.has_number()
+        self.ledger.makes(id, occurrence, last) && self.has_number()
     }
 
     /// The business day, raised to the day of a moment.

@@ -12,7 +12,7 @@ ghost use Rattle.bank_model.specs.Polls as rules;
 use crate::book::Book;
 use crate::book::answer::reply_file;
 use bank_model::Printer;
-use bank_telling::number_text;
+use bank_queries::number_text;
 use ofx_types::{
     Ask, AskReplies, AskReply, Duplicate, Moment, ObjectId, OutOfMemory, RequestFile, Sequence,
     SyncAsk, SyncReply, UserId,
@@ -78,7 +78,7 @@ impl<P: Printer> Book<P> {
     {
         match ask {
             Ask::Sync(ask) => {
-                let reply = self.told_token(alloc, user, ask)?;
+                let reply = self.reported_token(alloc, user, ask)?;
                 replies.push(AskReply::Sync(reply))?;
                 Ok(())
             }
@@ -88,14 +88,14 @@ impl<P: Printer> Book<P> {
     }
 
     /// The newest token of an object, and 0 where its account isn't the user's.
-    fn told_token(
+    fn reported_token(
         &self,
         alloc: Global,
         user: UserId,
         ask: &SyncAsk,
     ) -> Result<SyncReply, OutOfMemory>
         requires known { user.0 < length self.now.setup.users }
-        ensures { IfOk result (λ reply. reply ≡ rules.told_token ask.now
+        ensures { IfOk result (λ reply. reply ≡ rules.reported_token ask.now
             (rules.newest_if_any self.now.state (object_named self.now.setup user ask.now.object))) }
     {
         match self.setup.object(user, &ask.object) {

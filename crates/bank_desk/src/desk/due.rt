@@ -3,7 +3,7 @@
 ghost use Rattle.std.specs.Prelude.{◌≡◌, ◌≢◌, false, true, Err, IfOk, IfErr, IsErrOf};
 ghost use Rattle.ofx_ports.specs.Faults.{CountsFaults};
 ghost use Rattle.ofx_types.specs.Calendar.{IsMoment};
-ghost use Rattle.bank_desk.specs.DueSteps.{TakesNext, LeavesNext, MadeRun, StoppedWork};
+ghost use Rattle.bank_desk.specs.DueSteps.{RunsNext, LeavesNext, MadeRun, StoppedWork};
 
 use crate::desk::Desk;
 use crate::fault::DeskFault;
@@ -13,7 +13,7 @@ use ofx_types::Moment;
 use std::alloc::Global;
 
 /// The most events of a run of due work.
-const MOST_DUE: u64 = 100_000;
+const MAX_DUE: u64 = 100_000;
 
 impl Desk {
     /// Does what is due at that moment, one event after another, until none is or they are as many as a run has, and counts
@@ -35,8 +35,8 @@ impl Desk {
         ensures faults { CountsFaults (K.faults keeper.old) (K.faults keeper.new) (IsErrOf result DeskFault.AppendFailed) }
     {
         let mut count = 0;
-        while count < MOST_DUE {
-            if !self.take_next(alloc, keeper, at)? {
+        while count < MAX_DUE {
+            if !self.run_next(alloc, keeper, at)? {
                 return Ok(count);
             }
             count += 1;
@@ -45,7 +45,7 @@ impl Desk {
     }
 
     /// Makes the event happen that is due first at that moment. False where none is.
-    fn take_next<K: Keeper>(
+    fn run_next<K: Keeper>(
         &mut self,
         alloc: Global,
         keeper: &mut K,
@@ -54,7 +54,7 @@ impl Desk {
         requires moment { IsMoment at.0 }
         requires settled { K.unsettled keeper.old ≡ false }
         ensures setup { self.new.setup ≡ self.old.setup }
-        ensures taken { IfOk result (TakesNext at self.old self.new (K.records keeper.old) (K.records keeper.new)) }
+        ensures taken { IfOk result (RunsNext at self.old self.new (K.records keeper.old) (K.records keeper.new)) }
         ensures undone { IfErr result (LeavesNext at self.old self.new (K.records keeper.old) (K.records keeper.new) (K.landed keeper.new)) }
         ensures settled { result ≢ Err DeskFault.AppendFailed → K.unsettled keeper.new ≡ false }
         ensures unsettled { result ≡ Err DeskFault.AppendFailed → K.unsettled keeper.new ≡ true }

@@ -3,7 +3,7 @@
 ghost use Rattle.std.specs.Prelude.{◌≡◌, ◌+◌, ◌≤◌, ◌∷◌, [], true, length, OnOk, pos, ◌≤ℤ◌, ◌-ℤ◌, ◌+ℤ◌};
 ghost use Rattle.bank_model.specs.Ledger as rules;
 ghost use Rattle.bank_model.specs.Ledger.{row_in, posting_of};
-ghost use Rattle.bank_rules.specs.Next.{IsNext};
+ghost use Rattle.bank_invariants.specs.Next.{IsNext};
 ghost use Rattle.bank_ledger.specs.declared.row_change.RowChange.TheVariants.{Row};
 ghost use Rattle.bank_ledger.specs.Changes.{GivesRows};
 ghost use Rattle.bank_ledger.specs.DraftView.{drafted, HasAdded, HasBothHeld};
@@ -29,7 +29,7 @@ impl Draft<'_> {
     }
 
     /// Adds an entry with the row that it gives to a transfer, and moves the money of a row that is posted.
-    pub fn settle(&mut self, entry: Entry, row: TransferRow) -> Result<(), OutOfMemory>
+    pub fn enter_processed(&mut self, entry: Entry, row: TransferRow) -> Result<(), OutOfMemory>
         requires few { length (drafted self.old).entries + 1 ≤ self.old.setup.entries }
         requires next { IsNext self.old.setup (drafted self.old) entry }
         requires gives { GivesRows (drafted self.old).entries entry.change (Row row) }

@@ -6,7 +6,7 @@ ghost use Rattle.bank_model.specs.SetupReading.{unread, with_line, with_format, 
 use crate::directory::Directory;
 use crate::setup::Setup;
 use crate::setup::lines::{account_of, bank_of, limit_of, user_of};
-use crate::setup::words::{behind, no_word};
+use crate::setup::words::{no_word, suffix};
 use ofx_types::{Cents, OutOfMemory};
 use std::alloc::Global;
 
@@ -14,14 +14,14 @@ use std::alloc::Global;
 const FORMAT: &[u8; 9] = b"OFXBANK 1";
 
 /// The most users, and the most accounts.
-const MOST: usize = 1000;
+const MAX_BYTES: usize = 1000;
 
 /// The most that all accounts open with together, in cents.
-const MOST_OPENINGS: i64 = 9_999_999_999_999;
+const MAX_OPENINGS: i64 = 9_999_999_999_999;
 
 /// A setup of which the first lines are read.
 #[derive(Debug, Drop)]
-pub(super) struct Draft {
+pub(super) struct SetupDraft {
     /// The setup with the users and accounts that are read.
     pub setup: Setup,
     /// What these accounts open with together.
@@ -34,16 +34,16 @@ fn sum_of(openings: Cents, opening: Cents) -> Option<Cents>
     ensures { result ≡ openings_with openings opening }
 {
     let sum = openings.0.checked_add(opening.0)?;
-    if sum <= MOST_OPENINGS {
+    if sum <= MAX_OPENINGS {
         Some(Cents(sum))
     } else {
         None
     }
 }
 
-impl Draft {
+impl SetupDraft {
     /// A setup of which no line is read.
-    pub(super) fn new(alloc: Global) -> Result<Draft, OutOfMemory>
+    pub(super) fn new(alloc: Global) -> Result<SetupDraft, OutOfMemory>
         ensures { IfOk result (λ draft. draft ≡ unread) }
     {
         let setup = Setup {
@@ -54,7 +54,7 @@ impl Draft {
             window: 0,
             entries: 0,
         };
-        Ok(Draft {
+        Ok(SetupDraft {
             setup,
             openings: Cents(0),
         })
@@ -73,16 +73,16 @@ impl Draft {
     {
         match number {
             1 => Ok(line == FORMAT.as_slice()),
-            2 => self.take_bank(alloc, line),
-            3 => Ok(self.take_lead(line)),
-            4 => Ok(self.take_window(line)),
-            5 => Ok(self.take_entries(line)),
-            _ => self.take_user_or_account(alloc, line),
+            2 => self.add_bank(alloc, line),
+            3 => Ok(self.add_lead(line)),
+            4 => Ok(self.add_window(line)),
+            5 => Ok(self.add_entries(line)),
+            _ => self.add_user_or_account(alloc, line),
         }
     }
 
     #[tactic(auto, unfolding(crate::specs::SetupReading::with_bank))]
-    fn take_bank(&mut self, alloc: Global, line: &[u8]) -> Result<bool, OutOfMemory>
+    fn add_bank(&mut self, alloc: Global, line: &[u8]) -> Result<bool, OutOfMemory>
         ensures { IfOk result (λ taken. with_bank self.old line.now ≡ (if taken then Some self.new else None)) }
     {
         let Some(bank) = bank_of(alloc, line)? else {
@@ -93,7 +93,7 @@ impl Draft {
     }
 
     #[tactic(auto, unfolding(crate::specs::SetupReading::with_lead))]
-    fn take_lead(&mut self, line: &[u8]) -> bool
+    fn add_lead(&mut self, line: &[u8]) -> bool
         ensures { with_lead self.old line.now ≡ (if result then Some self.new else None) }
     {
         let Some(lead) = limit_of(line, b"LEAD", 0, 30) else {
@@ -104,7 +104,7 @@ impl Draft {
     }
 
     #[tactic(auto, unfolding(crate::specs::SetupReading::with_window))]
-    fn take_window(&mut self, line: &[u8]) -> bool
+    fn add_window(&mut self, line: &[u8]) -> bool
         ensures { with_window self.old line.now ≡ (if result then Some self.new else None) }
     {
         let Some(window) = limit_of(line, b"WINDOW", 1, 10_000) else {
@@ -115,7 +115,7 @@ impl Draft {
     }
 
     #[tactic(auto, unfolding(crate::specs::SetupReading::with_entries))]
-    fn take_entries(&mut self, line: &[u8]) -> bool
+    fn add_entries(&mut self, line: &[u8]) -> bool
         ensures { with_entries self.old line.now ≡ (if result then Some self.new else None) }
     {
         let Some(entries) = limit_of(line, b"ENTRIES", 1, 9_999_999_999) else {
@@ -126,26 +126,26 @@ impl Draft {
     }
 
     #[tactic(auto, unfolding(crate::specs::SetupReading::with_body_line))]
-    fn take_user_or_account(&mut self, alloc: Global, line: &[u8]) -> Result<bool, OutOfMemory>
+    fn add_user_or_account(&mut self, alloc: Global, line: &[u8]) -> Result<bool, OutOfMemory>
         ensures { IfOk result (λ taken. with_body_line self.old line.now ≡ (if taken then Some self.new else None)) }
     {
-        if let Some(fields) = behind(line, b"USER") {
-            return self.take_user(alloc, fields);
+        if let Some(fields) = suffix(line, b"USER") {
+            return self.add_user(alloc, fields);
         }
-        match behind(line, b"ACCT") {
-            Some(fields) => self.take_account(alloc, fields),
+        match suffix(line, b"ACCT") {
+            Some(fields) => self.add_account(alloc, fields),
             None => Ok(false),
         }
     }
 
     #[tactic(auto, unfolding(crate::specs::SetupReading::with_user))]
-    fn take_user(&mut self, alloc: Global, fields: &[u8]) -> Result<bool, OutOfMemory>
+    fn add_user(&mut self, alloc: Global, fields: &[u8]) -> Result<bool, OutOfMemory>
         ensures { IfOk result (λ taken. with_user self.old fields.now ≡ (if taken then Some self.new else None)) }
     {
         if !self.setup.accounts.items().is_empty() {
             return Ok(false);
         }
-        if self.setup.users.items().len() >= MOST {
+        if self.setup.users.items().len() >= MAX_BYTES {
             return Ok(false);
         }
         let Some(user) = user_of(alloc, fields)? else {
@@ -155,14 +155,14 @@ impl Draft {
     }
 
     #[tactic(auto, unfolding(crate::specs::SetupReading::with_account))]
-    fn take_account(&mut self, alloc: Global, fields: &[u8]) -> Result<bool, OutOfMemory>
+    fn add_account(&mut self, alloc: Global, fields: &[u8]) -> Result<bool, OutOfMemory>
         ensures { IfOk result (λ taken. with_account self.old fields.now ≡ (if taken then Some self.new else None)) }
     {
         let users = self.setup.users.items().len();
-        if users == 0 || users > MOST {
+        if users == 0 || users > MAX_BYTES {
             return Ok(false);
         }
-        if self.setup.accounts.items().len() >= MOST {
+        if self.setup.accounts.items().len() >= MAX_BYTES {
             return Ok(false);
         }
         let Some(account) = account_of(alloc, &self.setup.bank, &self.setup.users, fields)? else {

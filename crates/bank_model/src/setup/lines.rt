@@ -6,7 +6,7 @@ ghost use Rattle.std.specs.Str.Lines.{strip_carriage_return};
 ghost use Rattle.bank_model.specs.SetupReading.{owner_more, line_at, bank_at, limit_at, user_at, kind_at, user_named, owners_at, account_at};
 
 use crate::directory::Directory;
-use crate::setup::words::{behind, cut_at, is_word, number, number_in, word_text};
+use crate::setup::words::{cut_at, is_word, number, number_in, suffix, word_text};
 use crate::setup::{AccountLine, Owners, User, Users};
 use ofx_types::{AcctKind, AcctName, Cents, Duplicate, OutOfMemory, Text, UserId};
 use std::alloc::Global;
@@ -40,7 +40,7 @@ pub(super) fn first_line(bytes: &[u8]) -> Option<(&[u8], &[u8])>
 pub(super) fn bank_of(alloc: Global, line: &[u8]) -> Result<Option<Text>, OutOfMemory>
     ensures { IfOk result (λ bank. bank ≡ bank_at line.now) }
 {
-    let Some(bank) = behind(line, b"BANK") else {
+    let Some(bank) = suffix(line, b"BANK") else {
         return Ok(None);
     };
     if !is_word(bank) {
@@ -55,7 +55,7 @@ pub(super) fn limit_of(line: &[u8], key: &[u8], lowest: u64, highest: u64) -> Op
     ensures exact { result ≡ limit_at key.now lowest highest line.now }
     ensures high { IfSome result (λ n. n ≤ highest) }
 {
-    let word = behind(line, key)?;
+    let word = suffix(line, key)?;
     number_in(word, lowest, highest)
 }
 
@@ -106,7 +106,7 @@ fn user_of_name(alloc: Global, users: &Users, name: &[u8]) -> Result<Option<User
     }
     let name = word_text(alloc, name)?;
     match users.find(&name) {
-        Some(place) => Ok(Some(UserId(place as u32))),
+        Some(index) => Ok(Some(UserId(index as u32))),
         None => Ok(None),
     }
 }

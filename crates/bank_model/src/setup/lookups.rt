@@ -14,9 +14,9 @@ impl Setup {
         requires within { IsWithinLimits self.now }
         ensures { result ≡ signed_on self.now name.now pass.now }
     {
-        let place = self.users.find(name)?;
-        if self.users.items()[place].pass == *pass {
-            Some(UserId(place as u32))
+        let index = self.users.find(name)?;
+        if self.users.items()[index].pass == *pass {
+            Some(UserId(index as u32))
         } else {
             None
         }
@@ -27,8 +27,8 @@ impl Setup {
         requires within { IsWithinLimits self.now }
         ensures { result ≡ user_of self.now name.now }
     {
-        let place = self.users.find(name)?;
-        Some(UserId(place as u32))
+        let index = self.users.find(name)?;
+        Some(UserId(index as u32))
     }
 
     /// The account of that name. Takes no memory.
@@ -36,8 +36,8 @@ impl Setup {
         requires within { IsWithinLimits self.now }
         ensures { result ≡ account_of self.now name.now }
     {
-        let place = self.accounts.find(name)?;
-        Some(AcctId(place as u32))
+        let index = self.accounts.find(name)?;
+        Some(AcctId(index as u32))
     }
 
     /// Whether the account is the user's. Takes no memory.

@@ -7,46 +7,46 @@ ghost use Rattle.bank_model.specs.SetupOutcome.{IsRefusalOf, NamesFaultOf, Answe
 ghost use Rattle.bank_model.specs.SetupReading.{ReadsSetup, unread, with_lines, left_in, IsBounded, objects_fit, setup_at};
 ghost use Rattle.bank_model.specs.declared.setup.Setup.{Setup};
 
-use crate::setup::draft::Draft;
+use crate::setup::draft::SetupDraft;
 use crate::setup::lines::first_line;
 use crate::setup::{Setup, SetupFault};
 use std::alloc::Global;
 
 /// The most bytes of a setup.
-const MOST_BYTES: usize = 262_144;
+const MAX_BYTES: usize = 262_144;
 
 /// The most entries that may be kept for synchronisation: the window times the objects.
-const MOST_KEPT: u64 = 1_000_000;
+const MAX_WINDOW_ENTRIES: u64 = 1_000_000;
 
 /// The first bytes of a setup, as many as it may have.
-fn front(bytes: &[u8]) -> &[u8]
+fn prefix(bytes: &[u8]) -> &[u8]
     ensures bytes { result.now ≡ take 262144 bytes.now }
     ensures few { length result.now ≤ 262144 }
 {
-    if bytes.len() > MOST_BYTES {
-        &bytes[..MOST_BYTES]
+    if bytes.len() > MAX_BYTES {
+        &bytes[..MAX_BYTES]
     } else {
         bytes
     }
 }
 
-/// The whole lines taken into a draft, the number of the line after them, and what stands of it.
-fn read_lines(alloc: Global, bytes: &[u8]) -> Result<(Draft, u64, &[u8]), SetupFault>
+/// The whole lines taken into a draft, the number of the line after them, and what is left of it.
+fn read_lines(alloc: Global, bytes: &[u8]) -> Result<(SetupDraft, u64, &[u8]), SetupFault>
     requires { length bytes.now ≤ 262144 }
     ensures read { ReadsSetup (λ x. x.0) result (with_lines 1 unread (lines_in bytes.now)) }
-    ensures behind { IfOk result (λ x. x.1 ≡ length (lines_in bytes.now) + 1) }
+    ensures suffix { IfOk result (λ x. x.1 ≡ length (lines_in bytes.now) + 1) }
     ensures left { IfOk result (λ x. x.2.now ≡ left_in bytes.now) }
     ensures bounded { IfOk result (λ x. IsBounded x.0.setup) }
 {
-    let mut draft = Draft::new(alloc)?;
+    let mut draft = SetupDraft::new(alloc)?;
     let mut number = 1u64;
     let mut rest = bytes;
-    while let Some((line, behind)) = first_line(rest) {
+    while let Some((line, suffix)) = first_line(rest) {
         if !draft.take(alloc, number, line)? {
             return Err(SetupFault::SetupLine(number));
         }
         number += 1;
-        rest = behind;
+        rest = suffix;
     }
     Ok((draft, number, rest))
 }
@@ -59,7 +59,7 @@ fn keeps_few(setup: &Setup) -> bool
 {
     let accounts = setup.accounts.items().len() as u64;
     let users = setup.users.items().len() as u64;
-    u64::from(setup.window) * (3 * accounts + users) <= MOST_KEPT
+    u64::from(setup.window) * (3 * accounts + users) <= MAX_WINDOW_ENTRIES
 }
 
 /// The setup of all the bytes.
@@ -67,8 +67,8 @@ fn keeps_few(setup: &Setup) -> bool
 fn whole(alloc: Global, bytes: &[u8]) -> Result<Setup, SetupFault>
     ensures { ReadsSetup (λ x. x) result (setup_at bytes.now) }
 {
-    let (draft, number, rest) = read_lines(alloc, front(bytes))?;
-    if bytes.len() > MOST_BYTES || !rest.is_empty() || draft.setup.accounts.items().is_empty() {
+    let (draft, number, rest) = read_lines(alloc, prefix(bytes))?;
+    if bytes.len() > MAX_BYTES || !rest.is_empty() || draft.setup.accounts.items().is_empty() {
         return Err(SetupFault::SetupLine(number));
     }
     if !keeps_few(&draft.setup) {

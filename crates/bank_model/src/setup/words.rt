@@ -6,18 +6,18 @@ ghost use Rattle.std.specs.Char.{is_ascii_digit};
 ghost use Rattle.std.specs.List.{list_all};
 ghost use Rattle.std.specs.Str.Parse.{digits_value};
 ghost use Rattle.bank_model.specs.SetupForm.{is_word_byte};
-ghost use Rattle.bank_model.specs.SetupReading.{cut, behind_key, is_word_form, is_number_form, number_of, number_within};
+ghost use Rattle.bank_model.specs.SetupReading.{cut, after_key, is_word_form, is_number_form, number_of, number_within};
 
 use ofx_types::{OutOfMemory, Text};
 use std::alloc::Global;
 
 /// The most bytes of a word.
-const MOST_OF_WORD: usize = 32;
+const MAX_WORD_BYTES: usize = 32;
 
 /// The most digits of a number: the openings together have no more.
-const MOST_DIGITS: usize = 13;
+const MAX_DIGITS: usize = 13;
 
-/// Whether a byte may stand in a word.
+/// Whether a byte may be in a word.
 fn is_plain(byte: u8) -> bool
     ensures { result ≡ is_word_byte byte }
 {
@@ -37,13 +37,13 @@ pub(super) fn is_word(bytes: &[u8]) -> bool
     if bytes.is_empty() {
         return false;
     }
-    if bytes.len() > MOST_OF_WORD {
+    if bytes.len() > MAX_WORD_BYTES {
         return false;
     }
     all_plain(bytes)
 }
 
-fn place_of_mark(bytes: &[u8], mark: u8) -> Option<usize>
+fn offset_of_mark(bytes: &[u8], mark: u8) -> Option<usize>
     ensures { result ≡ position (λ b. b == mark) bytes.now }
 {
     bytes.iter().position(|byte| *byte == mark)
@@ -54,16 +54,16 @@ pub(super) fn cut_at(bytes: &[u8], mark: u8) -> Option<(&[u8], &[u8])>
     ensures exact { option_map (λ parts. (parts.0.now, parts.1.now)) result ≡ cut mark bytes.now }
     ensures less { IfSome result (λ parts. length parts.1.now < length bytes.now) }
 {
-    match place_of_mark(bytes, mark) {
+    match offset_of_mark(bytes, mark) {
         Some(at) => Some((&bytes[..at], &bytes[at + 1..])),
         None => None,
     }
 }
 
-/// What stands after the first word of a line and the space after it, where that word is the key.
-#[tactic(auto, unfolding(crate::specs::SetupReading::behind_key))]
-pub(super) fn behind<'a>(line: &'a [u8], key: &[u8]) -> Option<&'a [u8]>
-    ensures { option_map (λ rest. rest.now) result ≡ behind_key key.now line.now }
+/// What follows the first word of a line and the space after it, where that word is the key.
+#[tactic(auto, unfolding(crate::specs::SetupReading::after_key))]
+pub(super) fn suffix<'a>(line: &'a [u8], key: &[u8]) -> Option<&'a [u8]>
+    ensures { option_map (λ rest. rest.now) result ≡ after_key key.now line.now }
 {
     let (word, rest) = cut_at(line, b' ')?;
     if word == key { Some(rest) } else { None }
@@ -81,7 +81,7 @@ fn is_number(word: &[u8]) -> bool
     if word.is_empty() {
         return false;
     }
-    if word.len() > MOST_DIGITS {
+    if word.len() > MAX_DIGITS {
         return false;
     }
     if word[0] == b'0' {
@@ -136,7 +136,7 @@ pub(super) fn word_text(alloc: Global, word: &[u8]) -> Result<Text, OutOfMemory>
     requires { is_word_form word.now ≡ true }
     ensures { IfOk result (λ text. text ≡ word.now) }
 {
-    match Text::new(alloc, word, MOST_OF_WORD as u32) {
+    match Text::new(alloc, word, MAX_WORD_BYTES as u32) {
         Ok(text) => Ok(text),
         Err(_) => Err(OutOfMemory),
     }

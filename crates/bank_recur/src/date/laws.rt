@@ -35,7 +35,7 @@ pub fn series_ends()
 {}
 
 /// No more places of a series have dates than the calendar has days, and each of its dates is one of those.
-pub fn series_has_few_places()
+pub fn series_has_few_occurrences()
     ensures { (first date : Day) (freq : Freq) (k : ℕ) → IsDay first.0 → kth_date first freq k ≡ Some date
         → (k ≤ 2958463) × IsDay date.0 }
 {}

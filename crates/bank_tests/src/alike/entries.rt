@@ -1,4 +1,4 @@
-//! The entries of a bank as a plain list that is gone through from the front.
+//! The entries of a bank as a plain list that is gone through from the start.
 
 use std::alloc::{AllocError, Global};
 

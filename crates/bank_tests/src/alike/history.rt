@@ -235,10 +235,16 @@ fn token(plain: &PlainEntries, object: u32, dice: &mut Dice) -> u64 {
 }
 
 /// Puts the same entry after all others of both.
-fn add(rt: &impl Abort, alloc: Global, told: &mut Told, plain: &mut PlainEntries, dice: &mut Dice) {
+fn add(
+    rt: &impl Abort,
+    alloc: Global,
+    reported: &mut Told,
+    plain: &mut PlainEntries,
+    dice: &mut Dice,
+) {
     let object = owner(dice);
     let change = rolled(dice);
-    let number = told.add(rt, alloc, object, change, dice.roll(6));
+    let number = reported.add(rt, alloc, object, change, dice.roll(6));
     let next = PlainEntry {
         number,
         object,
@@ -250,13 +256,13 @@ fn add(rt: &impl Abort, alloc: Global, told: &mut Told, plain: &mut PlainEntries
 #[test]
 fn the_history_of_an_object_is_that_of_a_list(rt: HostRuntime) {
     let alloc = rt.alloc();
-    let mut told = Told::new(alloc);
+    let mut reported = Told::new(alloc);
     let mut plain = PlainEntries::new(alloc);
     let mut dice = Dice::new();
     for _ in 0..CALLS {
-        add(&rt, alloc, &mut told, &mut plain, &mut dice);
+        add(&rt, alloc, &mut reported, &mut plain, &mut dice);
         if dice.roll(4) == 0 {
-            assert!(rt; told.is_like(&rt, alloc, &plain, &mut dice));
+            assert!(rt; reported.is_like(&rt, alloc, &plain, &mut dice));
         }
     }
 }

@@ -1,4 +1,4 @@
-//! Plain lists that are searched from the front, and dice.
+//! Plain lists that are searched from the start, and dice.
 
 ghost use Rattle.std.specs.Prelude.{◌<◌};
 

@@ -1,4 +1,4 @@
-//! Transfers as plain lists that are searched from the front.
+//! Transfers as plain lists that are searched from the start.
 
 use ofx_types::{Moment, XferCode};
 use std::alloc::{AllocError, Global};

@@ -11,7 +11,7 @@ pub struct PlainSeries {
     pub next: i32,
     pub step: i32,
     pub count: Option<u32>,
-    pub place: u32,
+    pub occurrence: u32,
     pub cancelled: bool,
 }
 
@@ -19,7 +19,7 @@ impl PlainSeries {
     /// Whether it makes its next transfer by a last day.
     pub fn makes_by(&self, last: i32) -> bool {
         let goes_on = match self.count {
-            Some(count) => self.place < count,
+            Some(count) => self.occurrence < count,
             None => true,
         };
         goes_on && !self.cancelled && self.next <= last
@@ -75,7 +75,7 @@ impl PlainModels {
             }
         }
         match first {
-            Some(first) => Some((first.id, first.place)),
+            Some(first) => Some((first.id, first.occurrence)),
             None => None,
         }
     }

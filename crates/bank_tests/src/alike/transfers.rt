@@ -35,8 +35,8 @@ const CODES: [XferCode; 5] = [
 /// The call whose stamp is far behind all others.
 const FAR_CALL: u32 = 6_000;
 
-fn account(rt: &impl Abort, alloc: Global, place: u8) -> AcctName {
-    let (bank, number, kind) = ACCOUNTS[place as usize % 7];
+fn account(rt: &impl Abort, alloc: Global, occurrence: u8) -> AcctName {
+    let (bank, number, kind) = ACCOUNTS[occurrence as usize % 7];
     AcctName {
         bank: text(rt, alloc, bank.as_bytes(), 32),
         number: text(rt, alloc, number.as_bytes(), 32),
@@ -141,13 +141,13 @@ fn alike(
     let other = u64::from(dice.roll(200)) * 50 + u64::from(dice.roll(50));
     let day = i32::from(dice.roll(150)) * 2;
     let model = u64::from(dice.roll(6));
-    let place = dice.roll(7);
+    let occurrence = dice.roll(7);
     let period = period(dice);
     has_same(transfers, plain, id)
         && has_same(transfers, plain, other)
         && transfers.due_on(Day(day)) == plain.due_on(day)
         && has_same_waiting(rt, alloc, transfers, plain, model)
-        && has_same_lines(rt, alloc, transfers, plain, place, period)
+        && has_same_lines(rt, alloc, transfers, plain, occurrence, period)
 }
 
 /// Whether both have the same transfers of a recurring one that wait.
@@ -168,18 +168,20 @@ fn has_same_lines(
     alloc: Global,
     transfers: &Transfers,
     plain: &PlainTransfers,
-    place: u8,
+    occurrence: u8,
     period: (Moment, Option<Moment>),
 ) -> bool {
-    let account = account(rt, alloc, place);
+    let account = account(rt, alloc, occurrence);
     let lines = transfers
         .posted(alloc, &account, period)
         .expect(rt, "lines");
-    let mut told = Vec::new(alloc);
+    let mut reported = Vec::new(alloc);
     for line in lines.items() {
-        told.push((line.number, line.amount.0)).expect(rt, "room");
+        reported
+            .push((line.number, line.amount.0))
+            .expect(rt, "room");
     }
-    told == plain.posted(alloc, place, period).expect(rt, "lines")
+    reported == plain.posted(alloc, occurrence, period).expect(rt, "lines")
 }
 
 #[test]

@@ -24,8 +24,8 @@ impl MemDisk {
         ensures may { IfOk result (λ crash. MayLeave self.now.found (drop (length self.now.changes - moment) self.now.changes) crash.items) }
         ensures chosen { IfOk result (λ crash. crash.items ≡ (crashed choice self.now.found (drop (length self.now.changes - moment) self.now.changes)).0) }
     {
-        let front = &self.changes[..moment as usize];
-        Ok(crash_of(self.alloc, &self.found, front, choice)?)
+        let prefix = &self.changes[..moment as usize];
+        Ok(crash_of(self.alloc, &self.found, prefix, choice)?)
     }
 }
 
@@ -104,7 +104,7 @@ fn choice_after(change: &Change, choice: u64, left: u64) -> u64
     }
 }
 
-// What a write of so many bytes at a place leaves that is torn in one of the ways.
+// What a write of so many bytes at an offset leaves that is torn in one of the ways.
 fn torn(
     alloc: Global,
     old: &[u8],
@@ -121,8 +121,8 @@ fn torn(
         let same = old.to_vec(alloc)?;
         return Ok(same);
     }
-    let front = torn_front(alloc, first_bytes(bytes, size), way)?;
-    let new = overlay(alloc, old, at, &front)?;
+    let prefix = torn_prefix(alloc, first_bytes(bytes, size), way)?;
+    let new = overlay(alloc, old, at, &prefix)?;
     Ok(new)
 }
 
@@ -136,9 +136,9 @@ fn first_bytes(bytes: &[u8], size: u64) -> &[u8]
 }
 
 // What a crash leaves of the bytes of a write.
-fn torn_front(alloc: Global, bytes: &[u8], way: u64) -> Result<Vec<u8>, AllocError>
-    ensures chosen { IfOk result (λ front. front.items ≡ torn_bytes way bytes.now) }
-    ensures no_longer { IfOk result (λ front. length front.items ≤ length bytes.now) }
+fn torn_prefix(alloc: Global, bytes: &[u8], way: u64) -> Result<Vec<u8>, AllocError>
+    ensures chosen { IfOk result (λ prefix. prefix.items ≡ torn_bytes way bytes.now) }
+    ensures no_longer { IfOk result (λ prefix. length prefix.items ≤ length bytes.now) }
 {
     match way {
         0 => Ok(Vec::new(alloc)),

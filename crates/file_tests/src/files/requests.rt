@@ -342,7 +342,7 @@ NEWFILEUID:NONE
 </OFX>
 ";
 
-/// A file in another than the printed form, with its own line ends: mail stands in front, and the signon comes last.
+/// A file in another than the printed form, with its own line ends: mail comes first, and the signon comes last.
 pub const LOOSE: &[u8] = b"OFXHEADER:\t100 \r
 DATA:\tOFXSGML\r
 VERSION:160 

@@ -13,7 +13,7 @@ use ofx_tree::{Cursor, Sheet};
 use ofx_types::{Freq, OutOfMemory, Recur, TreeFault};
 
 /// The most digits of a count.
-const MOST: usize = 3;
+const MAX_BYTES: usize = 3;
 
 /// Each frequency once.
 const FREQS: [Freq; 9] = [
@@ -61,9 +61,9 @@ fn count_of(ninsts: Option<Cursor<'_>>) -> Result<Option<u32>, TreeFault>
 fn count_at(ninsts: &Cursor<'_>) -> Result<u32, TreeFault>
     ensures { result ≡ reading.count_at ninsts.now.node }
 {
-    let count = ninsts.own_number(MOST)?;
+    let count = ninsts.own_number(MAX_BYTES)?;
     if count == 0 {
-        return Err(TreeFault::Value(ninsts.place() as u64));
+        return Err(TreeFault::Value(ninsts.offset() as u64));
     }
     Ok(count as u32)
 }
@@ -74,7 +74,7 @@ fn freq_at(word: &Cursor<'_>) -> Result<Freq, TreeFault>
 {
     match freq_named(word) {
         Some(freq) => Ok(freq),
-        None => Err(TreeFault::Value(word.place() as u64)),
+        None => Err(TreeFault::Value(word.offset() as u64)),
     }
 }
 

@@ -122,7 +122,7 @@ pub(crate) fn print_drop_model(id: u64, pending: bool, sheet: &mut Sheet) -> Res
 }
 
 /// Writes the id of a recurring transfer, how it recurs and what its transfers are like.
-#[tactic(auto, unfolding(ofx_types::specs::DeedText::model_row_text), using(msg_parts::proofs::Joined::behind))]
+#[tactic(auto, unfolding(ofx_types::specs::DeedText::model_row_text), using(msg_parts::proofs::Joined::rest))]
 fn print_row(row: &ModelRow, sheet: &mut Sheet) -> Result<(), OutOfMemory>
     requires { IsDay row.now.first.0 }
     ensures ok { OnOk result (sheet.new ≡ sheet.old ++ text.model_row_text row.now) }

@@ -82,17 +82,17 @@ fn read_due_info(alloc: Global, xferinfo: &Cursor<'_>) -> Result<DueInfo, TreeFa
     ensures { ReadsForm result (reading.due_info_of xferinfo.now) }
 {
     let info = read_info(alloc, xferinfo)?;
-    let due = day_or(info.due, xferinfo.place() as u64)?;
+    let due = day_or(info.due, xferinfo.offset() as u64)?;
     Ok(DueInfo { info, due })
 }
 
-/// The due day, which is missing at the place of its aggregate where it doesn't stand.
-fn day_or(due: Option<Day>, place: u64) -> Result<Day, TreeFault>
-    ensures { result ≡ reading.day_or place due }
+/// The due day, which is missing at the offset of its aggregate where it doesn't stand.
+fn day_or(due: Option<Day>, offset: u64) -> Result<Day, TreeFault>
+    ensures { result ≡ reading.day_or offset due }
 {
     match due {
         Some(day) => Ok(day),
-        None => Err(TreeFault::Missing(place)),
+        None => Err(TreeFault::Missing(offset)),
     }
 }
 

@@ -41,7 +41,7 @@ fn code_at(word: &Cursor<'_>) -> Result<XferCode, TreeFault>
     if word.value_eq(b"NOFUNDSON") {
         return Ok(XferCode::NoFunds);
     }
-    Err(TreeFault::Value(word.place() as u64))
+    Err(TreeFault::Value(word.offset() as u64))
 }
 
 /// Writes how far a transfer is.

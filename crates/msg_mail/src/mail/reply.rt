@@ -23,15 +23,15 @@ use ofx_types::{AcctName, Change, DeedReply, Family, MailRow, OutOfMemory, TreeF
 use std::alloc::Global;
 
 /// The answer that the reply to a mail about an account (BANKMAILTRNRS) or to other mail (MAILTRNRS) is: with code 0 the
-/// mail stands in it. With any other code no mail is looked for.
+/// mail is in it. With any other code no mail is looked for.
 ///
-/// The first fault of its form, with its place, which is its own where it has another name; `OutOfMemory` where memory
+/// The first fault of its form, with its offset, which is its own where it has another name; `OutOfMemory` where memory
 /// for its texts is refused.
 #[tactic(auto, unfolding(ofx_types::specs::MailReading::mail_reply_of))]
 pub fn mail_read_reply(alloc: Global, c: &Cursor<'_>) -> Result<DeedReply, TreeFault>
     ensures { ReadsForm result (mail_reply_of c.now) }
 {
-    let family = family_told(c)?;
+    let family = family_reported(c)?;
     let trnuid = read_trnuid(alloc, c)?;
     let code = read_status(c)?;
     let change = read_mail_by_code(alloc, code, c)?;
@@ -44,8 +44,8 @@ pub fn mail_read_reply(alloc: Global, c: &Cursor<'_>) -> Result<DeedReply, TreeF
 }
 
 /// What a transaction belongs to, by its name.
-fn family_told(c: &Cursor<'_>) -> Result<Family, TreeFault>
-    ensures { result ≡ reading.mail_family_told c.now }
+fn family_reported(c: &Cursor<'_>) -> Result<Family, TreeFault>
+    ensures { result ≡ reading.mail_family_reported c.now }
 {
     if c.name() == b"BANKMAILTRNRS".as_slice() {
         return Ok(Family::BankMail);
@@ -53,7 +53,7 @@ fn family_told(c: &Cursor<'_>) -> Result<Family, TreeFault>
     if c.name() == b"MAILTRNRS".as_slice() {
         return Ok(Family::Mail);
     }
-    Err(TreeFault::Value(c.place() as u64))
+    Err(TreeFault::Value(c.offset() as u64))
 }
 
 /// The mail that came in or went out, where the code is 0.

@@ -18,7 +18,7 @@ use std::alloc::Global;
 
 /// The uid and the mail that a request of mail about an account (BANKMAILTRNRQ) or of other mail (MAILTRNRQ) is.
 ///
-/// The first fault of its form, with its place, which is its own where it has another name; `OutOfMemory` where memory
+/// The first fault of its form, with its offset, which is its own where it has another name; `OutOfMemory` where memory
 /// for its texts is refused.
 #[tactic(auto, unfolding(ofx_types::specs::MailReading::mail_deed_of))]
 pub fn mail_read_deed(alloc: Global, c: &Cursor<'_>) -> Result<(TrnUid, Deed), TreeFault>
@@ -40,7 +40,7 @@ fn read_request(alloc: Global, transaction: &Cursor<'_>) -> Result<Deed, TreeFau
     if transaction.name() == b"MAILTRNRQ".as_slice() {
         return read_plain_mail(alloc, transaction);
     }
-    Err(TreeFault::Value(transaction.place() as u64))
+    Err(TreeFault::Value(transaction.offset() as u64))
 }
 
 #[tactic(auto, unfolding(ofx_types::specs::MailReading::bank_mail_of))]

@@ -13,13 +13,13 @@ use ofx_types::{MailText, OutOfMemory, Text, TreeFault};
 use std::alloc::Global;
 
 /// The most bytes of USERID, FROM and TO.
-const MOST_OF_NAME: u32 = 32;
+const MAX_NAME: u32 = 32;
 
 /// The most bytes of SUBJECT.
-const MOST_OF_SUBJECT: u32 = 64;
+const MAX_SUBJECT: u32 = 64;
 
 /// The most bytes of MSGBODY.
-const MOST_OF_BODY: u32 = 10_000;
+const MAX_BODY: u32 = 10_000;
 
 /// What the mail of a request says. Its USERID isn't looked at.
 #[tactic(auto, unfolding(ofx_types::specs::MailReading::mail_in))]
@@ -46,7 +46,7 @@ pub(crate) fn read_user_mail_in(
 fn read_user_mail(alloc: Global, mail: &Cursor<'_>) -> Result<(Text, MailText), TreeFault>
     ensures { ReadsForm result (reading.mail_of_user mail.now) }
 {
-    let user = mail.text(alloc, b"USERID", MOST_OF_NAME)?;
+    let user = mail.text(alloc, b"USERID", MAX_NAME)?;
     let text = read_mail(alloc, mail)?;
     Ok((user, text))
 }
@@ -56,10 +56,10 @@ fn read_mail(alloc: Global, mail: &Cursor<'_>) -> Result<MailText, TreeFault>
     ensures { ReadsForm result (reading.mail_text_of mail.now) }
 {
     let created = mail.moment(b"DTCREATED")?;
-    let sender = mail.text(alloc, b"FROM", MOST_OF_NAME)?;
-    let target = mail.text(alloc, b"TO", MOST_OF_NAME)?;
-    let subject = mail.text(alloc, b"SUBJECT", MOST_OF_SUBJECT)?;
-    let body = mail.text(alloc, b"MSGBODY", MOST_OF_BODY)?;
+    let sender = mail.text(alloc, b"FROM", MAX_NAME)?;
+    let target = mail.text(alloc, b"TO", MAX_NAME)?;
+    let subject = mail.text(alloc, b"SUBJECT", MAX_SUBJECT)?;
+    let body = mail.text(alloc, b"MSGBODY", MAX_BODY)?;
     Ok(MailText {
         created,
         sender,

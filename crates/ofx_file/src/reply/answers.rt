@@ -13,7 +13,7 @@ use ofx_tree::Cursor;
 use ofx_types::{AskReplies, AskReply, TreeFault};
 use std::alloc::Global;
 
-/// The answers of a message set, where it stands.
+/// The answers of a message set, where it is.
 pub(crate) fn answers_in(
     alloc: Global,
     set: MessageSet,
@@ -28,7 +28,7 @@ pub(crate) fn answers_in(
 }
 
 /// The answers of a message set.
-#[tactic(auto, using(msg_sync::proofs::Behind::behind, crate::proofs::InSets::all_answers))]
+#[tactic(auto, using(msg_sync::proofs::After::rest, crate::proofs::InSets::all_answers))]
 fn answers_of(alloc: Global, set: MessageSet, found: &Cursor<'_>) -> Result<AskReplies, TreeFault>
     ensures { ReadsForm result (reading.messages_of ask_reply_of (sets.reply_names set) (children found.now)) }
 {

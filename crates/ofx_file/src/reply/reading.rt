@@ -6,9 +6,9 @@ ghost use Rattle.ofx_file.specs.ReplyOutcome.{ReadsReply, ReadsAll, RefusesAll};
 ghost use Rattle.ofx_file.specs.ReplySteps as steps;
 
 use crate::laws::{
-    faults_spell_no_reply, one_reply, one_reply_fault, replies_are_found, reply_faults_have_places,
+    faults_spell_no_reply, one_reply, one_reply_fault, replies_are_found, reply_faults_have_offsets,
 };
-use crate::messages::{MessageSet, one_behind_other};
+use crate::messages::{MessageSet, one_after_other};
 use crate::reply::answers::answers_in;
 use crate::tags::{in_forms, read_tags};
 use msg_mail::read_signon_reply;
@@ -22,11 +22,11 @@ use std::alloc::Global;
 /// | Fault | Where |
 /// |---|---|
 /// | `Header(at)` | the header's first bad line begins at `at`, or the header is cut there |
-/// | `Syntax(at)` | after a header, `at` is the place of the leftmost fault of the tags |
-/// | `Form(at)` | after a header and tags without a fault, `at` is the place of the first fault of the forms |
+/// | `Syntax(at)` | after a header, `at` is the offset of the leftmost fault of the tags |
+/// | `Form(at)` | after a header and tags without a fault, `at` is the offset of the first fault of the forms |
 /// | `OutOfMemory` | memory for the tags or for the reply's texts is refused |
 ///
-/// Places count from the first byte.
+/// Offsets count from the first byte.
 pub fn read_reply(alloc: Global, bytes: &[u8]) -> Result<ReplyFile, FileFault>
     ensures reply { ReadsReply bytes.now result }
     ensures all { ReadsAll bytes.now result }
@@ -43,7 +43,7 @@ fn read_file(alloc: Global, bytes: &[u8]) -> Result<ReplyFile, FileFault>
     ensures { ReadsReply bytes.now result }
 {
     replies_are_found();
-    reply_faults_have_places();
+    reply_faults_have_offsets();
     let (header, size, tape) = match read_tags(alloc, bytes) {
         Ok(found) => found,
         Err(fault) => return Err(fault),
@@ -62,7 +62,7 @@ fn reply_in(alloc: Global, header: Header, ofx: &Cursor<'_>) -> Result<ReplyFile
     let (signon, moment) = signon_in(ofx)?;
     let bank = answers_in(alloc, MessageSet::Bank, ofx.maybe(b"BANKMSGSRSV1")?)?;
     let mail = answers_in(alloc, MessageSet::Mail, ofx.maybe(b"EMAILMSGSRSV1")?)?;
-    let replies = one_behind_other(bank, mail)?;
+    let replies = one_after_other(bank, mail)?;
     Ok(ReplyFile {
         version: header.version,
         newer: header.newer,

@@ -20,7 +20,7 @@ use ofx_tree::Sheet;
 use ofx_types::{AskReply, Duplicate, Family, Moment, ObjectName, OutOfMemory, ReplyFile};
 use std::alloc::Global;
 
-/// The room that the parts of a reply file which stand once are given at first, in bytes.
+/// The room that the parts of a reply file which occur once are given at first, in bytes.
 const ROOM: usize = 576;
 
 /// The room that each answer is given at first, in bytes. A statement without lines has some 430, a new transfer some
@@ -38,7 +38,7 @@ impl Printer for OfxPrinter {
 }
 
 /// The bytes of a reply file, in its one printed form (OFX 1.6, "Open Financial Exchange Headers", "SGML Basics"). What the
-/// bank answers stands before mail.
+/// bank answers comes before mail.
 #[tactic(auto, using(crate::proofs::Texts::reply_text_is))]
 pub fn write_reply(alloc: Global, reply: &ReplyFile) -> Result<Vec<u8>, OutOfMemory>
     requires { IsPrintable reply.now }
@@ -63,7 +63,7 @@ fn header_of(reply: &ReplyFile) -> Result<Header, OutOfMemory>
     })
 }
 
-/// Appends what stands after the header.
+/// Appends what follows the header.
 #[tactic(auto, using(msg_parts::proofs::Joined::aggregate_of_three))]
 fn body(reply: &ReplyFile, sheet: &mut Sheet) -> Result<(), OutOfMemory>
     requires { IsPrintable reply.now }
@@ -87,7 +87,7 @@ fn signon_set(code: u16, moment: Moment, sheet: &mut Sheet) -> Result<(), OutOfM
     sheet.end(b"SIGNONMSGSRSV1")
 }
 
-/// Appends a message set, where one of the answers stands in it.
+/// Appends a message set, where one of the answers is in it.
 fn answer_set_of_some(
     set: MessageSet,
     answers: &[AskReply],
@@ -123,14 +123,14 @@ fn set_name(set: MessageSet) -> &'static [u8]
     }
 }
 
-/// Whether one of the answers stands in a message set.
+/// Whether one of the answers is in a message set.
 fn has_any(set: MessageSet, answers: &[AskReply]) -> bool
     ensures { result ≡ sets.has_answer set answers.now }
 {
     answers.iter().any(|answer| is_in(set, answer))
 }
 
-/// Whether an answer stands in a message set.
+/// Whether an answer is in a message set.
 fn is_in(set: MessageSet, answer: &AskReply) -> bool
     ensures { result ≡ sets.is_reply_in set answer.now }
 {
@@ -157,7 +157,7 @@ fn is_mail_of(family: Family) -> bool
     matches!(family, Family::Mail)
 }
 
-/// Appends the answers that stand in a message set, in their order.
+/// Appends the answers that are in a message set, in their order.
 fn print_answers(
     set: MessageSet,
     answers: &[AskReply],
@@ -172,7 +172,7 @@ fn print_answers(
     Ok(())
 }
 
-/// Appends an answer, where it stands in the message set.
+/// Appends an answer, where it is in the message set.
 fn print_if_in(set: MessageSet, answer: &AskReply, sheet: &mut Sheet) -> Result<(), OutOfMemory>
     requires { IsPrintableReply answer.now }
     ensures { OnOk result (sheet.new ≡ sheet.old ++ sets.answer_text_in set answer.now) }

@@ -13,7 +13,7 @@ use ofx_tree::Cursor;
 use ofx_types::{Ask, Asks, TreeFault};
 use std::alloc::Global;
 
-/// The asks of a message set, where it stands.
+/// The asks of a message set, where it is.
 pub(crate) fn asks_in(
     alloc: Global,
     set: MessageSet,
@@ -28,7 +28,7 @@ pub(crate) fn asks_in(
 }
 
 /// The asks of a message set.
-#[tactic(auto, using(msg_sync::proofs::Behind::behind, crate::proofs::InSets::all_asks))]
+#[tactic(auto, using(msg_sync::proofs::After::rest, crate::proofs::InSets::all_asks))]
 fn asks_of(alloc: Global, set: MessageSet, found: &Cursor<'_>) -> Result<Asks, TreeFault>
     ensures { ReadsForm result (reading.messages_of ask_of (sets.request_names set) (children found.now)) }
 {

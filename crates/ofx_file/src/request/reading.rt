@@ -5,9 +5,9 @@ ghost use Rattle.ofx_file.specs.RequestOutcome.{ReadsRequest, ReadsAll, RefusesA
 ghost use Rattle.ofx_file.specs.RequestSteps as steps;
 
 use crate::laws::{
-    faults_spell_nothing, one_fault, one_file, request_faults_have_places, requests_are_found,
+    faults_spell_nothing, one_fault, one_file, request_faults_have_offsets, requests_are_found,
 };
-use crate::messages::{MessageSet, one_behind_other};
+use crate::messages::{MessageSet, one_after_other};
 use crate::request::asks::asks_in;
 use crate::request::signon::signon_in;
 use crate::tags::{in_forms, read_tags};
@@ -21,11 +21,11 @@ use std::alloc::Global;
 /// | Fault | Where |
 /// |---|---|
 /// | `Header(at)` | the header's first bad line begins at `at`, or the header is cut there |
-/// | `Syntax(at)` | after a header, `at` is the place of the leftmost fault of the tags |
-/// | `Form(at)` | after a header and tags without a fault, `at` is the place of the first fault of the forms |
+/// | `Syntax(at)` | after a header, `at` is the offset of the leftmost fault of the tags |
+/// | `Form(at)` | after a header and tags without a fault, `at` is the offset of the first fault of the forms |
 /// | `OutOfMemory` | memory for the tags or for the file's texts is refused |
 ///
-/// Places count from the first byte.
+/// Offsets count from the first byte.
 pub fn read_request(alloc: Global, bytes: &[u8]) -> Result<RequestFile, FileFault>
     ensures request { ReadsRequest bytes.now result }
     ensures all { ReadsAll bytes.now result }
@@ -42,7 +42,7 @@ fn read_file(alloc: Global, bytes: &[u8]) -> Result<RequestFile, FileFault>
     ensures { ReadsRequest bytes.now result }
 {
     requests_are_found();
-    request_faults_have_places();
+    request_faults_have_offsets();
     let (header, size, tape) = match read_tags(alloc, bytes) {
         Ok(found) => found,
         Err(fault) => return Err(fault),
@@ -61,7 +61,7 @@ fn file_in(alloc: Global, header: Header, ofx: &Cursor<'_>) -> Result<RequestFil
     let (user, pass) = signon_in(alloc, ofx)?;
     let bank = asks_in(alloc, MessageSet::Bank, ofx.maybe(b"BANKMSGSRQV1")?)?;
     let mail = asks_in(alloc, MessageSet::Mail, ofx.maybe(b"EMAILMSGSRQV1")?)?;
-    let asks = one_behind_other(bank, mail)?;
+    let asks = one_after_other(bank, mail)?;
     Ok(RequestFile {
         version: header.version,
         older: header.older,

@@ -22,7 +22,7 @@ use std::alloc::Global;
 const ROOM: usize = 1_024;
 
 /// The bytes of a request file that was made at a moment of the years 1900 to 9999, in its one printed form (OFX 1.6, "Open
-/// Financial Exchange Headers", "SGML Basics"). What the bank is asked stands before mail. The days and moments of its asks
+/// Financial Exchange Headers", "SGML Basics"). What the bank is asked comes before mail. The days and moments of its asks
 /// lie in those years too.
 #[tactic(auto, using(crate::proofs::Texts::file_text_is))]
 pub fn write_request(alloc: Global, file: &RequestFile, at: Moment) -> Result<Vec<u8>, OutOfMemory>
@@ -47,7 +47,7 @@ fn header_of(file: &RequestFile) -> Result<Header, OutOfMemory>
     })
 }
 
-/// Appends what stands after the header.
+/// Appends what follows the header.
 #[tactic(auto, using(msg_parts::proofs::Joined::aggregate_of_three))]
 fn body(file: &RequestFile, at: Moment, sheet: &mut Sheet) -> Result<(), OutOfMemory>
     requires { IsPrintableFile file.now at }
@@ -71,7 +71,7 @@ fn signon_set(user: &Text, pass: &Text, at: Moment, sheet: &mut Sheet) -> Result
     sheet.end(b"SIGNONMSGSRQV1")
 }
 
-/// Appends a message set, where one of the asks stands in it.
+/// Appends a message set, where one of the asks is in it.
 fn ask_set_of_some(set: MessageSet, asks: &[Ask], sheet: &mut Sheet) -> Result<(), OutOfMemory>
     requires { AllByRecursion IsPrintableAsk asks.now }
     ensures { OnOk result (sheet.new ≡ sheet.old ++ parts.ask_set_of_some set asks.now) }
@@ -103,14 +103,14 @@ fn set_name(set: MessageSet) -> &'static [u8]
     }
 }
 
-/// Whether one of the asks stands in a message set.
+/// Whether one of the asks is in a message set.
 fn has_any(set: MessageSet, asks: &[Ask]) -> bool
     ensures { result ≡ sets.has_ask set asks.now }
 {
     asks.iter().any(|ask| is_in(set, ask))
 }
 
-/// Whether an ask stands in a message set.
+/// Whether an ask is in a message set.
 fn is_in(set: MessageSet, ask: &Ask) -> bool
     ensures { result ≡ sets.is_ask_in set ask.now }
 {
@@ -131,7 +131,7 @@ fn is_mail(ask: &Ask) -> bool
     }
 }
 
-/// Appends the asks that stand in a message set, in their order.
+/// Appends the asks that are in a message set, in their order.
 fn print_asks(set: MessageSet, asks: &[Ask], sheet: &mut Sheet) -> Result<(), OutOfMemory>
     requires { AllByRecursion IsPrintableAsk asks.now }
     ensures { OnOk result (sheet.new ≡ sheet.old ++ flat_map (sets.text_in set) asks.now) }
@@ -142,7 +142,7 @@ fn print_asks(set: MessageSet, asks: &[Ask], sheet: &mut Sheet) -> Result<(), Ou
     Ok(())
 }
 
-/// Appends an ask, where it stands in the message set.
+/// Appends an ask, where it is in the message set.
 fn print_if_in(set: MessageSet, ask: &Ask, sheet: &mut Sheet) -> Result<(), OutOfMemory>
     requires { IsPrintableAsk ask.now }
     ensures { OnOk result (sheet.new ≡ sheet.old ++ sets.text_in set ask.now) }

@@ -48,10 +48,10 @@ impl<R: Files + Drop> FileStore<R> {
 
 // Writes the text beside the file and puts it in its place. Where that can't be done, nothing is left beside it.
 fn put_in_place<R: Files>(rt: &R, path: &str, beside: &str, text: &[u8]) -> io::Result<()> {
-    let placed = write_beside(rt, beside, text).and_then(|()| fs::rename(rt, beside, path));
-    if placed.is_err() {
+    let located = write_beside(rt, beside, text).and_then(|()| fs::rename(rt, beside, path));
+    if located.is_err() {
         let _ = fs::remove_file(rt, beside);
-        return placed;
+        return located;
     }
     File::open(rt, folder_of(path))?.sync_all()
 }

@@ -43,7 +43,7 @@ impl<R: rt::Clock + Drop> SystemClock<R> {
 }
 
 impl<R: rt::Clock + Drop> Clock for SystemClock<R> {
-    ghost told = { λ _. None };
+    ghost shown = { λ _. None };
 
     fn now(&mut self) -> Moment
         ensures lawful { IsMoment result.0 }

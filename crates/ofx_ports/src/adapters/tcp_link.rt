@@ -34,7 +34,7 @@ pub const LINK_SECONDS: u64 = 30;
 const LINGER_SECONDS: u64 = 2;
 
 /// How many bytes the end of a link reads and drops at most.
-const MOST_DROPPED: usize = 1_048_576;
+const MAX_DROPPED: usize = 1_048_576;
 
 impl<S: Read + Write + OpenStream + Drop> TcpLink<S> {
     /// A link over what was to be a stream, whose calls wait no longer than the limit, which isn't zero. Where it couldn't be
@@ -88,7 +88,7 @@ where
 fn drop_incoming<S: Read + OpenStream, C: rt::Clock>(stream: &mut S, clock: &C, start: Instant) {
     let mut bytes = [0u8; 4096];
     let mut dropped = 0usize;
-    while dropped < MOST_DROPPED {
+    while dropped < MAX_DROPPED {
         match read_within(stream, clock, start, &mut bytes) {
             Some(count) if count > 0 => dropped += count,
             _ => return,

@@ -2,7 +2,7 @@
 
 ghost use Rattle.std.specs.Prelude.{◌≡◌, ◌<◌, List, [], ◌∷◌, ◌++◌, Some, All, IfOk, length, slice_get};
 ghost use Rattle.ofx_types.specs.Calendar.{IsMoment};
-ghost use Rattle.ofx_ports.specs.Told.{Grows};
+ghost use Rattle.ofx_ports.specs.Known.{Grows};
 
 use crate::clock::Clock;
 use ofx_types::{Moment, OutOfMemory};
@@ -12,9 +12,9 @@ use std::snapshot::Snapshot;
 
 // The answers given so far. Proofs alone read those before the last one: it takes no memory to remember them.
 #[derive(Drop)]
-enum Trail {
+enum ClockTrace {
     Start,
-    After(Snapshot<Trail>, Moment),
+    After(Snapshot<ClockTrace>, Moment),
 }
 
 /// A clock that answers moments of a list in order, and the last of them for ever.
@@ -22,7 +22,7 @@ enum Trail {
 pub struct MemClock {
     moments: Vec<Moment>,
     at: usize,
-    trail: Trail,
+    trail: ClockTrace,
 }
 
 impl Model for MemClock {
@@ -32,7 +32,7 @@ impl Model for MemClock {
 
     ghost Value = { ClockState };
 
-    ghost use Rattle.ofx_ports.specs.Trail.{answers};
+    ghost use Rattle.ofx_ports.specs.ClockTrace.{answers};
 
     ghost view = { λ c. record { coming = drop c.at c.moments.items; given = answers c.trail } };
 
@@ -51,7 +51,7 @@ impl MemClock {
         Ok(MemClock {
             moments: moments.to_vec(alloc)?,
             at: 0,
-            trail: Trail::Start,
+            trail: ClockTrace::Start,
         })
     }
 }
@@ -59,11 +59,11 @@ impl MemClock {
 impl Clock for MemClock {
     ghost use Rattle.ofx_ports.specs.States.{ClockState, later_moments};
 
-    ghost told = { λ c. Some c.given };
+    ghost shown = { λ c. Some c.given };
 
     fn now(&mut self) -> Moment
         ensures lawful { IsMoment result.0 }
-        ensures told { Grows (Some self.old.given) (Some self.new.given) (result ∷ []) }
+        ensures shown { Grows (Some self.old.given) (Some self.new.given) (result ∷ []) }
 
         // It answers the first of the moments to come, and goes on to the next one while there is one.
         ensures answer { slice_get self.old.coming 0 ≡ Some result }
@@ -71,7 +71,7 @@ impl Clock for MemClock {
     {
         let moment = self.moments[self.at];
         let before = Snapshot::of(&self.trail);
-        self.trail = Trail::After(before, moment);
+        self.trail = ClockTrace::After(before, moment);
         if self.moments.len() - self.at > 1 {
             self.at += 1;
         }

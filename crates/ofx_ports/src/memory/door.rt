@@ -2,7 +2,7 @@
 
 ghost use Rattle.std.specs.Prelude.{◌≡◌, ℕ, List, [], ◌∷◌, ◌++◌, Option, None, Some, Ok, IfOk, IsErr, is_err, IsSome, vec_len};
 ghost use Rattle.ofx_ports.specs.Faults.{CountsFaults};
-ghost use Rattle.ofx_ports.specs.Told.{Stays, Grows};
+ghost use Rattle.ofx_ports.specs.Known.{Stays, Grows};
 ghost use Rattle.ofx_ports.specs.Calls.{fails_next, after_call};
 ghost use Rattle.ofx_ports.specs.Doors.{given_by, HasOneOut};
 
@@ -17,9 +17,9 @@ use std::snapshot::Snapshot;
 
 // The links given so far. Proofs alone read them: it takes no memory to remember them.
 #[derive(Drop)]
-enum Given {
+enum LinkTrace {
     Start,
-    After(Snapshot<Given>, Snapshot<MemLink>),
+    After(Snapshot<LinkTrace>, Snapshot<MemLink>),
 }
 
 /// A doorway that gives the links of a list in order, and is closed after the last one. It has room from the start for
@@ -28,7 +28,7 @@ enum Given {
 pub struct MemDoor {
     coming: Vec<MemLink>,
     back: Vec<MemLink>,
-    given: Given,
+    given: LinkTrace,
     closings: u64,
     schedule: Schedule,
 }
@@ -36,7 +36,7 @@ pub struct MemDoor {
 impl Model for MemDoor {
     ghost use Rattle.std.specs.Prelude.{◌+◌, ◌≤◌, length, vec_capacity};
     ghost use Rattle.ofx_ports.specs.States.{DoorState};
-    ghost use Rattle.ofx_ports.specs.Given.{links_given};
+    ghost use Rattle.ofx_ports.specs.LinkTrace.{links_given};
 
     ghost Value = { DoorState };
 
@@ -69,7 +69,7 @@ impl MemDoor {
         Ok(MemDoor {
             back: Vec::with_capacity(alloc, links.len())?,
             coming: links,
-            given: Given::Start,
+            given: LinkTrace::Start,
             closings: 0,
             schedule: Schedule::new(alloc, failing)?,
         })
@@ -117,7 +117,7 @@ impl Doorway<MemLink> for MemDoor {
         }
         let link = self.coming.remove(0);
         let before = Snapshot::of(&self.given);
-        self.given = Given::After(before, Snapshot::of(&link));
+        self.given = LinkTrace::After(before, Snapshot::of(&link));
         Ok(Some(link))
     }
 

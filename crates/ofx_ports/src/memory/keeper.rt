@@ -2,8 +2,8 @@
 
 ghost use Rattle.std.specs.Prelude.{◌≡◌, ℕ, ◌+◌, ◌-◌, ◌≤◌, Bool, true, false, List, [], ◌∷◌, ◌++◌, Some, None, length, slice_get, is_ok, is_some, IfOk, IfSome, OnOk, OnErr, IsErr, is_err, IsErrOf};
 ghost use Rattle.ofx_ports.specs.Faults.{CountsFaults};
-ghost use Rattle.ofx_ports.specs.Told.{Stays};
-ghost use Rattle.ofx_ports.specs.Kept.{Appended, TellsLanding, counted};
+ghost use Rattle.ofx_ports.specs.Known.{Stays};
+ghost use Rattle.ofx_ports.specs.Kept.{Appended, KnowsLanding, counted};
 ghost use Rattle.ofx_ports.specs.Calls.{fails_next, after_call};
 
 use super::schedule::Schedule;
@@ -43,7 +43,7 @@ impl Record {
     }
 }
 
-/// Records in memory. It can be told which of its calls fail, and which of the appends that fail keep their record.
+/// Records in memory. It can be set which of its calls fail, and which of the appends that fail keep their record.
 #[derive(Debug, Drop)]
 pub struct MemKeeper {
     records: Vec<Record>,
@@ -92,7 +92,7 @@ impl MemKeeper {
     }
 
     /// An empty keeper whose calls of the numbers in `failing` fail. Calls of `append`, `settle` and `fetch` are
-    /// counted together, from 1. An append that fails keeps its record where its number stands in `landing` too.
+    /// counted together, from 1. An append that fails keeps its record where its number is in `landing` too.
     pub fn failing(
         alloc: Global,
         failing: &[u64],
@@ -114,7 +114,7 @@ impl MemKeeper {
         })
     }
 
-    /// The number of records that stand, with one that is to be settled.
+    /// The number of records that are stored, with one that is to be settled.
     pub fn record_count(&self) -> u64
         ensures { result ≡ length self.now.records }
     {
@@ -200,10 +200,10 @@ impl Keeper for MemKeeper {
 
     fn settle(&mut self) -> Result<bool, Failed>
         ensures list { Stays (Some self.old.records) (Some self.new.records) }
-        ensures answer { IfOk result (TellsLanding (is_some self.old.landed) self.old.landed) }
+        ensures answer { IfOk result (KnowsLanding (is_some self.old.landed) self.old.landed) }
         ensures settled { OnOk result (is_some self.new.landed ≡ false) }
-        ensures size { IfOk result (λ stands. settled_size self.new.records self.new.landed
-            ≡ counted (settled_size self.old.records self.old.landed) stands) }
+        ensures size { IfOk result (λ holds. settled_size self.new.records self.new.landed
+            ≡ counted (settled_size self.old.records self.old.landed) holds) }
         ensures open { OnErr result (is_some self.new.landed ≡ is_some self.old.landed) }
         ensures kept { OnErr result ((self.new.landed ≡ self.old.landed)
             × (settled_size self.new.records self.new.landed ≡ settled_size self.old.records self.old.landed)) }
@@ -218,9 +218,9 @@ impl Keeper for MemKeeper {
             self.schedule.fail();
             return Err(Failed);
         }
-        let stands = matches!(self.landed, Some(true));
+        let holds = matches!(self.landed, Some(true));
         self.landed = None;
-        Ok(stands)
+        Ok(holds)
     }
 
     fn fetch(&mut self, number: u64, into: &mut Vec<u8>) -> Result<(), FetchFault>

@@ -114,14 +114,14 @@ impl Source for MemSource {
         }
         let rest = &self.bytes[self.at..];
         let count = rest.len().min(into.len()).min(self.most);
-        copy_front(rest, into, count);
+        copy_prefix(rest, into, count);
         self.at += count;
         Ok(count)
     }
 }
 
-// Copies the first `count` bytes to the front of `into`.
-fn copy_front(from: &[u8], into: &mut [u8], count: usize)
+// Copies the first `count` bytes to the start of `into`.
+fn copy_prefix(from: &[u8], into: &mut [u8], count: usize)
     requires given { count ≤ length from.now }
     requires room { count ≤ length into.old }
     ensures { take count into.new ≡ take count from.now }

@@ -3,7 +3,7 @@
 ghost use Rattle.std.specs.Prelude.{◌≡◌, ◌≤◌, true, false, [], Some, length, IfOk, IfSome, OnOk, OnErr, IsErrOf, if◌then◌else◌};
 ghost use Rattle.std.specs.List.{list_any};
 ghost use Rattle.ofx_ports.specs.Faults.{CountsFaults};
-ghost use Rattle.ofx_ports.specs.Told.{Stays};
+ghost use Rattle.ofx_ports.specs.Known.{Stays};
 ghost use Rattle.ofx_ports.specs.Saved.{Saved};
 ghost use Rattle.ofx_ports.specs.Calls.{fails_next, after_call};
 
@@ -15,7 +15,7 @@ use ofx_types::OutOfMemory;
 use std::alloc::{AllocError, Global};
 use std::marker::Model;
 
-/// A text in memory. It can be told which of its calls fail, and which of the saves that fail keep their text.
+/// A text in memory. It can be set which of its calls fail, and which of the saves that fail keep their text.
 #[derive(Debug, Drop)]
 pub struct MemStore {
     text: Vec<u8>,
@@ -57,7 +57,7 @@ impl MemStore {
     }
 
     /// A store in which this text stands and whose calls of the numbers in `failing` fail. Calls of `save` and `load` are
-    /// counted together, from 1. A save that fails keeps its text where its number stands in `landing` too.
+    /// counted together, from 1. A save that fails keeps its text where its number is in `landing` too.
     pub fn failing(
         alloc: Global,
         text: &[u8],
@@ -78,7 +78,7 @@ impl MemStore {
         })
     }
 
-    /// The text that stands.
+    /// The text that is there.
     pub fn text(&self) -> &[u8]
         ensures { result.now ≡ self.now.text }
     {

@@ -48,19 +48,22 @@ pub(crate) fn summary_of(alloc: Global, world: World) -> Result<Summary, OutOfMe
 
 /// The number of entries of the bank's history, and the balances of all its accounts together.
 fn entries_and_sum(alloc: Global, world: World) -> Result<(u64, Cents), OutOfMemory>
-    ensures entries { IfOk result (λ told. told.0 ≡ length world.server.state.entries) }
-    ensures sum { IfOk result (λ told. told.1.0 ≡ balances world.server.setup world.server.state.entries) }
+    ensures entries { IfOk result (λ reported. reported.0 ≡ length world.server.state.entries) }
+    ensures sum { IfOk result (λ reported. reported.1.0 ≡ balances world.server.setup world.server.state.entries) }
 {
     match world.into_parts(alloc) {
-        Ok((book, accounts)) => told_of(&book, &accounts),
+        Ok((book, accounts)) => reported_of(&book, &accounts),
         Err(full) => Err(full),
     }
 }
 
 /// The number of entries of a book's history, and the balances of all accounts, which are lent, together.
-fn told_of<P: Printer>(book: &Book<P>, accounts: &[Account]) -> Result<(u64, Cents), OutOfMemory>
-    ensures entries { IfOk result (λ told. told.0 ≡ length book.now.state.entries) }
-    ensures sum { IfOk result (λ told. told.1.0 ≡ rules.sum_among accounts.now) }
+fn reported_of<P: Printer>(
+    book: &Book<P>,
+    accounts: &[Account],
+) -> Result<(u64, Cents), OutOfMemory>
+    ensures entries { IfOk result (λ reported. reported.0 ≡ length book.now.state.entries) }
+    ensures sum { IfOk result (λ reported. reported.1.0 ≡ rules.sum_among accounts.now) }
 {
     let sum = sum_of(accounts)?;
     Ok((entries_of(book), sum))

@@ -20,7 +20,7 @@ const BEGINNING: i64 = 1_704_067_200;
 const HOUR: i64 = 3_600;
 
 /// An hour goes by, and then what is drawn happens.
-pub(crate) fn take_turn(
+pub(crate) fn run_turn(
     alloc: Global,
     world: &mut World,
     chance: &mut Chance,

@@ -1,6 +1,6 @@
 //! Letters: the command `mail`.
 
-use super::{end, failing_sink, failing_source, told_over};
+use super::{end, failing_sink, failing_source, reported_over};
 use crate::sample::{sink, source};
 use ofx_ports::{Clock, MemClock, MemKeeper, MemSink, MemSource};
 use ofx_types::{Moment, Note, Told};
@@ -14,7 +14,7 @@ const TO_BOB: [&str; 5] = ["mail", "setup", "-", "bob", "Hello"];
 const SHOWN: [Moment; 3] = [Moment(1_706_702_400), Moment(1), Moment(0)];
 
 /// What the letter's run told, and what it wrote, in a bank without records.
-fn told_of(
+fn reported_of(
     rt: &impl Abort,
     alloc: Global,
     input: MemSource,
@@ -22,17 +22,17 @@ fn told_of(
     clock: &mut MemClock,
 ) -> (Told, Vec<u8>) {
     let mut keeper = MemKeeper::new(alloc);
-    told_over(rt, alloc, &TO_BOB, input, out, &mut keeper, clock)
+    reported_over(rt, alloc, &TO_BOB, input, out, &mut keeper, clock)
 }
 
 /// The clock is read once.
 #[test]
-fn the_number_of_a_letters_entry_is_told(rt: HostRuntime) {
+fn the_number_of_a_letters_entry_is_reported(rt: HostRuntime) {
     let alloc = rt.alloc();
     let input = source(&rt, alloc, b"\r\nHi, bob.\n");
     let mut clock = MemClock::new(alloc, &SHOWN).expect(&rt, "a clock");
-    let (told, written) = told_of(&rt, alloc, input, sink(&rt, alloc), &mut clock);
-    assert_eq!(rt; told, end(0, Note::Plain));
+    let (reported, written) = reported_of(&rt, alloc, input, sink(&rt, alloc), &mut clock);
+    assert_eq!(rt; reported, end(0, Note::Plain));
     assert_eq!(rt; written.as_slice(), b"MAIL 1\n".as_slice());
     assert_eq!(rt; clock.now(), SHOWN[1]);
 }
@@ -53,8 +53,8 @@ fn a_call_that_fails_stops_a_letter(rt: HostRuntime) {
         let input = failing_source(&rt, alloc, b"Hi", 1, &[read]);
         let out = failing_sink(&rt, alloc, 5, &[write]);
         let mut clock = MemClock::new(alloc, &SHOWN).expect(&rt, "a clock");
-        let (told, written) = told_of(&rt, alloc, input, out, &mut clock);
-        assert_eq!(rt; told, end(status, Note::Plain));
+        let (reported, written) = reported_of(&rt, alloc, input, out, &mut clock);
+        assert_eq!(rt; reported, end(status, Note::Plain));
         assert_eq!(rt; written.as_slice(), line.as_bytes());
         assert_eq!(rt; SHOWN.get(next), Some(&clock.now()));
     }

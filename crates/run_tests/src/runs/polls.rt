@@ -27,7 +27,7 @@ const FROM_1: [(&str, &str); 2] = [
     (STATEMENT_END, "</INTRASYNCRQ>\r\n"),
 ];
 
-/// What stands in front of the account in the sample's reply.
+/// What comes before the account in the sample's reply.
 const STATEMENT_REPLY: &str = "\
     <STMTTRNRS>\r\n\
     <TRNUID>s1\r\n\
@@ -38,7 +38,7 @@ const STATEMENT_REPLY: &str = "\
     <STMTRS>\r\n\
     <CURDEF>USD\r\n";
 
-/// What stands after it.
+/// What follows it.
 const STATEMENT_REPLY_END: &str = "\
     <BANKTRANLIST>\r\n\
     <DTSTART>19000101000000\r\n\
@@ -94,7 +94,7 @@ const AT_ONCE: [(&str, &str); 2] = [TRANSFER, ("<TRNUID>t1", "<TRNUID>t2")];
 
 /// The first synchronisation comes on the day before the due day, the second after the due work of that day.
 #[test]
-fn a_posting_is_told_by_the_next_synchronisation(rt: HostRuntime) {
+fn a_posting_is_reported_by_the_next_synchronisation(rt: HostRuntime) {
     let alloc = rt.alloc();
     let waiting = request_with(&rt, alloc, &WAITING);
     let first = request_with(&rt, alloc, &FROM_0);
@@ -103,12 +103,12 @@ fn a_posting_is_told_by_the_next_synchronisation(rt: HostRuntime) {
     let mut clock = MemClock::new(alloc, &[NOON, NOON, NOON, NEXT_NOON]).expect(&rt, "a clock");
     let frames = [&waiting, &first, &more, "DUE\n", &second];
     let written = written_by_clock(&rt, alloc, &frames, &mut clock);
-    let (before, behind) = written.split_once("DUE 1\n").unwrap_or(("", ""));
+    let (before, rest) = written.split_once("DUE 1\n").unwrap_or(("", ""));
     assert!(rt; before.contains("<TOKEN>1\r\n<LOSTSYNC>N\r\n"));
     assert!(rt; before.contains("<XFERPRCCODE>WILLPROCESSON\r\n"));
-    assert!(rt; behind.contains("<TOKEN>3\r\n<LOSTSYNC>N\r\n"));
-    assert!(rt; behind.contains("<TRNUID>t2\r\n"));
-    assert!(rt; behind.contains("<TRNUID>0\r\n"));
-    assert!(rt; behind.contains("<XFERPRCCODE>POSTEDON\r\n<DTXFERPRC>20240201120000\r\n"));
-    assert!(rt; !behind.contains("<XFERPRCCODE>WILLPROCESSON\r\n"));
+    assert!(rt; rest.contains("<TOKEN>3\r\n<LOSTSYNC>N\r\n"));
+    assert!(rt; rest.contains("<TRNUID>t2\r\n"));
+    assert!(rt; rest.contains("<TRNUID>0\r\n"));
+    assert!(rt; rest.contains("<XFERPRCCODE>POSTEDON\r\n<DTXFERPRC>20240201120000\r\n"));
+    assert!(rt; !rest.contains("<XFERPRCCODE>WILLPROCESSON\r\n"));
 }

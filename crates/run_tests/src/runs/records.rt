@@ -1,6 +1,6 @@
 //! Records: appends and fetches that fail, and records that are none of this bank.
 
-use super::{AT_NOON, BY_CLOCK, NAMES, end, told_over};
+use super::{AT_NOON, BY_CLOCK, NAMES, end, reported_over};
 use crate::sample::{joined, replies, request_with, requests, sink, source, spelled};
 use bank_samples::changes::{DUE_LATER, NAMED, NEXT_DAY, NOON};
 use bank_samples::transfer::TRANSFER;
@@ -18,7 +18,7 @@ fn run_over(
 ) -> (Told, Vec<u8>) {
     let input = source(rt, alloc, &requests(rt, alloc, names));
     let mut clock = MemClock::new(alloc, &[Moment(0)]).expect(rt, "a clock");
-    told_over(
+    reported_over(
         rt,
         alloc,
         &AT_NOON,
@@ -40,15 +40,15 @@ const SECOND: [u64; 1] = [3];
 /// Which calls land though they fail, and how many records stand then.
 const LANDINGS: &[(&[u64], u64)] = &[(&[], 1), (&SECOND, 2)];
 
-/// Nothing is written for the second file. The records that stand open the next run.
+/// Nothing is written for the second file. The records that are stored open the next run.
 #[test]
 fn an_append_that_fails_stops_the_run(rt: HostRuntime) {
     let alloc = rt.alloc();
     for case in LANDINGS.iter() {
         let (landing, count) = *case;
         let mut keeper = failing(&rt, alloc, &SECOND, landing);
-        let (told, written) = run_over(&rt, alloc, &NAMES, &mut keeper);
-        assert_eq!(rt; told, end(8, Note::Plain));
+        let (reported, written) = run_over(&rt, alloc, &NAMES, &mut keeper);
+        assert_eq!(rt; reported, end(8, Note::Plain));
         assert_eq!(rt; written, replies(&rt, alloc, &[b"s1"]));
         assert_eq!(rt; keeper.record_count(), count);
         let (again, _) = run_over(&rt, alloc, &[], &mut keeper);
@@ -64,14 +64,14 @@ fn a_fetch_that_fails_stops_the_run(rt: HostRuntime) {
     let mut keeper = failing(&rt, alloc, &[6], &[]);
     let (first, _) = run_over(&rt, alloc, &[b"s1", b"s2"], &mut keeper);
     assert_eq!(rt; first, end(0, Note::Plain));
-    let (told, written) = run_over(&rt, alloc, &NAMES, &mut keeper);
-    assert_eq!(rt; told, end(8, Note::Plain));
+    let (reported, written) = run_over(&rt, alloc, &NAMES, &mut keeper);
+    assert_eq!(rt; reported, end(8, Note::Plain));
     assert!(rt; written.is_empty());
     assert_eq!(rt; keeper.record_count(), 2);
 }
 
 /// A record of an unknown version, and the record of a posting of transfer 1 at the sample's moment, of which a bank that
-/// opens has none; and what is told of each.
+/// opens has none; and what is reported of each.
 const STRANGE: &[(&[u8], Note)] = &[
     (&[2], Note::Record(1, 0)),
     (
@@ -89,8 +89,8 @@ fn records_of_another_bank_stop_the_run(rt: HostRuntime) {
         let (record, note) = *case;
         let mut keeper = MemKeeper::new(alloc);
         keeper.append(record).expect(&rt, "room");
-        let (told, written) = run_over(&rt, alloc, &NAMES, &mut keeper);
-        assert_eq!(rt; told, end(9, note));
+        let (reported, written) = run_over(&rt, alloc, &NAMES, &mut keeper);
+        assert_eq!(rt; reported, end(9, note));
         assert!(rt; written.is_empty());
         assert_eq!(rt; keeper.record_count(), 1);
     }
@@ -127,8 +127,8 @@ fn run_by_days(
     let input = source(rt, alloc, frames.as_bytes());
     let mut clock = MemClock::new(alloc, &[NOON, NEXT_DAY]).expect(rt, "a clock");
     let out = sink(rt, alloc);
-    let (told, written) = told_over(rt, alloc, &BY_CLOCK, input, out, keeper, &mut clock);
-    (told.status.0, spelled(rt, alloc, &written))
+    let (reported, written) = reported_over(rt, alloc, &BY_CLOCK, input, out, keeper, &mut clock);
+    (reported.status.0, spelled(rt, alloc, &written))
 }
 
 /// The statuses of two runs over the same frames, and what the second wrote.
@@ -161,7 +161,7 @@ const APPENDS: &[(u64, &[u64], &str)] = &[
 
 /// The same frames again get the bytes of a run without failures, but for the number of what is still due.
 #[test]
-fn a_run_behind_a_failed_append_goes_on(rt: HostRuntime) {
+fn a_run_after_a_failed_append_goes_on(rt: HostRuntime) {
     let alloc = rt.alloc();
     for case in APPENDS.iter() {
         let (call, landing, due) = *case;
@@ -188,7 +188,7 @@ const REPEATED: &[(u64, &[u64])] = &[
 
 /// A third run gets the bytes of a second one without failures: the named file's again, and 2019 for the plain file.
 #[test]
-fn a_run_behind_a_failed_call_repeats(rt: HostRuntime) {
+fn a_run_after_a_failed_call_repeats(rt: HostRuntime) {
     let alloc = rt.alloc();
     for case in REPEATED.iter() {
         let (call, landing) = *case;

@@ -8,7 +8,7 @@ use super::{
 };
 use crate::sample::{keys, put, reply_with, request_with, setup};
 use bank_connection::Served;
-use bank_counter::{SoloOffice, serve_connection};
+use bank_offices::{SoloOffice, serve_connection};
 use bank_samples::transfer::{PAID, POSTED, SOURCE_BALANCE, TRANSFER};
 use bank_shared::{Bank, BankName, Opened, Pass};
 use ofx_file::OfxPrinter;
@@ -108,7 +108,7 @@ fn served_alone<N: BankName, R: Abort>(
     let mut clock = MemClock::new(alloc, &[NOON, AN_HOUR_LATER]).expect(rt, "a clock");
     let mut link = link(rt, alloc, bytes);
     let served = office.serve(alloc, &mut link, &mut clock);
-    let next = office.teller().journal().book().next_number();
+    let next = office.locked().journal().book().next_number();
     let written = link.held().to_vec(alloc).expect(rt, "room");
     ((served, written), next)
 }

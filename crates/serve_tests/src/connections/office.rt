@@ -1,10 +1,10 @@
-//! An office over a bank without records, which tells nothing of what it knows.
+//! An office over a bank without records, which says nothing of what it knows.
 
 ghost use Rattle.std.specs.Prelude.{◌≡◌, ◌<◌, [], None, IfOk, IfErr, IfSome, OnErr, true, false, length};
 
 use crate::sample::{keys, setup};
 use bank_connection::Office;
-use bank_connection::laws::newest_are_told;
+use bank_connection::laws::newest_are_reported;
 use bank_model::{Event, Setup, SubmitFault};
 use bank_solo::SoloBank;
 use ofx_file::OfxPrinter;
@@ -19,7 +19,7 @@ pub struct BookOffice {
     bank: SoloBank<OfxPrinter>,
     made: u64,
     failing: u64,
-    ghost home: { bank.held ≡ [] },
+    ghost pool: { bank.held ≡ [] },
 }
 
 impl BookOffice {
@@ -70,7 +70,7 @@ impl Office for BookOffice {
         file: &RequestFile,
         at: Moment,
     ) -> Result<Vec<u8>, OutOfMemory> {
-        newest_are_told();
+        newest_are_reported();
         self.bank.book().poll(self.alloc, user, file, at)
     }
 }

@@ -7,7 +7,7 @@ use std::thread;
 use std::time::{Clock, Duration};
 
 /// The most turns that a call waits for the other one.
-const MOST_TURNS: u32 = 1_000_000;
+const MAX_TURNS: u32 = 1_000_000;
 
 /// Lets the calls of the users 0 and 1 through when both have come, or when one has waited for 1,000,000 turns. Other calls go
 /// through at once.
@@ -48,7 +48,7 @@ impl<'a, R: Wait + Clock + Sync> Gate for BothGate<'a, R> {
             1 => self.second.store(1, Ordering::SeqCst),
             _ => return,
         }
-        for _ in 0..MOST_TURNS {
+        for _ in 0..MAX_TURNS {
             if have_both_come(&self.first, &self.second) {
                 return;
             }

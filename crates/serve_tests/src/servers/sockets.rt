@@ -41,8 +41,8 @@ fn a_worker_answers_a_peer_over_a_socket(rt: HostRuntime) {
     let alloc = rt.alloc();
     let limit = Duration::from_secs(10);
     let listener = listen(&rt, 0).expect(&rt, "a listener");
-    let place = listener.local_addr().expect(&rt, "its address");
-    let mut peer = TcpLink::over(TcpStream::connect(&rt, place), limit);
+    let offset = listener.local_addr().expect(&rt, "its address");
+    let mut peer = TcpLink::over(TcpStream::connect(&rt, offset), limit);
     let text = last_request(&rt, alloc);
     let request = text.as_bytes();
     if !request.is_empty() {

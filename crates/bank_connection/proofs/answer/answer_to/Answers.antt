@@ -1,5 +1,5 @@
 use Rattle.std.proofs.Common.{None}
-use Rattle.ofx_ports.proofs.ToldLaws.{Grows-nil}
+use Rattle.ofx_ports.proofs.KnownLaws.{Grows-nil}
 use Rattle.bank_connection.proofs.Answered.{no_memory_is}
 use Rattle.bank_connection.proofs.answer.answer_to.Goals as goal
 

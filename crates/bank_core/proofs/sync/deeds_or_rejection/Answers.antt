@@ -27,15 +27,15 @@ answer_deeds-requires-clause-named c =
 
 pub returns-in-Some-clause-replies : goal.returns-in-Some-clause-replies
 unfolding deeds_or_rejection
-returns-in-Some-clause-replies c = rw c.in-Some.is c.refused_behind.ensures
+returns-in-Some-clause-replies c = rw c.in-Some.is c.refused_after.ensures
 
 pub returns-in-None-clause-replies : goal.returns-in-None-clause-replies
 unfolding deeds_or_rejection
 returns-in-None-clause-replies c =
     let only = c.account_about-only.ensures ∙ ap (λ (s : Setup). account_about s c.user-user.result c.args.ask.now.object) c.setup.ensures.setup ∙ ap (λ (u : UserId). account_about c.args.draft.now.setup u c.args.ask.now.object) c.user-user.ensures in
     rw c.in-None.is
-    (subst (λ (l : List (List ℕ × Deed)). IfOk c.answer_deeds.result (λ replies. replies.items ≡ c.args.told.items ++ (deed_answers c.args.draft.now.setup (drafted c.args.draft.now) c.args.draft.now.user (account_about c.args.draft.now.setup c.args.draft.now.user c.args.ask.now.object) c.args.draft.now.at l).replies)) c.items.ensures
-    (subst (λ (o : Option AcctId). IfOk c.answer_deeds.result (λ replies. replies.items ≡ c.args.told.items ++ (deed_answers c.args.draft.now.setup (drafted c.args.draft.now) c.args.draft.now.user o c.args.draft.now.at c.items.result.now).replies)) only c.answer_deeds.ensures.replies))
+    (subst (λ (l : List (List ℕ × Deed)). IfOk c.answer_deeds.result (λ replies. replies.items ≡ c.args.reported.items ++ (deed_answers c.args.draft.now.setup (drafted c.args.draft.now) c.args.draft.now.user (account_about c.args.draft.now.setup c.args.draft.now.user c.args.ask.now.object) c.args.draft.now.at l).replies)) c.items.ensures
+    (subst (λ (o : Option AcctId). IfOk c.answer_deeds.result (λ replies. replies.items ≡ c.args.reported.items ++ (deed_answers c.args.draft.now.setup (drafted c.args.draft.now) c.args.draft.now.user o c.args.draft.now.at c.items.result.now).replies)) only c.answer_deeds.ensures.replies))
 
 pub returns-in-None-clause-after : goal.returns-in-None-clause-after
 unfolding deeds_or_rejection

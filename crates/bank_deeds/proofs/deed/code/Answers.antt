@@ -1,9 +1,9 @@
 use Rattle.std.proofs.Common.{◌+◌, sym, length, ◌∙◌, arith}
 use Rattle.bank_ledger.specs.DraftView.{drafted}
-use Rattle.bank_rules.proofs.DoneLemmas.{done_count}
+use Rattle.bank_invariants.proofs.DoneLemmas.{done_count}
 use Rattle.bank_deeds.proofs.DeedAnswers.{room_code-is, judged_code-is}
 use Rattle.bank_deeds.proofs.deed.code.Goals as goal
-use Rattle.bank_rules.proofs.UidLaws.{used_code-is}
+use Rattle.bank_invariants.proofs.UidLaws.{used_code-is}
 
 pub returns-then-is_used : goal.returns-then-is_used
 returns-then-is_used c =

@@ -4,8 +4,8 @@ use Rattle.bank_model.specs.declared.event.State.{State}
 use Rattle.bank_model.specs.Deeds.{done}
 use Rattle.bank_ledger.specs.DraftView.{drafted}
 use Rattle.bank_ledger.proofs.DraftStates.{drafted-added}
-use Rattle.bank_rules.proofs.StateLemmas.{IsAllowed-from_code}
-use Rattle.bank_rules.proofs.DoneLemmas.{done_count}
+use Rattle.bank_invariants.proofs.StateLemmas.{IsAllowed-from_code}
+use Rattle.bank_invariants.proofs.DoneLemmas.{done_count}
 use Rattle.bank_deeds.proofs.DeedAnswers.{done_reply-is, used_entries, used_same, done_after-is, unused-code}
 use Rattle.bank_deeds.proofs.deed.done_reply.Goals as goal
 
@@ -26,27 +26,27 @@ use_up-requires c =
     let unused = unused-code c.args.draft.now.setup (drafted c.args.draft.now) c.args.draft.now.user c.args.only c.args.draft.now.at c.args.trnuid.now c.args.deed.now 0 c.requires.done (omega arith) in
     rw (c.in_ok-uid.ensures, ap (λ (T : State). T.used) after, has.same.user) unused
 
-pub told-requires : goal.told-requires
-told-requires c =
+pub reported-requires : goal.reported-requires
+reported-requires c =
     let entries = used_entries c.args.draft.now c.perform.new.draft c.use_up.new.self c.in_ok-uid.uid _ c.in_ok-perform.ensures.added c.in_ok-use_up.ensures in
     let allowed = IsAllowed-from_code c.args.draft.now.setup (drafted c.args.draft.now) c.args.draft.now.user c.args.only c.args.draft.now.at c.args.trnuid.now c.args.deed.now c.requires.done in
     let count = done_count c.args.draft.now.setup (drafted c.args.draft.now) c.args.draft.now.user c.args.only c.args.draft.now.at c.args.trnuid.now c.args.deed.now c.args.pending.now allowed.judged c.requires.pending in
     let size = ap length entries ∙ length-append c.args.draft.now.entries (done c.args.draft.now.setup (drafted c.args.draft.now) c.args.draft.now.user c.args.draft.now.at c.args.trnuid.now c.args.deed.now) in
-    let place = ap length c.entries-place.ensures in
-    omega (arith, count, size, place)
+    let index = ap length c.entries-index.ensures in
+    omega (arith, count, size, index)
 
 pub returns-clause-reply : goal.returns-clause-reply
 returns-clause-reply c =
     let entries = used_entries c.args.draft.now c.perform.new.draft c.use_up.new.self c.in_ok-uid.uid _ c.in_ok-perform.ensures.added c.in_ok-use_up.ensures in
-    let told = done_reply-is c.args.draft.now.setup (drafted c.args.draft.now) c.args.draft.now.user c.args.only c.args.draft.now.at c.args.trnuid.now c.args.deed.now c.args.draft.now.entries c.use_up.new.self.entries (length c.entries-place.result.now) c.requires.done entries (ap length c.entries-place.ensures) in
-    IfOk-weaker c.told.result _ _ (λ reply is. is ∙ told) c.told.ensures
+    let reported = done_reply-is c.args.draft.now.setup (drafted c.args.draft.now) c.args.draft.now.user c.args.only c.args.draft.now.at c.args.trnuid.now c.args.deed.now c.args.draft.now.entries c.use_up.new.self.entries (length c.entries-index.result.now) c.requires.done entries (ap length c.entries-index.ensures) in
+    IfOk-weaker c.reported.result _ _ (λ reply is. is ∙ reported) c.reported.ensures
 
 pub returns-clause-after : goal.returns-clause-after
 returns-clause-after c =
     let after = done_after-is c.args.draft.now c.perform.new.draft c.args.only c.args.trnuid.now c.args.deed.now c.requires.done c.in_ok-perform.ensures.added in
-    IfOk-weaker c.told.result _ _ (λ reply is. rw (c.in_ok-use_up.ensures, c.in_ok-uid.ensures) after) c.told.ensures
+    IfOk-weaker c.reported.result _ _ (λ reply is. rw (c.in_ok-use_up.ensures, c.in_ok-uid.ensures) after) c.reported.ensures
 
 pub returns-clause-file : goal.returns-clause-file
 returns-clause-file c =
     let same = used_same c.args.draft.now c.perform.new.draft c.use_up.new.self c.in_ok-uid.uid c.in_ok-perform.ensures.added.same c.in_ok-use_up.ensures in
-    IfOk-weaker c.told.result _ _ (λ reply is. same) c.told.ensures
+    IfOk-weaker c.reported.result _ _ (λ reply is. same) c.reported.ensures

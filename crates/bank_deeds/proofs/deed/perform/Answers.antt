@@ -19,8 +19,8 @@ modify-requires-clause-judged c = subst (IsUnrefused c.args.draft.now.setup (dra
 pub cancel-requires-clause-judged : goal.cancel-requires-clause-judged
 cancel-requires-clause-judged c = subst (IsUnrefused c.args.draft.now.setup (drafted c.args.draft.now) c.args.draft.now.user) c.in-CancelTransfer.is c.requires.judged
 
-pub take_model-requires-clause-judged : goal.take_model-requires-clause-judged
-take_model-requires-clause-judged c = subst (IsUnrefused c.args.draft.now.setup (drafted c.args.draft.now) c.args.draft.now.user) c.in-Model.is c.requires.judged
+pub add_model-requires-clause-judged : goal.add_model-requires-clause-judged
+add_model-requires-clause-judged c = subst (IsUnrefused c.args.draft.now.setup (drafted c.args.draft.now) c.args.draft.now.user) c.in-Model.is c.requires.judged
 
 pub modify_model-requires-clause-judged : goal.modify_model-requires-clause-judged
 modify_model-requires-clause-judged c = subst (IsUnrefused c.args.draft.now.setup (drafted c.args.draft.now) c.args.draft.now.user) c.in-ModifyModel.is c.requires.judged
@@ -28,5 +28,5 @@ modify_model-requires-clause-judged c = subst (IsUnrefused c.args.draft.now.setu
 pub cancel_model-requires-clause-judged : goal.cancel_model-requires-clause-judged
 cancel_model-requires-clause-judged c = subst (IsUnrefused c.args.draft.now.setup (drafted c.args.draft.now) c.args.draft.now.user) c.in-CancelModel.is c.requires.judged
 
-pub take_mail_about-requires-clause-judged : goal.take_mail_about-requires-clause-judged
-take_mail_about-requires-clause-judged c = subst (IsUnrefused c.args.draft.now.setup (drafted c.args.draft.now) c.args.draft.now.user) c.in-BankMail.is c.requires.judged
+pub add_bank_mail-requires-clause-judged : goal.add_bank_mail-requires-clause-judged
+add_bank_mail-requires-clause-judged c = subst (IsUnrefused c.args.draft.now.setup (drafted c.args.draft.now) c.args.draft.now.user) c.in-BankMail.is c.requires.judged

@@ -1,11 +1,11 @@
 use Rattle.std.proofs.Common.{◌∷◌, List, sym, ap, ◌∙◌, subst, arith}
 use Rattle.bank_model.specs.declared.entry.Entry.{Entry}
 use Rattle.bank_ledger.specs.DraftView.{drafted, HasAdded}
-use Rattle.bank_rules.proofs.DeedLemmas.{to_drop, drop_entry}
-use Rattle.bank_rules.proofs.DoneLemmas.{dropping, drop_model_entries}
+use Rattle.bank_invariants.proofs.DeedLemmas.{to_drop, drop_entry}
+use Rattle.bank_invariants.proofs.DoneLemmas.{dropping, drop_model_entries}
 use Rattle.bank_deeds.proofs.ModelAnswers.{own_drop}
 use Rattle.bank_ledger.proofs.DraftStates.{added_trans}
-use Rattle.bank_deeds.proofs.PendingSteps.{behind_same}
+use Rattle.bank_deeds.proofs.PendingSteps.{after_same}
 use Rattle.bank_deeds.proofs.AlongAnswers.{between}
 use Rattle.bank_deeds.proofs.models.cancel_model.Goals as goal
 
@@ -34,6 +34,6 @@ returns c =
     let has = subst (HasAdded c.args.draft.now c.drop_model.new.draft) own c.in_ok-drop_model.ensures.added in
     let mid = between c.args.draft.now.setup c.args.draft.now c.drop_model.new.draft (drop_entry c.args.draft.now.setup (drafted c.args.draft.now) c.args.trnuid.now c.args.asked.0 c.args.asked.1 to.row) dropping c.args.asked.1 c.args.asked.0 c.args.pending.now c.in_ok-drop_model.ensures.sound tt c.requires.pending has in
     record {
-      added = subst (HasAdded c.args.draft.now c.drop_pending.new.draft) (ap (λ (l : List Entry). (drop_entry c.args.draft.now.setup (drafted c.args.draft.now) c.args.trnuid.now c.args.asked.0 c.args.asked.1 to.row) ∷ l) mid.behind ∙ sym (drop_model_entries c.args.draft.now.setup (drafted c.args.draft.now) c.args.draft.now.user c.args.draft.now.at c.args.trnuid.now c.args.asked.0 c.args.asked.1 to.row to.found))
-          (added_trans c.args.draft.now c.drop_model.new.draft c.drop_pending.new.draft _ _ has (behind_same c.args.draft.now.setup c.drop_model.new.draft c.drop_pending.new.draft dropping _ _ has.same.setup c.in_ok-drop_pending.ensures));
+      added = subst (HasAdded c.args.draft.now c.drop_pending.new.draft) (ap (λ (l : List Entry). (drop_entry c.args.draft.now.setup (drafted c.args.draft.now) c.args.trnuid.now c.args.asked.0 c.args.asked.1 to.row) ∷ l) mid.rest ∙ sym (drop_model_entries c.args.draft.now.setup (drafted c.args.draft.now) c.args.draft.now.user c.args.draft.now.at c.args.trnuid.now c.args.asked.0 c.args.asked.1 to.row to.found))
+          (added_trans c.args.draft.now c.drop_model.new.draft c.drop_pending.new.draft _ _ has (after_same c.args.draft.now.setup c.drop_model.new.draft c.drop_pending.new.draft dropping _ _ has.same.setup c.in_ok-drop_pending.ensures));
     }

@@ -1,5 +1,5 @@
 use Rattle.std.proofs.Common.{ℕ, ◌+◌, ap, sym, ◌∙◌, subst, refl, ◌∷◌, []}
-use Rattle.bank_rules.specs.Next.{IsNext}
+use Rattle.bank_invariants.specs.Next.{IsNext}
 use Rattle.bank_ledger.specs.Changes.{GivesRows}
 use Rattle.bank_ledger.specs.declared.row_change.RowChange.TheVariants as row_changes
 use Rattle.bank_model.specs.declared.entry.Entry.{Entry}

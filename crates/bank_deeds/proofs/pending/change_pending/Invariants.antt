@@ -1,4 +1,4 @@
-use Rattle.bank_rules.proofs.DoneLemmas.{with_new_terms}
+use Rattle.bank_invariants.proofs.DoneLemmas.{with_new_terms}
 use Rattle.bank_deeds.proofs.PendingSteps.{IsSoFar}
 use Rattle.bank_deeds.proofs.pending.change_pending.Given as goal
 

@@ -1,9 +1,9 @@
 use Rattle.std.proofs.Common.{get_or}
 use Rattle.ofx_types.specs.declared.transfer.TransferRow.{TransferRow}
 use Rattle.bank_ledger.specs.DraftView.{drafted}
-use Rattle.bank_rules.proofs.DoneLemmas.{dropping, drop_way}
+use Rattle.bank_invariants.proofs.DoneLemmas.{dropping, drop_way}
 use Rattle.bank_deeds.proofs.PendingAnswers.{there}
-use Rattle.bank_deeds.proofs.PendingSteps.{item_is, so_far-none, waits_next, few_next, so_far-more, so_far-all, behind_same}
+use Rattle.bank_deeds.proofs.PendingSteps.{item_is, so_far-none, waits_next, few_next, so_far-more, so_far-all, after_same}
 use Rattle.bank_deeds.proofs.pending.drop_pending.Goals as goal
 
 pub loop-id-init : goal.loop-id-init
@@ -24,4 +24,4 @@ loop-id-preserved c =
     let wait = waits_next c.args.draft.now.setup c.args.draft.now c.loop-id.draft dropping c.args.ids.now c.loop-id.id-index (get_or c.args.ids.now c.loop-id.id-index 0) c.loop-id.invariant c.requires.waiting c.loop-id-test.true (item_is c.args.ids.now c.loop-id.id-index c.loop-id-test.true) in
     let at = there mid.entries (get_or c.args.ids.now c.loop-id.id-index 0) wait in
     so_far-more c.args.draft.now.setup c.args.draft.now c.loop-id.draft c.drop_waiting.new.draft dropping (λ (row : TransferRow). Unit {0}) c.args.ids.now c.loop-id.id-index (get_or c.args.ids.now c.loop-id.id-index 0) at.row (drop_way c.args.draft.now.setup) c.loop-id.invariant c.requires.waiting c.loop-id-test.true (item_is c.args.ids.now c.loop-id.id-index c.loop-id-test.true) at.found
-    (behind_same c.args.draft.now.setup c.loop-id.draft c.drop_waiting.new.draft dropping _ _ c.loop-id.invariant.added.same.setup c.in_ok-drop_waiting.ensures)
+    (after_same c.args.draft.now.setup c.loop-id.draft c.drop_waiting.new.draft dropping _ _ c.loop-id.invariant.added.same.setup c.in_ok-drop_waiting.ensures)

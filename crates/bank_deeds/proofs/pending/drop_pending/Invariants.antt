@@ -1,4 +1,4 @@
-use Rattle.bank_rules.proofs.DoneLemmas.{dropping}
+use Rattle.bank_invariants.proofs.DoneLemmas.{dropping}
 use Rattle.bank_deeds.proofs.PendingSteps.{IsSoFar}
 use Rattle.bank_deeds.proofs.pending.drop_pending.Given as goal
 

@@ -1,5 +1,5 @@
 use Rattle.std.proofs.Common.{◌∙◌}
-use Rattle.bank_rules.proofs.WaitingLemmas.{waiting_found}
+use Rattle.bank_invariants.proofs.WaitingLemmas.{waiting_found}
 use Rattle.bank_deeds.proofs.pending.waiting.Goals as goal
 
 pub returns : goal.returns

@@ -1,6 +1,6 @@
 use Rattle.std.proofs.Common.{◌≡◌, ℕ, ◌++◌, filter, take}
 use Rattle.bank_model.specs.Ledger.{row_of}
-use Rattle.bank_rules.specs.Pending.{waits_for, ids_new}
+use Rattle.bank_invariants.specs.Pending.{waits_for, ids_new}
 use Rattle.bank_ledger.specs.DraftView.{drafted}
 use Rattle.bank_deeds.proofs.pending.waiting.Given as goal
 

@@ -1,14 +1,14 @@
-use Rattle.bank_frames.proofs.HeadLines.{no_frame_without_end, no_frame_later, no_frame_behind, begins_frame, begins_due}
+use Rattle.bank_frames.proofs.HeadLines.{no_frame_without_end, no_frame_later, no_frame_after, begins_frame, begins_due}
 use Rattle.bank_frames.proofs.frame_head.frame_head_of.Goals as goal
 
-pub returns-then-ahead-lt-MOST_HEAD : goal.returns-then-ahead-lt-MOST_HEAD
-returns-then-ahead-lt-MOST_HEAD c = (c.if-ahead-lt-MOST_HEAD.true, no_frame_without_end c.args.ahead.now c.in-None.ensures.none)
+pub returns-then-ahead-lt-MAX_HEAD : goal.returns-then-ahead-lt-MAX_HEAD
+returns-then-ahead-lt-MAX_HEAD c = (c.if-ahead-lt-MAX_HEAD.true, no_frame_without_end c.args.ahead.now c.in-None.ensures.none)
 
-pub returns-else-ahead-lt-MOST_HEAD : goal.returns-else-ahead-lt-MOST_HEAD
-returns-else-ahead-lt-MOST_HEAD c = no_frame_later c.args.ahead.now c.in-None.ensures.none c.if-ahead-lt-MOST_HEAD.false
+pub returns-else-ahead-lt-MAX_HEAD : goal.returns-else-ahead-lt-MAX_HEAD
+returns-else-ahead-lt-MAX_HEAD c = no_frame_later c.args.ahead.now c.in-None.ensures.none c.if-ahead-lt-MAX_HEAD.false
 
 pub returns-in-None-first_line : goal.returns-in-None-first_line
-returns-in-None-first_line c = no_frame_behind c.args.ahead.now c.in-Some.end c.in-Some.ensures.some c.in-None-first_line.ensures.none
+returns-in-None-first_line c = no_frame_after c.args.ahead.now c.in-Some.end c.in-Some.ensures.some c.in-None-first_line.ensures.none
 
 pub returns-in-Some-Due : goal.returns-in-Some-Due
 returns-in-Some-Due c = begins_due c.args.ahead.now c.in-Some.end c.in-Some.ensures.some (rw c.in-Some-Due.field-0-is at c.in-Some-Due.ensures.some)

@@ -1,6 +1,6 @@
 use Rattle.std.proofs.Common.{reverse, sym, subst}
 use Rattle.std.proofs.lemmas.List.{reverse-reverse}
-use Rattle.bank_history.specs.Past.{entries_of}
+use Rattle.bank_history.specs.EntryTrace.{entries_of}
 use Rattle.bank_history.specs.HistoryHeld.{IsLaidBefore}
 use Rattle.bank_history.proofs.laying.lay.Goals as goal
 

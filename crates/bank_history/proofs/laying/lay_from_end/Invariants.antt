@@ -1,6 +1,6 @@
 use Rattle.std.proofs.Common.{◌≡◌, ◌≤◌, reverse}
 use Rattle.std.specs.Prelude.{vec_len, vec_capacity}
-use Rattle.bank_history.specs.Past.{entries_of}
+use Rattle.bank_history.specs.EntryTrace.{entries_of}
 use Rattle.bank_history.specs.HistoryHeld.{IsLaidBefore}
 use Rattle.bank_history.proofs.laying.lay_from_end.Given as goal
 

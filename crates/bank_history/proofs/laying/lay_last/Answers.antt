@@ -2,13 +2,13 @@ use Rattle.std.proofs.Common.{◌≡◌, ◌-◌, ℕ, ◌++◌, Option, Some, g
 use Rattle.std.specs.Option.{option_to_list}
 use Rattle.bank_model.specs.declared.entry.Entry.{Entry}
 use Rattle.bank_history.specs.ObjectHistory.{held_at, newest_in}
-use Rattle.bank_history.specs.Past.{entries_of}
+use Rattle.bank_history.specs.EntryTrace.{entries_of}
 use Rattle.bank_history.proofs.LayingLemmas.{last_rises, laid_still, laid_one, popped}
 use Rattle.bank_history.proofs.laying.lay_last.Goals as goal
 
 pub returns-in_err-reserve-clause-laid : goal.returns-in_err-reserve-clause-laid
 returns-in_err-reserve-clause-laid c =
-    laid_still c.args.laid.now c.reserve.new.self (reverse c.args.recent.now.items) (entries_of c.args.past.now) c.requires.laid c.reserve.ensures.stands
+    laid_still c.args.laid.now c.reserve.new.self (reverse c.args.recent.now.items) (entries_of c.args.past.now) c.requires.laid c.reserve.ensures.holds
 
 pub add-requires-clause-rising : goal.add-requires-clause-rising
 add-requires-clause-rising c =
@@ -25,4 +25,4 @@ pub returns-clause-laid : goal.returns-clause-laid
 returns-clause-laid c =
     let last = c.pop.ensures.items ∙ ap (λ (o : Option Entry). c.pop.new.self.items ++ option_to_list o) c.in-Some.is in
     laid_one c.args.laid.now c.add.new.self c.args.recent.now.items c.pop.new.self.items (entries_of c.args.past.now) c.in-Some.entry c.requires.laid last
-    (λ es stands. c.add.ensures.stands es (c.reserve.ensures.stands es stands))
+    (λ es holds. c.add.ensures.holds es (c.reserve.ensures.holds es holds))

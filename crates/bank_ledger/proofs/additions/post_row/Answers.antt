@@ -9,7 +9,7 @@ returns-then-not-is_posted-clause-ok c = λ entries entry holds number posts.
 pub returns-clause-ok : goal.returns-clause-ok
 returns-clause-ok c = λ entries entry holds number posts.
     HoldsPostings-posted c.reserve.new.self c.put.new.self entries entry c.args.row.now
-    (HoldsPostings-room c.args.postings.now c.reserve.new.self entries c.reserve.ensures.stands holds)
+    (HoldsPostings-room c.args.postings.now c.reserve.new.self entries c.reserve.ensures.holds holds)
     posts
     (sym c.is_posted.ensures ∙ c.if-not-is_posted.false)
-    (λ posted stands gives. c.put.ensures.stands posted entry stands number (rw c.in_ok-copy.ensures gives))
+    (λ posted holds gives. c.put.ensures.holds posted entry holds number (rw c.in_ok-copy.ensures gives))

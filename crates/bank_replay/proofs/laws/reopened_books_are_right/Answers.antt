@@ -1,6 +1,6 @@
 use Rattle.std.proofs.Common.{sym, subst}
 use Rattle.bank_model.specs.declared.event.State.{State}
-use Rattle.bank_rules.specs.Books.{AreBooksRight}
+use Rattle.bank_invariants.specs.Books.{AreBooksRight}
 use Rattle.bank_replay.proofs.laws.reopened_books_are_right.Goals as goal
 
 pub returns : goal.returns

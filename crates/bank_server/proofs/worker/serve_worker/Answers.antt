@@ -1,5 +1,5 @@
 use Rattle.std.proofs.Common.{arith, rules, [], ◌∷◌}
-use Rattle.ofx_ports.specs.Told.{Grows}
+use Rattle.ofx_ports.specs.Known.{Grows}
 use Rattle.bank_server.specs.Connected.{faces, door_view}
 use Rattle.bank_server.proofs.Working.{more}
 use Rattle.bank_server.proofs.worker.serve_worker.Goals as goal
@@ -15,7 +15,7 @@ loop-served-preserved g c =
           (door_view (g.D.Doorway.given c.loop-served.door) (g.D.Doorway.back c.loop-served.door) (g.D.Doorway.faults c.loop-served.door) (g.D.Doorway.closings c.loop-served.door))
           (door_view (g.D.Doorway.given c.accept.new.self) (g.D.Doorway.back c.accept.new.self) (g.D.Doorway.faults c.accept.new.self) (g.D.Doorway.closings c.accept.new.self))
           (door_view (g.D.Doorway.given c.ended.new.self) (g.D.Doorway.back c.ended.new.self) (g.D.Doorway.faults c.ended.new.self) (g.D.Doorway.closings c.ended.new.self))
-          (g.C.Clock.told c.args.clock.now) (g.C.Clock.told c.loop-served.clock) (g.C.Clock.told c.missed_due-missed.new.clock) (g.C.Clock.told c.served_link.new.clock)
+          (g.C.Clock.shown c.args.clock.now) (g.C.Clock.shown c.loop-served.clock) (g.C.Clock.shown c.missed_due-missed.new.clock) (g.C.Clock.shown c.served_link.new.clock)
           c.loop-served.served c.loop-served.missed due.0 due.1 c.in-Ok-Some.link c.served_link.result served.0
           c.loop-served.invariant.so_far due.2 served.1 gives c.in-Ok-Some.ensures.back c.ended.ensures.given c.ended.ensures.back);
       limit = c.loop-served.invariant.limit;

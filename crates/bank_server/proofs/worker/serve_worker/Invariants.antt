@@ -10,7 +10,7 @@ invariant-loop-served g l = record {
   so_far : SoFar (faces g.L.Link.left g.L.Link.read_faults g.L.Link.held g.L.Link.write_faults) g.N.BankName.setup
       (door_view (g.D.Doorway.given l.fn.door) (g.D.Doorway.back l.fn.door) (g.D.Doorway.faults l.fn.door) (g.D.Doorway.closings l.fn.door))
       (door_view (g.D.Doorway.given l.door) (g.D.Doorway.back l.door) (g.D.Doorway.faults l.door) (g.D.Doorway.closings l.door))
-      (g.C.Clock.told l.fn.clock) (g.C.Clock.told l.clock) l.served l.missed;
+      (g.C.Clock.shown l.fn.clock) (g.C.Clock.shown l.clock) l.served l.missed;
   limit : l.limit ≡ greatest l.fn.most;
   few : l.served ≤ l.limit;
   missed : l.missed ≤ l.served;

@@ -11,7 +11,7 @@ pub returns-clause-denied : goal.returns-clause-denied
 returns-clause-denied c = where_denied c.one_file.ensures c.one_refusal.ensures.undenied c.one_signon.ensures
 
 pub returns-clause-refused : goal.returns-clause-refused
-returns-clause-refused c = where_refused c.one_refusal.ensures.place c.one_refusal.ensures.unanswered c.one_refusal.ensures.undenied
+returns-clause-refused c = where_refused c.one_refusal.ensures.offset c.one_refusal.ensures.unanswered c.one_refusal.ensures.undenied
 
 pub returns-clause-only : goal.returns-clause-only
 returns-clause-only c = only_where_refused

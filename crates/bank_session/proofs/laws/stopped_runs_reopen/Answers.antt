@@ -1,4 +1,4 @@
-use Rattle.bank_session.proofs.TurnEvents.{stopped_reopens, refused_in_vain, frame_reopens, goes_on_behind}
+use Rattle.bank_session.proofs.TurnEvents.{stopped_reopens, refused_in_vain, frame_reopens, goes_on_after}
 use Rattle.bank_session.proofs.laws.stopped_runs_reopen.Goals as goal
 
 pub returns-clause-unkept : goal.returns-clause-unkept
@@ -10,4 +10,4 @@ returns-clause-refused c = λ setup records kept start state turns at content be
 
 pub returns-clause-unwritten : goal.returns-clause-unwritten
 returns-clause-unwritten c = λ setup records kept start state next turns at content line before are says.
-    goes_on_behind c.due_work_is_legal.ensures c.reopening_goes_on.ensures setup records kept start state next turns before are (frame_reopens c.due_work_is_legal.ensures setup at state next content line kept says)
+    goes_on_after c.due_work_is_legal.ensures c.reopening_goes_on.ensures setup records kept start state next turns before are (frame_reopens c.due_work_is_legal.ensures setup at state next content line kept says)

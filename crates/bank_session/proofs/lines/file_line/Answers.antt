@@ -8,7 +8,7 @@ returns-in-Sent-clause-line g c =
 
 pub returns-in_ok-bad_file_line-in-Bad-clause-line : goal.returns-in_ok-bad_file_line-in-Bad-clause-line
 returns-in_ok-bad_file_line-in-Bad-clause-line g c =
-    file_refused c.args.desk.now.setup c.args.at c.args.desk.now.state c.answer.new.self.state c.args.bytes.now _ c.in-Bad.place _ _ (rw c.in-Bad.is at c.in_ok-line.ensures.answered) c.in_ok-bad_file_line-in-Bad.ensures
+    file_refused c.args.desk.now.setup c.args.at c.args.desk.now.state c.answer.new.self.state c.args.bytes.now _ c.in-Bad.offset _ _ (rw c.in-Bad.is at c.in_ok-line.ensures.answered) c.in_ok-bad_file_line-in-Bad.ensures
 
 pub returns-in_err-line-clause-unkept : goal.returns-in_err-line-clause-unkept
 returns-in_err-line-clause-unkept g c =

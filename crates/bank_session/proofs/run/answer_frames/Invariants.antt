@@ -4,15 +4,15 @@ use Rattle.bank_session.specs.Turns.{turn_view}
 use Rattle.bank_session.proofs.BetweenTurns.{BetweenTurns}
 use Rattle.bank_session.proofs.run.answer_frames.Given as goal
 
--- the run stands after so many turns, in which so many bytes are read
+-- the run comes after so many turns, in which so many bytes are read
 abbrev pub invariant-loop-turns : goal.invariant-loop-turns
 invariant-loop-turns g l = record {
-  standing : BetweenTurns l.fn.desk.setup l.fn.desk.state l.at
-      (turn_view (g.B.Source.left l.fn.input) (g.B.Source.faults l.fn.input) (g.W.Sink.held l.fn.out) (g.W.Sink.faults l.fn.out) (g.K.Keeper.records l.fn.keeper) (g.K.Keeper.faults l.fn.keeper) (g.C.Clock.told l.fn.clock))
-      l.turns l.place l.desk
-      (turn_view (prepend_known l.ahead (g.B.Source.left l.input)) (g.B.Source.faults l.input) (g.W.Sink.held l.out) (g.W.Sink.faults l.out) (g.K.Keeper.records l.keeper) (g.K.Keeper.faults l.keeper) (g.C.Clock.told l.clock));
+  present : BetweenTurns l.fn.desk.setup l.fn.desk.state l.at
+      (turn_view (g.B.Source.left l.fn.input) (g.B.Source.faults l.fn.input) (g.W.Sink.held l.fn.out) (g.W.Sink.faults l.fn.out) (g.K.Keeper.records l.fn.keeper) (g.K.Keeper.faults l.fn.keeper) (g.C.Clock.shown l.fn.clock))
+      l.turns l.offset l.desk
+      (turn_view (prepend_known l.ahead (g.B.Source.left l.input)) (g.B.Source.faults l.input) (g.W.Sink.held l.out) (g.W.Sink.faults l.out) (g.K.Keeper.records l.keeper) (g.K.Keeper.faults l.keeper) (g.C.Clock.shown l.clock));
   few : l.turns ≤ 1000000;
-  small : l.place ≤ 262156 * l.turns;
+  small : l.offset ≤ 262156 * l.turns;
   settled : g.K.Keeper.unsettled l.keeper ≡ false;
   still : IsSome l.at → l.clock ≡ l.fn.clock;
 }

@@ -3,7 +3,7 @@ use Rattle.std.specs.Prelude.{IfOk}
 use Rattle.std.specs.Fmt.{decimal}
 use Rattle.ofx_types.specs.TextRules.{trimmed}
 use Rattle.client_report.proofs.lines.number_text.Goals as goal
-use Rattle.bank_model.proofs.Ink.{decimal_trimmed}
+use Rattle.bank_model.proofs.Visible.{decimal_trimmed}
 
 pub text_of-requires : goal.text_of-requires
 text_of-requires c =

@@ -1,8 +1,8 @@
-use Rattle.client_run.proofs.Opened.{refuses_words, refuses_others, refuses_text, only_these, only_faults}
+use Rattle.client_run.proofs.Opened.{refuses_arguments, refuses_others, refuses_text, only_these, only_faults}
 use Rattle.client_run.proofs.laws.exact_refusals.Goals as goal
 
-pub returns-clause-words : goal.returns-clause-words
-returns-clause-words c = refuses_words
+pub returns-clause-arguments : goal.returns-clause-arguments
+returns-clause-arguments c = refuses_arguments
 
 pub returns-clause-others : goal.returns-clause-others
 returns-clause-others c = refuses_others c.one_state.ensures c.faults_save_nothing.ensures

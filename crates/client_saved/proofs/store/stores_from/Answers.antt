@@ -15,7 +15,7 @@ loop-preserved c =
     let here = rw c.items.ensures at c.in_ok-store.ensures.gives in
     record {
       within = c.in_ok-store.ensures.within;
-      read = rw c.in_ok-push.ensures.ok (stores_go_on c.loop.stores c.args.count c.loop.counter c.args.text.now c.loop.next c.in_ok-store.store c.in_ok-store.behind (stores_from c.args.count [] c.args.text.now c.args.at) c.loop-test.true here c.loop.invariant.read);
+      read = rw c.in_ok-push.ensures.ok (stores_go_on c.loop.stores c.args.count c.loop.counter c.args.text.now c.loop.next c.in_ok-store.store c.in_ok-store.suffix (stores_from c.args.count [] c.args.text.now c.args.at) c.loop-test.true here c.loop.invariant.read);
     }
 
 pub returns-clause-gives : goal.returns-clause-gives

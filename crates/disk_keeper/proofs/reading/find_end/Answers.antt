@@ -3,7 +3,7 @@ use Rattle.std.proofs.Common.{◌<◌, ◌≤◌, ◌+◌, ◌-◌, ◌∙◌, l
 use Rattle.disk_keeper.specs.Disk.{shown}
 use Rattle.disk_keeper.specs.Bounds.{StepsWithin}
 use Rattle.disk_keeper.specs.Reading.{IsStep}
-use Rattle.disk_keeper.proofs.DiskLemmas.{size_told}
+use Rattle.disk_keeper.proofs.DiskLemmas.{size_reported}
 use Rattle.disk_keeper.proofs.Walks.{walked_next, walked_cut, walked_past, walked_first, walked_last}
 use Rattle.disk_keeper.proofs.reading.find_end.Goals as goal
 
@@ -15,7 +15,7 @@ loop-gate-init g c = record {
   size = c.size-size.ensures.size ∙ c.has_mark.ensures.extent;
   few = omega arith;
   within = omega (arith, c.size-size.ensures.size, c.in_ok-has_mark.ensures.long c.if-not-branch.false);
-  told = λ h is. walked_first _ (shown h) refl refl (sym (c.in_ok-has_mark.ensures.told h is) ∙ c.if-not-branch.false);
+  known = λ h is. walked_first _ (shown h) refl refl (sym (c.in_ok-has_mark.ensures.known h is) ∙ c.if-not-branch.false);
 }
 
 pub loop-gate-preserved : goal.loop-gate-preserved
@@ -28,31 +28,31 @@ loop-gate-preserved g c =
       size = i.size;
       few = w.2;
       within = omega (arith, w.0, c.pass.ensures.extent, i.extent, i.size);
-      told = λ h is.
-          let step = subst (IsStep c.loop-gate.gate (shown h)) c.in-Next.is (c.in_ok-next.ensures.told h (i.history ∙ is)) in
-          let long = size_told _ h _ (c.has_mark.ensures.history ∙ is) c.size-size.ensures.told in
-          let within : c.loop-gate.gate.place < length (shown h) = omega (arith, long, c.size-size.ensures.size, c.loop-gate-test.true) in
-          walked_next c.loop-gate.gate (shown h) (i.told h is) within (c.in-Next.next.place - c.loop-gate.gate.place - 9) step.0 step.3 c.in-Next.next step.1 (omega (arith, step.2));
+      known = λ h is.
+          let step = subst (IsStep c.loop-gate.gate (shown h)) c.in-Next.is (c.in_ok-next.ensures.known h (i.history ∙ is)) in
+          let long = size_reported _ h _ (c.has_mark.ensures.history ∙ is) c.size-size.ensures.known in
+          let within : c.loop-gate.gate.offset < length (shown h) = omega (arith, long, c.size-size.ensures.size, c.loop-gate-test.true) in
+          walked_next c.loop-gate.gate (shown h) (i.known h is) within (c.in-Next.next.offset - c.loop-gate.gate.offset - 9) step.0 step.3 c.in-Next.next step.1 (omega (arith, step.2));
     }
 
-pub returns-in-Last-clause-told : goal.returns-in-Last-clause-told
-returns-in-Last-clause-told g c h is =
+pub returns-in-Last-clause-known : goal.returns-in-Last-clause-known
+returns-in-Last-clause-known g c h is =
     let i = c.loop-gate.invariant in
-    let walked = i.told h is in
-    let step = subst (IsStep c.loop-gate.gate (shown h)) c.in-Last.is (c.in_ok-next.ensures.told h (i.history ∙ is)) in
-    let long = size_told _ h _ (c.has_mark.ensures.history ∙ is) c.size-size.ensures.told in
-    let within : c.loop-gate.gate.place < length (shown h) = omega (arith, long, c.size-size.ensures.size, c.loop-gate-test.true) in
+    let walked = i.known h is in
+    let step = subst (IsStep c.loop-gate.gate (shown h)) c.in-Last.is (c.in_ok-next.ensures.known h (i.history ∙ is)) in
+    let long = size_reported _ h _ (c.has_mark.ensures.history ∙ is) c.size-size.ensures.known in
+    let within : c.loop-gate.gate.offset < length (shown h) = omega (arith, long, c.size-size.ensures.size, c.loop-gate-test.true) in
     (walked.records, walked_last c.loop-gate.gate (shown h) walked within step, walked.count)
 
-pub returns-in-Cut-clause-told : goal.returns-in-Cut-clause-told
-returns-in-Cut-clause-told g c h is =
+pub returns-in-Cut-clause-known : goal.returns-in-Cut-clause-known
+returns-in-Cut-clause-known g c h is =
     let i = c.loop-gate.invariant in
-    let step = subst (IsStep c.loop-gate.gate (shown h)) c.in-Cut.is (c.in_ok-next.ensures.told h (i.history ∙ is)) in
-    let long = size_told _ h _ (c.has_mark.ensures.history ∙ is) c.size-size.ensures.told in
-    let within : c.loop-gate.gate.place < length (shown h) = omega (arith, long, c.size-size.ensures.size, c.loop-gate-test.true) in
-    walked_cut c.loop-gate.gate (shown h) (i.told h is) within step.0 step.1
+    let step = subst (IsStep c.loop-gate.gate (shown h)) c.in-Cut.is (c.in_ok-next.ensures.known h (i.history ∙ is)) in
+    let long = size_reported _ h _ (c.has_mark.ensures.history ∙ is) c.size-size.ensures.known in
+    let within : c.loop-gate.gate.offset < length (shown h) = omega (arith, long, c.size-size.ensures.size, c.loop-gate-test.true) in
+    walked_cut c.loop-gate.gate (shown h) (i.known h is) within step.0 step.1
 
-pub returns-clause-told : goal.returns-clause-told
-returns-clause-told g c h is =
-    let long = size_told _ h _ (c.has_mark.ensures.history ∙ is) c.size-size.ensures.told in
-    walked_past c.loop-gate.gate (shown h) (c.loop-gate.invariant.told h is) (omega (arith, long, c.size-size.ensures.size, c.loop-gate-test.false))
+pub returns-clause-known : goal.returns-clause-known
+returns-clause-known g c h is =
+    let long = size_reported _ h _ (c.has_mark.ensures.history ∙ is) c.size-size.ensures.known in
+    walked_past c.loop-gate.gate (shown h) (c.loop-gate.invariant.known h is) (omega (arith, long, c.size-size.ensures.size, c.loop-gate-test.false))

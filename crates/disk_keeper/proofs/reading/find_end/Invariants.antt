@@ -1,4 +1,4 @@
--- All records in front of the gate were read.
+-- All records before the gate were read.
 use Rattle.std.proofs.Common.{◌-◌, ◌+◌, ◌≡◌, ◌≤◌, Some}
 use Rattle.ofx_ports.specs.Faults.{CountsFaults}
 use Rattle.disk_keeper.specs.Disk.{History, shown}
@@ -11,10 +11,10 @@ invariant-loop-gate g l = record {
   extent : g.D.Disk.extent l.disk ≡ g.D.Disk.extent l.fn.disk;
   faults : g.D.Disk.faults l.fn.disk ≤ g.D.Disk.faults l.disk;
   size : l.size ≡ g.D.Disk.extent l.fn.disk;
-  few : l.gate.records + 8 ≤ l.gate.place;
-  within : l.gate.place ≤ l.size;
-  told : (h : History) → g.D.Disk.history l.fn.disk ≡ Some h → Walked l.gate (shown h);
+  few : l.gate.records + 8 ≤ l.gate.offset;
+  within : l.gate.offset ≤ l.size;
+  known : (h : History) → g.D.Disk.history l.fn.disk ≡ Some h → Walked l.gate (shown h);
 }
 
 abbrev pub decreases-loop-gate : goal.decreases-loop-gate
-decreases-loop-gate g l = l.size - l.gate.place
+decreases-loop-gate g l = l.size - l.gate.offset

@@ -12,7 +12,7 @@ loop-gate-preserved g c =
       faults = omega (arith, i.faults, c.whole_size.ensures.faults.later);
       within = size.ensures.within.0;
       before = c.loop-gate-test.true;
-      told = λ h rs is holds from number.
-          passed_on rs c.loop-gate.gate (shown h) holds (i.told h rs is holds from number) (omega (arith, c.loop-gate-test.true, number)) size.size
-          (λ within. size.ensures.told h (i.history ∙ is) within) _ refl refl;
+      known = λ h rs is holds from number.
+          passed_on rs c.loop-gate.gate (shown h) holds (i.known h rs is holds from number) (omega (arith, c.loop-gate-test.true, number)) size.size
+          (λ within. size.ensures.known h (i.history ∙ is) within) _ refl refl;
     }

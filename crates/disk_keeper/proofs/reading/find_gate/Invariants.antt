@@ -9,9 +9,9 @@ invariant-loop-gate g l = record {
   history : g.D.Disk.history l.disk ≡ g.D.Disk.history l.fn.disk;
   extent : g.D.Disk.extent l.disk ≡ g.D.Disk.extent l.fn.disk;
   faults : g.D.Disk.faults l.fn.disk ≤ g.D.Disk.faults l.disk;
-  within : l.gate.place ≤ g.D.Disk.extent l.disk;
+  within : l.gate.offset ≤ g.D.Disk.extent l.disk;
   before : l.gate.records < l.number;
-  told : (h : History) (rs : List (List ℕ)) → g.D.Disk.history l.fn.disk ≡ Some h → Holds rs (shown h) → Passed rs l.fn.from → l.number ≤ length rs → Passed rs l.gate;
+  known : (h : History) (rs : List (List ℕ)) → g.D.Disk.history l.fn.disk ≡ Some h → Holds rs (shown h) → Passed rs l.fn.from → l.number ≤ length rs → Passed rs l.gate;
 }
 
 abbrev pub decreases-loop-gate : goal.decreases-loop-gate

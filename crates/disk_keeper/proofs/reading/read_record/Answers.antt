@@ -12,5 +12,5 @@ returns-clause-found g c h is within =
     let taken = c.read_at.new.into in
     let long = c.read_at.auto.into ∙ c.deref_mut.ensures.len in
     let items = with_items_is c.resize.new.self taken long in
-    items ∙ record_at (shown h) c.args.place c.in_ok-size.size taken (c.in_ok-size.ensures.told h is within).1 (long ∙ c.in-Ok.ensures.len)
-    (shown_at _ h (c.args.place + 9) taken (c.whole_size.ensures.history ∙ is) c.in-Ok-read_at.ensures.shown)
+    items ∙ record_at (shown h) c.args.offset c.in_ok-size.size taken (c.in_ok-size.ensures.known h is within).1 (long ∙ c.in-Ok.ensures.len)
+    (shown_at _ h (c.args.offset + 9) taken (c.whole_size.ensures.history ∙ is) c.in-Ok-read_at.ensures.shown)

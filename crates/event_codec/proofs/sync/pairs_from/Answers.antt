@@ -11,7 +11,7 @@ returns-in_err-pair-clause-gives c =
 pub loop-preserved : goal.loop-preserved
 loop-preserved c = record {
   within = c.in_ok-pair.ensures.within;
-  read = rw c.in_ok-push.ensures.ok (pairs_go_on c.loop.pairs c.args.count c.loop.counter c.args.family c.args.rec.now c.loop.next c.in_ok-pair.pair c.in_ok-pair.behind (pairs_from c.args.count c.args.family c.args.rec.now c.args.at) c.loop-test.true c.in_ok-pair.ensures.gives c.loop.invariant.read);
+  read = rw c.in_ok-push.ensures.ok (pairs_go_on c.loop.pairs c.args.count c.loop.counter c.args.family c.args.rec.now c.loop.next c.in_ok-pair.pair c.in_ok-pair.suffix (pairs_from c.args.count c.args.family c.args.rec.now c.args.at) c.loop-test.true c.in_ok-pair.ensures.gives c.loop.invariant.read);
 }
 
 pub returns-clause-gives : goal.returns-clause-gives

@@ -15,7 +15,7 @@ loop-preserved c =
     let here = rw (c.last.ensures.value, c.items.ensures) at c.in_ok-line.ensures.gives in
     record {
       within = c.in_ok-line.ensures.within;
-      read = rw c.in_ok-push.ensures.ok (lines_go_on c.loop.lines c.args.count c.loop.counter c.args.text.now c.loop.next c.in_ok-line.line c.in_ok-line.behind (lines_from c.args.count None c.args.text.now c.args.at) c.loop-test.true here c.loop.invariant.read);
+      read = rw c.in_ok-push.ensures.ok (lines_go_on c.loop.lines c.args.count c.loop.counter c.args.text.now c.loop.next c.in_ok-line.line c.in_ok-line.rest (lines_from c.args.count None c.args.text.now c.args.at) c.loop-test.true here c.loop.invariant.read);
     }
 
 pub returns-clause-gives : goal.returns-clause-gives

@@ -6,5 +6,5 @@ use Rattle.http_front.proofs.response.awaits.Goals as goal
 pub returns-in-Err : goal.returns-in-Err
 returns-in-Err c = (
   λ yes. absurd (false≢true yes),
-  λ awaits. absurd (refused_response (Err c.in-Err.field-0) c.args.buf.now 2730 c.in-Err.field-0 c.if-buf-ge-MOST_BYTES.false (omega arith) c.in-Err.ensures.invalid refl c.in-Err.ensures.too_many awaits),
+  λ awaits. absurd (refused_response (Err c.in-Err.field-0) c.args.buf.now 2730 c.in-Err.field-0 c.if-buf-ge-MAX_BYTES.false (omega arith) c.in-Err.ensures.invalid refl c.in-Err.ensures.too_many awaits),
 )

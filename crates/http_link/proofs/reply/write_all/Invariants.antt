@@ -2,7 +2,7 @@ use Rattle.std.proofs.Common.{◌≡◌, ◌-◌, ◌≤◌, length, take}
 use Rattle.std.specs.Io.KnownBytes.{Keeps, Appends}
 use Rattle.http_link.proofs.reply.write_all.Given as goal
 
--- the bytes up to this place are written, the count of writes' faults hasn't fallen, and nothing was read
+-- the bytes up to this offset are written, the count of writes' faults hasn't fallen, and nothing was read
 abbrev pub invariant-loop-done : goal.invariant-loop-done
 invariant-loop-done g l = record {
   within : l.done ≤ length l.bytes;

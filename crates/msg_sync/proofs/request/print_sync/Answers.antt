@@ -3,7 +3,7 @@ use Rattle.std.proofs.Transfers.{starts_with_of_append, starts_with_trans}
 use Rattle.ofx_types.specs.Sheet.{start_line, end_line, aggregate}
 use Rattle.ofx_types.specs.SyncForm.{sync_name}
 use Rattle.ofx_types.specs.PrintedSync.{sync_text}
-use Rattle.msg_parts.proofs.Joined.{behind, aggregate_of}
+use Rattle.msg_parts.proofs.Joined.{rest, aggregate_of}
 use Rattle.msg_sync.proofs.request.print_sync.Goals as goal
 
 -- an aggregate with five parts
@@ -13,8 +13,8 @@ aggregate_of_five : {T E : Type 0} (r : Result T E) (o0 o1 o2 o3 o4 o5 o6 o7 nam
 aggregate_of_five r o0 o1 o2 o3 o4 o5 o6 o7 name own a b c d e is p q s t u v closed =
     rw (sym is)
     (aggregate_of r o0 o1 o6 o7 name (a ++ (b ++ (c ++ (d ++ e)))) p
-    (behind o1 o2 o6 a (b ++ (c ++ (d ++ e))) q
-    (behind o2 o3 o6 b (c ++ (d ++ e)) s (behind o3 o4 o6 c (d ++ e) t (behind o4 o5 o6 d e u v)))) closed)
+    (rest o1 o2 o6 a (b ++ (c ++ (d ++ e))) q
+    (rest o2 o3 o6 b (c ++ (d ++ e)) s (rest o3 o4 o6 c (d ++ e) t (rest o4 o5 o6 d e u v)))) closed)
 
 pub returns-clause-ok : goal.returns-clause-ok
 unfolding sync_text

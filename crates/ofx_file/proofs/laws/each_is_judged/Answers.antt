@@ -6,4 +6,4 @@ returns c = each_is_judged (record {
   headers = c.faultless_is_spelled.ensures;
   tags = c.faultless_tags_are_spelled.ensures;
   slices = c.nodes_are_slices.ensures;
-}) c.requests_are_found.ensures c.request_faults_have_places.ensures
+}) c.requests_are_found.ensures c.request_faults_have_offsets.ensures

@@ -6,4 +6,4 @@ returns c = each_reply_is_judged (record {
   headers = c.faultless_is_spelled.ensures;
   tags = c.faultless_tags_are_spelled.ensures;
   slices = c.nodes_are_slices.ensures;
-}) c.replies_are_found.ensures c.reply_faults_have_places.ensures
+}) c.replies_are_found.ensures c.reply_faults_have_offsets.ensures

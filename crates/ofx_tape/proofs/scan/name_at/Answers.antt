@@ -1,10 +1,10 @@
 use Rattle.std.proofs.Common.{sym, ◌∙◌}
 use Rattle.ofx_types.specs.TagNames.{is_name_byte}
-use Rattle.ofx_tape.proofs.Splitting.{front_passes, no_name_other, no_name_short, name_at_is, first_is}
+use Rattle.ofx_tape.proofs.Splitting.{prefix_passes, no_name_other, no_name_short, name_at_is, first_is}
 use Rattle.ofx_tape.proofs.scan.name_at.Goals as goal
 
 pub unended-requires : goal.unended-requires
-unended-requires c = front_passes is_name_byte c.args.bytes.now c.split_name.result.0.now c.split_name.ensures.name
+unended-requires c = prefix_passes is_name_byte c.args.bytes.now c.split_name.result.0.now c.split_name.ensures.name
 
 pub returns-then-first-ne62 : goal.returns-then-first-ne62
 returns-then-first-ne62 c =

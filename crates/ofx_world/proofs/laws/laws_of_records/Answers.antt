@@ -7,8 +7,8 @@ returns c = record {
   runs = c.reopenings_are_runs.ensures.run;
   books = c.reopened_books_are_right.ensures;
   sound = c.every_state_is_sound.ensures.run;
-  told_first = c.told_states_last.ensures.opening;
-  told = c.told_states_last.ensures.event;
+  reported_first = c.reported_states_last.ensures.opening;
+  reported = c.reported_states_last.ensures.event;
   due = c.due_work_is_legal.ensures;
   one_client = c.one_state.ensures;
 }

@@ -1,7 +1,7 @@
 use Rattle.std.proofs.Common.{sym, subst, arith}
 use Rattle.bank_model.specs.declared.event.State.{State}
-use Rattle.bank_rules.specs.Standing.{IsSoundState}
-use Rattle.bank_rules.proofs.OpeningLemmas.{IsSoundState-opening}
+use Rattle.bank_invariants.specs.SoundStates.{IsSoundState}
+use Rattle.bank_invariants.proofs.OpeningLemmas.{IsSoundState-opening}
 use Rattle.bank_core.proofs.book.Book.begin.Goals as goal
 
 pub new-ledger-requires : goal.new-ledger-requires

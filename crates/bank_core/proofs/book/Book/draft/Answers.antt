@@ -2,7 +2,7 @@ use Rattle.std.proofs.Common.{sym, ap, ◌∙◌, subst}
 use Rattle.std.specs.Int.{int_max}
 use Rattle.ofx_types.specs.Calendar.{IsDay, day_of}
 use Rattle.ofx_types.specs.declared.number.Day.{Day}
-use Rattle.bank_rules.proofs.RowLemmas.{IsDay-of_moment, IsDay-max}
+use Rattle.bank_invariants.proofs.RowLemmas.{IsDay-of_moment, IsDay-max}
 use Rattle.bank_ledger.specs.Balanced.{AreBalanced}
 use Rattle.bank_core.specs.BookView.{ReservedBook}
 use Rattle.bank_core.proofs.book.Book.draft.Goals as goal

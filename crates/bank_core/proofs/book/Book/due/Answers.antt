@@ -1,4 +1,4 @@
-use Rattle.bank_rules.proofs.DueLaws.{legal_if_due}
+use Rattle.bank_invariants.proofs.DueLaws.{legal_if_due}
 use Rattle.bank_core.proofs.book.Book.due.Goals as goal
 
 pub returns-clause-legal : goal.returns-clause-legal

@@ -3,7 +3,7 @@ use Rattle.std.proofs.lemmas.List.{append-nil}
 use Rattle.std.proofs.lemmas.Grind.{flat_map-append}
 use Rattle.std.specs.List.{flat_map}
 use Rattle.bank_model.specs.Polls.{poll_answer}
-use Rattle.bank_telling.proofs.HistoryLemmas.{part_more, part_ended}
+use Rattle.bank_queries.proofs.HistoryLemmas.{part_more, part_ended}
 use Rattle.bank_core.proofs.book.Book.poll_answers.Goals as goal
 
 pub loop-ask-init : goal.loop-ask-init

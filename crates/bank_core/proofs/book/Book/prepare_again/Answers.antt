@@ -1,5 +1,5 @@
 use Rattle.std.proofs.Common.{None, ap, sym, ◌∙◌, subst}
-use Rattle.bank_rules.specs.Standing.{IsSoundState}
+use Rattle.bank_invariants.specs.SoundStates.{IsSoundState}
 use Rattle.bank_ledger.specs.DraftView.{DraftView}
 use Rattle.bank_ledger.proofs.DraftStates.{IsSameFile-self}
 use Rattle.bank_core.specs.BookView.{ReservedBook}
@@ -22,5 +22,5 @@ returns g c =
     let to = IsAddedTo-of c.args.self.now.setup c.args.self.now.state c.draft-draft.result c.draft-draft.result c.finish-added.result (ap (λ (d : DraftView). d.setup) is) (ap (λ (d : DraftView). d.before) is) (IsSameFile-self c.draft-draft.result)
     (record { user = c.finish-added.ensures.user; day = c.finish-added.ensures.day; entries = c.finish-added.ensures.entries; uids = c.finish-added.ensures.uids; rows = c.finish-added.ensures.rows; balances = c.finish-added.ensures.balances }) in
     c.new-2.ensures
-    ∙ ap (λ (b : ReservedBook). prepared_with b.setup b.state c.args.event.now (prepared_after b.state c.finish-added.result None None c.new.result.items) c.in_ok-told.told.items) c.self.view_is
-    ∙ again_is c.args.self.now.setup c.args.self.now.state c.args.event.now c.args.held.now c.args.sent.0 c.args.sent.1 c.draft-draft.result c.finish-added.result c.args.file.now c.new.result.items c.args.reply.now c.in_ok-told.told.items c.requires.event is to c.requires.kept c.in_ok-told.ensures.items
+    ∙ ap (λ (b : ReservedBook). prepared_with b.setup b.state c.args.event.now (prepared_after b.state c.finish-added.result None None c.new.result.items) c.in_ok-reported.reported.items) c.self.view_is
+    ∙ again_is c.args.self.now.setup c.args.self.now.state c.args.event.now c.args.held.now c.args.sent.0 c.args.sent.1 c.draft-draft.result c.finish-added.result c.args.file.now c.new.result.items c.args.reply.now c.in_ok-reported.reported.items c.requires.event is to c.requires.kept c.in_ok-reported.ensures.items

@@ -3,8 +3,8 @@ use Rattle.ofx_types.specs.Printable.{IsPrintable}
 use Rattle.bank_model.specs.SetupForm.{IsWithinLimits}
 use Rattle.bank_model.specs.declared.event.Event.{Event}
 use Rattle.bank_model.specs.Rules.{raised, reply_file, IsLegal}
-use Rattle.bank_rules.specs.Standing.{IsSoundState}
-use Rattle.bank_rules.proofs.StateLemmas.{IsSoundState-raised}
+use Rattle.bank_invariants.specs.SoundStates.{IsSoundState}
+use Rattle.bank_invariants.proofs.StateLemmas.{IsSoundState-raised}
 use Rattle.bank_ledger.specs.DraftView.{DraftView}
 use Rattle.bank_core.specs.BookView.{ReservedBook}
 use Rattle.bank_core.specs.Preparing.{prepared_after, IsPrepared}
@@ -35,18 +35,18 @@ pub new-requires : goal.new-requires
 new-requires g c =
     let within = subst (λ (b : ReservedBook). IsWithinLimits b.setup) c.self.view_is c.self.invariant.0 in
     let sound = subst (λ (b : ReservedBook). IsSoundState b.setup b.state) c.self.view_is c.self.invariant.1 in
-    let answered = answered_of c.args.self.now.setup c.args.self.now.state c.args.held.now c.args.sent.0 c.args.sent.1 c.args.file.now c.draft-draft.result c.answer_asks.new.draft c.finish-added.result c.items.result.now c.in_ok-replies.replies c.in_ok-reply.reply c.in_ok-told.told.items c.in_ok-kept.kept.items c.draft-draft.ensures c.items.ensures c.in_ok-replies.ensures.file
+    let answered = answered_of c.args.self.now.setup c.args.self.now.state c.args.held.now c.args.sent.0 c.args.sent.1 c.args.file.now c.draft-draft.result c.answer_asks.new.draft c.finish-added.result c.items.result.now c.in_ok-replies.replies c.in_ok-reply.reply c.in_ok-reported.reported.items c.in_ok-kept.kept.items c.draft-draft.ensures c.items.ensures c.in_ok-replies.ensures.file
     (record { user = c.finish-added.ensures.user; day = c.finish-added.ensures.day; entries = c.finish-added.ensures.entries; uids = c.finish-added.ensures.uids; rows = c.finish-added.ensures.rows; balances = c.finish-added.ensures.balances })
-    c.in_ok-replies.ensures.after c.in_ok-replies.ensures.replies c.in_ok-reply.ensures c.in_ok-told.ensures (λ some. c.in_ok-kept.ensures some ∙ c.deref.ensures.value) in
+    c.in_ok-replies.ensures.after c.in_ok-replies.ensures.replies c.in_ok-reply.ensures c.in_ok-reported.ensures (λ some. c.in_ok-kept.ensures some ∙ c.deref.ensures.value) in
     rw (c.in_ok-older.ensures, c.in_ok-newer.ensures)
     (subst (λ (b : ReservedBook). IsPrepared b.setup b.state c.finish-added.result c.args.file.now.older c.args.file.now.newer c.in_ok-kept.kept.items) (sym c.self.view_is)
-    (IsPrepared-anew c.args.self.now.setup c.args.self.now.state c.args.event.now c.args.sent.0 c.args.sent.1 c.args.file.now c.finish-added.result c.in_ok-told.told.items c.in_ok-kept.kept.items c.requires.event within sound c.requires.moment c.requires.legal c.requires.absent answered))
+    (IsPrepared-anew c.args.self.now.setup c.args.self.now.state c.args.event.now c.args.sent.0 c.args.sent.1 c.args.file.now c.finish-added.result c.in_ok-reported.reported.items c.in_ok-kept.kept.items c.requires.event within sound c.requires.moment c.requires.legal c.requires.absent answered))
 
 pub returns : goal.returns
 returns g c =
-    let answered = answered_of c.args.self.now.setup c.args.self.now.state c.args.held.now c.args.sent.0 c.args.sent.1 c.args.file.now c.draft-draft.result c.answer_asks.new.draft c.finish-added.result c.items.result.now c.in_ok-replies.replies c.in_ok-reply.reply c.in_ok-told.told.items c.in_ok-kept.kept.items c.draft-draft.ensures c.items.ensures c.in_ok-replies.ensures.file
+    let answered = answered_of c.args.self.now.setup c.args.self.now.state c.args.held.now c.args.sent.0 c.args.sent.1 c.args.file.now c.draft-draft.result c.answer_asks.new.draft c.finish-added.result c.items.result.now c.in_ok-replies.replies c.in_ok-reply.reply c.in_ok-reported.reported.items c.in_ok-kept.kept.items c.draft-draft.ensures c.items.ensures c.in_ok-replies.ensures.file
     (record { user = c.finish-added.ensures.user; day = c.finish-added.ensures.day; entries = c.finish-added.ensures.entries; uids = c.finish-added.ensures.uids; rows = c.finish-added.ensures.rows; balances = c.finish-added.ensures.balances })
-    c.in_ok-replies.ensures.after c.in_ok-replies.ensures.replies c.in_ok-reply.ensures c.in_ok-told.ensures (λ some. c.in_ok-kept.ensures some ∙ c.deref.ensures.value) in
+    c.in_ok-replies.ensures.after c.in_ok-replies.ensures.replies c.in_ok-reply.ensures c.in_ok-reported.ensures (λ some. c.in_ok-kept.ensures some ∙ c.deref.ensures.value) in
     rw (c.in_ok-older.ensures, c.in_ok-newer.ensures) at c.new.ensures
-    ∙ ap (λ (b : ReservedBook). prepared_with b.setup b.state c.args.event.now (prepared_after b.state c.finish-added.result c.args.file.now.older c.args.file.now.newer c.in_ok-kept.kept.items) c.in_ok-told.told.items) c.self.view_is
-    ∙ anew_is c.args.self.now.setup c.args.self.now.state c.args.event.now c.args.sent.0 c.args.sent.1 c.args.file.now c.finish-added.result c.in_ok-told.told.items c.in_ok-kept.kept.items c.requires.event c.requires.absent answered
+    ∙ ap (λ (b : ReservedBook). prepared_with b.setup b.state c.args.event.now (prepared_after b.state c.finish-added.result c.args.file.now.older c.args.file.now.newer c.in_ok-kept.kept.items) c.in_ok-reported.reported.items) c.self.view_is
+    ∙ anew_is c.args.self.now.setup c.args.self.now.state c.args.event.now c.args.sent.0 c.args.sent.1 c.args.file.now c.finish-added.result c.in_ok-reported.reported.items c.in_ok-kept.kept.items c.requires.event c.requires.absent answered

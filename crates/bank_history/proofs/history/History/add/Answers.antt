@@ -2,7 +2,7 @@ use Rattle.std.proofs.Common.{◌≡◌, ◌+◌, ◌∷◌, ◌++◌, [], lengt
 use Rattle.std.proofs.lemmas.List.{length-append}
 use Rattle.bank_history.specs.HistoryHeld.{number_or_none}
 use Rattle.bank_history.specs.HistoryView.{HistoryView}
-use Rattle.bank_history.specs.Past.{entries_of}
+use Rattle.bank_history.specs.EntryTrace.{entries_of}
 use Rattle.bank_history.proofs.HistoryHeldLemmas.{numbered_more, lasts_more}
 use Rattle.bank_history.proofs.history.History.add.Goals as goal
 
@@ -18,9 +18,9 @@ invariant_of-self c =
       (λ object. ap number_or_none (c.set_last.ensures.numbers object.0) ∙ lasts_more object past c.args.entry (c.self.inside.count + 1) _ number (i.1 object)),
       omega (arith, i.2, length-append past (c.args.entry ∷ [])),
       record {
-        front = i.3.front;
-        stands = i.3.stands;
-        all = sym (append_assoc i.3.front c.self.inside.recent.items (c.args.entry ∷ [])) ∙ ap (λ l. l ++ c.args.entry ∷ []) i.3.all;
+        prefix = i.3.prefix;
+        holds = i.3.holds;
+        all = sym (append_assoc i.3.prefix c.self.inside.recent.items (c.args.entry ∷ [])) ∙ ap (λ l. l ++ c.args.entry ∷ []) i.3.all;
       },
       omega (arith, i.4, c.push_reserved.ensures.len, c.push_reserved.ensures.capacity, left, c.requires.room),
       omega (arith, i.5, c.set_last.ensures.room, left, c.requires.room),

@@ -9,7 +9,7 @@ returns c =
     let at = c.self.invariant.3 in
     c.in_ok-put_made-2.ensures
     ∙ ap (λ l. c.put_made.new.made.items ++ made_of c.args.object l) c.as_slice.ensures.value
-    ∙ ap (λ l. l ++ made_of c.args.object c.self.inside.recent.items) (c.in_ok-put_made.ensures at.front at.stands ∙ ap (λ l. l ++ made_of c.args.object at.front) c.new-made.ensures.items)
-    ∙ sym (made_of-append c.args.object at.front c.self.inside.recent.items)
+    ∙ ap (λ l. l ++ made_of c.args.object c.self.inside.recent.items) (c.in_ok-put_made.ensures at.prefix at.holds ∙ ap (λ l. l ++ made_of c.args.object at.prefix) c.new-made.ensures.items)
+    ∙ sym (made_of-append c.args.object at.prefix c.self.inside.recent.items)
     ∙ ap (made_of c.args.object) at.all
     ∙ ap (λ (v : HistoryView). made_of c.args.object v.entries) c.self.view_is

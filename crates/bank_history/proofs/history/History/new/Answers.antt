@@ -8,7 +8,7 @@ invariant_of-result c =
       (λ k d within. absurd (omega (arith, within))),
       (λ object. sym (newest_none object)),
       refl,
-      record { front = []; stands = c.new-2.ensures.stands; all = refl },
+      record { prefix = []; holds = c.new-2.ensures.holds; all = refl },
       omega arith,
       omega arith,
     )

@@ -17,8 +17,8 @@ add-requires-clause-rising c =
     let above = subst (λ (v : ObjectsView). newest_in (held_at c.args.entry.object v.held) < c.args.entry.number) (sym c.self.view_is) c.requires.rising in
     subst (λ o. newest_in o < c.args.entry.number) found above
 
-pub returns-clause-stands : goal.returns-clause-stands
-returns-clause-stands c entries all =
+pub returns-clause-holds : goal.returns-clause-holds
+returns-clause-holds c entries all =
     let found = sym c.get_mut.ensures.value ∙ ap option_copied_mut c.in-Some.is in
     adds_kept c.self.inside.width c.self.inside.held.entries (c.get_mut.follows.lender c.add.new.self).entries c.args.entry c.in-Some.kept.now c.add.new.self entries found
     ((c.get_mut.follows.holds c.add.new.self).3 (ap is_some found)).0

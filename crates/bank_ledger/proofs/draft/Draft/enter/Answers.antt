@@ -1,5 +1,5 @@
 use Rattle.std.proofs.Common.{◌+◌, ◌≤◌, length, sym, subst}
-use Rattle.bank_rules.specs.Next.{IsNext}
+use Rattle.bank_invariants.specs.Next.{IsNext}
 use Rattle.bank_ledger.specs.Changes.{GivesRows}
 use Rattle.bank_ledger.specs.DraftView.{DraftView, drafted}
 use Rattle.bank_ledger.proofs.EnteringLemmas.{IsKnown-next, change_posts, IsDraft-nothing}

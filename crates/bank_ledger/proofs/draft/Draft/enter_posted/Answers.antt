@@ -2,8 +2,8 @@ use Rattle.std.proofs.Common.{◌+◌, ◌≤◌, length, ap, sym, ◌∙◌, su
 use Rattle.bank_model.specs.SetupForm.{IsWithinLimits}
 use Rattle.bank_model.specs.SetupLookups.{account_of}
 use Rattle.bank_model.specs.Ledger.{balance}
-use Rattle.bank_rules.specs.Standing.{IsSoundState}
-use Rattle.bank_rules.specs.Next.{IsNext}
+use Rattle.bank_invariants.specs.SoundStates.{IsSoundState}
+use Rattle.bank_invariants.specs.Next.{IsNext}
 use Rattle.bank_ledger.specs.declared.row_change.RowChange.TheVariants.{Row}
 use Rattle.bank_ledger.specs.Changes.{GivesRows}
 use Rattle.bank_ledger.specs.DraftView.{DraftView, drafted}

@@ -1,5 +1,5 @@
 use Rattle.std.proofs.Common.{refl, sym, subst}
-use Rattle.bank_recur.proofs.StandsLemmas.{stands_kept}
+use Rattle.bank_recur.proofs.RepresentsLemmas.{holds_kept}
 use Rattle.bank_ledger.specs.Changes.{GivesRows, IsKnown}
 use Rattle.bank_ledger.specs.LedgerView.{LedgerView}
 use Rattle.bank_ledger.proofs.WritingLemmas.{still_given, still_dropped, still_mail, made_there, made_below}
@@ -16,7 +16,7 @@ invariant_of-self c =
     let before = subst (λ (v : LedgerView). GivesRows v.state.entries c.args.entry.change c.args.row_change) (sym c.self.view_is) c.requires.gives in
     let gives = subst (GivesRows c.self.inside.history.entries c.args.entry.change) c.in-Row.is before in
     rw c.add.ensures.entries
-    (c.put.ensures.stands c.self.inside.history.entries c.args.entry c.self.invariant.0 refl gives.0, stands_kept c.self.inside.models c.self.inside.history.entries c.args.entry c.self.invariant.1 gives.1)
+    (c.put.ensures.holds c.self.inside.history.entries c.args.entry c.self.invariant.0 refl gives.0, holds_kept c.self.inside.models c.self.inside.history.entries c.args.entry c.self.invariant.1 gives.1)
 
 -- ---- a transfer that a recurring transfer made
 
@@ -40,7 +40,7 @@ invariant_of-self-in-Made c =
     let before = subst (λ (v : LedgerView). GivesRows v.state.entries c.args.entry.change c.args.row_change) (sym c.self.view_is) c.requires.gives in
     let gives = subst (GivesRows c.self.inside.history.entries c.args.entry.change) c.in-Made.is before in
     rw c.add-in-Made.ensures.entries
-    (c.put-in-Made.ensures.stands c.self.inside.history.entries c.args.entry c.self.invariant.0 refl gives.0, c.spawned.ensures.stands c.self.inside.history.entries c.args.entry c.self.invariant.1 gives.1)
+    (c.put-in-Made.ensures.holds c.self.inside.history.entries c.args.entry c.self.invariant.0 refl gives.0, c.spawned.ensures.holds c.self.inside.history.entries c.args.entry c.self.invariant.1 gives.1)
 
 -- ---- a row of a recurring transfer
 
@@ -52,7 +52,7 @@ invariant_of-self-in-Model c =
     let before = subst (λ (v : LedgerView). GivesRows v.state.entries c.args.entry.change c.args.row_change) (sym c.self.view_is) c.requires.gives in
     let gives = subst (GivesRows c.self.inside.history.entries c.args.entry.change) c.in-Model.is before in
     rw c.add-in-Model.ensures.entries
-    (still_given c.self.inside.transfers c.self.inside.history.entries c.args.entry c.in-Model.row c.self.invariant.0 gives, c.put-in-Model.ensures.stands c.self.inside.history.entries c.args.entry c.self.invariant.1 gives)
+    (still_given c.self.inside.transfers c.self.inside.history.entries c.args.entry c.in-Model.row c.self.invariant.0 gives, c.put-in-Model.ensures.holds c.self.inside.history.entries c.args.entry c.self.invariant.1 gives)
 
 -- ---- the end of a recurring transfer
 
@@ -61,7 +61,7 @@ invariant_of-self-in-NoModel c =
     let before = subst (λ (v : LedgerView). GivesRows v.state.entries c.args.entry.change c.args.row_change) (sym c.self.view_is) c.requires.gives in
     let gives = subst (GivesRows c.self.inside.history.entries c.args.entry.change) c.in-NoModel.is before in
     rw c.add-in-NoModel.ensures.entries
-    (still_dropped c.self.inside.transfers c.self.inside.history.entries c.args.entry c.in-NoModel.id c.self.invariant.0 gives, c.cancel.ensures.stands c.self.inside.history.entries c.args.entry c.self.invariant.1 gives)
+    (still_dropped c.self.inside.transfers c.self.inside.history.entries c.args.entry c.in-NoModel.id c.self.invariant.0 gives, c.cancel.ensures.holds c.self.inside.history.entries c.args.entry c.self.invariant.1 gives)
 
 -- ---- a mail
 
@@ -70,4 +70,4 @@ invariant_of-self-in-Mail c =
     let before = subst (λ (v : LedgerView). GivesRows v.state.entries c.args.entry.change c.args.row_change) (sym c.self.view_is) c.requires.gives in
     let gives = subst (GivesRows c.self.inside.history.entries c.args.entry.change) c.in-Mail.is before in
     rw c.add-in-Mail.ensures.entries
-    (still_mail c.self.inside.transfers c.self.inside.history.entries c.args.entry c.self.invariant.0 gives, stands_kept c.self.inside.models c.self.inside.history.entries c.args.entry c.self.invariant.1 (mail_leaves c.self.inside.history.entries c.args.entry.change gives))
+    (still_mail c.self.inside.transfers c.self.inside.history.entries c.args.entry c.self.invariant.0 gives, holds_kept c.self.inside.models c.self.inside.history.entries c.args.entry c.self.invariant.1 (mail_leaves c.self.inside.history.entries c.args.entry.change gives))

@@ -6,11 +6,11 @@ use Rattle.bank_model.proofs.directory.Directory.add.Goals as goal
 -- the place of the item goes where the search ended
 pub invariant_of-self-in-Err : goal.invariant_of-self-in-Err
 invariant_of-self-in-Err g c =
-    let gap : IsGap g.T.Keyed.key_of g.T.Keyed.order c.self.inside.items.items c.self.inside.places.items (g.T.Keyed.key_of c.args.item) c.in-Err.at =
+    let gap : IsGap g.T.Keyed.key_of g.T.Keyed.order c.self.inside.items.items c.self.inside.indices.items (g.T.Keyed.key_of c.args.item) c.in-Err.at =
     rw (← c.deref.ensures.value, ← c.deref-2.ensures.value, ← c.key.ensures) c.in-Err.ensures.absent in
-    let place : c.len.result ≡ length c.self.inside.items.items = search rules in
-    rw (c.push_reserved.ensures.items, c.in_ok-insert-in-Err.ensures.items, place, c.reserve.ensures.items)
-    (inserted g.T.Keyed.key_of g.T.Keyed.order g.met.T.Keyed.total c.self.inside.items.items c.self.inside.places.items c.self.invariant
+    let index : c.len.result ≡ length c.self.inside.items.items = search rules in
+    rw (c.push_reserved.ensures.items, c.in_ok-insert-in-Err.ensures.items, index, c.reserve.ensures.items)
+    (inserted g.T.Keyed.key_of g.T.Keyed.order g.met.T.Keyed.total c.self.inside.items.items c.self.inside.indices.items c.self.invariant
     c.args.item c.in-Err.at gap)
 
 pub returns-in-Ok-clause-free : goal.returns-in-Ok-clause-free

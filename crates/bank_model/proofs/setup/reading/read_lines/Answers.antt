@@ -8,17 +8,17 @@ use Rattle.bank_model.proofs.setup.reading.read_lines.Goals as goal
 pub returns-then-not-branch-clause-read : goal.returns-then-not-branch-clause-read
 returns-then-not-branch-clause-read c =
     let none = refused_one c.in_ok-take.field-0 (with_line c.loop-line.number c.loop-line.draft c.in-Some.line.now) c.take.new.self c.if-not-branch.true c.in_ok-take.ensures in
-    sym c.loop-line.invariant.read ∙ taken_refused c.loop-line.number c.loop-line.draft c.loop-line.rest.now c.in-Some.line.now c.in-Some.behind.now (sym c.in-Some.ensures.exact) none
+    sym c.loop-line.invariant.read ∙ taken_refused c.loop-line.number c.loop-line.draft c.loop-line.rest.now c.in-Some.line.now c.in-Some.suffix.now (sym c.in-Some.ensures.exact) none
 
 pub loop-line-preserved : goal.loop-line-preserved
 loop-line-preserved c =
     let next = took c.in_ok-take.field-0 (with_line c.loop-line.number c.loop-line.draft c.in-Some.line.now) c.take.new.self c.if-not-branch.false c.in_ok-take.ensures in
-    let here : line_at c.loop-line.rest.now ≡ Some (c.in-Some.line.now, c.in-Some.behind.now) = sym c.in-Some.ensures.exact in
-    let lines = lines_next c.loop-line.rest.now c.in-Some.line.now c.in-Some.behind.now here in
-    let longer : length (lines_in c.loop-line.rest.now) ≡ length (c.in-Some.line.now ∷ lines_in c.in-Some.behind.now) = ap length lines.0 in
-    let shorter : length c.in-Some.behind.now < length c.loop-line.rest.now = c.in-Some.ensures.less in
+    let here : line_at c.loop-line.rest.now ≡ Some (c.in-Some.line.now, c.in-Some.suffix.now) = sym c.in-Some.ensures.exact in
+    let lines = lines_next c.loop-line.rest.now c.in-Some.line.now c.in-Some.suffix.now here in
+    let longer : length (lines_in c.loop-line.rest.now) ≡ length (c.in-Some.line.now ∷ lines_in c.in-Some.suffix.now) = ap length lines.0 in
+    let shorter : length c.in-Some.suffix.now < length c.loop-line.rest.now = c.in-Some.ensures.less in
     record {
-      read = sym (taken_next c.loop-line.number c.loop-line.draft c.take.new.self c.loop-line.rest.now c.in-Some.line.now c.in-Some.behind.now here next) ∙ c.loop-line.invariant.read;
+      read = sym (taken_next c.loop-line.number c.loop-line.draft c.take.new.self c.loop-line.rest.now c.in-Some.line.now c.in-Some.suffix.now here next) ∙ c.loop-line.invariant.read;
       count = omega (arith, c.loop-line.invariant.count, longer);
       left = sym lines.1 ∙ c.loop-line.invariant.left;
       few = omega (arith, c.loop-line.invariant.few, shorter);
@@ -27,8 +27,8 @@ loop-line-preserved c =
 pub returns-clause-read : goal.returns-clause-read
 returns-clause-read c = sym c.loop-line.invariant.read ∙ taken_last c.loop-line.number c.loop-line.draft c.loop-line.rest.now (sym c.in_default.ensures.exact)
 
-pub returns-clause-behind : goal.returns-clause-behind
-returns-clause-behind c =
+pub returns-clause-suffix : goal.returns-clause-suffix
+returns-clause-suffix c =
     let none = ap length (lines_last c.loop-line.rest.now (sym c.in_default.ensures.exact)).0 in
     omega (arith, c.loop-line.invariant.count, none)
 

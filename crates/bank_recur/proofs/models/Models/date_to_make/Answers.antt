@@ -4,7 +4,7 @@ use Rattle.bank_recur.proofs.SpawnLemmas.{date_is}
 use Rattle.bank_recur.proofs.models.Models.date_to_make.Goals as goal
 
 pub returns : goal.returns
-returns c entries stands =
+returns c entries holds =
     c.next_date.ensures
     ∙ ap (date_found c.args.last) c.own.ensures
-    ∙ date_is c.args.last c.args.self.now entries c.args.id stands
+    ∙ date_is c.args.last c.args.self.now entries c.args.id holds

@@ -6,8 +6,8 @@ use Rattle.bank_recur.proofs.models.Models.new.Goals as goal
 
 pub invariant_of-result : goal.invariant_of-result
 unfolding IsDistinct
-invariant_of-result c = rw (c.new.ensures.items, c.new-2.ensures.empty) (tt, λ id. refl, record { days = λ id. ap (day_in id) c.new-3.ensures; many = ap length c.new-3.ensures; places = omega arith })
+invariant_of-result c = rw (c.new.ensures.items, c.new-2.ensures.empty) (tt, λ id. refl, record { days = λ id. ap (day_in id) c.new-3.ensures; many = ap length c.new-3.ensures; occurrences = omega arith })
 
 pub returns : goal.returns
 unfolding model_of is_model_dropped
-returns c = rw c.new.ensures.items (record { rows = λ id. refl; dropped = λ id. refl; places = λ id there. cc; order = refl })
+returns c = rw c.new.ensures.items (record { rows = λ id. refl; dropped = λ id. refl; occurrences = λ id there. cc; order = refl })

@@ -7,10 +7,10 @@ use Rattle.bank_solo.proofs.Accounts.{held_balanced}
 use Rattle.bank_solo.proofs.solo.SoloBank.prepare.Goals as goal
 
 pub answer-requires-clause-balanced : goal.answer-requires-clause-balanced
-answer-requires-clause-balanced g c = held_balanced c.self.inside.book.setup c.self.inside.book.state c.self.inside.home c.self.inside.held c.self.invariant.1
+answer-requires-clause-balanced g c = held_balanced c.self.inside.book.setup c.self.inside.book.state c.self.inside.pool c.self.inside.held c.self.invariant.1
 
 pub returns-in-Ok-clause-only : goal.returns-in-Ok-clause-only
 returns-in-Ok-clause-only g c =
     subst (λ (held : List AccountView). AreNamed held (named c.args.self.now.setup c.args.self.now.state c.args.event.now))
     (sym (c.in-Ok.ensures.accounts ∙ ap (λ (bank : SoloView). bank.held) c.self.view_is))
-    c.in_ok-lend.ensures.only
+    c.in_ok-check_out.ensures.only

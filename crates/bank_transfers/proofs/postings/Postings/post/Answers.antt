@@ -5,7 +5,7 @@ use Rattle.std.proofs.lemmas.List.{map-append, length-map}
 use Rattle.std.proofs.lemmas.List.Elements.{All-push}
 use Rattle.bank_model.specs.Ledger.{Posting}
 use Rattle.bank_transfers.specs.declared.postings.Linked.{Linked}
-use Rattle.bank_transfers.specs.Chain.{touches, is_of, last_by, posting_of, postings_of, place_or_none, IsLinked, AreLinked}
+use Rattle.bank_transfers.specs.Chain.{touches, is_of, last_by, posting_of, postings_of, index_or_none, IsLinked, AreLinked}
 use Rattle.bank_transfers.specs.PostingsView.{PostingsView, IsPosted}
 use Rattle.bank_transfers.proofs.ChainLemmas.{linked_push, lasts_set, id_set}
 use Rattle.bank_transfers.proofs.postings.Postings.post.Goals as goal
@@ -33,20 +33,20 @@ invariant_of-self c =
     let to = subst (λ n. IsLinked n linked.to_link (length held) (postings_of held ++ posting ∷ [])) c.key_of-to.ensures (rw c.deref-2.ensures.value at c.link_to-to_link.ensures posting refl) in
     let size : c.len-count.result ≡ length held = c.len-count.ensures ∙ c.self.inside.held.ok.0 in
     let left : c.self.inside.left ≡ c.args.self.now.room = ap (λ (v : PostingsView). v.room) c.self.view_is in
-    let placed : c.len-count.result + 1 ≡ length (postings_of held) + 1 = ap (λ n. n + 1) (size ∙ sym (length-map held posting_of)) in (
+    let located : c.len-count.result + 1 ≡ length (postings_of held) + 1 = ap (λ n. n + 1) (size ∙ sym (length-map held posting_of)) in (
       subst (All IsPosted) (sym seen) (All-push IsPosted (postings_of held) posting c.self.invariant.0 (c.requires.amount, c.requires.posted)),
       subst AreLinked (sym all) (linked_push held linked c.self.invariant.1 from to),
       (λ key.
-          ap place_or_none (c.set_place-2.ensures.places key ∙ ap (cond (eqb c.key_of-to.result key) (Some (c.len-count.result + 1))) (c.set_place.ensures.places key))
-          ∙ lasts_set c.key_of-from.result c.key_of-to.result key (c.len-count.result + 1) (lookup (λ k. eqb key k) c.self.inside.accounts.entries) (postings_of held) posting placed (sym c.key_of-from.ensures) (sym c.key_of-to.ensures) (c.self.invariant.2 key)
+          ap index_or_none (c.set_index-2.ensures.indices key ∙ ap (cond (eqb c.key_of-to.result key) (Some (c.len-count.result + 1))) (c.set_index.ensures.indices key))
+          ∙ lasts_set c.key_of-from.result c.key_of-to.result key (c.len-count.result + 1) (lookup (λ k. eqb key k) c.self.inside.accounts.entries) (postings_of held) posting located (sym c.key_of-from.ensures) (sym c.key_of-to.ensures) (c.self.invariant.2 key)
           ∙ ap (last_by (touches key)) (sym seen)),
       (λ key.
-          ap place_or_none (c.set_place-3.ensures.places key)
-          ∙ id_set c.args.row.id key (c.len-count.result + 1) (lookup (λ k. eqb key k) c.self.inside.ids.entries) (postings_of held) posting placed refl (c.self.invariant.3 key)
+          ap index_or_none (c.set_index-3.ensures.indices key)
+          ∙ id_set c.args.row.id key (c.len-count.result + 1) (lookup (λ k. eqb key k) c.self.inside.ids.entries) (postings_of held) posting located refl (c.self.invariant.3 key)
           ∙ ap (last_by (is_of key)) (sym seen)),
       omega (arith, c.self.invariant.4, c.push_reserved.ensures.len, c.push_reserved.ensures.capacity, left, c.requires.room),
-      omega (arith, c.self.invariant.5, c.set_place.ensures.room, c.set_place-2.ensures.room, left, c.requires.room),
-      omega (arith, c.self.invariant.6, c.set_place-3.ensures.room, left, c.requires.room),
+      omega (arith, c.self.invariant.5, c.set_index.ensures.room, c.set_index-2.ensures.room, left, c.requires.room),
+      omega (arith, c.self.invariant.6, c.set_index-3.ensures.room, left, c.requires.room),
     )
 
 pub returns-clause-postings : goal.returns-clause-postings

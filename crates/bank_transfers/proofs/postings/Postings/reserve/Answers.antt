@@ -1,5 +1,5 @@
 use Rattle.std.proofs.Common.{◌∙◌, ap, arith}
-use Rattle.bank_transfers.specs.Chain.{place_or_none}
+use Rattle.bank_transfers.specs.Chain.{index_or_none}
 use Rattle.bank_transfers.proofs.postings.Postings.reserve.Goals as goal
 
 pub invariant_of-self : goal.invariant_of-self
@@ -16,7 +16,7 @@ invariant_of-self-in_err-reserve-2 c =
     rw held.items (
       i.0,
       i.1,
-      (λ key. ap place_or_none (accounts.entries.2 key) ∙ i.2 key),
+      (λ key. ap index_or_none (accounts.entries.2 key) ∙ i.2 key),
       i.3,
       omega (arith, i.4, held.len, held.capacity),
       omega (arith, i.5, accounts.spare),
@@ -32,8 +32,8 @@ invariant_of-self-in_err-reserve-3 c =
     rw held.items (
       i.0,
       i.1,
-      (λ key. ap place_or_none (accounts.entries.2 key) ∙ i.2 key),
-      (λ key. ap place_or_none (ids.entries.2 key) ∙ i.3 key),
+      (λ key. ap index_or_none (accounts.entries.2 key) ∙ i.2 key),
+      (λ key. ap index_or_none (ids.entries.2 key) ∙ i.3 key),
       omega (arith, i.4, held.len, held.capacity),
       omega (arith, i.5, accounts.spare),
       omega (arith, i.6, ids.spare),
@@ -48,8 +48,8 @@ invariant_of-self-then-self-postings c =
     rw held.items (
       i.0,
       i.1,
-      (λ key. ap place_or_none (accounts.entries.2 key) ∙ i.2 key),
-      (λ key. ap place_or_none (ids.entries.2 key) ∙ i.3 key),
+      (λ key. ap index_or_none (accounts.entries.2 key) ∙ i.2 key),
+      (λ key. ap index_or_none (ids.entries.2 key) ∙ i.3 key),
       omega (arith, c.in_ok-reserve.ensures.ok),
       omega (arith, c.in_ok-reserve-2.ensures.ok),
       omega (arith, c.in_ok-reserve-3.ensures.ok),
@@ -64,8 +64,8 @@ invariant_of-self-else-self-postings c =
     rw held.items (
       i.0,
       i.1,
-      (λ key. ap place_or_none (accounts.entries.2 key) ∙ i.2 key),
-      (λ key. ap place_or_none (ids.entries.2 key) ∙ i.3 key),
+      (λ key. ap index_or_none (accounts.entries.2 key) ∙ i.2 key),
+      (λ key. ap index_or_none (ids.entries.2 key) ∙ i.3 key),
       omega (arith, i.4, held.len, held.capacity),
       omega (arith, i.5, accounts.spare),
       omega (arith, i.6, ids.spare),

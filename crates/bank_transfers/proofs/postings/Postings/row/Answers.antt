@@ -12,18 +12,18 @@ use Rattle.bank_transfers.proofs.postings.Postings.row.Goals as goal
 
 pub returns : goal.returns
 returns c =
-    last_row c.args.id c.self.inside.held.items c.last_at-place.result c.index-linked.result.now (c.last_at-place.ensures ∙ c.self.invariant.3 c.args.id) (omega (arith, c.if-place-eq0.false)) c.index-linked.ensures
+    last_row c.args.id c.self.inside.held.items c.last_at-index.result c.index-linked.result.now (c.last_at-index.ensures ∙ c.self.invariant.3 c.args.id) (omega (arith, c.if-index-eq0.false)) c.index-linked.ensures
     ∙ ap (λ (v : PostingsView). option_map (λ (p : Posting). p.row) (find (λ (p : Posting). eqb p.row.id c.args.id) (reverse v.postings))) c.self.view_is
 
-pub returns-then-place-eq0 : goal.returns-then-place-eq0
-returns-then-place-eq0 c =
-    no_row c.args.id c.self.inside.held.items c.last_at-place.result (c.last_at-place.ensures ∙ c.self.invariant.3 c.args.id) c.if-place-eq0.true
+pub returns-then-index-eq0 : goal.returns-then-index-eq0
+returns-then-index-eq0 c =
+    no_row c.args.id c.self.inside.held.items c.last_at-index.result (c.last_at-index.ensures ∙ c.self.invariant.3 c.args.id) c.if-index-eq0.true
     ∙ ap (λ (v : PostingsView). option_map (λ (p : Posting). p.row) (find (λ (p : Posting). eqb p.row.id c.args.id) (reverse v.postings))) c.self.view_is
 
 pub index-linked-requires : goal.index-linked-requires
 index-linked-requires c =
     let held = c.self.inside.held.items in
     let bound = last_within (is_of c.args.id) (postings_of held) in
-    let place = c.last_at-place.ensures ∙ c.self.invariant.3 c.args.id in
+    let index = c.last_at-index.ensures ∙ c.self.invariant.3 c.args.id in
     let count : length (postings_of held) ≡ length held = length-map held posting_of in
-    omega (arith, bound, place, count, c.self.inside.held.ok.0, c.if-place-eq0.false)
+    omega (arith, bound, index, count, c.self.inside.held.ok.0, c.if-index-eq0.false)

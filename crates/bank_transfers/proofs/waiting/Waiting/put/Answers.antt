@@ -12,8 +12,8 @@ invariant_of-self c =
     let old = c.self.inside in
     let row = c.args.row in
     let new : row_at old.held.entries row.id ≡ None =
-    ap (λ (v : WaitingView). row_at v.rows row.id) c.self.view_is ∙ c.take_out.ensures.found row.id ∙ ap (λ b. cond b None (row_at c.args.self.now.rows row.id)) (eq-eqb row.id row.id refl) in
-    let some : 0 < old.left = subst (λ (v : WaitingView). 0 < v.room) (sym c.self.view_is) (omega (arith, c.requires.room, c.take_out.ensures.room)) in (
+    ap (λ (v : WaitingView). row_at v.rows row.id) c.self.view_is ∙ c.remove_row.ensures.found row.id ∙ ap (λ b. cond b None (row_at c.args.self.now.rows row.id)) (eq-eqb row.id row.id refl) in
+    let some : 0 < old.left = subst (λ (v : WaitingView). 0 < v.room) (sym c.self.view_is) (omega (arith, c.requires.room, c.remove_row.ensures.room)) in (
       listed_more old.held.entries c.insert-put.new.self.entries old.tasks.items old.made.items c.self.invariant.0 row c.put_key.new.keys.items c.put_key-2.new.keys.items
           new
           (λ q. (rw c.unwrap-none.ensures at c.insert-put.ensures.updates).0 q)

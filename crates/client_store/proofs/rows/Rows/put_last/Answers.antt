@@ -2,7 +2,7 @@ use Rattle.std.proofs.Common.{◌≡◌, true, ap, sym, ◌∙◌, subst}
 use Rattle.bank_model.specs.Stores.{mail_row}
 use Rattle.client_store.specs.RowForm.{all_seen, is_of, IsRising}
 use Rattle.client_store.specs.RowsView.{HeldRows}
-use Rattle.client_store.proofs.Placed.{last_kept}
+use Rattle.client_store.proofs.Located.{last_kept}
 use Rattle.client_store.proofs.rows.Rows.put_last.Goals as goal
 
 pub invariant_of-self : goal.invariant_of-self

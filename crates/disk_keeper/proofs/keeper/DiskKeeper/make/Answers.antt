@@ -1,13 +1,13 @@
 -- A new file has its mark and a gate that is shut.
 use Rattle.std.proofs.Common.{◌∙◌, arith}
-use Rattle.disk_keeper.proofs.DiskLemmas.{tells_on}
+use Rattle.disk_keeper.proofs.DiskLemmas.{reports_on}
 use Rattle.disk_keeper.proofs.Keepings.{kept_made, lists_none, leaves_none}
 use Rattle.disk_keeper.proofs.keeper.DiskKeeper.make.Goals as goal
 
 pub invariant_of-result : goal.invariant_of-result
 invariant_of-result g c =
     let size = c.sync.ensures.extent ∙ c.in-Ok.ensures.extent in record {
-      within = record { place = omega (arith, size); most = omega arith; few = omega arith };
+      within = record { offset = omega (arith, size); most = omega arith; few = omega arith };
       last_within = omega (arith, size);
       last_before = omega arith;
       next = tt;
@@ -29,6 +29,6 @@ returns-clause-leaves g c =
     c.in-Ok-sync.ensures.synced
     )
 
-pub returns-clause-tells : goal.returns-clause-tells
-returns-clause-tells g c =
-    tells_on (g.D.Disk.history c.args.disk) (g.D.Disk.history c.write_at.new.self) (g.D.Disk.history c.sync.new.self) _ _ c.in-Ok.ensures.written c.in-Ok-sync.ensures.synced
+pub returns-clause-reports : goal.returns-clause-reports
+returns-clause-reports g c =
+    reports_on (g.D.Disk.history c.args.disk) (g.D.Disk.history c.write_at.new.self) (g.D.Disk.history c.sync.new.self) _ _ c.in-Ok.ensures.written c.in-Ok-sync.ensures.synced

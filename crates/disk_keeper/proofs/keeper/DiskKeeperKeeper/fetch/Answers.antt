@@ -6,19 +6,19 @@ use Rattle.disk_keeper.specs.Keeping.{NextWithin}
 use Rattle.disk_keeper.specs.Passing.{Holds, Passed}
 use Rattle.disk_keeper.specs.Reading.{IsRecord}
 use Rattle.disk_keeper.specs.DiskKeeperView.{records_on}
-use Rattle.disk_keeper.proofs.Keepings.{AllKept, settled_now, settled_moments, records_stay, nothing_begun, kept_nothing, found_behind_gate, kept_read, passed_from, place_from}
+use Rattle.disk_keeper.proofs.Keepings.{AllKept, settled_now, settled_moments, records_stay, nothing_begun, kept_nothing, found_after_gate, kept_read, passed_from, offset_from}
 use Rattle.disk_keeper.proofs.keeper.DiskKeeperKeeper.fetch.Goals as goal
 
 pub find_gate-requires-clause-within : goal.find_gate-requires-clause-within
 find_gate-requires-clause-within g c =
     let i = c.self.invariant in
-    place_from c.self.inside.last c.gate_before-from.result c.self.inside.end _ c.gate_before-from.ensures.known i.last_within (omega (arith, i.within.place, i.within.few))
+    offset_from c.self.inside.last c.gate_before-from.result c.self.inside.end _ c.gate_before-from.ensures.known i.last_within (omega (arith, i.within.offset, i.within.few))
 
 pub invariant_of-self : goal.invariant_of-self
 invariant_of-self g c =
     let i = c.self.invariant in
     let size = c.find_gate.ensures.extent in record {
-      within = record { place = omega (arith, i.within.place, size); most = i.within.most; few = i.within.few };
+      within = record { offset = omega (arith, i.within.offset, size); most = i.within.most; few = i.within.few };
       last_within = omega (arith, i.last_within, size);
       last_before = i.last_before;
       next = subst (λ s. NextWithin c.self.inside.end s c.self.inside.begun) (sym size) i.next;
@@ -32,11 +32,11 @@ invariant_of-self-2 g c =
     let few : c.args.number ≤ c.self.inside.end.records = omega (arith, c.requires.last, ap (λ s. s.size) c.self.view_is) in
     let same = c.read_record.ensures.history ∙ c.find_gate.ensures.history in
     let passed : (h : History) (rs : List (List ℕ)) → (g.D.Disk.history c.self.inside.disk) ≡ Some h → Holds rs (shown h) → c.args.number ≤ length rs → Passed rs c.self.inside.last → Passed rs c.in-Ok.gate =
-    λ h rs is holds number last. c.in-Ok.ensures.told h rs is holds (passed_from rs c.self.inside.last c.gate_before-from.result c.gate_before-from.ensures.known last) number in
+    λ h rs is holds number last. c.in-Ok.ensures.known h rs is holds (passed_from rs c.self.inside.last c.gate_before-from.result c.gate_before-from.ensures.known last) number in
     let all = kept_read (g.D.Disk.history c.self.inside.disk) (g.D.Disk.history c.read_record.new.disk) c.self.inside.end c.self.inside.last c.in-Ok.gate c.args.number keeps same few passed in
     let i = c.self.invariant in
     let size = c.read_record.ensures.extent ∙ c.find_gate.ensures.extent in record {
-      within = record { place = omega (arith, i.within.place, size); most = i.within.most; few = i.within.few };
+      within = record { offset = omega (arith, i.within.offset, size); most = i.within.most; few = i.within.few };
       last_within = omega (arith, c.in-Ok.ensures.within.0, c.read_record.ensures.extent);
       last_before = omega (arith, c.in-Ok.ensures.within.1, few);
       next = subst (λ s. NextWithin c.self.inside.end s c.self.inside.begun) (sym size) i.next;
@@ -81,7 +81,7 @@ returns-clause-leaves g c =
     let few : c.args.number ≤ c.self.inside.end.records = omega (arith, c.requires.last, ap (λ s. s.size) c.self.view_is) in
     let same = c.read_record.ensures.history ∙ c.find_gate.ensures.history in
     let passed : (h : History) (rs : List (List ℕ)) → (g.D.Disk.history c.self.inside.disk) ≡ Some h → Holds rs (shown h) → c.args.number ≤ length rs → Passed rs c.self.inside.last → Passed rs c.in-Ok.gate =
-    λ h rs is holds number last. c.in-Ok.ensures.told h rs is holds (passed_from rs c.self.inside.last c.gate_before-from.result c.gate_before-from.ensures.known last) number in
+    λ h rs is holds number last. c.in-Ok.ensures.known h rs is holds (passed_from rs c.self.inside.last c.gate_before-from.result c.gate_before-from.ensures.known last) number in
     let all = kept_read (g.D.Disk.history c.self.inside.disk) (g.D.Disk.history c.read_record.new.disk) c.self.inside.end c.self.inside.last c.in-Ok.gate c.args.number keeps same few passed in
     settled_now (g.D.Disk.history c.read_record.new.disk) c.self.inside.end c.in-Ok.gate all
 
@@ -91,8 +91,8 @@ returns-clause-found g c =
     let keeps = kept_nothing (g.D.Disk.history c.self.inside.disk) c.self.inside.end c.self.inside.last c.self.inside.begun nothing c.self.invariant.keeps in
     let few : c.args.number ≤ c.self.inside.end.records = omega (arith, c.requires.last, ap (λ s. s.size) c.self.view_is) in
     let passed : (h : History) (rs : List (List ℕ)) → (g.D.Disk.history c.self.inside.disk) ≡ Some h → Holds rs (shown h) → c.args.number ≤ length rs → Passed rs c.self.inside.last → Passed rs c.in-Ok.gate =
-    λ h rs is holds number last. c.in-Ok.ensures.told h rs is holds (passed_from rs c.self.inside.last c.gate_before-from.result c.gate_before-from.ensures.known last) number in
+    λ h rs is holds number last. c.in-Ok.ensures.known h rs is holds (passed_from rs c.self.inside.last c.gate_before-from.result c.gate_before-from.ensures.known last) number in
     rw (← c.self.view_is) (
-    found_behind_gate (g.D.Disk.history c.self.inside.disk) c.self.inside.end c.self.inside.last c.in-Ok.gate c.args.number c.read_record.new.into.items c.read_record.result keeps c.in-Ok.ensures.within.1 few passed
+    found_after_gate (g.D.Disk.history c.self.inside.disk) c.self.inside.end c.self.inside.last c.in-Ok.gate c.args.number c.read_record.new.into.items c.read_record.result keeps c.in-Ok.ensures.within.1 few passed
     (λ h is within. c.read_record.ensures.found h (c.find_gate.ensures.history ∙ is) within)
     )

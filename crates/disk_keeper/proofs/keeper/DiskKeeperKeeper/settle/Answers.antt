@@ -12,7 +12,7 @@ pub invariant_of-self : goal.invariant_of-self
 invariant_of-self g c =
     let i = c.self.invariant in
     let size = c.sync.ensures.extent in record {
-      within = record { place = omega (arith, i.within.place, size); most = i.within.most; few = i.within.few };
+      within = record { offset = omega (arith, i.within.offset, size); most = i.within.most; few = i.within.few };
       last_within = omega (arith, i.last_within, size);
       last_before = i.last_before;
       next = subst (λ s. NextWithin c.self.inside.end s c.self.inside.begun) (sym size) i.next;
@@ -25,7 +25,7 @@ invariant_of-self-in_default-read_gate g c =
     let synced = subst (λ o. GoesOn (g.D.Disk.history c.self.inside.disk) o (Sync ∷ [])) (sym c.read_gate.ensures.history) c.in-Ok.ensures.synced in
     let size = c.read_gate.ensures.extent ∙ c.sync.ensures.extent in
     let i = c.self.invariant in record {
-      within = record { place = omega (arith, i.within.place, size); most = i.within.most; few = i.within.few };
+      within = record { offset = omega (arith, i.within.offset, size); most = i.within.most; few = i.within.few };
       last_within = omega (arith, i.last_within, size);
       last_before = i.last_before;
       next = subst (λ s. NextWithin c.self.inside.end s c.self.inside.begun) (sym size) i.next;
@@ -38,13 +38,13 @@ invariant_of-self-in-Some g c =
     let synced = subst (λ o. GoesOn (g.D.Disk.history c.self.inside.disk) o (Sync ∷ [])) (sym c.read_gate.ensures.history) c.in-Ok.ensures.synced in
     let keeps = kept_synced (g.D.Disk.history c.self.inside.disk) (g.D.Disk.history c.read_gate.new.disk) c.self.inside.end c.self.inside.last c.self.inside.begun c.self.invariant.keeps quiet synced in
     let settled = synced_settled (g.D.Disk.history c.self.inside.disk) (g.D.Disk.history c.read_gate.new.disk) quiet synced in
-    let read : (h : History) → g.D.Disk.history c.read_gate.new.disk ≡ Some h → c.in-Ok-read_gate.gate ≡ slice_index (shown h) c.self.inside.end.place = λ h is. c.in-Ok-read_gate.ensures.told h (sym c.read_gate.ensures.history ∙ is) in
+    let read : (h : History) → g.D.Disk.history c.read_gate.new.disk ≡ Some h → c.in-Ok-read_gate.gate ≡ slice_index (shown h) c.self.inside.end.offset = λ h is. c.in-Ok-read_gate.ensures.known h (sym c.read_gate.ensures.history ∙ is) in
     let found = sym c.opened.ensures ∙ c.in-Some.is in
     let all = kept_open (g.D.Disk.history c.read_gate.new.disk) c.self.inside.end c.self.inside.last c.self.inside.begun c.in-Ok-read_gate.gate c.in-Some.next keeps settled read found in
     let size = c.read_gate.ensures.extent ∙ c.sync.ensures.extent in
     let i = c.self.invariant in
     let next = next_within c.self.inside.begun c.in-Ok-read_gate.gate c.in-Some.next c.self.inside.end _ found i.next in record {
-      within = record { place = omega (arith, next.0, size); most = next.1; few = omega (arith, i.within.few, next.2) };
+      within = record { offset = omega (arith, next.0, size); most = next.1; few = omega (arith, i.within.few, next.2) };
       last_within = omega (arith, i.last_within, size);
       last_before = omega (arith, i.last_before);
       next = tt;
@@ -57,12 +57,12 @@ invariant_of-self-in-None g c =
     let synced = subst (λ o. GoesOn (g.D.Disk.history c.self.inside.disk) o (Sync ∷ [])) (sym c.read_gate.ensures.history) c.in-Ok.ensures.synced in
     let keeps = kept_synced (g.D.Disk.history c.self.inside.disk) (g.D.Disk.history c.read_gate.new.disk) c.self.inside.end c.self.inside.last c.self.inside.begun c.self.invariant.keeps quiet synced in
     let settled = synced_settled (g.D.Disk.history c.self.inside.disk) (g.D.Disk.history c.read_gate.new.disk) quiet synced in
-    let read : (h : History) → g.D.Disk.history c.read_gate.new.disk ≡ Some h → c.in-Ok-read_gate.gate ≡ slice_index (shown h) c.self.inside.end.place = λ h is. c.in-Ok-read_gate.ensures.told h (sym c.read_gate.ensures.history ∙ is) in
+    let read : (h : History) → g.D.Disk.history c.read_gate.new.disk ≡ Some h → c.in-Ok-read_gate.gate ≡ slice_index (shown h) c.self.inside.end.offset = λ h is. c.in-Ok-read_gate.ensures.known h (sym c.read_gate.ensures.history ∙ is) in
     let found = sym c.opened.ensures ∙ c.in-None.is in
     let all = kept_shut (g.D.Disk.history c.read_gate.new.disk) c.self.inside.end c.self.inside.last c.self.inside.begun c.in-Ok-read_gate.gate keeps settled read found in
     let size = c.read_gate.ensures.extent ∙ c.sync.ensures.extent in
     let i = c.self.invariant in record {
-      within = record { place = omega (arith, i.within.place, size); most = i.within.most; few = i.within.few };
+      within = record { offset = omega (arith, i.within.offset, size); most = i.within.most; few = i.within.few };
       last_within = omega (arith, i.last_within, size);
       last_before = i.last_before;
       next = tt;
@@ -139,7 +139,7 @@ returns-in-Some-clause-answer g c =
     let synced = subst (λ o. GoesOn (g.D.Disk.history c.self.inside.disk) o (Sync ∷ [])) (sym c.read_gate.ensures.history) c.in-Ok.ensures.synced in
     let keeps = kept_synced (g.D.Disk.history c.self.inside.disk) (g.D.Disk.history c.read_gate.new.disk) c.self.inside.end c.self.inside.last c.self.inside.begun c.self.invariant.keeps quiet synced in
     let settled = synced_settled (g.D.Disk.history c.self.inside.disk) (g.D.Disk.history c.read_gate.new.disk) quiet synced in
-    let read : (h : History) → g.D.Disk.history c.read_gate.new.disk ≡ Some h → c.in-Ok-read_gate.gate ≡ slice_index (shown h) c.self.inside.end.place = λ h is. c.in-Ok-read_gate.ensures.told h (sym c.read_gate.ensures.history ∙ is) in
+    let read : (h : History) → g.D.Disk.history c.read_gate.new.disk ≡ Some h → c.in-Ok-read_gate.gate ≡ slice_index (shown h) c.self.inside.end.offset = λ h is. c.in-Ok-read_gate.ensures.known h (sym c.read_gate.ensures.history ∙ is) in
     let found = sym c.opened.ensures ∙ c.in-Some.is in
     let all = kept_open (g.D.Disk.history c.read_gate.new.disk) c.self.inside.end c.self.inside.last c.self.inside.begun c.in-Ok-read_gate.gate c.in-Some.next keeps settled read found in
     rw (← c.self.view_is) (answer_open (g.D.Disk.history c.self.inside.disk) (g.D.Disk.history c.read_gate.new.disk) c.self.inside.end c.self.inside.last c.self.inside.begun c.in-Ok-read_gate.gate c.in-Some.next synced found all)
@@ -150,7 +150,7 @@ returns-in-None-clause-answer g c =
     let synced = subst (λ o. GoesOn (g.D.Disk.history c.self.inside.disk) o (Sync ∷ [])) (sym c.read_gate.ensures.history) c.in-Ok.ensures.synced in
     let keeps = kept_synced (g.D.Disk.history c.self.inside.disk) (g.D.Disk.history c.read_gate.new.disk) c.self.inside.end c.self.inside.last c.self.inside.begun c.self.invariant.keeps quiet synced in
     let settled = synced_settled (g.D.Disk.history c.self.inside.disk) (g.D.Disk.history c.read_gate.new.disk) quiet synced in
-    let read : (h : History) → g.D.Disk.history c.read_gate.new.disk ≡ Some h → c.in-Ok-read_gate.gate ≡ slice_index (shown h) c.self.inside.end.place = λ h is. c.in-Ok-read_gate.ensures.told h (sym c.read_gate.ensures.history ∙ is) in
+    let read : (h : History) → g.D.Disk.history c.read_gate.new.disk ≡ Some h → c.in-Ok-read_gate.gate ≡ slice_index (shown h) c.self.inside.end.offset = λ h is. c.in-Ok-read_gate.ensures.known h (sym c.read_gate.ensures.history ∙ is) in
     let found = sym c.opened.ensures ∙ c.in-None.is in
     let all = kept_shut (g.D.Disk.history c.read_gate.new.disk) c.self.inside.end c.self.inside.last c.self.inside.begun c.in-Ok-read_gate.gate keeps settled read found in
     rw (← c.self.view_is) (answer_shut (g.D.Disk.history c.self.inside.disk) (g.D.Disk.history c.read_gate.new.disk) c.self.inside.end c.self.inside.last c.self.inside.begun synced all)
@@ -161,10 +161,10 @@ returns-in-Some-clause-leaves g c =
     let synced = subst (λ o. GoesOn (g.D.Disk.history c.self.inside.disk) o (Sync ∷ [])) (sym c.read_gate.ensures.history) c.in-Ok.ensures.synced in
     let keeps = kept_synced (g.D.Disk.history c.self.inside.disk) (g.D.Disk.history c.read_gate.new.disk) c.self.inside.end c.self.inside.last c.self.inside.begun c.self.invariant.keeps quiet synced in
     let settled = synced_settled (g.D.Disk.history c.self.inside.disk) (g.D.Disk.history c.read_gate.new.disk) quiet synced in
-    let read : (h : History) → g.D.Disk.history c.read_gate.new.disk ≡ Some h → c.in-Ok-read_gate.gate ≡ slice_index (shown h) c.self.inside.end.place = λ h is. c.in-Ok-read_gate.ensures.told h (sym c.read_gate.ensures.history ∙ is) in
+    let read : (h : History) → g.D.Disk.history c.read_gate.new.disk ≡ Some h → c.in-Ok-read_gate.gate ≡ slice_index (shown h) c.self.inside.end.offset = λ h is. c.in-Ok-read_gate.ensures.known h (sym c.read_gate.ensures.history ∙ is) in
     let found = sym c.opened.ensures ∙ c.in-Some.is in
     let all = kept_open (g.D.Disk.history c.read_gate.new.disk) c.self.inside.end c.self.inside.last c.self.inside.begun c.in-Ok-read_gate.gate c.in-Some.next keeps settled read found in
-    settled_now (g.D.Disk.history c.read_gate.new.disk) (record { records = c.self.inside.end.records + 1; place = c.in-Some.next }) c.self.inside.last all
+    settled_now (g.D.Disk.history c.read_gate.new.disk) (record { records = c.self.inside.end.records + 1; offset = c.in-Some.next }) c.self.inside.last all
 
 pub returns-in-None-clause-leaves : goal.returns-in-None-clause-leaves
 returns-in-None-clause-leaves g c =
@@ -172,24 +172,24 @@ returns-in-None-clause-leaves g c =
     let synced = subst (λ o. GoesOn (g.D.Disk.history c.self.inside.disk) o (Sync ∷ [])) (sym c.read_gate.ensures.history) c.in-Ok.ensures.synced in
     let keeps = kept_synced (g.D.Disk.history c.self.inside.disk) (g.D.Disk.history c.read_gate.new.disk) c.self.inside.end c.self.inside.last c.self.inside.begun c.self.invariant.keeps quiet synced in
     let settled = synced_settled (g.D.Disk.history c.self.inside.disk) (g.D.Disk.history c.read_gate.new.disk) quiet synced in
-    let read : (h : History) → g.D.Disk.history c.read_gate.new.disk ≡ Some h → c.in-Ok-read_gate.gate ≡ slice_index (shown h) c.self.inside.end.place = λ h is. c.in-Ok-read_gate.ensures.told h (sym c.read_gate.ensures.history ∙ is) in
+    let read : (h : History) → g.D.Disk.history c.read_gate.new.disk ≡ Some h → c.in-Ok-read_gate.gate ≡ slice_index (shown h) c.self.inside.end.offset = λ h is. c.in-Ok-read_gate.ensures.known h (sym c.read_gate.ensures.history ∙ is) in
     let found = sym c.opened.ensures ∙ c.in-None.is in
     let all = kept_shut (g.D.Disk.history c.read_gate.new.disk) c.self.inside.end c.self.inside.last c.self.inside.begun c.in-Ok-read_gate.gate keeps settled read found in
     settled_now (g.D.Disk.history c.read_gate.new.disk) c.self.inside.end c.self.inside.last all
 
-pub returns-in-Some-clause-stands : goal.returns-in-Some-clause-stands
-returns-in-Some-clause-stands g c =
+pub returns-in-Some-clause-holds : goal.returns-in-Some-clause-holds
+returns-in-Some-clause-holds g c =
     let quiet : g.D.Disk.history c.self.inside.disk ≡ None → g.D.Disk.history c.read_gate.new.disk ≡ None = λ none. c.read_gate.ensures.history ∙ c.sync.ensures.quiet none in
     let synced = subst (λ o. GoesOn (g.D.Disk.history c.self.inside.disk) o (Sync ∷ [])) (sym c.read_gate.ensures.history) c.in-Ok.ensures.synced in
     let keeps = kept_synced (g.D.Disk.history c.self.inside.disk) (g.D.Disk.history c.read_gate.new.disk) c.self.inside.end c.self.inside.last c.self.inside.begun c.self.invariant.keeps quiet synced in
     let settled = synced_settled (g.D.Disk.history c.self.inside.disk) (g.D.Disk.history c.read_gate.new.disk) quiet synced in
-    let read : (h : History) → g.D.Disk.history c.read_gate.new.disk ≡ Some h → c.in-Ok-read_gate.gate ≡ slice_index (shown h) c.self.inside.end.place = λ h is. c.in-Ok-read_gate.ensures.told h (sym c.read_gate.ensures.history ∙ is) in
+    let read : (h : History) → g.D.Disk.history c.read_gate.new.disk ≡ Some h → c.in-Ok-read_gate.gate ≡ slice_index (shown h) c.self.inside.end.offset = λ h is. c.in-Ok-read_gate.ensures.known h (sym c.read_gate.ensures.history ∙ is) in
     let found = sym c.opened.ensures ∙ c.in-Some.is in
     let all = kept_open (g.D.Disk.history c.read_gate.new.disk) c.self.inside.end c.self.inside.last c.self.inside.begun c.in-Ok-read_gate.gate c.in-Some.next keeps settled read found in
     rw (← c.self.view_is) (λ begun now. settles_open (g.D.Disk.history c.self.inside.disk) (g.D.Disk.history c.read_gate.new.disk) c.self.inside.end c.self.inside.last c.in-Some.next begun synced all now)
 
-pub returns-in-None-clause-stands : goal.returns-in-None-clause-stands
-returns-in-None-clause-stands g c =
+pub returns-in-None-clause-holds : goal.returns-in-None-clause-holds
+returns-in-None-clause-holds g c =
     let quiet : g.D.Disk.history c.self.inside.disk ≡ None → g.D.Disk.history c.read_gate.new.disk ≡ None = λ none. c.read_gate.ensures.history ∙ c.sync.ensures.quiet none in
     let synced = subst (λ o. GoesOn (g.D.Disk.history c.self.inside.disk) o (Sync ∷ [])) (sym c.read_gate.ensures.history) c.in-Ok.ensures.synced in
     rw (← c.self.view_is) (λ begun now. settles_shut (g.D.Disk.history c.self.inside.disk) (g.D.Disk.history c.read_gate.new.disk) c.self.inside.end.records begun (synced_records (g.D.Disk.history c.self.inside.disk) (g.D.Disk.history c.read_gate.new.disk) quiet synced))

@@ -18,7 +18,7 @@ pub in_forms-requires-clause-within : goal.in_forms-requires-clause-within
 in_forms-requires-clause-within c =
     let refused = rw (reply_in-reply c.in-Ok.found.0.version c.in-Ok.found.0.newer c.root.result) at c.in-Err-reply_in.ensures in
     rw (← length-drop c.in-Ok.found.1 c.args.bytes.now)
-    (form_refusal_within reply_of c.reply_faults_have_places.ensures (reply_file c.in-Ok.found.0.version c.in-Ok.found.0.newer)
+    (form_refusal_within reply_of c.reply_faults_have_offsets.ensures (reply_file c.in-Ok.found.0.version c.in-Ok.found.0.newer)
     c.args.bytes.now c.in-Ok.found.0 c.in-Ok.found.1 c.in-Ok.found.2 c.root.result c.in-Err-reply_in.fault c.in-Ok.ensures c.root.ensures refused)
 
 pub returns : goal.returns

@@ -20,4 +20,4 @@ returns-in_ok-self-inside-in-Ok-clause-restarted c =
     c.reopen-opened.ensures.settled c.reopen-opened.ensures.list
     c.args.self.now c.in_ok-setup.setup engine.setup c.in-Ok.book.state engine.state engine.pending c.in_ok-self-inside-in-Ok.ensures.pending
     c.settle.ensures.settled (c.in_ok-setup.ensures ∙ c.setup.ensures.setup)
-    (c.in_ok-self-inside-in-Ok.ensures.setup ∙ c.in-Ok.ensures.setup) c.in_ok-self-inside-in-Ok.ensures.state c.in-Ok.ensures.stands
+    (c.in_ok-self-inside-in-Ok.ensures.setup ∙ c.in-Ok.ensures.setup) c.in_ok-self-inside-in-Ok.ensures.state c.in-Ok.ensures.holds

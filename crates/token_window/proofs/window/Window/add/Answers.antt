@@ -2,7 +2,7 @@ use Rattle.std.proofs.Common.{◌≡◌, ℕ, ◌+◌, ◌-◌, ◌<◌, sym, ap
 use Rattle.circular_buffer.specs.Buffer.{Buffer}
 use Rattle.bank_model.specs.declared.entry.Entry.{Entry}
 use Rattle.token_window.specs.WindowView.{WindowView, newest_held, number_of, IsWindow}
-use Rattle.token_window.proofs.WindowLemmas.{ring_left, ring_with, window_left, left_same, held_same, still_window, left_stands, stands_more}
+use Rattle.token_window.proofs.WindowLemmas.{ring_left, ring_with, window_left, left_same, held_same, still_window, left_holds, holds_more}
 use Rattle.token_window.proofs.window.Window.add.Goals as goal
 
 pub invariant_of-self : goal.invariant_of-self
@@ -24,26 +24,26 @@ returns-clause-left c =
     ∙ left_same old.width old.entries.capacity old.floor old.room old.entries.items c.args.entry c.self.invariant some
     ∙ ap (λ (v : WindowView). window_left v.width v.held) c.self.view_is
 
-pub returns-clause-stood_for : goal.returns-clause-stood_for
-returns-clause-stood_for c history width stands =
+pub returns-clause-represented : goal.returns-clause-represented
+returns-clause-represented c history width holds =
     let old = c.self.inside in
     let some = subst (λ (v : WindowView). 0 < v.room) (sym c.self.view_is) c.requires.room in
-    let wide : old.width ≡ width = ap (λ (v : WindowView). v.width) c.self.view_is ∙ stands.as_wide in
+    let wide : old.width ≡ width = ap (λ (v : WindowView). v.width) c.self.view_is ∙ holds.as_wide in
     c.push_back-left.ensures.value
     ∙ left_same old.width old.entries.capacity old.floor old.room old.entries.items c.args.entry c.self.invariant some
     ∙ ap (λ (v : WindowView). window_left v.width v.held) c.self.view_is
-    ∙ left_stands history width c.args.self.now c.args.entry stands (subst (λ (n : ℕ). 0 < n) wide c.self.invariant.wide)
+    ∙ left_holds history width c.args.self.now c.args.entry holds (subst (λ (n : ℕ). 0 < n) wide c.self.invariant.wide)
 
-pub returns-clause-stands : goal.returns-clause-stands
-returns-clause-stands c history width stands =
+pub returns-clause-holds : goal.returns-clause-holds
+returns-clause-holds c history width holds =
     let old = c.self.inside in
     let some = subst (λ (v : WindowView). 0 < v.room) (sym c.self.view_is) c.requires.room in
     let same : old.width ≡ c.args.self.now.width = ap (λ (v : WindowView). v.width) c.self.view_is in
     let left =
     c.push_back-left.ensures.value
     ∙ left_same old.width old.entries.capacity old.floor old.room old.entries.items c.args.entry c.self.invariant some in
-    stands_more history width c.args.self.now _ c.args.entry stands
-    (subst (λ (n : ℕ). 0 < n) (same ∙ stands.as_wide) c.self.invariant.wide)
+    holds_more history width c.args.self.now _ c.args.entry holds
+    (subst (λ (n : ℕ). 0 < n) (same ∙ holds.as_wide) c.self.invariant.wide)
     c.requires.rising
     same
     (ap (λ (b : Buffer Entry). b.items) c.push_back-left.ensures.items

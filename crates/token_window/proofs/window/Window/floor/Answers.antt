@@ -3,6 +3,6 @@ use Rattle.bank_model.specs.Objects.{floor}
 use Rattle.token_window.specs.WindowView.{WindowView}
 use Rattle.token_window.proofs.window.Window.floor.Goals as goal
 
-pub returns-clause-stood_for : goal.returns-clause-stood_for
+pub returns-clause-represented : goal.returns-clause-represented
 unfolding floor
-returns-clause-stood_for c object entries width stands = ap (λ (v : WindowView). v.floor) c.self.view_is ∙ stands.floor
+returns-clause-represented c object entries width holds = ap (λ (v : WindowView). v.floor) c.self.view_is ∙ holds.floor

@@ -1,7 +1,7 @@
 use Rattle.std.proofs.Common.{◌≡◌, ◌-◌, length, take, slice_get, Some, sym, ap, ◌∙◌, subst, arith}
 use Rattle.std.specs.Option.{option_copied}
 use Rattle.token_window.specs.WindowView.{WindowView, last_number_from}
-use Rattle.token_window.proofs.WindowLemmas.{number_at, none_before, some_there, before_stands}
+use Rattle.token_window.proofs.WindowLemmas.{number_at, none_before, some_there, before_holds}
 use Rattle.token_window.proofs.window.Window.number_before.Goals as goal
 
 pub returns-then-count-last-clause-held : goal.returns-then-count-last-clause-held
@@ -9,11 +9,11 @@ returns-then-count-last-clause-held c =
     none_before c.self.inside.floor c.self.inside.entries.items c.args.last (omega (arith, c.len-count.ensures.len, c.if-count-last.true))
     ∙ ap (λ (v : WindowView). last_number_from v.floor (take (length v.held - c.args.last) v.held)) c.self.view_is
 
-pub returns-then-count-last-clause-stood_for : goal.returns-then-count-last-clause-stood_for
-returns-then-count-last-clause-stood_for c history width stands =
+pub returns-then-count-last-clause-represented : goal.returns-then-count-last-clause-represented
+returns-then-count-last-clause-represented c history width holds =
     none_before c.self.inside.floor c.self.inside.entries.items c.args.last (omega (arith, c.len-count.ensures.len, c.if-count-last.true))
     ∙ ap (λ (v : WindowView). last_number_from v.floor (take (length v.held - c.args.last) v.held)) c.self.view_is
-    ∙ before_stands history width c.args.last c.args.self.now stands (omega (arith, c.requires.narrow, stands.as_wide))
+    ∙ before_holds history width c.args.last c.args.self.now holds (omega (arith, c.requires.narrow, holds.as_wide))
 
 pub unreachable-requires : goal.unreachable-requires
 unreachable-requires c =
@@ -25,8 +25,8 @@ returns-clause-held c =
     sym (number_at c.self.inside.floor c.self.inside.entries.items c.len-count.result c.args.last c.in-Some.entry.now c.len-count.ensures.len (omega (arith, c.if-count-last.false)) (sym c.get.ensures ∙ ap option_copied c.in-Some.is))
     ∙ ap (λ (v : WindowView). last_number_from v.floor (take (length v.held - c.args.last) v.held)) c.self.view_is
 
-pub returns-clause-stood_for : goal.returns-clause-stood_for
-returns-clause-stood_for c history width stands =
+pub returns-clause-represented : goal.returns-clause-represented
+returns-clause-represented c history width holds =
     sym (number_at c.self.inside.floor c.self.inside.entries.items c.len-count.result c.args.last c.in-Some.entry.now c.len-count.ensures.len (omega (arith, c.if-count-last.false)) (sym c.get.ensures ∙ ap option_copied c.in-Some.is))
     ∙ ap (λ (v : WindowView). last_number_from v.floor (take (length v.held - c.args.last) v.held)) c.self.view_is
-    ∙ before_stands history width c.args.last c.args.self.now stands (omega (arith, c.requires.narrow, stands.as_wide))
+    ∙ before_holds history width c.args.last c.args.self.now holds (omega (arith, c.requires.narrow, holds.as_wide))

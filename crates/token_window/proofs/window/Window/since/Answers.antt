@@ -1,7 +1,7 @@
 use Rattle.std.proofs.Common.{filter, sym, ap, ◌∙◌, subst}
 use Rattle.bank_model.specs.Sync.{is_above}
 use Rattle.token_window.specs.WindowView.{WindowView, RiseFrom, last_number_from}
-use Rattle.token_window.proofs.WindowLemmas.{rise_parts, in_order, above_stands}
+use Rattle.token_window.proofs.WindowLemmas.{rise_parts, in_order, above_holds}
 use Rattle.token_window.proofs.window.Window.since.Goals as goal
 
 pub new-requires-clause-older : goal.new-requires-clause-older
@@ -16,9 +16,9 @@ new-requires-clause-newer c =
     let parts = rise_parts floor c.as_slices.result.0.now c.as_slices.result.1.now (subst (RiseFrom floor) (sym c.as_slices.ensures) c.self.invariant.rising) in
     in_order (last_number_from floor c.as_slices.result.0.now) c.as_slices.result.1.now parts.1
 
-pub returns-clause-stood_for : goal.returns-clause-stood_for
-returns-clause-stood_for c history width stands =
+pub returns-clause-represented : goal.returns-clause-represented
+returns-clause-represented c history width holds =
     c.new.ensures
     ∙ ap (filter (is_above c.args.token)) c.as_slices.ensures
     ∙ ap (λ (v : WindowView). filter (is_above c.args.token) v.held) c.self.view_is
-    ∙ above_stands history width c.args.token c.args.self.now stands c.requires.floor
+    ∙ above_holds history width c.args.token c.args.self.now holds c.requires.floor

@@ -1,0 +1,15 @@
+use Rattle.std.proofs.Common.{◌≡◌, ◌∷◌, ◌++◌, [], None, Some, map, reverse, sym, subst, arith}
+use Rattle.std.proofs.lemmas.Grind.{common_steps}
+use Rattle.bank_accounts.specs.Pool.{AreUnderNumbers}
+use Rattle.bank_accounts.proofs.HomeLemmas.{no_empty_slot, slots_numbered}
+use Rattle.bank_accounts.proofs.pool.AccountPool.into_vec.Goals as goal
+
+pub loop-index-preserved : goal.loop-index-preserved
+loop-index-preserved c =
+    let last : c.loop-index.slots.items ≡ c.pop.new.self.items ++ None ∷ [] = grind (arith, common_steps) in
+    absurd (no_empty_slot c.args.self c.loop-index.slots.items c.pop.new.self.items (map Some (reverse c.loop-index.accounts.items)) c.requires c.loop-index.invariant last)
+
+pub returns-clause-numbered : goal.returns-clause-numbered
+returns-clause-numbered c =
+    let same : map Some c.reverse.new.self.items ≡ c.self.inside.slots.items = grind (arith, common_steps) in
+    slots_numbered c.reverse.new.self.items (subst AreUnderNumbers (sym same) c.self.invariant)

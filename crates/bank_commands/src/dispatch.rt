@@ -1,0 +1,96 @@
+//! The top call of the program.
+
+ghost use Rattle.std.specs.Prelude.{◌≡◌, ◌≢◌, ◌↔◌, ◌≤◌, ℕ, false, List, Option, Some, IfOk};
+ghost use Rattle.ofx_types.specs.declared.number.Moment.{Moment as TheMoment};
+ghost use Rattle.bank_session.specs.Statuses.{IsRun, IsDueCommand, IsMailCommand};
+ghost use Rattle.bank_session.specs.Arguments.{AreArguments, AreDueArguments, AreMailArguments};
+ghost use Rattle.bank_commands.specs.Rehearsing.{AreSeedArguments, EndsSo, HaveNoForm, rehearsal_text};
+ghost use Rattle.ofx_world.specs.Rehearsal.{IsRehearsed};
+ghost use Rattle.ofx_world.specs.declared.rehearsal.summary.Summary.{Summary};
+
+use crate::lines::lines_of;
+use crate::seed::seed_of;
+use bank_session::{Ports, answer_told};
+use ofx_ports::{Clock, Failed, Keeper, Sink, Source, write_whole};
+use ofx_types::{Note, OutOfMemory, Status, Text, Told};
+use ofx_world::rehearse;
+use std::alloc::Global;
+use std::hash::RandomState;
+
+/// Does what the arguments ask for, and answers how that ended.
+///
+/// The arguments `rehearse` and a number ask for the rehearsal of that seed: a world of a bank and three clients takes 2,000 turns, and
+/// six lines tell what came of them. Nothing but the output is used. The status is 0, 6 where a write failed, or 7 where memory was
+/// refused. All other arguments are those of `answer_told`.
+#[tactic(auto, using(crate::proofs::Seeds::one_seed, crate::proofs::Seeds::seeds_are_no_frames, crate::proofs::Seeds::seeds_are_no_due_work, crate::proofs::Seeds::seeds_are_no_mail, crate::proofs::Seeds::seeds_have_form))]
+pub fn bank_told<A: Source, B: Source, W: Sink, K: Keeper, C: Clock>(
+    alloc: Global,
+    keys: RandomState,
+    arguments: &[Text],
+    setup: &mut A,
+    input: &mut B,
+    out: &mut W,
+    keeper: &mut K,
+    clock: &mut C,
+) -> Told
+    requires settled { K.unsettled keeper.old ≡ false }
+    ensures usage { (result.status.0 ≡ 2) ↔ HaveNoForm arguments.now }
+    ensures plain { result.status.0 ≡ 2 → result.note ≡ Note.Plain }
+    ensures unread { HaveNoForm arguments.now → (setup.new ≡ setup.old) × (input.new ≡ input.old) × (out.new ≡ out.old) × (keeper.new ≡ keeper.old) × (clock.new ≡ clock.old) }
+
+    // A rehearsal uses nothing but the output.
+    ensures rehearse { (seed : ℕ) → AreSeedArguments arguments.now seed
+        → (setup.new ≡ setup.old) × (input.new ≡ input.old) × (keeper.new ≡ keeper.old) × (clock.new ≡ clock.old)
+        × EndsSo seed (W.held out.old) (W.held out.new) (W.faults out.old) (W.faults out.new) result }
+
+    // What is said of `answer`, `due` and `mail`.
+    ensures run { (at : Option TheMoment) → AreArguments arguments.now at → IsRun at
+        (⟦<(A, B, W, K, C) as Ports>⟧.seen (setup.old, input.old, out.old, keeper.old, clock.old))
+        (⟦<(A, B, W, K, C) as Ports>⟧.seen (setup.new, input.new, out.new, keeper.new, clock.new)) result }
+    ensures due { AreDueArguments arguments.now → (input.new ≡ input.old) × IsDueCommand
+        (⟦<(A, B, W, K, C) as Ports>⟧.seen (setup.old, input.old, out.old, keeper.old, clock.old))
+        (⟦<(A, B, W, K, C) as Ports>⟧.seen (setup.new, input.new, out.new, keeper.new, clock.new)) result }
+    ensures mail { (name subject : List ℕ) → AreMailArguments arguments.now name subject → IsMailCommand name subject
+        (⟦<(A, B, W, K, C) as Ports>⟧.seen (setup.old, input.old, out.old, keeper.old, clock.old))
+        (⟦<(A, B, W, K, C) as Ports>⟧.seen (setup.new, input.new, out.new, keeper.new, clock.new)) result }
+    ensures settled { result.status.0 ≢ 8 → K.unsettled keeper.new ≡ false }
+    ensures clock { (at : TheMoment) → AreArguments arguments.now (Some at) → clock.new ≡ clock.old }
+{
+    match seed_of(arguments) {
+        Some(seed) => rehearsed(alloc, keys, seed, out),
+        None => answer_told(alloc, keys, arguments, setup, input, out, keeper, clock),
+    }
+}
+
+/// A status alone.
+fn plain(status: u8) -> Told
+    ensures { result ≡ record { status = record { 0 = status }; note = Note.Plain } }
+{
+    Told {
+        status: Status(status),
+        note: Note::Plain,
+    }
+}
+
+/// The end of the rehearsal of a seed, whose lines are written.
+fn rehearsed<W: Sink>(alloc: Global, keys: RandomState, seed: u64, out: &mut W) -> Told
+    ensures end { EndsSo seed (W.held out.old) (W.held out.new) (W.faults out.old) (W.faults out.new) result }
+    ensures counts { W.faults out.old ≤ W.faults out.new }
+    ensures formed { result.status.0 ≢ 2 }
+{
+    match text_of(alloc, keys, seed) {
+        Ok(text) => match write_whole(out, &text) {
+            Ok(()) => plain(0),
+            Err(Failed) => plain(6),
+        },
+        Err(OutOfMemory) => plain(7),
+    }
+}
+
+/// The lines of the rehearsal of a seed.
+fn text_of(alloc: Global, keys: RandomState, seed: u64) -> Result<Vec<u8>, OutOfMemory>
+    ensures { IfOk result (λ text. (came : Summary) × IsRehearsed seed came × (text.items ≡ rehearsal_text seed came)) }
+{
+    let came = rehearse(alloc, keys, seed)?;
+    lines_of(alloc, seed, came)
+}

@@ -1,4 +1,0 @@
-mod OwnEndings
-mod TellerCalls
-mod Knowing
-mod Untold

@@ -1,9 +1,0 @@
--- The entries that came to a bank.
-use Rattle.std.specs.Prelude.{List, [], ◌∷◌, ◌++◌}
-use Rattle.bank_model.specs.declared.entry.Entry.{Entry}
-use Rattle.bank_history.specs.declared.past.Past.{Past, Start, After'}
-
--- the entries in order, the first one first
-abbrev pub entries_of : Past → List Entry
-entries_of Start = []
-entries_of (After' shape before entry) = entries_of before ++ entry.value ∷ []

@@ -1,0 +1,11 @@
+pub mod SoundStates
+pub mod Next
+pub mod Stages
+pub mod Runs
+pub mod Uids
+pub mod Books
+pub mod Pending
+pub mod Series
+pub mod Rising
+pub mod AnsweredAsks
+pub mod DueFirst

@@ -1,5 +1,0 @@
-use Rattle.bank_laws.proofs.Named.{empty_is_right}
-use Rattle.bank_laws.proofs.stores.empty_stores_are_right.Goals as goal
-
-pub returns : goal.returns
-returns c = empty_is_right

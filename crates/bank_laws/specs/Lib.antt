@@ -1,4 +1,0 @@
-pub mod Places
-pub mod Histories
-pub mod Told
-pub mod Folding

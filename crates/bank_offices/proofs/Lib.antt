@@ -1,0 +1,4 @@
+mod OwnEndings
+mod LockedBankCalls
+mod Knowing
+mod Unreported

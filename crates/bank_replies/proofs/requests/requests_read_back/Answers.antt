@@ -1,5 +1,0 @@
-use Rattle.bank_replies.proofs.SoundFiles.{file_sound}
-use Rattle.bank_replies.proofs.requests.requests_read_back.Goals as goal
-
-pub returns : goal.returns
-returns c = λ sent at sound signon. c.files_read_back.ensures sent at (file_sound sent at sound signon)

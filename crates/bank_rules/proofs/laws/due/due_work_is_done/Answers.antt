@@ -1,6 +1,0 @@
-use Rattle.bank_model.specs.DueRun.{run_length}
-use Rattle.bank_rules.proofs.laws.due.due_work_is_done.Goals as goal
-
-pub returns : goal.returns
-unfolding run_length
-returns c = λ setup S at events run. run.ends

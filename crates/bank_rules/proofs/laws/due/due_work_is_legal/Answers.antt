@@ -1,5 +1,0 @@
-use Rattle.bank_rules.proofs.DueLaws.{legal_due}
-use Rattle.bank_rules.proofs.laws.due.due_work_is_legal.Goals as goal
-
-pub returns : goal.returns
-returns c = legal_due

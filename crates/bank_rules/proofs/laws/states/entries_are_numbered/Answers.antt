@@ -1,5 +1,0 @@
-use Rattle.bank_rules.proofs.RunLaws.{IsSoundState-run}
-use Rattle.bank_rules.proofs.laws.states.entries_are_numbered.Goals as goal
-
-pub returns : goal.returns
-returns c = λ setup run k d within legal below. (IsSoundState-run setup run within legal).numbered k d below

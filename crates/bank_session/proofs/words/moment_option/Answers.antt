@@ -1,7 +1,0 @@
-use Rattle.bank_session.proofs.CommandWords.{option_read}
-use Rattle.bank_session.proofs.words.moment_option.Goals as goal
-
-pub returns-then-is_word : goal.returns-then-is_word
-returns-then-is_word c =
-    option_read c.args.words.now c.option-item.result c.date-item.result c.at_date.result c.in-len2.len_at_least c.in-len2.len_below c.option-item.is c.date-item.is
-    (c.is_word.ensures.0 c.if-is_word.true) (rw c.as_bytes.ensures.bytes at c.at_date.ensures)

@@ -1,0 +1,210 @@
+//! The locked bank of a bank: its journal, and all of its accounts. What is behind the bank's lock.
+
+ghost use Rattle.std.specs.Prelude.{◌≡◌, ◌<◌, [], false, true, None, length, OnOk, OnErr, IfOk, IfErr};
+ghost use Rattle.ofx_types.specs.Calendar.{IsMoment};
+ghost use Rattle.ofx_types.specs.ReplyForm.{reply_text};
+ghost use Rattle.bank_model.specs.declared.event.Event.TheVariants as events;
+ghost use Rattle.bank_model.specs.Polls as polls;
+ghost use Rattle.bank_model.specs.Rules.{IsLegal};
+ghost use Rattle.bank_model.specs.Sound.{IsSound};
+ghost use Rattle.bank_solo.specs.Solo.{AreAccountsIn, accounts_in};
+ghost use Rattle.bank_engine.specs.Calls.{Answers, FailsToCommit};
+ghost use Rattle.bank_shared.specs.Calls.{IsSettled, LeavesPending, AnswersNext, FailsToSubmit, Advances, FailsToAdvance};
+
+use crate::advance::Advance;
+use crate::checkout::check_out_for_pending;
+use crate::journal::Journal;
+use crate::name::BankName;
+use bank_accounts::{Account, AccountPool, Held};
+use bank_engine::check_out;
+use bank_model::{Event, Printer, Setup, SubmitFault};
+use bank_solo::laws::unnamed_accounts_stay;
+use ofx_ports::Keeper;
+use ofx_types::{Duplicate, Moment, OutOfMemory, RequestFile, UserId};
+use std::alloc::Global;
+use std::marker::Model;
+
+/// The journal of the bank that `N` names, and all of its accounts. Between two calls all accounts are in the pool, each with its
+/// balance in the state that the log ends in.
+pub struct LockedBank<N: BankName, K: Keeper, P: Printer> {
+    alloc: Global,
+    journal: Journal<N, K, P>,
+    pool: AccountPool,
+}
+
+impl<N: BankName, K: Keeper, P: Printer> Model for LockedBank<N, K, P> {
+    ghost use Rattle.std.specs.Prelude.{◌≡◌};
+    ghost use Rattle.bank_solo.specs.Solo.{accounts_in};
+    ghost use Rattle.bank_engine.specs.Views.{JournalView};
+
+    ghost Value = { JournalView };
+
+    ghost view = { λ t. t.journal };
+
+    ghost invariant = { λ t. (t.journal.setup ≡ N.setup) × (t.pool ≡ accounts_in t.journal.setup t.journal.state) };
+}
+
+impl<N: BankName, K: Keeper, P: Printer> LockedBank<N, K, P> {
+    /// A locked bank with all accounts of the bank in the pool. Takes no memory.
+    pub(crate) fn new(
+        alloc: Global,
+        journal: Journal<N, K, P>,
+        pool: AccountPool,
+    ) -> LockedBank<N, K, P>
+        requires own { journal.setup ≡ N.setup }
+        requires pool { pool ≡ accounts_in journal.setup journal.state }
+        ensures { result ≡ journal }
+    {
+        LockedBank {
+            alloc,
+            journal,
+            pool,
+        }
+    }
+
+    /// A locked bank with the accounts of the bank in the order of their numbers.
+    pub fn with_accounts(
+        alloc: Global,
+        journal: Journal<N, K, P>,
+        accounts: Vec<Account>,
+    ) -> Result<LockedBank<N, K, P>, OutOfMemory>
+        requires own { journal.setup ≡ N.setup }
+        requires accounts { AreAccountsIn journal.setup journal.state accounts.items }
+        ensures { IfOk result (λ locked. locked ≡ journal) }
+    {
+        let pool = AccountPool::from_vec(alloc, accounts)?;
+        Ok(LockedBank::new(alloc, journal, pool))
+    }
+
+    /// The setup, lent. Takes no memory.
+    pub fn setup(&self) -> &Setup
+        ensures setup { result.now ≡ self.now.setup }
+        ensures own { self.now.setup ≡ N.setup }
+    {
+        self.journal.book().setup()
+    }
+
+    /// The journal, lent. Takes no memory.
+    pub fn journal(&self) -> &Journal<N, K, P>
+        ensures { result.now ≡ self.now }
+    {
+        &self.journal
+    }
+
+    /// Answers a file of a user, which is sound and no poll. What is pending is settled first.
+    ///
+    /// - `Keeper(n)`: the keeper's count of faults rose to n in this call, and the log has this fault.
+    /// - `OutOfMemory`.
+    pub fn submit(
+        &mut self,
+        user: UserId,
+        file: &RequestFile,
+        at: Moment,
+    ) -> Result<Vec<u8>, SubmitFault>
+        requires moment { IsMoment at.0 }
+        requires known { user.0 < length N.setup.users }
+        requires sound { IsSound file.now }
+        requires event { polls.is_poll file.now ≡ false }
+        ensures answers { IfOk result (λ reply. AnswersNext self.old self.new (events.File user file.now) at reply.items) }
+        ensures fails { IfErr result (FailsToSubmit self.old self.new (events.File user file.now) at) }
+    {
+        // For the proof alone: its contract says whose setup it is.
+        let _setup = self.setup();
+        self.settle()?;
+        self.answer(user, file, at)
+    }
+
+    /// Makes what is due first at a moment happen. What is pending is settled first.
+    ///
+    /// - `Keeper(n)`: the keeper's count of faults rose to n in this call, and the log has this fault.
+    /// - `OutOfMemory`.
+    pub fn advance(&mut self, at: Moment) -> Result<Advance, SubmitFault>
+        requires moment { IsMoment at.0 }
+        ensures advances { IfOk result (Advances self.old self.new at) }
+        ensures fails { IfErr result (FailsToAdvance self.old self.new at) }
+    {
+        self.settle()?;
+        match self.journal.book().due(at) {
+            None => Ok(Advance::Nothing),
+            Some(event) => {
+                self.commit(&event, at)?;
+                Ok(Advance::Done(event))
+            }
+        }
+    }
+
+    /// Answers a poll file of a user.
+    pub fn poll(&self, user: UserId, file: &RequestFile, at: Moment) -> Result<Vec<u8>, OutOfMemory>
+        requires moment { IsMoment at.0 }
+        requires known { user.0 < length N.setup.users }
+        requires poll { polls.is_poll file.now ≡ true }
+        ensures { IfOk result (λ reply. reply.items
+            ≡ reply_text (polls.poll_reply self.now.setup self.now.state user at file.now)) }
+    {
+        self.journal.book().poll(self.alloc, user, file, at)
+    }
+
+    /// Answers a file of a user where nothing is pending.
+    fn answer(
+        &mut self,
+        user: UserId,
+        file: &RequestFile,
+        at: Moment,
+    ) -> Result<Vec<u8>, SubmitFault>
+        requires moment { IsMoment at.0 }
+        requires legal { IsLegal self.old.setup self.old.state at (events.File user file.now) }
+        requires settled { self.old.pending ≡ None }
+        ensures answers { IfOk result (λ reply. Answers self.old self.new (events.File user file.now) at reply.items) }
+        ensures fails { IfErr result (FailsToCommit self.old self.new (events.File user file.now) at) }
+    {
+        let event = Event::File(user, file.copy()?);
+        self.commit(&event, at)
+    }
+
+    /// Makes an event happen, with the accounts that it names. Nothing is pending.
+    pub(crate) fn commit(&mut self, event: &Event, at: Moment) -> Result<Vec<u8>, SubmitFault>
+        requires moment { IsMoment at.0 }
+        requires legal { IsLegal self.old.setup self.old.state at event.now }
+        requires settled { self.old.pending ≡ None }
+        ensures answers { IfOk result (λ reply. Answers self.old self.new event.now at reply.items) }
+        ensures fails { IfErr result (FailsToCommit self.old self.new event.now at) }
+    {
+        unnamed_accounts_stay();
+        let mut held = Held::new(self.alloc);
+        check_out(
+            self.alloc,
+            self.journal.book(),
+            &mut self.pool,
+            &mut held,
+            event,
+        )?;
+        let committed = self.journal.commit(&mut held, event, at);
+        self.pool.check_in(&mut held);
+        committed
+    }
+
+    /// Settles what is pending, with the accounts that its event names.
+    fn settle(&mut self) -> Result<(), SubmitFault>
+        ensures settled { OnOk result (IsSettled self.old self.new) }
+        ensures fails { IfErr result (LeavesPending self.old self.new) }
+    {
+        unnamed_accounts_stay();
+        // For the proof alone: its contract says that the setup is within its limits.
+        let _book = self.journal.book();
+        let mut held = Held::new(self.alloc);
+        check_out_for_pending(self.alloc, &self.journal, &mut self.pool, &mut held)?;
+        let settled = self.journal.settle(&mut held);
+        self.pool.check_in(&mut held);
+        settled
+    }
+}
+
+impl<N: BankName, K: Keeper, P: Printer> Drop for LockedBank<N, K, P> {
+    fn drop(self) {
+        let LockedBank {
+            alloc: _,
+            journal: _,
+            pool: _,
+        } = self;
+    }
+}

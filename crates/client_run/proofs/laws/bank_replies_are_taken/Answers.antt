@@ -1,5 +1,0 @@
-use Rattle.client_run.proofs.TakenIn.{takes_the_banks}
-use Rattle.client_run.proofs.laws.bank_replies_are_taken.Goals as goal
-
-pub returns : goal.returns
-returns c = takes_the_banks c.exact_replies.ensures.whole c.one_reply.ensures c.faults_spell_no_reply.ensures c.bank_replies_answer.ensures.accepted

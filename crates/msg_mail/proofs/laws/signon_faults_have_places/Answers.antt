@@ -1,5 +1,0 @@
-use Rattle.msg_mail.proofs.Signons.{signon_within}
-use Rattle.msg_mail.proofs.laws.signon_faults_have_places.Goals as goal
-
-pub returns : goal.returns
-returns c = signon_within

@@ -1,5 +1,0 @@
-use Rattle.msg_parts.proofs.Statuses.{status_within}
-use Rattle.msg_parts.proofs.laws.status_faults_have_places.Goals as goal
-
-pub returns : goal.returns
-returns c = status_within

@@ -1,5 +1,0 @@
-use Rattle.ofx_header.proofs.Outcomes.{body_is_behind}
-use Rattle.ofx_header.proofs.laws.body_is_behind.Goals as goal
-
-pub returns : goal.returns
-returns c = body_is_behind

@@ -1,9 +1,0 @@
--- The answers that a clock has given.
-use Rattle.std.specs.Prelude.{List, [], ◌∷◌, ◌++◌}
-use Rattle.ofx_types.specs.declared.number.Moment.{Moment}
-use Rattle.ofx_ports.specs.declared.memory.clock.Trail.{Trail, Start, After'}
-
--- the answers in order, the first one first
-abbrev pub answers : Trail → List Moment
-answers Start = []
-answers (After' shape before moment) = answers before ++ moment ∷ []

@@ -1,0 +1,16 @@
+pub mod Values
+pub mod Arguments
+pub mod Found
+pub mod Verdicts
+pub mod Rows
+pub mod Deeds
+pub mod Last
+pub mod Answers
+pub mod States
+pub mod Syncs
+pub mod Statements
+pub mod Asks
+pub mod SoundReplies
+pub mod Runs
+pub mod SoundFiles
+pub mod SpelledFiles

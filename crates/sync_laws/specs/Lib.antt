@@ -1,0 +1,4 @@
+pub mod ObjectFamilies
+pub mod Histories
+pub mod SyncRound
+pub mod Folding
