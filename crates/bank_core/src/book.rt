@@ -28,7 +28,6 @@ use std::hash::RandomState;
 use std::marker::Model;
 
 /// A bank's setup and the state that it is in, with the printer of its replies.
-#[derive(Drop)]
 pub struct Book<P: Printer> {
     setup: Setup,
     ledger: Ledger,
@@ -47,6 +46,16 @@ impl<P: Printer> Model for Book<P> {
 
     ghost invariant = { λ b. IsWithinLimits b.setup × IsSoundState b.setup b.ledger.state
         × (b.ledger.window ≡ b.setup.window) };
+}
+
+impl<P: Printer> Drop for Book<P> {
+    fn drop(self) {
+        let Book {
+            setup: _,
+            ledger: _,
+            printer: _,
+        } = self;
+    }
 }
 
 impl<P: Printer> Book<P> {

@@ -25,7 +25,6 @@ pub(crate) struct ReplyBytes {
 }
 
 /// What an event answers and what it adds to the state of a book, not taken yet.
-#[derive(Drop)]
 pub struct Prepared {
     setup: Snapshot<Setup>,
     before: Snapshot<Ledger>,
@@ -52,6 +51,21 @@ impl Model for Prepared {
     } };
 
     ghost invariant = { λ p. IsPrepared p.setup.value p.before.value.state p.added p.older p.newer p.kept.items };
+}
+
+impl Drop for Prepared {
+    fn drop(self) {
+        let Prepared {
+            setup: _,
+            before: _,
+            event: _,
+            added: _,
+            older: _,
+            newer: _,
+            kept: _,
+            reported: _,
+        } = self;
+    }
 }
 
 impl ReplyBytes {
@@ -135,9 +149,19 @@ impl Prepared {
     {
         held.set_balances(self.added.balances());
         let user = self.added.user();
-        ledger.take(self.added);
-        ledger.release(user, &self.older);
-        ledger.keep(user, self.newer, self.kept);
-        self.reported
+        let Prepared {
+            setup: _,
+            before: _,
+            event: _,
+            added,
+            older,
+            newer,
+            kept,
+            reported,
+        } = self;
+        ledger.take(added);
+        ledger.release(user, &older);
+        ledger.keep(user, newer, kept);
+        reported
     }
 }

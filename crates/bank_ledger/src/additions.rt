@@ -28,7 +28,6 @@ use std::alloc::Global;
 use std::marker::Model;
 
 /// What an event adds to the state of a bank. Due work uses up no uid, so its user is never looked at.
-#[derive(Drop)]
 pub struct Additions {
     user: UserId,
     at: Moment,
@@ -57,6 +56,21 @@ impl Model for Additions {
     } };
 
     ghost invariant = { λ a. HoldsPostings a.postings a.entries.items };
+}
+
+impl Drop for Additions {
+    fn drop(self) {
+        let Additions {
+            user: _,
+            at: _,
+            day: _,
+            entries: _,
+            row_changes: _,
+            uids: _,
+            balances: _,
+            postings: _,
+        } = self;
+    }
 }
 
 impl Additions {
@@ -132,7 +146,17 @@ impl Additions {
         ensures row_changes { result.1.items ≡ self.row_changes }
         ensures uids { result.2.items ≡ self.uids }
     {
-        (self.entries, self.row_changes, self.uids.into_vec())
+        let Additions {
+            user: _,
+            at: _,
+            day: _,
+            entries,
+            row_changes,
+            uids,
+            balances: _,
+            postings: _,
+        } = self;
+        (entries, row_changes, uids.into_vec())
     }
 
     /// Whether the user has used up the uid, before this event or in it.

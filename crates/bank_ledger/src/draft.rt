@@ -29,7 +29,6 @@ use std::marker::Model;
 /// What an event makes of a bank: its setup, its ledger and the accounts that are held, lent, and what is added.
 ///
 /// The state that it makes is sound at any time.
-#[derive(Drop)]
 pub struct Draft<'b> {
     setup: &'b Setup,
     ledger: &'b Ledger,
@@ -56,6 +55,17 @@ impl<'b> Model for Draft<'b> {
 
     ghost invariant = { λ d. IsDraft d.setup.now d.ledger.now.state d.held.now d.added
         × (d.ledger.now.window ≡ d.setup.now.window) };
+}
+
+impl Drop for Draft<'_> {
+    fn drop(self) {
+        let Draft {
+            setup: _,
+            ledger: _,
+            held: _,
+            added: _,
+        } = self;
+    }
 }
 
 impl<'b> Draft<'b> {
@@ -224,7 +234,13 @@ impl<'b> Draft<'b> {
         ensures rows { IsAdded self.entry.before result }
         ensures balances { AreGiven self.entry.setup self.entry.before result }
     {
-        self.added
+        let Draft {
+            setup: _,
+            ledger: _,
+            held: _,
+            added,
+        } = self;
+        added
     }
 }
 

@@ -41,7 +41,6 @@ use std::marker::Model;
 const FIRST_DAY: Day = Day(-25_567);
 
 /// The state of a bank. What is added to it has its room reserved before.
-#[derive(Drop)]
 pub struct Ledger {
     history: History,
     transfers: Transfers,
@@ -75,6 +74,18 @@ impl Model for Ledger {
     } };
 
     ghost invariant = { λ l. Represents l.transfers l.history.entries × recurring.Represents l.models l.history.entries };
+}
+
+impl Drop for Ledger {
+    fn drop(self) {
+        let Ledger {
+            history: _,
+            transfers: _,
+            models: _,
+            records: _,
+            day: _,
+        } = self;
+    }
 }
 
 impl Ledger {

@@ -37,7 +37,6 @@ pub trait Keyed {
 }
 
 /// Items in the order in which they came, no two under one key, with an order in which each is found by its key.
-#[derive(Debug, Drop)]
 pub struct Directory<T: Keyed> {
     items: Vec<T>,
     indices: Vec<usize>,
@@ -52,6 +51,15 @@ impl<T: Keyed> Model for Directory<T> {
     ghost view = { λ d. d.items.items };
 
     ghost invariant = { λ d. IsOrderOf T.key_of T.order d.items.items d.indices.items };
+}
+
+impl<T: Keyed + Drop> Drop for Directory<T> {
+    fn drop(self) {
+        let Directory {
+            items: _,
+            indices: _,
+        } = self;
+    }
 }
 
 impl<T: Keyed> Directory<T> {

@@ -18,7 +18,7 @@ pub enum Event {
 }
 
 /// The state of a bank between two events.
-#[derive(Debug, Drop)]
+#[derive(Drop)]
 pub struct State {
     /// The history: entry i, from 1, has the number i.
     pub entries: Sequence<Entry>,

@@ -5,7 +5,7 @@ use crate::event::Event;
 use ofx_types::{Moment, Sequence};
 
 /// One item of a bank's log.
-#[derive(Debug, Drop)]
+#[derive(Drop)]
 pub enum LogItem {
     /// An entry that the event makes whose ending comes next.
     Effect(Entry),
@@ -20,7 +20,7 @@ pub enum LogItem {
 }
 
 /// An item of a log that ends what a caller asked, lent in its parts.
-#[derive(Clone, Copy, Debug)]
+#[derive(Clone, Copy)]
 pub enum Ending<'a> {
     /// The event, its moment and the reply.
     Answer(&'a Event, Moment, &'a [u8]),

@@ -12,7 +12,7 @@ use crate::directory::Directory;
 use ofx_types::{AcctName, Cents, OutOfMemory, Text, UserId};
 
 /// A user of the bank.
-#[derive(Debug, Drop)]
+#[derive(Drop)]
 pub struct User {
     /// The name with which the user signs on (USERID), a word.
     pub name: Text,
@@ -27,7 +27,7 @@ pub type Users = Directory<User>;
 pub type Owners = Directory<UserId>;
 
 /// An account of the bank.
-#[derive(Debug, Drop)]
+#[derive(Drop)]
 pub struct AccountLine {
     /// What names the account in files.
     pub name: AcctName,
@@ -41,7 +41,6 @@ pub struct AccountLine {
 pub type Accounts = Directory<AccountLine>;
 
 /// What stays the same over a bank's life.
-#[derive(Debug, Drop)]
 pub struct Setup {
     /// The bank's id (BANKID), a word.
     pub bank: Text,
@@ -55,6 +54,19 @@ pub struct Setup {
     pub window: u32,
     /// How many entries the bank makes in its life at most, 1 to 9,999,999,999.
     pub entries: u64,
+}
+
+impl Drop for Setup {
+    fn drop(self) {
+        let Setup {
+            bank: _,
+            users: _,
+            accounts: _,
+            lead: _,
+            window: _,
+            entries: _,
+        } = self;
+    }
 }
 
 /// Why bytes are no setup.

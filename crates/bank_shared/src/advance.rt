@@ -3,7 +3,7 @@
 use bank_model::Event;
 
 /// What came of looking for due work once.
-#[derive(Debug, Drop)]
+#[derive(Drop)]
 pub enum Advance {
     /// This event was due, and has happened in this call.
     Done(Event),

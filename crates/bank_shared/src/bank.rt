@@ -23,7 +23,6 @@ use std::sync::{Mutex, Wait};
 const ADVANCE: u64 = 1 << 32;
 
 /// The bank that `N` names. Its calls take turns at its locked bank, and each is what the teller's call of that name is.
-#[derive(Drop)]
 pub struct Bank<N: BankName, K: Keeper, P: Printer> {
     setup: Setup,
     locked: Mutex<LockedBank<N, K, P>>,
@@ -39,6 +38,15 @@ impl<N: BankName, K: Keeper, P: Printer> Model for Bank<N, K, P> {
     ghost view = { λ b. b.setup };
 
     ghost invariant = { λ b. (b.setup ≡ N.setup) × IsWithinLimits N.setup };
+}
+
+impl<N: BankName, K: Keeper, P: Printer> Drop for Bank<N, K, P> {
+    fn drop(self) {
+        let Bank {
+            setup: _,
+            locked: _,
+        } = self;
+    }
 }
 
 impl<N: BankName, K: Keeper, P: Printer> Bank<N, K, P> {

@@ -29,7 +29,6 @@ use std::snapshot::Snapshot;
 ///
 /// It has its accounts twice, in the pool for a bank of many callers and in a list for one caller, so that neither takes memory when
 /// it begins: one of both is used.
-#[derive(Drop)]
 pub struct Opened<K: Keeper, P: Printer> {
     alloc: Global,
     setup: Setup,
@@ -62,6 +61,20 @@ impl<K: Keeper, P: Printer> Model for Opened<K, P> {
     ghost invariant = { λ o. (o.book.setup ≡ o.setup) × IsWithinLimits o.setup × (K.unsettled o.keeper ≡ false)
         × RecordsGive o.setup (K.records o.opened.value) o.book.state × Stays (K.records o.opened.value) (K.records o.keeper) × AreAccountsIn o.setup o.book.state o.accounts.items
         × (o.pool ≡ accounts_in o.setup o.book.state) };
+}
+
+impl<K: Keeper, P: Printer> Drop for Opened<K, P> {
+    fn drop(self) {
+        let Opened {
+            alloc: _,
+            setup: _,
+            opened: _,
+            keeper: _,
+            book: _,
+            accounts: _,
+            pool: _,
+        } = self;
+    }
 }
 
 impl<K: Keeper, P: Printer> Opened<K, P> {
@@ -137,8 +150,17 @@ impl<K: Keeper, P: Printer> Opened<K, P> {
         ensures accounts { AreAccountsIn N.setup N.opening result.2.items }
         ensures within { IsWithinLimits N.setup }
     {
-        let journal = Journal::new(self.alloc, self.keeper, self.book);
-        (self.setup, journal, self.accounts)
+        let Opened {
+            alloc,
+            setup,
+            opened: _,
+            keeper,
+            book,
+            accounts,
+            pool: _,
+        } = self;
+        let journal = Journal::new(alloc, keeper, book);
+        (setup, journal, accounts)
     }
 
     /// The setup, and the locked bank. Takes no memory.
@@ -151,8 +173,17 @@ impl<K: Keeper, P: Printer> Opened<K, P> {
         ensures pending { result.1.pending ≡ None }
         ensures within { IsWithinLimits N.setup }
     {
-        let journal = Journal::new(self.alloc, self.keeper, self.book);
-        (self.setup, LockedBank::new(self.alloc, journal, self.pool))
+        let Opened {
+            alloc,
+            setup,
+            opened: _,
+            keeper,
+            book,
+            accounts: _,
+            pool,
+        } = self;
+        let journal = Journal::new(alloc, keeper, book);
+        (setup, LockedBank::new(alloc, journal, pool))
     }
 }
 

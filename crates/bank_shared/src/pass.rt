@@ -1,7 +1,7 @@
 //! Who may call a bank.
 
 /// A caller of a bank, of whom one call is answered at a time. `Bank::begin` gives the first one, and `Bank::door` others.
-#[derive(Debug, Drop)]
+#[derive(Drop)]
 pub struct Pass {
     _own: (),
 }

@@ -19,7 +19,6 @@ use std::hash::RandomState;
 use std::marker::Model;
 
 /// A bank for one caller.
-#[derive(Drop)]
 pub struct SoloBank<P: Printer> {
     book: Book<P>,
     pool: AccountPool,
@@ -36,6 +35,16 @@ impl<P: Printer> Model for SoloBank<P> {
     ghost view = { λ b. record { setup = b.book.setup; state = b.book.state; room = b.book.room; held = b.held } };
 
     ghost invariant = { λ b. IsWithinLimits b.book.setup × AreCheckedOut (accounts_in b.book.setup b.book.state) b.pool b.held };
+}
+
+impl<P: Printer> Drop for SoloBank<P> {
+    fn drop(self) {
+        let SoloBank {
+            book: _,
+            pool: _,
+            held: _,
+        } = self;
+    }
 }
 
 impl<P: Printer> SoloBank<P> {
@@ -180,7 +189,12 @@ impl<P: Printer> SoloBank<P> {
         ensures state { IfOk result (λ parts. parts.0.state ≡ self.state) }
         ensures accounts { IfOk result (λ parts. AreAccountsIn self.setup self.state parts.1.items) }
     {
-        let accounts = self.pool.into_vec(alloc)?;
-        Ok((self.book, accounts))
+        let SoloBank {
+            book,
+            pool,
+            held: _,
+        } = self;
+        let accounts = pool.into_vec(alloc)?;
+        Ok((book, accounts))
     }
 }

@@ -21,7 +21,7 @@ const MAX_NAME: usize = 32;
 const MAX_PASS: usize = 64;
 
 /// What the arguments of a command line order.
-#[derive(Debug, Drop)]
+#[derive(Drop)]
 pub struct Order {
     /// The port of this machine at which the bank answers.
     pub port: u16,

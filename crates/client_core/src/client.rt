@@ -33,7 +33,6 @@ const FIRST: u64 = 1;
 /// A customer's program: what it knows of its user's accounts, and the file that it waits to have answered.
 ///
 /// Contracts see all that it knows, whose values are always within their bounds.
-#[derive(Drop)]
 pub struct Client {
     state: ClientState,
     alloc: Global,
@@ -48,6 +47,12 @@ impl Model for Client {
     ghost view = { λ c. c.state };
 
     ghost invariant = { λ c. IsSoundState c.state };
+}
+
+impl Drop for Client {
+    fn drop(self) {
+        let Client { state: _, alloc: _ } = self;
+    }
 }
 
 impl Client {

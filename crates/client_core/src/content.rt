@@ -3,7 +3,7 @@
 use ofx_types::{AcctName, Deed, ObjectName};
 
 /// What one file asks.
-#[derive(Debug, Drop)]
+#[derive(Drop)]
 pub enum Content {
     /// The statement of an account, and all four synchronisations.
     Look(AcctName),

@@ -6,7 +6,7 @@ use ofx_types::{Sequence, Text};
 pub type ReportLines = Sequence<Text>;
 
 /// What is to be printed of a reply that was accepted.
-#[derive(Debug, Drop)]
+#[derive(Drop)]
 pub struct Report {
     /// The lines.
     pub lines: ReportLines,

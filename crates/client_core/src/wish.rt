@@ -3,7 +3,7 @@
 use ofx_types::{AcctName, Cents, Day, Recur, Text, XferInfo};
 
 /// What a user wishes, one variant for each command.
-#[derive(Debug, Drop)]
+#[derive(Drop)]
 pub enum Wish {
     /// To look at an account: its statement, and all that is synchronised about it and of the user's mail.
     Sync(AcctName),

@@ -8,7 +8,7 @@ use ofx_types::{FileUid, Moment, OutOfMemory, RequestFile, Sequence, Text};
 use thiserror::Error;
 
 /// A file that was made and is not yet answered, and the moment at which it was made.
-#[derive(Debug, Drop)]
+#[derive(Drop)]
 pub struct Outstanding {
     /// The moment at which the file was made, of the years 1900 to 9999.
     pub at: Moment,
@@ -20,7 +20,7 @@ pub struct Outstanding {
 pub type Stores = Sequence<Store>;
 
 /// What a client knows.
-#[derive(Debug, Drop)]
+#[derive(Drop)]
 pub struct ClientState {
     /// The client's name: 1 to 12 letters and digits of ASCII.
     pub name: Text,

@@ -8,7 +8,7 @@ ghost use Rattle.client_store.specs.RowForm.{seen};
 use ofx_types::{Duplicate, Family, MailRow, ModelRow, OutOfMemory, TransferRow};
 
 /// What a client keeps of one thing that an object's history made.
-#[derive(Debug, Drop)]
+#[derive(Drop)]
 pub enum Row {
     /// A transfer.
     Transfer(TransferRow),

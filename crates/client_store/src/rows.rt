@@ -16,7 +16,6 @@ use std::alloc::Global;
 use std::marker::Model;
 
 /// The rows of an object of a family, in rising id. Each is found by its id in steps of halving.
-#[derive(Debug, Drop)]
 pub(crate) struct Rows {
     family: Family,
     items: Vec<Row>,
@@ -36,6 +35,15 @@ impl Model for Rows {
     } };
 
     ghost invariant = { λ held. IsRising held.family 0 (all_seen held.items.items) };
+}
+
+impl Drop for Rows {
+    fn drop(self) {
+        let Rows {
+            family: _,
+            items: _,
+        } = self;
+    }
 }
 
 impl Rows {

@@ -23,7 +23,6 @@ const MAX_DIGITS: usize = 10;
 /// What a client keeps of an object: the token up to which it knows the object's history, and the rows that belong to it,
 /// transfers and recurring transfers in rising id and mails in the order in which they came. A store that is marked lost
 /// knows neither until all is asked for again.
-#[derive(Debug, Drop)]
 pub struct Store {
     object: ObjectName,
     token: u64,
@@ -46,6 +45,17 @@ impl Model for Store {
     } };
 
     ghost invariant = { λ s. s.rows.family ≡ object_family s.object };
+}
+
+impl Drop for Store {
+    fn drop(self) {
+        let Store {
+            object: _,
+            token: _,
+            lost: _,
+            rows: _,
+        } = self;
+    }
 }
 
 impl Store {

@@ -9,7 +9,6 @@ use std::alloc::Global;
 use std::marker::Model;
 
 /// Files, numbered from 0 in the order in which they came in.
-#[derive(Debug, Drop)]
 pub(crate) struct Bag {
     files: Vec<Sequence<u8>>,
 }
@@ -21,6 +20,12 @@ impl Model for Bag {
     ghost Value = { BagView };
 
     ghost view = { λ b. record { files = b.files.items; room = vec_capacity b.files - vec_len b.files } };
+}
+
+impl Drop for Bag {
+    fn drop(self) {
+        let Bag { files: _ } = self;
+    }
 }
 
 impl Bag {

@@ -27,7 +27,6 @@ use std::marker::Model;
 const MAX_NEXT: u64 = 9_999_999_999;
 
 /// A client, with its saved text.
-#[derive(Drop)]
 pub(crate) struct Customer {
     client: Client,
     saved: Sequence<u8>,
@@ -43,6 +42,15 @@ impl Model for Customer {
 
     // A client saves whatever it comes to know.
     ghost invariant = { λ c. IsSavedText c.saved c.client };
+}
+
+impl Drop for Customer {
+    fn drop(self) {
+        let Customer {
+            client: _,
+            saved: _,
+        } = self;
+    }
 }
 
 impl Customer {

@@ -13,14 +13,13 @@ use std::alloc::Global;
 use std::marker::Model;
 
 /// A record whose append failed, and whether it is there.
-#[derive(Debug, Drop)]
+#[derive(Drop)]
 struct UnsettledRecord {
     rec: Sequence<u8>,
     landed: bool,
 }
 
 /// Records in memory. A fault that is set is the next append's; then what came of its record is unsettled until it is settled.
-#[derive(Debug, Drop)]
 pub(crate) struct FaultyKeeper {
     records: Vec<Sequence<u8>>,
     unsettled: Option<UnsettledRecord>,
@@ -46,6 +45,18 @@ impl Model for FaultyKeeper {
 
     // There is room for a record that is unsettled.
     ghost invariant = { λ k. IfSome k.unsettled (λ (unsettled : UnsettledRecord). 0 < (vec_capacity k.records - vec_len k.records)) };
+}
+
+impl Drop for FaultyKeeper {
+    fn drop(self) {
+        let FaultyKeeper {
+            records: _,
+            unsettled: _,
+            fault: _,
+            faults: _,
+            alloc: _,
+        } = self;
+    }
 }
 
 impl FaultyKeeper {

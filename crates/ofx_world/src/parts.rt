@@ -2,6 +2,7 @@
 
 ghost use Rattle.std.specs.Prelude.{◌≡◌, [], slice_get, IfOk, OnOk, OnErr};
 ghost use Rattle.bank_model.specs.SetupForm.{IsWithinLimits};
+ghost use Rattle.bank_solo.specs.Solo.{AreAccountsIn};
 ghost use Rattle.ofx_world.specs.Kept.{HasLawfulClock, IsRecorded};
 ghost use Rattle.ofx_world.specs.Server.{due_done};
 ghost use Rattle.ofx_world.specs.Sound.{IsSoundWorld};
@@ -12,8 +13,11 @@ use crate::bag::Bag;
 use crate::customer::Customer;
 use crate::server::Server;
 use crate::step::Step;
+use bank_accounts::Account;
+use bank_core::Book;
 use bank_model::Setup;
 use client_core::{Client, Wish};
+use ofx_file::OfxPrinter;
 use ofx_types::{Moment, OutOfMemory, Text, UserId};
 use std::alloc::Global;
 use std::hash::RandomState;
@@ -23,7 +27,6 @@ use std::marker::Model;
 const BEGINNING: Moment = Moment(1_704_067_200);
 
 /// A bank and its clients, all files that were ever sent, and the clock.
-#[derive(Drop)]
 pub(crate) struct Parts {
     pub(crate) server: Server,
     pub(crate) customers: Vec<Customer>,
@@ -45,6 +48,19 @@ impl Model for Parts {
       replies = p.replies.files;
       clock = p.clock;
     } };
+}
+
+impl Drop for Parts {
+    fn drop(self) {
+        let Parts {
+            server: _,
+            customers: _,
+            requests: _,
+            replies: _,
+            clock: _,
+            alloc: _,
+        } = self;
+    }
 }
 
 impl Parts {
@@ -205,6 +221,26 @@ impl Parts {
         ensures refused { OnErr result (IsCut self.old self.new) }
     {
         self.server.restart()
+    }
+
+    /// The book and the accounts of the bank, when the world is over.
+    pub(crate) fn into_bank_parts(
+        self,
+        alloc: Global,
+    ) -> Result<(Book<OfxPrinter>, Vec<Account>), OutOfMemory>
+        ensures setup { IfOk result (λ parts. parts.0.setup ≡ self.server.setup) }
+        ensures state { IfOk result (λ parts. parts.0.state ≡ self.server.state) }
+        ensures accounts { IfOk result (λ parts. AreAccountsIn self.server.setup self.server.state parts.1.items) }
+    {
+        let Parts {
+            server,
+            customers: _,
+            requests: _,
+            replies: _,
+            clock: _,
+            alloc: _,
+        } = self;
+        server.into_parts(alloc)
     }
 }
 

@@ -5,7 +5,7 @@ use ofx_types::{Moment, Text, UserId};
 
 /// One step of the world. Clients, and the files in either bag, are numbered from 0 in the order in which they came; a step that
 /// names nothing there does nothing.
-#[derive(Debug, Drop)]
+#[derive(Drop)]
 pub enum Step {
     /// The client makes the file of a wish, saves what it knows and sends the file.
     Make(u32, Wish),

@@ -25,7 +25,6 @@ use std::hash::RandomState;
 use std::marker::Model;
 
 /// A bank and its clients, with all files that were ever sent.
-#[derive(Drop)]
 pub struct World {
     parts: Parts,
 }
@@ -39,6 +38,12 @@ impl Model for World {
     ghost view = { λ w. w.parts };
 
     ghost invariant = { λ w. IsSoundWorld w.parts };
+}
+
+impl Drop for World {
+    fn drop(self) {
+        let World { parts: _ } = self;
+    }
 }
 
 impl World {
@@ -153,6 +158,7 @@ impl World {
         ensures state { IfOk result (λ parts. parts.0.state ≡ self.server.state) }
         ensures accounts { IfOk result (λ parts. AreAccountsIn self.server.setup self.server.state parts.1.items) }
     {
-        self.parts.server.into_parts(alloc)
+        let World { parts } = self;
+        parts.into_bank_parts(alloc)
     }
 }

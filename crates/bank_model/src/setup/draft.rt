@@ -20,7 +20,7 @@ const MAX_BYTES: usize = 1000;
 const MAX_OPENINGS: i64 = 9_999_999_999_999;
 
 /// A setup of which the first lines are read.
-#[derive(Debug, Drop)]
+#[derive(Drop)]
 pub(super) struct SetupDraft {
     /// The setup with the users and accounts that are read.
     pub setup: Setup,

@@ -12,7 +12,7 @@ const SUMMAND: u64 = 1_442_695_040_888_963_407;
 const LOW: u64 = 8_589_934_592;
 
 /// Where the drawing stands.
-#[derive(Clone, Copy, Debug)]
+#[derive(Clone, Copy)]
 pub(crate) struct Chance {
     state: u64,
 }
