@@ -6,6 +6,8 @@ from called.relay import swallows
 from reference.client_words import order_of
 
 TESTS = []
+with open(os.path.join(os.path.dirname(os.path.abspath(__file__)), "../../VERSION")) as f:
+    VERSION = f.read()
 COMMANDS = {
     "sync": "1001 CHECKING", "check": "1001 CHECKING", "transfer": "1001 CHECKING 1002 SAVINGS 10.00 20990131",
     "modify": "1 1002 SAVINGS 10.00 20990131", "cancel": "1", "stop": "1", "mail": "Hello Hi", "show": "",
@@ -120,7 +122,7 @@ def at_their_limits(desk):
 def help_and_version(desk):
     """help and the version go to the standard output, and the program's usage stands in the help"""
     c1 = desk.new_customer()
-    for words, front in ((["--help"], "Keeps what a customer knows"), (["--version"], "ofxclient 0.1.0\n"),
+    for words, front in ((["--help"], "Keeps what a customer knows"), (["--version"], "ofxclient %s" % VERSION),
                          (["--help", "x"], "Keeps what a customer knows")):
         done = c1.run_words(words)
         expect((done.status, done.told, done.output.decode()[:len(front)]), (0, b"", front), "the end of %r" % words)
