@@ -1,9 +1,8 @@
-//! The counters of a bank: where the files of a connection are answered.
+//! The offices of a bank: where the files of a connection are answered.
 //!
-//! `SoloOffice` is the counter of a bank that has one caller. It says what it knows of its bank, so the theorem about a
+//! `SoloOffice` is the office of a bank that has one caller. It says what it knows of its bank, so the theorem about a
 //! connection over it speaks of the log that its locked bank keeps. `serve_connection` serves a connection over a bank that many
 //! callers share.
-#![tactic(auto)]
 
 mod poll_trace;
 mod shared;

@@ -11,7 +11,7 @@ use Rattle.bank_engine.specs.Views.{JournalView}
 use Rattle.bank_connection.specs.Offices.{OfficeView}
 use Rattle.bank_connection.specs.Polled.{Load, loads_made}
 use Rattle.bank_connection.specs.NewestTokens.{newest_loads}
-use Rattle.bank_offices.specs.declared.poll_trace.PollTrace.{PollTrace, Start, After'}
+use Rattle.bank_server.specs.declared.offices.poll_trace.PollTrace.{PollTrace, Start, After'}
 
 -- Where a bank has one caller, each answer and each fault is the ending of a call of that caller. An adopted event is the ending
 -- of no call. These are the numbers of the caller's, of endings that are numbered from here on.

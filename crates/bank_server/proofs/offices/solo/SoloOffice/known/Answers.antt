@@ -1,7 +1,7 @@
 use Rattle.std.proofs.Common.{sym}
-use Rattle.bank_offices.specs.Views.{loads_reported}
-use Rattle.bank_offices.proofs.Knowing.{known_right}
-use Rattle.bank_offices.proofs.solo.SoloOffice.known.Goals as goal
+use Rattle.bank_server.specs.OfficeViews.{loads_reported}
+use Rattle.bank_server.proofs.Knowing.{known_right}
+use Rattle.bank_server.proofs.offices.solo.SoloOffice.known.Goals as goal
 
 pub returns-clause-within : goal.returns-clause-within
 returns-clause-within g c = rw (sym c.book.ensures.own) c.book.ensures.within

@@ -5,7 +5,7 @@ use Rattle.bank_model.specs.declared.log.LogItem.{LogItem}
 use Rattle.bank_model.specs.declared.log.LogItem.TheVariants.{Effect, Answer, Adopted, Fault}
 use Rattle.bank_model.specs.Log.{is_ending, endings}
 use Rattle.bank_connection.specs.Offices.{Rises}
-use Rattle.bank_offices.specs.Views.{own_from, own_endings}
+use Rattle.bank_server.specs.OfficeViews.{own_from, own_endings}
 
 -- those of a list and of what is there after it
 own-append : (number : ℕ) (xs ys : List LogItem) → own_from number (xs ++ ys) ≡ own_from number xs ++ own_from (number + length xs) ys

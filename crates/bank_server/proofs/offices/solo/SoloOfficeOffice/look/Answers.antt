@@ -1,7 +1,7 @@
 use Rattle.std.proofs.Common.{sym}
-use Rattle.bank_offices.specs.Views.{loads_reported}
-use Rattle.bank_offices.proofs.Knowing.{more_hold, looked}
-use Rattle.bank_offices.proofs.solo.SoloOfficeOffice.look.Goals as goal
+use Rattle.bank_server.specs.OfficeViews.{loads_reported}
+use Rattle.bank_server.proofs.Knowing.{more_hold, looked}
+use Rattle.bank_server.proofs.offices.solo.SoloOfficeOffice.look.Goals as goal
 
 pub invariant_of-self : goal.invariant_of-self
 invariant_of-self g c = (

@@ -3,7 +3,7 @@
 ghost use Rattle.std.specs.Prelude.{◌≡◌, ◌++◌};
 ghost use Rattle.bank_connection.specs.Polled.{loads_made};
 ghost use Rattle.bank_connection.specs.NewestTokens.{newest_loads};
-ghost use Rattle.bank_offices.specs.Views.{loads_reported};
+ghost use Rattle.bank_server.specs.OfficeViews.{loads_reported};
 
 use bank_model::Printer;
 use bank_shared::{BankName, LockedBank};

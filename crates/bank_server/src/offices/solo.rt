@@ -8,9 +8,9 @@ ghost use Rattle.bank_model.specs.SetupForm.{IsWithinLimits};
 ghost use Rattle.bank_model.specs.Sound.{IsSound};
 ghost use Rattle.bank_connection.specs.Connection.{around, Converses};
 ghost use Rattle.bank_connection.specs.Offices.{IsRightView, Knows, IsCommitted, IsUncommitted, IsLooked, HasLoaded};
-ghost use Rattle.bank_offices.specs.Views.{office_view};
+ghost use Rattle.bank_server.specs.OfficeViews.{office_view};
 
-use crate::poll_trace::{PollTrace, rest};
+use crate::offices::poll_trace::{PollTrace, rest};
 use bank_connection::laws::newest_are_reported;
 use bank_connection::{Office, ServeError, Served, serve_link};
 use bank_invariants::laws::states::books_are_right;
@@ -34,7 +34,7 @@ impl<N: BankName, K: Keeper, P: Printer> Model for SoloOffice<N, K, P> {
     ghost use Rattle.std.specs.Prelude.{All};
     ghost use Rattle.bank_model.specs.Log.{entries_in};
     ghost use Rattle.bank_connection.specs.Offices.{HoldsIn};
-    ghost use Rattle.bank_offices.specs.Views.{SoloView, HasOpened, loads_reported};
+    ghost use Rattle.bank_server.specs.OfficeViews.{SoloView, HasOpened, loads_reported};
 
     ghost Value = { SoloView };
 
@@ -102,7 +102,7 @@ impl<N: BankName, K: Keeper, P: Printer> SoloOffice<N, K, P> {
 
 impl<N: BankName, K: Keeper, P: Printer> Office for SoloOffice<N, K, P> {
     ghost use Rattle.std.specs.Prelude.{Some};
-    ghost use Rattle.bank_offices.specs.Views.{office_view};
+    ghost use Rattle.bank_server.specs.OfficeViews.{office_view};
 
     ghost setup = { λ _. N.setup };
 

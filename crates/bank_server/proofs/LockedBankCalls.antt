@@ -20,8 +20,8 @@ use Rattle.bank_engine.specs.Views.{PendingView, JournalView}
 use Rattle.bank_shared.specs.Calls.{AnswersNext, FailsToSubmit}
 use Rattle.bank_connection.specs.Polled.{Load}
 use Rattle.bank_connection.specs.Offices.{GainsEnding, GainsNothing, HoldsIn, IsOfFile, IsCommitted, IsFaulted, IsUncommitted}
-use Rattle.bank_offices.specs.Views.{own_from, own_endings, office_view}
-use Rattle.bank_offices.proofs.OwnEndings.{AreNoOnes, IsOwn, no_ones_after, own_after}
+use Rattle.bank_server.specs.OfficeViews.{own_from, own_endings, office_view}
+use Rattle.bank_server.proofs.OwnEndings.{AreNoOnes, IsOwn, no_ones_after, own_after}
 use Rattle.bank_model.proofs.Logs.{entries-grown, endings_of_effects}
 
 -- ---- logs that grow

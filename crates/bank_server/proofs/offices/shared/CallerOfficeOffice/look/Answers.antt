@@ -1,5 +1,5 @@
-use Rattle.bank_offices.proofs.Unreported.{looked_unreported}
-use Rattle.bank_offices.proofs.shared.CallerOfficeOffice.look.Goals as goal
+use Rattle.bank_server.proofs.Unreported.{looked_unreported}
+use Rattle.bank_server.proofs.offices.shared.CallerOfficeOffice.look.Goals as goal
 
 pub returns-clause-answered : goal.returns-clause-answered
 returns-clause-answered g c =

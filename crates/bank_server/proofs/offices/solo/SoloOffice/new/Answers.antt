@@ -1,5 +1,5 @@
-use Rattle.bank_offices.proofs.Knowing.{opened, none_hold}
-use Rattle.bank_offices.proofs.solo.SoloOffice.new.Goals as goal
+use Rattle.bank_server.proofs.Knowing.{opened, none_hold}
+use Rattle.bank_server.proofs.offices.solo.SoloOffice.new.Goals as goal
 
 pub with_accounts-requires-clause-accounts : goal.with_accounts-requires-clause-accounts
 with_accounts-requires-clause-accounts g c = rw (c.solo-setup.ensures.of, c.solo-setup.ensures.state) c.solo-setup.ensures.accounts

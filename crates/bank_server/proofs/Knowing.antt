@@ -22,9 +22,9 @@ use Rattle.bank_shared.specs.Calls.{AnswersNext, FailsToSubmit}
 use Rattle.bank_connection.specs.Polled.{Load, loads_made}
 use Rattle.bank_connection.specs.NewestTokens.{newest_loads, NewestAreReported}
 use Rattle.bank_connection.specs.Offices.{IsRightView, IsFresh, HoldsIn, IsCommitted, IsUncommitted, IsLooked}
-use Rattle.bank_offices.specs.Views.{own_endings, office_view, HasOpened}
-use Rattle.bank_offices.proofs.OwnEndings.{own_rise, own_within}
-use Rattle.bank_offices.proofs.LockedBankCalls.{committed, refused, grown, hold-grown}
+use Rattle.bank_server.specs.OfficeViews.{own_endings, office_view, HasOpened}
+use Rattle.bank_server.proofs.OwnEndings.{own_rise, own_within}
+use Rattle.bank_server.proofs.LockedBankCalls.{committed, refused, grown, hold-grown}
 
 -- a bank that stands for records has opened from them
 pub opened : (setup : Setup) (reported : Option (List (List ℕ))) (opening : State) → RecordsGive setup reported opening → HasOpened setup opening
