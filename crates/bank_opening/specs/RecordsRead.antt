@@ -5,9 +5,9 @@ use Rattle.bank_model.specs.declared.setup.Setup.{Setup}
 use Rattle.bank_replay.specs.Opening.{HasNoForm, IsNotLegal}
 use Rattle.bank_replay.specs.declared.fault.OpenFault.{OpenFault}
 use Rattle.bank_replay.specs.declared.fault.OpenFault.TheVariants as opens
-use Rattle.bank_session.specs.declared.stop.RecordsFault.TheVariants.{NoForm, NotLegal}
-use Rattle.bank_session.specs.declared.stop.Stop.{Stop}
-use Rattle.bank_session.specs.declared.stop.Stop.TheVariants as stops
+use Rattle.bank_opening.specs.declared.stop.RecordsFault.TheVariants.{NoForm, NotLegal}
+use Rattle.bank_opening.specs.declared.stop.Stop.{Stop}
+use Rattle.bank_opening.specs.declared.stop.Stop.TheVariants as stops
 
 -- A bank doesn't open because a record codes no event, or none that is legal after those before it, because a call of the
 -- keeper failed, or for want of memory.

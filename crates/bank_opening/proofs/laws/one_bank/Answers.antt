@@ -1,4 +1,4 @@
-use Rattle.bank_session.proofs.laws.one_bank.Goals as goal
+use Rattle.bank_opening.proofs.laws.one_bank.Goals as goal
 
 pub returns : goal.returns
 returns c = record {

@@ -5,8 +5,8 @@ use Rattle.ofx_ports.specs.Faults.{Rose}
 use Rattle.bank_model.specs.SetupForm.{SpellsSetup}
 use Rattle.bank_model.specs.SetupFault.{IsSetupFault}
 use Rattle.bank_model.specs.declared.setup.Setup.{Setup}
-use Rattle.bank_session.specs.declared.stop.Stop.{Stop}
-use Rattle.bank_session.specs.declared.stop.Stop.TheVariants as stops
+use Rattle.bank_opening.specs.declared.stop.Stop.{Stop}
+use Rattle.bank_opening.specs.declared.stop.Stop.TheVariants as stops
 
 -- Where the bytes are known they spell the setup.
 abbrev pub IsSetupOf : Option (List ℕ) → Setup → Type 0

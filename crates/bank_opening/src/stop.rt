@@ -1,10 +1,8 @@
-//! Why a run ends before its input does.
+//! Why a command ends before its work is done.
 
-use bank_desk::DeskFault;
-use ofx_ports::Failed;
 use ofx_types::OutOfMemory;
 
-/// Why a run ended before it had answered all of its input.
+/// Why a command ended before its work was done.
 #[derive(Clone, Copy, Debug, PartialEq, Eq)]
 pub enum Stop {
     /// The arguments have no form.
@@ -49,25 +47,11 @@ pub enum LetterFault {
 
 impl From<OutOfMemory> for Stop {
     ghost use Rattle.std.specs.Prelude.{◌≡◌};
-    ghost use Rattle.bank_session.specs.declared.stop.Stop.TheVariants.{NoMemory};
+    ghost use Rattle.bank_opening.specs.declared.stop.Stop.TheVariants.{NoMemory};
 
     ghost from_gives = { λ _ e. e ≡ NoMemory };
 
     fn from(_refused: OutOfMemory) -> Stop {
         Stop::NoMemory
-    }
-}
-
-impl From<DeskFault> for Stop {
-    ghost use Rattle.std.specs.Prelude.{◌≡◌};
-    ghost use Rattle.bank_session.specs.Stopping.{stop_of};
-
-    ghost from_gives = { λ undone e. e ≡ stop_of undone };
-
-    fn from(undone: DeskFault) -> Stop {
-        match undone {
-            DeskFault::NoMemory => Stop::NoMemory,
-            DeskFault::AppendFailed => Stop::KeeperFailed,
-        }
     }
 }

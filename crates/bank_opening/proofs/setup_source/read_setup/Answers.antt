@@ -1,5 +1,5 @@
-use Rattle.bank_session.proofs.SetupSource.{fault_of_all}
-use Rattle.bank_session.proofs.setup_source.read_setup.Goals as goal
+use Rattle.bank_opening.proofs.SetupSource.{fault_of_all}
+use Rattle.bank_opening.proofs.setup_source.read_setup.Goals as goal
 
 pub returns-in-Err-SetupLine-clause-refused : goal.returns-in-Err-SetupLine-clause-refused
 returns-in-Err-SetupLine-clause-refused g c =

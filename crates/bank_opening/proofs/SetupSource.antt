@@ -6,7 +6,7 @@ use Rattle.std.proofs.lemmas.Bool.{cases_lt}
 use Rattle.bank_model.specs.SetupForm.{SpellsSetup}
 use Rattle.bank_model.specs.SetupFault.{lines_in, lines_within, BeginSetup, IsWrongAt, IsSetupFault}
 use Rattle.bank_model.specs.declared.setup.Setup.{Setup}
-use Rattle.bank_session.specs.SetupRead.{IsNoSetup}
+use Rattle.bank_opening.specs.SetupRead.{IsNoSetup}
 
 -- bytes after the most that a setup may have make no difference to its lines
 same_lines : (ahead more : List ℕ) → 262144 < length ahead → lines_within ahead ≡ lines_within (ahead ++ more)

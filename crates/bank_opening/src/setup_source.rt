@@ -2,7 +2,7 @@
 
 ghost use Rattle.std.specs.Prelude.{◌≤◌, IfOk, IfErr};
 ghost use Rattle.bank_model.specs.SetupForm.{IsWithinLimits};
-ghost use Rattle.bank_session.specs.SetupRead.{IsSetupOf, StopsSetup};
+ghost use Rattle.bank_opening.specs.SetupRead.{IsSetupOf, StopsSetup};
 
 use crate::stop::Stop;
 use bank_frames::{Ahead, read_whole};
