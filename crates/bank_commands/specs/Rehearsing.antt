@@ -6,7 +6,7 @@ use Rattle.ofx_ports.specs.Faults.{Rose}
 use Rattle.ofx_ports.specs.Writes.{AppendsPart}
 use Rattle.ofx_types.specs.AmountForm.{amount_text}
 use Rattle.ofx_types.specs.declared.told.Told.{Told}
-use Rattle.bank_session.specs.Run.{reported}
+use Rattle.bank_opening.specs.Reports.{reported}
 use Rattle.bank_session.specs.Arguments.{IsUsage}
 use Rattle.ofx_types.specs.declared.told.Note.TheVariants.{Plain}
 use Rattle.ofx_world.specs.Rehearsal.{IsRehearsed}

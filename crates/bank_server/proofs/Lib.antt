@@ -5,3 +5,7 @@ mod Working
 mod Doors
 mod Books
 mod Sharing
+mod OwnEndings
+mod LockedBankCalls
+mod Knowing
+mod Unreported

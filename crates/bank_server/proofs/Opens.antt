@@ -7,12 +7,12 @@ use Rattle.bank_model.specs.declared.setup.Setup.{Setup}
 use Rattle.bank_replay.specs.Opening.{HasNoForm, IsNotLegal, HasCause}
 use Rattle.bank_replay.specs.declared.fault.OpenFault.{OpenFault}
 use Rattle.bank_replay.specs.declared.fault.OpenFault.TheVariants as opens
-use Rattle.bank_session.specs.OneBank.{OneBank}
-use Rattle.bank_session.specs.RecordsRead.{opening_stop, StopsOpening}
-use Rattle.bank_session.specs.Run.{reported, reported_of}
-use Rattle.bank_session.specs.SetupRead.{IsSetupOf}
+use Rattle.bank_opening.specs.OneBank.{OneBank}
+use Rattle.bank_opening.specs.RecordsRead.{opening_stop, StopsOpening}
+use Rattle.bank_opening.specs.Reports.{reported, reported_of}
+use Rattle.bank_opening.specs.SetupRead.{IsSetupOf}
+use Rattle.bank_opening.proofs.OneSetup.{OneSetup}
 use Rattle.bank_server.specs.Opening.{OpeningPorts, HasRecords, IsInterrupted, RefusesSetup, DoesntOpen, RefusesOpening}
-use Rattle.bank_session.proofs.Unopened.{OneSetup}
 
 -- a setup that is found isn't refused
 found_spelled : (before after : OpeningPorts) (what : Told) (found : Setup) → IsSetupOf before.setup_left found → RefusesSetup before after what

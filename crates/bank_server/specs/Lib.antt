@@ -4,3 +4,4 @@ pub mod Connected
 pub mod Turns
 pub mod AllTurns
 pub mod Opening
+pub mod OfficeViews

@@ -10,10 +10,10 @@ use Rattle.bank_model.specs.declared.setup.Setup.{Setup}
 use Rattle.bank_model.specs.declared.event.State.{State}
 use Rattle.event_codec.specs.Records.{Reopens}
 use Rattle.bank_replay.specs.Opening.{HasNoForm, IsNotLegal}
-use Rattle.bank_session.specs.Run.{reported, reported_of}
-use Rattle.bank_session.specs.SetupRead.{IsSetupOf, StopsSetup}
-use Rattle.bank_session.specs.RecordsRead.{StopsOpening}
-use Rattle.bank_session.specs.declared.stop.Stop.{Stop}
+use Rattle.bank_opening.specs.Reports.{reported, reported_of}
+use Rattle.bank_opening.specs.SetupRead.{IsSetupOf, StopsSetup}
+use Rattle.bank_opening.specs.RecordsRead.{StopsOpening}
+use Rattle.bank_opening.specs.declared.stop.Stop.{Stop}
 use Rattle.bank_server.specs.Arguments.{IsServeUsage}
 
 -- What opening finds, and what it leaves: the bytes that the setup's source has left, its count of faults, the keeper's records and

@@ -4,16 +4,16 @@ ghost use Rattle.std.specs.Prelude.{◌≡◌, ◌≢◌, false, IfOk, IfErr, Is
 ghost use Rattle.ofx_ports.specs.Known.{Stays};
 ghost use Rattle.ofx_types.specs.declared.told.Note.TheVariants.{Plain};
 ghost use Rattle.bank_replay.specs.Opening.{RecordsGive};
-ghost use Rattle.bank_session.specs.Run as runs;
-ghost use Rattle.bank_session.specs.SetupRead.{IsSetupOf};
+ghost use Rattle.bank_opening.specs.Reports.{reported};
+ghost use Rattle.bank_opening.specs.SetupRead.{IsSetupOf};
 ghost use Rattle.bank_server.specs.Arguments.{AreServeArguments, IsServeUsage};
 ghost use Rattle.bank_server.specs.Opening.{outside, RefusesOpening};
 
 use crate::plan::{Plan, plan_of};
 use bank_model::Printer;
 use bank_model::laws::one_setup;
-use bank_session::laws::one_bank;
-use bank_session::{Stop, opening_stop, read_setup, report_of_end};
+use bank_opening::laws::one_bank;
+use bank_opening::{Stop, opening_stop, read_setup, report_of_end};
 use bank_shared::Opened;
 use ofx_ports::{Keeper, Source};
 use ofx_types::{Text, Told};
@@ -42,7 +42,7 @@ pub fn serve_open<A: Source, K: Keeper, P: Printer>(
 ) -> Result<(Plan, Opened<K, P>), (Told, K)>
     requires settled { K.unsettled keeper ≡ false }
     ensures usage { IsErrAnd result (λ refused. refused.0.status.0 ≡ 2) ↔ IsServeUsage arguments.now }
-    ensures plain { IfErr result (λ refused. refused.0.status.0 ≡ 2 → refused.0 ≡ runs.reported 2 Plain) }
+    ensures plain { IfErr result (λ refused. refused.0.status.0 ≡ 2 → refused.0 ≡ reported 2 Plain) }
     ensures unread { IsServeUsage arguments.now → setup.new ≡ setup.old }
     ensures plan { IfOk result (λ opened. AreServeArguments arguments.now opened.0) }
     ensures found { IfOk result (λ opened. IsSetupOf (A.left setup.old) opened.1.setup) }

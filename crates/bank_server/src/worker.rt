@@ -10,9 +10,9 @@ ghost use Rattle.http_link.specs.declared.served.ServeError.{ServeError as WhyUn
 ghost use Rattle.bank_server.specs.Connected.{faces, door_view};
 ghost use Rattle.bank_server.specs.Turns.{Works, DoesDueAt, missed_in, greatest};
 
+use crate::offices::serve_connection;
 use bank_due::{DueFault, due_run};
 use bank_model::Printer;
-use bank_offices::serve_connection;
 use bank_shared::{Bank, BankName, Pass};
 use ofx_ports::{Clock, Doorway, Failed, Gate, Keeper, Link};
 use ofx_types::Status;

@@ -9,18 +9,20 @@ use Rattle.ofx_types.specs.declared.told.Note.TheVariants.{Plain}
 use Rattle.bank_model.specs.declared.setup.Setup.{Setup}
 use Rattle.bank_model.specs.declared.event.State.{State}
 use Rattle.bank_frames.specs.Frames.{due_work}
+use Rattle.bank_opening.specs.Reports.{reported_of, reported}
+use Rattle.bank_opening.specs.declared.stop.Stop.{Stop}
+use Rattle.bank_opening.specs.declared.stop.Stop.TheVariants as stops
+use Rattle.bank_opening.specs.OneBank.{OneBank}
+use Rattle.bank_opening.proofs.OneSetup.{OneSetup}
 use Rattle.bank_session.specs.Answers.{IsPrefixKept}
 use Rattle.bank_session.specs.PortsView.{PortsView, ports_view}
 use Rattle.bank_session.specs.Stopping.{stop_of}
 use Rattle.bank_session.specs.DueEnd.{DueEnds}
-use Rattle.bank_session.specs.Run.{EndsWithBank, EndsSo, reported_of, reported}
+use Rattle.bank_session.specs.Run.{EndsWithBank, EndsSo}
 use Rattle.bank_session.specs.Statuses.{IsDueInterrupted, RefusesSetup, RefusesRecord, RefusesIllegal, DoesAll, IsDueCommand}
 use Rattle.bank_desk.specs.declared.fault.DeskFault.{DeskFault}
 use Rattle.bank_desk.specs.declared.fault.DeskFault.TheVariants.{NoMemory, AppendFailed}
-use Rattle.bank_session.specs.declared.stop.Stop.{Stop}
-use Rattle.bank_session.specs.declared.stop.Stop.TheVariants as stops
-use Rattle.bank_session.specs.OneBank.{OneBank}
-use Rattle.bank_session.proofs.Unopened.{OneSetup, Unopened, unopened, unopened_setup, unopened_record, unopened_illegal, unopened_otherwise, interrupted_otherwise, opens_or_interrupted, wider, status_is, unspelled_setup, IsBankOf, record_refused, illegal_refused}
+use Rattle.bank_session.proofs.Unopened.{Unopened, unopened, unopened_setup, unopened_record, unopened_illegal, unopened_otherwise, interrupted_otherwise, opens_or_interrupted, wider, status_is, unspelled_setup, IsBankOf, record_refused, illegal_refused}
 
 -- what was due isn't done, after the clock's one answer
 pub due_undone : (setup : Setup) (start : State) (setup_left setup_left' left held : Option (List ℕ)) (setup_faults setup_faults' faults writes : ℕ) (records records' : Option (List (List ℕ))) (keeps keeps' : ℕ) (shown shown' : Option (List Moment)) (unsettled unsettled' : Bool) (moment : Moment) (undone : DeskFault) →

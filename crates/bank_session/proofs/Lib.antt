@@ -1,7 +1,6 @@
 pub mod ReportedLemmas
 pub mod BetweenTurns
 pub mod MomentLemmas
-pub mod SetupSource
 pub mod CommandArguments
 pub mod TurnLemmas
 pub mod RunLemmas

@@ -19,20 +19,22 @@ use Rattle.bank_model.specs.declared.event.State.{State}
 use Rattle.bank_model.specs.declared.event.Event.TheVariants.{Letter}
 use Rattle.bank_core.specs.BookView.{BookView}
 use Rattle.event_codec.specs.Records.{Codes}
+use Rattle.bank_opening.specs.Reports.{reported_of, reported}
+use Rattle.bank_opening.specs.declared.stop.LetterFault.TheVariants as faults
+use Rattle.bank_opening.specs.declared.stop.Stop.{Stop}
+use Rattle.bank_opening.specs.declared.stop.Stop.TheVariants as stops
+use Rattle.bank_opening.specs.OneBank.{OneBank}
+use Rattle.bank_opening.proofs.OneSetup.{OneSetup}
 use Rattle.bank_session.specs.PortsView.{PortsView, ports_view}
 use Rattle.bank_session.specs.Stopping.{stop_of}
 use Rattle.bank_session.specs.Letters.{IsBody, IsBodyOf, HasNoBody, IsNoBody, ReadsBody}
 use Rattle.bank_session.specs.MailEnd.{StopsReading, LetterEnds, MailEnds}
-use Rattle.bank_session.specs.Run.{EndsSo, reported_of, reported}
+use Rattle.bank_session.specs.Run.{EndsSo}
 use Rattle.bank_session.specs.Statuses.{IsInterrupted, RefusesSetup, RefusesRecord, RefusesIllegal, Brings, RefusesBody, RefusesUser, RefusesFull, WritesIt, IsMailCommand}
 use Rattle.bank_desk.specs.declared.fault.DeskFault.{DeskFault}
 use Rattle.bank_desk.specs.declared.fault.DeskFault.TheVariants.{NoMemory, AppendFailed}
-use Rattle.bank_session.specs.declared.stop.LetterFault.TheVariants as faults
-use Rattle.bank_session.specs.declared.stop.Stop.{Stop}
-use Rattle.bank_session.specs.declared.stop.Stop.TheVariants as stops
-use Rattle.bank_session.specs.OneBank.{OneBank}
 use Rattle.bank_session.proofs.ReportedLemmas.{landed_or_not}
-use Rattle.bank_session.proofs.Unopened.{OneSetup, Unopened, unopened, unopened_setup, unopened_record, unopened_illegal, unopened_otherwise, interrupted_otherwise, opens_or_interrupted, or_interrupted, wider, status_is, unspelled_setup, IsBankOf, record_refused, illegal_refused, of_found}
+use Rattle.bank_session.proofs.Unopened.{Unopened, unopened, unopened_setup, unopened_record, unopened_illegal, unopened_otherwise, interrupted_otherwise, opens_or_interrupted, or_interrupted, wider, status_is, unspelled_setup, IsBankOf, record_refused, illegal_refused, of_found}
 use Rattle.bank_session.proofs.LineLemmas.{none_or_some, is_both}
 
 -- ---- the body

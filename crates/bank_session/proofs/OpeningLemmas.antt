@@ -9,15 +9,15 @@ use Rattle.bank_model.specs.declared.event.State.{State}
 use Rattle.bank_core.specs.BookView.{BookView}
 use Rattle.bank_model.specs.SetupForm.{IsWithinLimits}
 use Rattle.bank_replay.specs.Opening.{RecordsGive}
+use Rattle.bank_opening.specs.SetupRead.{IsSetupOf}
+use Rattle.bank_opening.specs.declared.stop.Stop.{Stop}
+use Rattle.bank_opening.specs.declared.stop.Stop.TheVariants as stops
 use Rattle.bank_session.specs.Answers.{Turn}
 use Rattle.bank_session.specs.PortsView.{PortsView}
-use Rattle.bank_session.specs.SetupRead.{IsSetupOf}
 use Rattle.bank_session.specs.RunEnd.{Taken, RunEnds}
 use Rattle.bank_session.specs.DueEnd.{DueEnds}
 use Rattle.bank_session.specs.MailEnd.{LeftAlone, LetterEnds, MailEnds}
 use Rattle.bank_session.specs.Run.{Settles, EndsSo}
-use Rattle.bank_session.specs.declared.stop.Stop.{Stop}
-use Rattle.bank_session.specs.declared.stop.Stop.TheVariants as stops
 
 -- ---- since before the bank opened
 

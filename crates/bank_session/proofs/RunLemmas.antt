@@ -8,6 +8,8 @@ use Rattle.bank_model.specs.declared.setup.Setup.{Setup}
 use Rattle.bank_model.specs.declared.event.State.{State}
 use Rattle.bank_core.specs.BookView.{BookView}
 use Rattle.bank_frames.specs.Frames.{Content, request, due_work, frame_head, frame_of, Fits, BeginsNoFrame}
+use Rattle.bank_opening.specs.declared.stop.Stop.{Stop}
+use Rattle.bank_opening.specs.declared.stop.Stop.TheVariants as stops
 use Rattle.bank_session.specs.Answers.{AnswersFrame, Turn, AreTurns, read_in, written_in, records_in, AreMoments, IsPrefixKept, IsKeptWhereRefused}
 use Rattle.bank_frames.specs.NextFrame.{IsNoFrame}
 use Rattle.bank_session.specs.PortsView.{PortsView}
@@ -15,8 +17,6 @@ use Rattle.bank_session.specs.Turns.{TurnView, turn_view, FrameAnswered, FrameSt
 use Rattle.bank_session.specs.TurnResult.{TurnMade, NoTurn, TurnStops}
 use Rattle.bank_session.specs.RunEnd.{Taken, Finished, StoppedBetween, StoppedAtFrame, RunEnds}
 use Rattle.bank_session.specs.AfterLastFrame.{AfterLastFrame}
-use Rattle.bank_session.specs.declared.stop.Stop.{Stop}
-use Rattle.bank_session.specs.declared.stop.Stop.TheVariants as stops
 use Rattle.bank_session.proofs.BetweenTurns.{BetweenTurns}
 use Rattle.bank_frames.proofs.Agreement.{head_is_short}
 use Rattle.ofx_ports.proofs.KnownLaws.{Stays-refl, Grows-trans, Grows-kept}

@@ -7,19 +7,21 @@ use Rattle.ofx_types.specs.declared.number.Moment.{Moment}
 use Rattle.bank_model.specs.declared.setup.Setup.{Setup}
 use Rattle.bank_model.specs.declared.event.State.{State}
 use Rattle.bank_frames.specs.Frames.{Content, request, due_work, IsLength, frame, frame_head, frame_of, Fits, BeginsNoFrame}
+use Rattle.bank_opening.specs.Reports.{reported_of, reported}
+use Rattle.bank_opening.specs.declared.stop.Stop.{Stop}
+use Rattle.bank_opening.specs.declared.stop.Stop.TheVariants as stops
+use Rattle.bank_opening.specs.OneBank.{OneBank}
+use Rattle.bank_opening.proofs.OneSetup.{OneSetup}
 use Rattle.bank_session.specs.Answers.{Turn, AreTurns, read_in}
 use Rattle.bank_session.specs.Determined.{AllFit, OneSplit, goes_on, falls_short, contents_of}
 use Rattle.bank_session.specs.RunEnd.{Taken, Finished, StoppedAtFrame, RunEnds}
 use Rattle.bank_session.specs.PortsView.{PortsView}
-use Rattle.bank_session.specs.Run.{EndsWithBank, EndsSo, reported_of, reported}
+use Rattle.bank_session.specs.Run.{EndsWithBank, EndsSo}
 use Rattle.ofx_types.specs.declared.told.Told.{Told}
 use Rattle.ofx_types.specs.declared.told.Note.TheVariants.{Place}
 use Rattle.bank_session.specs.Statuses.{IsInterrupted, RefusesSetup, RefusesRecord, RefusesIllegal, BringsFrames, AnswersAll, RefusesFrame, IsRun}
-use Rattle.bank_session.specs.declared.stop.Stop.{Stop}
-use Rattle.bank_session.specs.declared.stop.Stop.TheVariants as stops
 use Rattle.bank_frames.proofs.Agreement.{heads_agree, kinds_apart}
-use Rattle.bank_session.specs.OneBank.{OneBank}
-use Rattle.bank_session.proofs.Unopened.{OneSetup, Unopened, unopened, unopened_setup, unopened_record, unopened_illegal, unopened_otherwise, opens_or_interrupted, or_interrupted, wider, unspelled_setup, IsBankOf, record_refused, illegal_refused}
+use Rattle.bank_session.proofs.Unopened.{Unopened, unopened, unopened_setup, unopened_record, unopened_illegal, unopened_otherwise, opens_or_interrupted, or_interrupted, wider, unspelled_setup, IsBankOf, record_refused, illegal_refused}
 
 -- two files in frames before the same bytes are one
 one_frame : (a b x y : List ℕ) → IsLength (length a) → IsLength (length b) → frame a ++ x ≡ frame b ++ y → (a ≡ b) × (x ≡ y)

@@ -7,6 +7,8 @@ use Rattle.ofx_ports.specs.Faults.{Rose}
 use Rattle.ofx_types.specs.declared.number.Moment.{Moment}
 use Rattle.bank_core.specs.BookView.{BookView}
 use Rattle.bank_frames.specs.Frames.{Content, IsLength, length_line, frame, frame_head, frame_of, Fits}
+use Rattle.bank_opening.specs.declared.stop.Stop.{Stop}
+use Rattle.bank_opening.specs.declared.stop.Stop.TheVariants as stops
 use Rattle.bank_session.specs.Answers.{AreMoments}
 use Rattle.bank_frames.specs.NextFrame.{HoldsFile, HoldsFrame, file_in, content_in, size_of}
 use Rattle.bank_session.specs.Stopping.{stop_of}
@@ -15,8 +17,6 @@ use Rattle.bank_session.specs.TurnResult.{TurnStops}
 use Rattle.bank_frames.specs.declared.frame_head.FrameSize.{FrameSize}
 use Rattle.bank_frames.specs.declared.frames.Frame.{Frame}
 use Rattle.bank_frames.specs.declared.frames.Frame.TheVariants.{File, Due}
-use Rattle.bank_session.specs.declared.stop.Stop.{Stop}
-use Rattle.bank_session.specs.declared.stop.Stop.TheVariants as stops
 use Rattle.bank_desk.specs.declared.fault.DeskFault.{DeskFault}
 use Rattle.bank_desk.specs.declared.fault.DeskFault.TheVariants.{NoMemory, AppendFailed}
 use Rattle.bank_frames.proofs.Agreement.{head_is_short, parted, parted_due}

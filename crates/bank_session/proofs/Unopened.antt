@@ -10,18 +10,16 @@ use Rattle.event_codec.specs.Records.{Reopens}
 use Rattle.ofx_types.specs.declared.told.Note.{Note}
 use Rattle.ofx_types.specs.declared.told.Note.TheVariants.{Plain, Place, Record, Illegal}
 use Rattle.ofx_types.specs.declared.told.Told.{Told}
+use Rattle.bank_opening.specs.SetupRead.{IsSetupOf, IsNoSetup}
+use Rattle.bank_opening.specs.Reports.{reported_of, reported}
+use Rattle.bank_opening.specs.declared.stop.RecordsFault.TheVariants.{NoForm, NotLegal}
+use Rattle.bank_opening.specs.declared.stop.Stop.{Stop}
+use Rattle.bank_opening.specs.declared.stop.Stop.TheVariants as stops
+use Rattle.bank_opening.specs.OneBank.{OneBank}
+use Rattle.bank_opening.proofs.OneSetup.{OneSetup}
 use Rattle.bank_session.specs.PortsView.{PortsView}
-use Rattle.bank_session.specs.SetupRead.{IsSetupOf, IsNoSetup}
-use Rattle.bank_session.specs.Run.{NeverOpens, reported_of, reported}
+use Rattle.bank_session.specs.Run.{NeverOpens}
 use Rattle.bank_session.specs.Statuses.{HasRecords, Opens, IsInterrupted, IsDueInterrupted, RefusesSetup, RefusesRecord, RefusesIllegal}
-use Rattle.bank_session.specs.declared.stop.RecordsFault.TheVariants.{NoForm, NotLegal}
-use Rattle.bank_session.specs.declared.stop.Stop.{Stop}
-use Rattle.bank_session.specs.declared.stop.Stop.TheVariants as stops
-use Rattle.bank_session.specs.OneBank.{OneBank}
-
--- no bytes spell two setups
-abbrev pub OneSetup : Type 0
-OneSetup = (bytes : List ℕ) (a b : Setup) → SpellsSetup bytes a → SpellsSetup bytes b → a ≡ b
 
 -- what is reported of a run that has no bank
 pub data Unopened (before after : PortsView) (what : Told) : Type 0 where

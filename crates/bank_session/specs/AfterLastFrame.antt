@@ -3,8 +3,8 @@ use Rattle.std.specs.Prelude.{◌≡◌, ◌≢◌, ℕ, List, [], Option, Resul
 use Rattle.std.specs.Option.{IfSome}
 use Rattle.std.specs.Io.KnownBytes.{Keeps, IsAtEnd, prepend_known}
 use Rattle.ofx_ports.specs.Faults.{Rose}
-use Rattle.bank_session.specs.declared.stop.Stop.{Stop}
-use Rattle.bank_session.specs.declared.stop.Stop.TheVariants as stops
+use Rattle.bank_opening.specs.declared.stop.Stop.{Stop}
+use Rattle.bank_opening.specs.declared.stop.Stop.TheVariants as stops
 
 -- The input ends, or it goes on at this offset, or a read failed.
 abbrev pub AfterLastFrame : Option (List ℕ) → ℕ → List ℕ → Option (List ℕ) → ℕ → ℕ → Result (Unit {0}) Stop → Type 0

@@ -2,12 +2,9 @@ pub mod Stopping
 pub mod Answers
 pub mod Arguments
 pub mod ArgumentsRead
-pub mod SetupRead
-pub mod RecordsRead
 pub mod Turns
 pub mod TurnResult
 pub mod PortsView
-pub mod OneBank
 pub mod RunEnd
 pub mod DueEnd
 pub mod Letters

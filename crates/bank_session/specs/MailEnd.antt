@@ -12,11 +12,11 @@ use Rattle.bank_model.specs.declared.event.State.{State}
 use Rattle.bank_model.specs.declared.event.Event.TheVariants.{Letter}
 use Rattle.event_codec.specs.Records.{Codes}
 use Rattle.bank_core.specs.BookView.{BookView}
+use Rattle.bank_opening.specs.declared.stop.LetterFault.TheVariants as faults
+use Rattle.bank_opening.specs.declared.stop.Stop.{Stop}
+use Rattle.bank_opening.specs.declared.stop.Stop.TheVariants as stops
 use Rattle.bank_session.specs.PortsView.{PortsView}
 use Rattle.bank_session.specs.Letters.{IsBodyOf, IsNoBody, CauseOf, WritesLetter}
-use Rattle.bank_session.specs.declared.stop.LetterFault.TheVariants as faults
-use Rattle.bank_session.specs.declared.stop.Stop.{Stop}
-use Rattle.bank_session.specs.declared.stop.Stop.TheVariants as stops
 
 -- ---- with the body
 

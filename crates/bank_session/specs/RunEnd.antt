@@ -8,10 +8,10 @@ use Rattle.ofx_types.specs.declared.number.Moment.{Moment}
 use Rattle.bank_model.specs.declared.setup.Setup.{Setup}
 use Rattle.bank_model.specs.declared.event.State.{State}
 use Rattle.bank_frames.specs.Frames.{Content, frame_of, Fits, BeginsNoFrame}
+use Rattle.bank_opening.specs.declared.stop.Stop.{Stop}
+use Rattle.bank_opening.specs.declared.stop.Stop.TheVariants as stops
 use Rattle.bank_session.specs.Answers.{AnswersFrame, Turn, AreTurns, read_in, written_in, records_in, moments_in, AreMoments, IsPrefixKept, IsKeptWhereRefused}
 use Rattle.bank_session.specs.PortsView.{PortsView}
-use Rattle.bank_session.specs.declared.stop.Stop.{Stop}
-use Rattle.bank_session.specs.declared.stop.Stop.TheVariants as stops
 
 -- A run has taken these turns from a state, at most 1,000,000. Where the input is told it began with the frames of the turns,
 -- and after them came the bytes that were read ahead and those that it has left.

@@ -13,13 +13,14 @@ use Rattle.bank_model.specs.declared.event.State.{State}
 use Rattle.bank_replay.specs.Opening.{HasNoForm, IsNotLegal}
 use Rattle.event_codec.specs.Records.{Reopens}
 use Rattle.bank_frames.specs.Frames.{Content, frame_of, Fits, BeginsNoFrame}
+use Rattle.bank_opening.specs.Reports.{reported}
+use Rattle.bank_opening.specs.declared.stop.Stop.{Stop}
 use Rattle.bank_session.specs.PortsView.{PortsView}
 use Rattle.bank_session.specs.Letters.{IsBody, HasNoBody}
 use Rattle.bank_session.specs.RunEnd.{RunEnds}
 use Rattle.bank_session.specs.DueEnd.{DueEnds}
 use Rattle.bank_session.specs.MailEnd.{MailEnds}
-use Rattle.bank_session.specs.Run.{EndsWith, reported}
-use Rattle.bank_session.specs.declared.stop.Stop.{Stop}
+use Rattle.bank_session.specs.Run.{EndsWith}
 use Rattle.ofx_types.specs.declared.number.Moment.{Moment}
 use Rattle.ofx_types.specs.declared.number.UserId.{UserId}
 use Rattle.ofx_types.specs.declared.told.Note.TheVariants.{Plain, Place, Record, Illegal, NoUser, Full}

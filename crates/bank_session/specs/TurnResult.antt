@@ -7,11 +7,11 @@ use Rattle.ofx_ports.specs.Known.{Stays}
 use Rattle.ofx_types.specs.declared.number.Moment.{Moment}
 use Rattle.bank_core.specs.BookView.{BookView}
 use Rattle.bank_frames.specs.Frames.{BeginsNoFrame}
+use Rattle.bank_opening.specs.declared.stop.Stop.{Stop}
+use Rattle.bank_opening.specs.declared.stop.Stop.TheVariants as stops
 use Rattle.bank_session.specs.Answers.{AreMoments}
 use Rattle.bank_frames.specs.NextFrame.{IsNoFrame}
 use Rattle.bank_session.specs.Turns.{TurnView, FrameAnswered, FrameStops}
-use Rattle.bank_session.specs.declared.stop.Stop.{Stop}
-use Rattle.bank_session.specs.declared.stop.Stop.TheVariants as stops
 use Rattle.bank_session.specs.declared.turn.TurnEnd.{TurnEnd}
 use Rattle.bank_session.specs.declared.turn.TurnEnd.TheVariants as steps
 

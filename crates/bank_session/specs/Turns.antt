@@ -6,10 +6,10 @@ use Rattle.ofx_ports.specs.Known.{Grows}
 use Rattle.ofx_types.specs.declared.number.Moment.{Moment}
 use Rattle.bank_core.specs.BookView.{BookView}
 use Rattle.bank_frames.specs.Frames.{Content, frame_of, Fits}
+use Rattle.bank_opening.specs.declared.stop.Stop.{Stop}
+use Rattle.bank_opening.specs.declared.stop.Stop.TheVariants as stops
 use Rattle.bank_session.specs.Answers.{AnswersFrame, IsPrefixKept, IsKeptWhereRefused}
 use Rattle.bank_session.specs.RunEnd.{ComesNext}
-use Rattle.bank_session.specs.declared.stop.Stop.{Stop}
-use Rattle.bank_session.specs.declared.stop.Stop.TheVariants as stops
 use Rattle.bank_desk.specs.declared.fault.DeskFault.{DeskFault}
 use Rattle.bank_desk.specs.declared.fault.DeskFault.TheVariants.{NoMemory, AppendFailed}
 

@@ -2,8 +2,8 @@
 
 ghost use Rattle.bank_session.specs.Letters.{IsAddressed};
 
-use crate::stop::LetterFault;
 use bank_desk::Desk;
+use bank_opening::LetterFault;
 use ofx_types::{Text, UserId};
 
 /// The user of that name, and the number of the next entry. The user is looked for first. Takes no memory.

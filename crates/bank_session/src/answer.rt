@@ -6,21 +6,19 @@ ghost use Rattle.ofx_types.specs.declared.number.Moment.{Moment as TheMoment};
 ghost use Rattle.ofx_types.specs.declared.told.Told.{Told as WhatIsReported};
 ghost use Rattle.bank_session.specs.Arguments.{AreArguments, AreDueArguments, AreMailArguments, IsUsage};
 ghost use Rattle.bank_session.specs.ArgumentsRead.{IsLawful};
-ghost use Rattle.bank_session.specs.Run as runs;
 ghost use Rattle.bank_session.specs.RunEnd.{RunEnds};
-ghost use Rattle.bank_session.specs.Run.{EndsSo, reported_of, reported_of_letter, reported_of_records};
+ghost use Rattle.bank_session.specs.Run.{EndsSo};
 ghost use Rattle.bank_session.specs.Statuses.{IsRun, IsDueCommand, IsMailCommand};
 
 use crate::arguments::{Command, command_of};
 use crate::due::do_due_once;
-use crate::laws::one_bank;
 use crate::mail::send_letter;
 use crate::opening::open_desk;
 use crate::ports::Ports;
 use crate::run::answer_frames as answer_input;
-use crate::setup_source::read_setup;
-use crate::stop::{LetterFault, RecordsFault, Stop};
 use bank_model::laws::one_setup;
+use bank_opening::laws::one_bank;
+use bank_opening::{Stop, read_setup, report_of_end};
 use ofx_ports::{Clock, Keeper, Sink, Source};
 use ofx_types::{Moment, Note, Status, Text, Told};
 use std::alloc::Global;
@@ -49,69 +47,6 @@ fn run<A: Source, B: Source, W: Sink, K: Keeper, C: Clock>(
     let setup = read_setup(alloc, setup)?;
     let mut desk = open_desk(alloc, keys, setup, keeper)?;
     answer_input(alloc, &mut desk, at, clock, input, out, keeper)
-}
-
-/// What is reported of an end.
-pub fn report_of_end(end: Result<(), Stop>) -> Told
-    ensures { result ≡ reported_of end }
-{
-    match end {
-        Ok(()) => plain(0),
-        Err(Stop::Usage) => plain(2),
-        Err(Stop::Setup(line)) => at_offset(3, line),
-        Err(Stop::Frame(offset)) => at_offset(4, offset),
-        Err(Stop::ReadFailed) => plain(5),
-        Err(Stop::WriteFailed) => plain(6),
-        Err(Stop::NoMemory) => plain(7),
-        Err(Stop::KeeperFailed) => plain(8),
-        Err(Stop::Records(fault)) => report_of_records(fault),
-        Err(Stop::Letter(fault)) => report_of_letter(fault),
-    }
-}
-
-/// What is reported of records that are none of this bank.
-fn report_of_records(fault: RecordsFault) -> Told
-    ensures { result ≡ reported_of_records fault }
-{
-    match fault {
-        RecordsFault::NoForm(number, at) => noted(9, Note::Record(number, at)),
-        RecordsFault::NotLegal(number) => noted(9, Note::Illegal(number)),
-    }
-}
-
-/// What is reported of a letter that can't be written.
-fn report_of_letter(fault: LetterFault) -> Told
-    ensures { result ≡ reported_of_letter fault }
-{
-    match fault {
-        LetterFault::NoBody => at_offset(4, 0),
-        LetterFault::NoUser => noted(10, Note::NoUser),
-        LetterFault::Full => noted(10, Note::Full),
-    }
-}
-
-/// A status with its note.
-fn noted(status: u8, note: Note) -> Told
-    ensures { result ≡ runs.reported status note }
-{
-    Told {
-        status: Status(status),
-        note,
-    }
-}
-
-/// A status alone.
-fn plain(status: u8) -> Told
-    ensures { result ≡ runs.reported status Note.Plain }
-{
-    noted(status, Note::Plain)
-}
-
-/// A status, and an offset or the number of a line.
-fn at_offset(status: u8, offset: u64) -> Told
-    ensures { result ≡ runs.reported status (Note.Place offset) }
-{
-    noted(status, Note::Place(offset))
 }
 
 /// Answers a stream of frames, does once what is due, or writes a letter, and says how the run ended.
@@ -201,7 +136,10 @@ pub fn answer_told<A: Source, B: Source, W: Sink, K: Keeper, C: Clock>(
     one_setup();
     one_bank();
     match command_of(arguments) {
-        None => plain(2),
+        None => Told {
+            status: Status(2),
+            note: Note::Plain,
+        },
         Some(Command::Answer(found)) => report_of_end(run(
             alloc, keys, found.at, setup, input, out, keeper, clock,
         )),

@@ -6,8 +6,8 @@ ghost use Rattle.bank_model.specs.Sound.{IsTextWithin};
 ghost use Rattle.bank_session.specs.Letters.{IsBodyOf, ReadsBody};
 ghost use Rattle.bank_session.specs.MailEnd.{StopsReading};
 
-use crate::stop::{LetterFault, Stop};
 use bank_frames::{Ahead, MAX_INPUT, read_whole};
+use bank_opening::{LetterFault, Stop};
 use ofx_ports::{Failed, Source};
 use ofx_types::{Text, TextFault};
 use std::alloc::Global;

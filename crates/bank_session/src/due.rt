@@ -7,9 +7,9 @@ ghost use Rattle.bank_session.specs.Run.{EndsSo};
 
 use crate::lines::due_line;
 use crate::opening::open_desk;
-use crate::setup_source::read_setup;
-use crate::stop::Stop;
+use crate::stopping::stop_of;
 use bank_desk::Desk;
+use bank_opening::{Stop, read_setup};
 use ofx_ports::{Clock, Failed, Keeper, Sink, Source, write_whole};
 use std::alloc::Global;
 use std::hash::RandomState;
@@ -55,7 +55,10 @@ fn write_due<W: Sink, K: Keeper, C: Clock>(
     ensures later { K.faults keeper.old ≤ K.faults keeper.new }
 {
     let moment = clock.now();
-    let line = due_line(alloc, desk, keeper, moment)?;
+    let line = match due_line(alloc, desk, keeper, moment) {
+        Ok(line) => line,
+        Err(undone) => return Err(stop_of(undone)),
+    };
     match write_whole(out, &line) {
         Ok(()) => Ok(()),
         Err(Failed) => Err(Stop::WriteFailed),

@@ -1,23 +1,13 @@
 //! What is written is determined, and the books are kept: laws over the definitions.
 
 ghost use Rattle.bank_session.specs.Determined.{OneSplitting, OneRefusal, RefusedIsUnanswered, RefusedIsUndenied, DeniedIsUnanswered, WhereAnswered, WherePolled, WhereDenied, WhereRefused, OnlyWhereRefused, OneDueRun, OneLine, OneOutput};
-ghost use Rattle.bank_session.specs.OneBank.{OneBank};
 ghost use Rattle.bank_session.specs.Answers.{IsPrefixKept, IsKeptWhereRefused};
 ghost use Rattle.bank_session.specs.BooksKept.{RunsReopen, StoppedRunsReopen, UnwrittenRunsReopen, LettersReopen, RunsKeepTheBooks};
 
 use bank_invariants::laws::due::{due_work_is_legal, due_work_is_one};
-use bank_replay::laws::{causes_open_nothing, one_cause, one_opening, reopened_books_are_right};
+use bank_replay::laws::reopened_books_are_right;
 use event_codec::laws::reopening_goes_on;
 use ofx_file::laws::{faults_spell_nothing, one_fault, one_file};
-
-/// What the records of a bank come to is one thing: a state, a first record without a form, or a first one that isn't legal.
-pub fn one_bank()
-    ensures { OneBank }
-{
-    one_opening();
-    one_cause();
-    causes_open_nothing();
-}
 
 /// An input is split into frames in one way: of two splittings one goes on where the other stops.
 pub fn one_splitting()

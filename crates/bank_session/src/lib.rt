@@ -18,13 +18,9 @@ mod moments;
 mod opening;
 mod ports;
 mod run;
-mod setup_source;
-mod stop;
+mod stopping;
 mod turn;
 
-pub use answer::{answer_files, answer_told, report_of_end};
+pub use answer::{answer_files, answer_told};
 pub use arguments::{AnswerArguments, Command, command_of};
-pub use opening::opening_stop;
 pub use ports::Ports;
-pub use setup_source::read_setup;
-pub use stop::{LetterFault, RecordsFault, Stop};

@@ -14,9 +14,9 @@ use crate::body::read_body;
 use crate::letters::letter;
 use crate::opening::open_desk;
 use crate::ports::Ports;
-use crate::setup_source::read_setup;
-use crate::stop::Stop;
+use crate::stopping::stop_of;
 use bank_desk::Desk;
+use bank_opening::{Stop, read_setup};
 use ofx_ports::{Clock, Failed, Keeper, Sink, Source, write_whole};
 use ofx_types::{Text, UserId};
 use std::alloc::Global;
@@ -149,7 +149,10 @@ fn write_to<W: Sink, K: Keeper, C: Clock>(
     ensures later { K.faults keeper.old ≤ K.faults keeper.new }
 {
     let moment = clock.now();
-    let line = letter(alloc, desk, keeper, moment, to, subject, body)?;
+    let line = match letter(alloc, desk, keeper, moment, to, subject, body) {
+        Ok(line) => line,
+        Err(undone) => return Err(stop_of(undone)),
+    };
     match write_whole(out, &line) {
         Ok(()) => Ok(()),
         Err(Failed) => Err(Stop::WriteFailed),

@@ -1,31 +1,17 @@
-//! The bank opens from its records, and why a run stops whose bank doesn't.
+//! The desk of a run opens from the records of its bank.
 
 ghost use Rattle.std.specs.Prelude.{◌≡◌, ◌≤◌, false, IfOk, IfErr};
 ghost use Rattle.ofx_ports.specs.Known.{Stays};
 ghost use Rattle.bank_model.specs.SetupForm.{IsWithinLimits};
 ghost use Rattle.bank_replay.specs.Opening.{RecordsGive};
-ghost use Rattle.bank_session.specs.RecordsRead as records;
-ghost use Rattle.bank_session.specs.RecordsRead.{StopsOpening};
+ghost use Rattle.bank_opening.specs.RecordsRead.{StopsOpening};
 
-use crate::stop::{RecordsFault, Stop};
 use bank_desk::Desk;
 use bank_model::Setup;
-use bank_replay::OpenFault;
+use bank_opening::{Stop, opening_stop};
 use ofx_ports::Keeper;
 use std::alloc::Global;
 use std::hash::RandomState;
-
-/// With what a run stops whose bank doesn't open from its records.
-pub fn opening_stop(fault: OpenFault) -> Stop
-    ensures { result ≡ records.opening_stop fault }
-{
-    match fault {
-        OpenFault::Read => Stop::KeeperFailed,
-        OpenFault::Record(number, at) => Stop::Records(RecordsFault::NoForm(number, at)),
-        OpenFault::Illegal(number) => Stop::Records(RecordsFault::NotLegal(number)),
-        OpenFault::OutOfMemory => Stop::NoMemory,
-    }
-}
 
 /// The bank of that setup that stands for the records that are kept.
 pub fn open_desk<K: Keeper>(

@@ -7,10 +7,10 @@ ghost use Rattle.bank_session.specs.PortsView.{ports_view};
 ghost use Rattle.bank_session.specs.RunEnd.{RunEnds};
 ghost use Rattle.bank_session.specs.AfterLastFrame.{AfterLastFrame};
 
-use crate::stop::Stop;
 use crate::turn::{TurnEnd, run_turn};
 use bank_desk::Desk;
 use bank_frames::{Ahead, Next, next_frame};
+use bank_opening::Stop;
 use ofx_ports::{Clock, Failed, Keeper, Sink, Source};
 use ofx_types::Moment;
 use std::alloc::Global;

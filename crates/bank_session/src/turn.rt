@@ -12,9 +12,10 @@ ghost use Rattle.bank_session.specs.TurnResult.{TurnResult};
 
 use crate::lines::{due_line, file_line};
 use crate::moments::next_moment;
-use crate::stop::Stop;
+use crate::stopping::stop_of;
 use bank_desk::{Desk, DeskFault};
 use bank_frames::{Ahead, Frame, Next, next_frame};
+use bank_opening::Stop;
 use ofx_ports::{Clock, Failed, Keeper, Sink, Source, write_whole};
 use ofx_types::Moment;
 use std::alloc::Global;
@@ -70,7 +71,10 @@ fn answer_frame<W: Sink, K: Keeper>(
     ensures settled { result ≢ Err Stop.KeeperFailed → K.unsettled keeper.new ≡ false }
     ensures unsettled { result ≡ Err Stop.KeeperFailed → K.unsettled keeper.new ≡ true }
 {
-    let line = frame_line(alloc, desk, at, ahead.bytes(), frame, keeper)?;
+    let line = match frame_line(alloc, desk, at, ahead.bytes(), frame, keeper) {
+        Ok(line) => line,
+        Err(undone) => return Err(stop_of(undone)),
+    };
     match write_whole(out, &line) {
         Ok(()) => {
             ahead.consume(frame.size());

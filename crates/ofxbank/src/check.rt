@@ -9,7 +9,7 @@ use crate::setup_file::SetupFile;
 use crate::totals::{Totals, amount_text, day_text, totals_of};
 use crate::why::{report_open_files, report_why};
 use bank_model::Setup;
-use bank_session::report_of_end;
+use bank_opening::report_of_end;
 use command_help::text_at;
 use ofx_ports::Keeper;
 use ofx_types::{Text, Told};

@@ -6,7 +6,7 @@ ghost use Rattle.bank_model.specs.SetupForm.{IsWithinLimits};
 use crate::paths::setup_file;
 use bank_frames::{Ahead, read_whole};
 use bank_model::Setup;
-use bank_session::{Stop, read_setup};
+use bank_opening::{Stop, read_setup};
 use ofx_ports::{MemSource, ReaderSource};
 use ofx_types::{OutOfMemory, Text};
 use record_files::{Cause, bound_text, cause_of};

@@ -10,10 +10,9 @@ use crate::connections::{at_noon, posted, sample_reply, sample_request, sample_t
 use crate::one_thread::written_over;
 use crate::sample::{keys, put, request_with, setup, texts};
 use bank_connection::Served;
-use bank_offices::serve_connection;
 use bank_samples::sample::SETUP;
 use bank_samples::transfer::TRANSFER;
-use bank_server::{AllEnd, serve_all, serve_open};
+use bank_server::{AllEnd, serve_all, serve_connection, serve_open};
 use bank_shared::{Bank, BankName, Opened, Pass};
 use both::BothGate;
 use ofx_file::OfxPrinter;

@@ -8,8 +8,8 @@ use super::{
 };
 use crate::sample::{keys, put, reply_with, request_with, setup};
 use bank_connection::Served;
-use bank_offices::{SoloOffice, serve_connection};
 use bank_samples::transfer::{PAID, POSTED, SOURCE_BALANCE, TRANSFER};
+use bank_server::{SoloOffice, serve_connection};
 use bank_shared::{Bank, BankName, Opened, Pass};
 use ofx_file::OfxPrinter;
 use ofx_ports::{MemClock, MemKeeper, MemLink, OpenGate};

@@ -1,4 +1,0 @@
-mod OwnEndings
-mod LockedBankCalls
-mod Knowing
-mod Unreported

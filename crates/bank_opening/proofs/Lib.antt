@@ -1,0 +1,2 @@
+mod SetupSource
+mod OneSetup

@@ -1,0 +1,4 @@
+pub mod SetupRead
+pub mod RecordsRead
+pub mod OneBank
+pub mod Reports
