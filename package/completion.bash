@@ -13,7 +13,7 @@ _@NAME@() {
         mapfile -t COMPREPLY < <(compgen -W "--at" -- "$word")
         return
     fi
-    # The setup and the records are files; what comes behind them, and a seed, has no completion.
+    # The setup and the records are files; what follows them, and a seed, has no completion.
     if [ "$COMP_CWORD" -le 3 ] && [ "$command" != rehearse ]; then
         compopt -o filenames 2> /dev/null
         mapfile -t COMPREPLY < <(compgen -f -- "$word")
