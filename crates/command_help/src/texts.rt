@@ -1,7 +1,7 @@
 //! The texts of help.
 
 /// What `--version` prints.
-pub const VERSION: &str = "ofxbank 0.1.0\n";
+pub const VERSION: &str = "ofxbank 0.2.0\n";
 
 pub const ANSWER_FORM: &str = "ofxbank answer SETUP RECORDS [--at DATE]";
 

@@ -5,7 +5,7 @@ use ofx_types::{Note, Status, Told};
 use std::io;
 
 /// What `--version` prints.
-pub const VERSION: &str = "ofxclient 0.1.0\n";
+pub const VERSION: &str = "ofxclient 0.2.0\n";
 
 /// A status alone.
 pub fn plain(status: u8) -> Told {
