@@ -1,2 +1,2 @@
 mod SetupSource
-mod OneSetup
+pub mod OneSetup

@@ -7,7 +7,7 @@ ghost use Rattle.bank_session.specs.Run.{EndsSo};
 
 use crate::lines::due_line;
 use crate::opening::open_desk;
-use crate::stopping::stop_of;
+use crate::undone::stop_of;
 use bank_desk::Desk;
 use bank_opening::{Stop, read_setup};
 use ofx_ports::{Clock, Failed, Keeper, Sink, Source, write_whole};

@@ -18,8 +18,8 @@ mod moments;
 mod opening;
 mod ports;
 mod run;
-mod stopping;
 mod turn;
+mod undone;
 
 pub use answer::{answer_files, answer_told};
 pub use arguments::{AnswerArguments, Command, command_of};

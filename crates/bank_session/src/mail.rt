@@ -14,7 +14,7 @@ use crate::body::read_body;
 use crate::letters::letter;
 use crate::opening::open_desk;
 use crate::ports::Ports;
-use crate::stopping::stop_of;
+use crate::undone::stop_of;
 use bank_desk::Desk;
 use bank_opening::{Stop, read_setup};
 use ofx_ports::{Clock, Failed, Keeper, Sink, Source, write_whole};

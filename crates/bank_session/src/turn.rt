@@ -12,7 +12,7 @@ ghost use Rattle.bank_session.specs.TurnResult.{TurnResult};
 
 use crate::lines::{due_line, file_line};
 use crate::moments::next_moment;
-use crate::stopping::stop_of;
+use crate::undone::stop_of;
 use bank_desk::{Desk, DeskFault};
 use bank_frames::{Ahead, Frame, Next, next_frame};
 use bank_opening::Stop;
