@@ -19,7 +19,7 @@ use Rattle.bank_model.proofs.setup.Setup.TheSendSync as setup
 use Rattle.bank_shared.below.token_window.specs.contracts.window.Window as window
 use Rattle.bank_shared.below.token_window.specs.contracts.window.Window.TheInside as window_inside
 use Rattle.bank_shared.below.bank_mail.proofs.mails.Mails.TheSendSync as mails
-use Rattle.bank_shared.below.bank_history.specs.contracts.past.LogTrace as past
+use Rattle.bank_shared.below.bank_history.specs.contracts.entry_trace.EntryTrace as past
 use Rattle.bank_shared.below.bank_history.proofs.origins.Origin.TheSendSync as origin
 use Rattle.bank_shared.below.bank_history.specs.contracts.object_history.ObjectHistory as of_object
 use Rattle.bank_shared.below.bank_history.specs.contracts.object_history.ObjectHistory.TheInside as of_object_inside

@@ -23,7 +23,7 @@ use Rattle.bank_shared.specs.declared.name.BankName as named
 use Rattle.bank_shared.below.bank_engine.specs.contracts.pending.Pending as pending
 use Rattle.bank_shared.below.bank_engine.specs.contracts.engine.Engine as engine
 use Rattle.bank_shared.below.bank_engine.specs.contracts.engine.Engine.TheInside as engine_inside
-use Rattle.bank_shared.below.bank_engine.specs.contracts.past.LogTrace as past
+use Rattle.bank_shared.below.bank_engine.specs.contracts.log_trace.LogTrace as past
 use Rattle.bank_shared.below.bank_engine.specs.contracts.log.Log as log
 use Rattle.bank_shared.below.bank_engine.specs.contracts.log.Log.TheInside as log_inside
 use Rattle.bank_shared.specs.contracts.journal.Journal as journal
