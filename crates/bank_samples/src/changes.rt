@@ -18,10 +18,10 @@ pub const DUE_LATER: (&str, &str) = (
 );
 
 /// What comes before the account in the sample's request.
-pub const STATEMENT: &str = "<STMTTRNRQ>\r\n<TRNUID>s1\r\n<STMTRQ>\r\n";
+const STATEMENT: &str = "<STMTTRNRQ>\r\n<TRNUID>s1\r\n<STMTRQ>\r\n";
 
 /// What follows it.
-pub const STATEMENT_END: &str =
+const STATEMENT_END: &str =
     "<INCTRAN>\r\n<INCLUDE>Y\r\n</INCTRAN>\r\n</STMTRQ>\r\n</STMTTRNRQ>\r\n";
 
 /// A poll of the account's transfers in place of the statement.

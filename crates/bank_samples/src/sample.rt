@@ -148,13 +148,6 @@ pub fn replies(alloc: Global, names: &[&[u8; 2]]) -> Result<Vec<u8>, AllocError>
     joined(alloc, REPLY_PREFIX, names, REPLY_BACK)
 }
 
-/// The sample's reply to the transaction of that name at another moment, in 14 digits.
-pub fn reply_at(alloc: Global, name: &[u8; 2], moment: &str) -> Result<String, AllocError> {
-    let reply = replies(alloc, &[name])?;
-    let text = str::from_utf8(&reply).unwrap_or("");
-    text.replace(alloc, "20240131120000", moment)
-}
-
 fn joined(
     alloc: Global,
     prefix: &[u8],

@@ -1,5 +1,6 @@
 //! Accounts are held, found and given other balances.
 
+use crate::same::same;
 use bank_accounts::{Account, Balance, Balances, Held};
 use ofx_types::{AcctId, Cents};
 use std::alloc::Global;
@@ -18,11 +19,19 @@ fn two(rt: &impl Abort, alloc: Global) -> Held {
 #[test]
 fn holds_accounts(rt: HostRuntime) {
     let mut held = two(&rt, rt.alloc());
-    assert_eq!(rt; held.accounts().len(), 2);
-    assert_eq!(rt; held.balance(AcctId(3)), Some(Cents(5)));
-    assert_eq!(rt; held.balance(AcctId(1)), None);
-    assert_eq!(rt; held.pop().map(|account| account.number()), Some(AcctId(3)));
-    assert_eq!(rt; held.pop().map(|account| account.number()), Some(AcctId(0)));
+    same(&rt, held.accounts().len(), 2);
+    same(&rt, held.balance(AcctId(3)), Some(Cents(5)));
+    same(&rt, held.balance(AcctId(1)), None);
+    same(
+        &rt,
+        held.pop().map(|account| account.number()),
+        Some(AcctId(3)),
+    );
+    same(
+        &rt,
+        held.pop().map(|account| account.number()),
+        Some(AcctId(0)),
+    );
     assert!(rt; held.pop().is_none());
 }
 
@@ -31,7 +40,7 @@ fn gives_balances(rt: HostRuntime) {
     let mut held = two(&rt, rt.alloc());
     let mut balances = Balances::new(rt.alloc());
     held.set_balances(&balances);
-    assert_eq!(rt; held.balance(AcctId(3)), Some(Cents(5)));
+    same(&rt, held.balance(AcctId(3)), Some(Cents(5)));
     balances.reserve(2).expect(&rt, "room");
     balances.give(Balance {
         account: AcctId(3),
@@ -41,9 +50,9 @@ fn gives_balances(rt: HostRuntime) {
         account: AcctId(3),
         amount: Cents(7),
     });
-    assert_eq!(rt; balances.get(AcctId(3)), Some(Cents(7)));
-    assert_eq!(rt; balances.get(AcctId(0)), None);
+    same(&rt, balances.get(AcctId(3)), Some(Cents(7)));
+    same(&rt, balances.get(AcctId(0)), None);
     held.set_balances(&balances);
-    assert_eq!(rt; held.balance(AcctId(0)), Some(Cents(10_000)));
-    assert_eq!(rt; held.balance(AcctId(3)), Some(Cents(7)));
+    same(&rt, held.balance(AcctId(0)), Some(Cents(10_000)));
+    same(&rt, held.balance(AcctId(3)), Some(Cents(7)));
 }

@@ -6,15 +6,17 @@
 #[cfg(test)]
 mod accounts;
 #[cfg(test)]
-mod alike;
-#[cfg(test)]
 mod dates;
+#[cfg(test)]
+mod histories;
 #[cfg(test)]
 mod mails;
 #[cfg(test)]
 mod once;
 #[cfg(test)]
 mod recurring;
+#[cfg(test)]
+mod same;
 #[cfg(test)]
 mod sample;
 #[cfg(test)]

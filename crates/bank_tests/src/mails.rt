@@ -1,5 +1,6 @@
 //! Mails: what is refused of one, and the mails of two objects.
 
+use crate::same::same;
 use crate::sample::{ALICE, BOB, account, bank, mail, mail_row};
 use bank_mail::{Mails, judge_bank_mail, judge_mail};
 use ofx_types::{AcctId, ObjectId, UserId};
@@ -21,9 +22,10 @@ fn a_mail_about_an_account_has_the_first_refusal_that_holds(rt: HostRuntime) {
     for (user, only, number, target, code) in ASKED.iter() {
         let about = account(&rt, alloc, number);
         let asked = mail(&rt, alloc, target.as_bytes(), b"Hello");
-        assert_eq!(rt;
+        same(
+            &rt,
             judge_bank_mail(&setup, *user, *only, &about, &asked),
-            *code
+            *code,
         );
     }
 }
@@ -31,8 +33,12 @@ fn a_mail_about_an_account_has_the_first_refusal_that_holds(rt: HostRuntime) {
 #[test]
 fn the_bank_takes_mail_to_itself_alone(rt: HostRuntime) {
     let alloc = rt.alloc();
-    assert_eq!(rt; judge_mail(&mail(&rt, alloc, b"BANK", b"Hello")), 0);
-    assert_eq!(rt; judge_mail(&mail(&rt, alloc, b"alice", b"Hello")), 16501);
+    same(&rt, judge_mail(&mail(&rt, alloc, b"BANK", b"Hello")), 0);
+    same(
+        &rt,
+        judge_mail(&mail(&rt, alloc, b"alice", b"Hello")),
+        16501,
+    );
 }
 
 #[test]
@@ -45,8 +51,8 @@ fn each_object_has_its_mails_in_order(rt: HostRuntime) {
     mails.put(ObjectId(2), mail_row(&rt, alloc, b"second"));
     mails.reserve(ObjectId(6), 1).expect(&rt, "room");
     mails.put(ObjectId(6), mail_row(&rt, alloc, b"other"));
-    assert_eq!(rt; mails.rows(ObjectId(2)).len(), 2);
+    same(&rt, mails.rows(ObjectId(2)).len(), 2);
     assert!(rt; mails.rows(ObjectId(2))[1].mail.subject.as_bytes() == b"second".as_slice());
-    assert_eq!(rt; mails.rows(ObjectId(6)).len(), 1);
+    same(&rt, mails.rows(ObjectId(6)).len(), 1);
     assert!(rt; mails.rows(ObjectId(5)).is_empty());
 }

@@ -2,6 +2,7 @@
 
 ghost use Rattle.std.specs.Prelude.{◌≡◌};
 
+use crate::same::same;
 use crate::sample::{ALICE, BOB, TODAY, TOMORROW, bank, info, model_row};
 use bank_recur::{Models, judge_model, judge_model_cancel, judge_model_modify};
 use ofx_types::{AcctId, Day, Freq, UserId};
@@ -38,7 +39,7 @@ fn a_recurring_transfer_has_the_first_refusal_that_holds(rt: HostRuntime) {
     let setup = bank(&rt, alloc);
     for (user, only, from, to, cents, first, code) in ASKED.iter() {
         let asked = info(&rt, alloc, from, to, *cents, *first);
-        assert_eq!(rt; judge_model(&setup, *user, *only, &asked, TODAY), *code);
+        same(&rt, judge_model(&setup, *user, *only, &asked, TODAY), *code);
     }
 }
 
@@ -60,9 +61,10 @@ fn a_change_has_the_first_refusal_that_holds(rt: HostRuntime) {
     let found = model_row(&rt, alloc, 1, Freq::Monthly, None, FIFTH);
     for (user, cancelled, from, to, cents, first, code) in CHANGES.iter() {
         let asked = info(&rt, alloc, from, to, *cents, *first);
-        assert_eq!(rt;
+        same(
+            &rt,
             judge_model_modify(&setup, *user, None, Some(&found), *cancelled, &asked, TODAY),
-            *code
+            *code,
         );
     }
 }
@@ -73,12 +75,17 @@ fn a_recurring_transfer_is_cancelled_once_and_by_an_owner(rt: HostRuntime) {
     let setup = bank(&rt, alloc);
     let found = model_row(&rt, alloc, 1, Freq::Monthly, None, FIFTH);
     for (user, cancelled, code) in [(ALICE, false, 0), (ALICE, true, 10509), (BOB, true, 10518)] {
-        assert_eq!(rt;
+        same(
+            &rt,
             judge_model_cancel(&setup, user, None, Some(&found), cancelled),
-            code
+            code,
         );
     }
-    assert_eq!(rt; judge_model_cancel(&setup, ALICE, None, None, false), 10518);
+    same(
+        &rt,
+        judge_model_cancel(&setup, ALICE, None, None, false),
+        10518,
+    );
 }
 
 /// The recurring transfer with this id makes its next transfer.
@@ -100,6 +107,8 @@ fn the_earliest_date_comes_first(rt: HostRuntime) {
     models.put(model_row(&rt, alloc, 2, Freq::Weekly, Some(2), TOMORROW));
     assert!(rt; models.next_spawn(TODAY).is_none());
     assert!(rt; models.next_spawn(FIFTH) == Some((2, 0)));
+    assert!(rt; models.date_to_make(3, FIFTH) == Some(FIFTH));
+    assert!(rt; models.date_to_make(3, TOMORROW).is_none());
     make_next(&mut models, 2);
     assert!(rt; models.next_spawn(FIFTH) == Some((3, 0)));
     make_next(&mut models, 3);

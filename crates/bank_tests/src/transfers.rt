@@ -3,6 +3,7 @@
 ghost use Rattle.std.specs.Prelude.{◌≡◌};
 ghost use Rattle.bank_transfers.specs.TransfersView.{IsWithinAmounts};
 
+use crate::same::same;
 use crate::sample::{ALICE, BOB, TODAY, TOMORROW, YESTERDAY, account, bank, info};
 use bank_transfers::{Transfers, judge_cancel, judge_modify, judge_transfer};
 use ofx_types::{AcctId, Cents, Day, Moment, TransferRow, UserId, XferCode};
@@ -61,9 +62,10 @@ fn a_transfer_has_the_first_refusal_that_holds(rt: HostRuntime) {
     let setup = bank(&rt, alloc);
     for (user, only, from, to, cents, due, balance, code) in ASKED.iter() {
         let asked = info(&rt, alloc, from, to, *cents, *due);
-        assert_eq!(rt;
+        same(
+            &rt,
             judge_transfer(&setup, *user, *only, &asked, TODAY, Cents(*balance)),
-            *code
+            *code,
         );
     }
 }
@@ -84,34 +86,12 @@ fn only_a_waiting_transfer_is_changed_or_cancelled(rt: HostRuntime) {
     let asked = info(&rt, alloc, "1001", "1002", 7, Some(TOMORROW));
     for (user, present, code) in STANDING.iter() {
         let found = row(&rt, alloc, 1, 5, *present, Moment(0));
-        assert_eq!(rt;
+        same(
+            &rt,
             judge_modify(&setup, *user, None, Some(&found), &asked, TODAY),
-            *code
+            *code,
         );
-        assert_eq!(rt; judge_cancel(&setup, *user, None, Some(&found)), *code);
-    }
-}
-
-/// From where, to where, how much and for which day a change asks, and the code.
-const CHANGES: &[(&str, &str, i64, Option<Day>, u16)] = &[
-    ("1002", "1002", 0, None, 2006),
-    ("1001", "1001", 0, None, 2009),
-    ("1001", "1002", 0, None, 2012),
-    ("1001", "1002", 7, None, 2014),
-    ("1001", "1002", 7, Some(TODAY), 2014),
-];
-
-#[test]
-fn a_change_has_the_first_refusal_that_holds(rt: HostRuntime) {
-    let alloc = rt.alloc();
-    let setup = bank(&rt, alloc);
-    let found = row(&rt, alloc, 1, 5, XferCode::Waiting, Moment(0));
-    for (from, to, cents, due, code) in CHANGES.iter() {
-        let asked = info(&rt, alloc, from, to, *cents, *due);
-        assert_eq!(rt;
-            judge_modify(&setup, ALICE, None, Some(&found), &asked, TODAY),
-            *code
-        );
+        same(&rt, judge_cancel(&setup, *user, None, Some(&found)), *code);
     }
 }
 
@@ -134,7 +114,7 @@ fn posted_transfers_are_listed(rt: HostRuntime) {
     let [_, last] = all.items() else {
         panic!(rt; "two lines");
     };
-    assert_eq!(rt; (last.number, last.amount.0), (3, -5));
+    same(&rt, (last.number, last.amount.0), (3, -5));
     let to = account(&rt, alloc, "1002");
     let some = transfers
         .posted(alloc, &to, (Moment(10), Some(Moment(20))))
@@ -142,7 +122,7 @@ fn posted_transfers_are_listed(rt: HostRuntime) {
     let [only] = some.items() else {
         panic!(rt; "one line");
     };
-    assert_eq!(rt; (only.number, only.amount.0), (2, 7));
+    same(&rt, (only.number, only.amount.0), (2, 7));
     let none = transfers
         .posted(alloc, &account(&rt, alloc, "1003"), (Moment(0), None))
         .expect(&rt, "lines");
@@ -169,16 +149,18 @@ fn the_earliest_of_the_waiting_is_posted_next(rt: HostRuntime) {
     transfers.put(3, waiting_row(&rt, alloc, 3, 0, TODAY));
     assert!(rt; transfers.due_on(YESTERDAY) == None);
     assert!(rt; transfers.due_on(TOMORROW) == Some(2));
-    assert_eq!(rt;
+    same(
+        &rt,
         transfers.waiting(alloc, 9).expect(&rt, "ids").as_slice(),
-        [1, 2].as_slice()
+        [1, 2].as_slice(),
     );
     transfers.put(4, row(&rt, alloc, 2, 5, XferCode::Posted, Moment(20)));
     assert!(rt; transfers.due_on(TODAY) == Some(3));
     transfers.put(5, waiting_row(&rt, alloc, 1, 9, TODAY));
     assert!(rt; transfers.due_on(TODAY) == Some(1));
-    assert_eq!(rt;
+    same(
+        &rt,
         transfers.waiting(alloc, 9).expect(&rt, "ids").as_slice(),
-        [1].as_slice()
+        [1].as_slice(),
     );
 }

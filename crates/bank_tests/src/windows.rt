@@ -2,6 +2,7 @@
 
 ghost use Rattle.std.specs.Prelude.{◌≡◌, ◌<◌};
 
+use crate::same::same;
 use bank_model::Entry;
 use ofx_types::{Change, ObjectId, TrnUid};
 use std::alloc::Global;
@@ -100,9 +101,9 @@ fn what_is_above_a_token_is_lent(rt: HostRuntime) {
 fn the_oldest_entry_leaves_a_full_window(rt: HostRuntime) {
     let mut window = Window::new(rt.alloc(), 2).expect(&rt, "a window");
     for (number, left) in [(3, 0), (4, 0), (6, 3), (9, 4), (10, 6)] {
-        assert_eq!(rt; take_in(&rt, &mut window, number), left);
+        same(&rt, take_in(&rt, &mut window, number), left);
     }
-    assert_eq!(rt; count(&window, 6), 2);
+    same(&rt, count(&window, 6), 2);
 }
 
 /// A window of three entries that has let go of two.
@@ -121,39 +122,7 @@ fn full(rt: &impl Abort, alloc: Global) -> Window
 #[test]
 fn the_number_before_the_last_entries_is_known(rt: HostRuntime) {
     let window = full(&rt, rt.alloc());
-    assert_eq!(rt; window.number_before(0), 30);
-    assert_eq!(rt; window.number_before(1), 11);
-    assert_eq!(rt; window.number_before(2), 9);
-    assert_eq!(rt; window.number_before(3), 5);
-}
-
-/// Whether numbers are those that come after a token, one after another, as far as the newest.
-fn is_run(numbers: &[u64], token: u64, newest: u64) -> bool {
-    let mut last = token;
-    for number in numbers {
-        last = last.wrapping_add(1);
-        if *number != last {
-            return false;
-        }
-    }
-    last == newest
-}
-
-/// Tokens of a window whose ring has its first entries at its end, up to the one with the number 10,000, and those after it at
-/// its front: its floor, around that end, and its newest.
-const AROUND_THE_END: [u64; 6] = [2_500, 9_999, 10_000, 10_001, 12_499, 12_500];
-
-#[test]
-fn a_wide_window_lends_around_the_end_of_its_ring(rt: HostRuntime) {
-    let alloc = rt.alloc();
-    let mut window = Window::new(alloc, 10_000).expect(&rt, "a window");
-    window.reserve(10_000).expect(&rt, "room");
-    for number in 1..=12_500 {
-        take_in(&rt, &mut window, number);
-    }
-    assert_eq!(rt; window.floor(), 2_500);
-    for token in AROUND_THE_END {
-        let lent = reported(&rt, alloc, &window, token);
-        assert!(rt; is_run(lent.as_slice(), token, 12_500));
+    for (last, number) in [(0, 30), (1, 11), (2, 9), (3, 5)] {
+        same(&rt, window.number_before(last), number);
     }
 }

@@ -1,5 +1,6 @@
 //! Headers, written and read, and the offsets of faults.
 
+use crate::same::same;
 use ofx_header::{Header, HeaderFault, read_header, write_header};
 use ofx_types::FileUid;
 use std::alloc::Global;
@@ -42,9 +43,10 @@ fn a_header_is_written(rt: HostRuntime) {
         OLDFILEUID:NONE\r\n\
         NEWFILEUID:F81D4FAE-7DEC-11D0-A765-00A0C91E6BF6\r\n\
         \r\n";
-    assert_eq!(rt;
+    same(
+        &rt,
         written.as_slice(),
-        after_six(&rt, rt.alloc(), tail).as_slice()
+        after_six(&rt, rt.alloc(), tail).as_slice(),
     );
 }
 
@@ -62,10 +64,10 @@ fn a_header_is_read(rt: HostRuntime) {
         NEWFILEUID:NONE\n\
         <OFX>";
     let (header, size) = read_header(bytes).expect(&rt, "a header");
-    assert_eq!(rt; header.version, 102);
-    assert_eq!(rt; uid_of(&header.older), b"a:<b> &\x7f".as_slice());
+    same(&rt, header.version, 102);
+    same(&rt, uid_of(&header.older), b"a:<b> &\x7f".as_slice());
     assert!(rt; header.newer.is_none());
-    assert_eq!(rt; size, bytes.len() - 5);
+    same(&rt, size, bytes.len() - 5);
 }
 
 /// Headers and their first fault.

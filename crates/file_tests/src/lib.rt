@@ -10,6 +10,8 @@ mod headers;
 #[cfg(test)]
 mod records;
 #[cfg(test)]
+mod same;
+#[cfg(test)]
 mod tapes;
 #[cfg(test)]
 mod texts;

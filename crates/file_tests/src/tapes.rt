@@ -1,5 +1,6 @@
 //! Tapes: a body's nodes, the fault of each kind at its offset, and values.
 
+use crate::same::same;
 use ofx_tape::{Node, SHORT_VALUE, Tape, TapeFault, short_value, value_eq, value_into};
 use ofx_types::TextFault;
 use std::process::Abort;
@@ -8,14 +9,14 @@ const BODY: &[u8] =
     b"\r\n<OFX>\r\n<SONRQ>\r\n<USERID>alice\r\n<X.Y>1</X.Y>\r\n</SONRQ>\r\n</OFX>\r\n";
 
 fn assert_node(rt: &impl Abort, node: &Node, element: bool, name: &[u8], value: &[u8]) {
-    assert_eq!(rt; node.element, element);
-    assert_eq!(rt; node.name, name);
-    assert_eq!(rt; node.value, value);
+    same(rt, node.element, element);
+    same(rt, node.name, name);
+    same(rt, node.value, value);
 }
 
 fn assert_span(rt: &impl Abort, node: &Node, at: usize, after: usize) {
-    assert_eq!(rt; node.at, at);
-    assert_eq!(rt; node.after, after);
+    same(rt, node.at, at);
+    same(rt, node.after, after);
 }
 
 #[test]
@@ -75,7 +76,7 @@ fn values_are_trimmed_and_decoded_once(rt: HostRuntime) {
     assert!(rt; value_eq(b"\r\n &amp;lt;&lt;&AMP;\t", b"&lt;<&AMP;"));
     assert!(rt; !value_eq(b"a", b"ab"));
     let text = value_into(rt.alloc(), b" a&gt;b\r\n", 3).expect(&rt, "three bytes");
-    assert_eq!(rt; text.as_bytes(), b"a>b".as_slice());
+    same(&rt, text.as_bytes(), b"a>b".as_slice());
     assert!(rt; value_into(rt.alloc(), b"a&gt;b", 2).err() == Some(TextFault::TooLong(3)));
     assert!(rt; value_into(rt.alloc(), b"&gt;\x02", 9).err() == Some(TextFault::BadByte(1)));
 }
@@ -92,7 +93,7 @@ fn short_values_have_64_bytes(rt: HostRuntime) {
         raw.extend_from_slice(b"a&gt;").expect(&rt, "room");
     }
     let value = short_value(raw.as_slice(), &mut room).expect(&rt, "64 bytes");
-    assert_eq!(rt; value.len(), 64);
+    same(&rt, value.len(), 64);
     raw.push(b'a').expect(&rt, "room");
     assert!(rt; short_value(raw.as_slice(), &mut room).is_none());
     assert!(rt; short_value(&[b'a'; 65], &mut room).is_none());

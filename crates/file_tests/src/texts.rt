@@ -1,9 +1,7 @@
-//! Texts and uids at their edges, and a copied file.
+//! Texts and uids at their edges, and their copies.
 
-use ofx_types::{
-    AcctKind, AcctName, Ask, Duplicate, FileUid, Lines, Period, RequestFile, Sequence, Text,
-    TextFault, TrnUid,
-};
+use crate::same::same;
+use ofx_types::{Duplicate, FileUid, Text, TextFault, TrnUid};
 use std::alloc::Global;
 use std::process::Abort;
 
@@ -19,7 +17,7 @@ fn texts_are_trimmed(rt: HostRuntime) {
         (b" \r\n".as_slice(), b"".as_slice()),
     ] {
         let copy = text(&rt, rt.alloc(), bytes).copy().expect(&rt, "a copy");
-        assert_eq!(rt; copy.as_bytes(), wanted);
+        same(&rt, copy.as_bytes(), wanted);
         assert!(rt; copy == text(&rt, rt.alloc(), wanted));
     }
 }
@@ -63,50 +61,11 @@ fn uids_have_1_to_36_bytes(rt: HostRuntime) {
         assert!(rt; FileUid::new(bytes).err() == *of_file);
     }
     let own = TrnUid::new(LONGEST).expect(&rt, "36 bytes");
-    assert_eq!(rt; own.copy().expect(&rt, "a copy").as_bytes(), LONGEST);
+    same(&rt, own.copy().expect(&rt, "a copy").as_bytes(), LONGEST);
     let file = FileUid::new(b" none\t").expect(&rt, "small letters");
-    assert_eq!(rt;
+    same(
+        &rt,
         file.copy().expect(&rt, "a copy").as_bytes(),
-        b"none".as_slice()
+        b"none".as_slice(),
     );
-}
-
-fn statement(rt: &impl Abort, alloc: Global) -> Ask {
-    let account = AcctName {
-        bank: text(rt, alloc, b"121099999"),
-        number: text(rt, alloc, b"1001"),
-        kind: AcctKind::Checking,
-    };
-    let period = Period {
-        start: None,
-        end: None,
-        include: true,
-    };
-    let trnuid = TrnUid::new(b"s1").expect(rt, "a uid");
-    Ask::Statement(trnuid, account, Some(period))
-}
-
-#[test]
-fn a_request_file_is_copied(rt: HostRuntime) {
-    let alloc = rt.alloc();
-    let mut asks = Sequence::new(alloc);
-    asks.push(statement(&rt, alloc)).expect(&rt, "room");
-    let file = RequestFile {
-        version: 160,
-        older: None,
-        newer: FileUid::new(b"u1").ok(),
-        user: text(&rt, alloc, b"alice"),
-        pass: text(&rt, alloc, b"secret"),
-        asks,
-    };
-    let copy = file.copy().expect(&rt, "a copy");
-    assert_eq!(rt; copy.version, 160);
-    assert!(rt; copy.user == file.user);
-    let [Ask::Statement(trnuid, account, Some(_))] = copy.asks.items() else {
-        panic!(rt; "a statement");
-    };
-    assert_eq!(rt; trnuid.as_bytes(), b"s1".as_slice());
-    assert_eq!(rt; account.number.as_bytes(), b"1001".as_slice());
-    let none: Lines = Sequence::new(alloc);
-    assert!(rt; none.into_vec().is_empty());
 }

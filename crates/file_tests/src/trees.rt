@@ -2,6 +2,7 @@
 
 ghost use Rattle.ofx_tree.specs.Root.{AreRead};
 
+use crate::same::same;
 use ofx_tape::Tape;
 use ofx_tree::{Cursor, Sheet, TreeFault};
 use ofx_types::{Cents, Moment, Text};
@@ -58,7 +59,7 @@ fn writes_lines(rt: HostRuntime) {
     sheet.number(b"TOKEN", 1).expect(&rt, "room");
     sheet.number(b"TOKEN", 2).expect(&rt, "room");
     sheet.end(b"OFX").expect(&rt, "room");
-    assert_eq!(rt; sheet.into_bytes().as_slice(), BODY.as_slice());
+    same(&rt, sheet.into_bytes().as_slice(), BODY.as_slice());
 }
 
 /// What is read of a body.
@@ -72,17 +73,22 @@ fn tape<'a>(rt: &impl Abort, alloc: Global, body: &'a [u8]) -> Tape<'a>
 fn reads_children(rt: HostRuntime) {
     let tape = tape(&rt, rt.alloc(), BODY);
     let ofx = Cursor::root(&tape);
-    assert_eq!(rt; ofx.name(), b"OFX".as_slice());
+    same(&rt, ofx.name(), b"OFX".as_slice());
     let mut last = 0;
     for child in ofx.children() {
         last = child.offset();
     }
-    assert_eq!(rt; last, 135);
+    same(&rt, last, 135);
     let status = ofx.one(b"STATUS").expect(&rt, "the status");
-    assert_eq!(rt; status.offset(), 7);
     let code = status.one(b"CODE").expect(&rt, "the code");
     assert!(rt; code.value_eq(b"2000"));
     assert!(rt; ofx.maybe(b"CODE").expect(&rt, "no code").is_none());
+    same(&rt, status.one(b"MEMO").err(), Some(TreeFault::Missing(7)));
+    same(
+        &rt,
+        ofx.maybe(b"TOKEN").err(),
+        Some(TreeFault::Repeated(135)),
+    );
 }
 
 #[test]
@@ -90,24 +96,12 @@ fn reads_texts_and_flags(rt: HostRuntime) {
     let tape = tape(&rt, rt.alloc(), BODY);
     let ofx = Cursor::root(&tape);
     let memo = ofx.text(rt.alloc(), b"MEMO", 10).expect(&rt, "the memo");
-    assert_eq!(rt; memo.as_bytes(), b"rent & tea".as_slice());
-    assert_eq!(rt; ofx.flag(b"INCLUDE"), Ok(true));
-    assert_eq!(rt; ofx.flag(b"REFRESH"), Ok(false));
-}
-
-#[test]
-fn finds_faults(rt: HostRuntime) {
-    let tape = tape(&rt, rt.alloc(), BODY);
-    let ofx = Cursor::root(&tape);
-    let status = ofx.one(b"STATUS").expect(&rt, "the status");
-    for (found, fault) in [
-        (status.one(b"MEMO").err(), TreeFault::Missing(7)),
-        (ofx.maybe(b"TOKEN").err(), TreeFault::Repeated(135)),
-        (ofx.flag(b"MEMO").err(), TreeFault::Value(40)),
-        (ofx.text(rt.alloc(), b"MEMO", 9).err(), TreeFault::Value(40)),
-    ] {
-        assert_eq!(rt; found, Some(fault));
-    }
+    same(&rt, memo.as_bytes(), b"rent & tea".as_slice());
+    let long = ofx.text(rt.alloc(), b"MEMO", 9).err();
+    same(&rt, long, Some(TreeFault::Value(40)));
+    same(&rt, ofx.flag(b"INCLUDE"), Ok(true));
+    same(&rt, ofx.flag(b"REFRESH"), Ok(false));
+    same(&rt, ofx.flag(b"MEMO"), Err(TreeFault::Value(40)));
 }
 
 #[test]
@@ -115,32 +109,16 @@ fn reads_amounts_dates_and_numbers(rt: HostRuntime) {
     let tape = tape(&rt, rt.alloc(), VALUES);
     let ofx = Cursor::root(&tape);
     let noon = Moment(1_706_702_400);
-    assert_eq!(rt; ofx.amount(b"TRNAMT"), Ok(Cents(-1250)));
-    assert_eq!(rt; ofx.moment(b"DTDUE"), Ok(noon));
-    assert_eq!(rt; ofx.maybe_moment(b"DTDUE"), Ok(Some(noon)));
-    assert_eq!(rt; ofx.maybe_moment(b"DTPOSTED"), Ok(None));
-    assert_eq!(rt; ofx.number(b"TOKEN", 4), Ok(12));
-}
-
-#[test]
-fn finds_faults_of_values(rt: HostRuntime) {
-    let tape = tape(&rt, rt.alloc(), VALUES);
-    let ofx = Cursor::root(&tape);
-    for (found, fault) in [
-        (ofx.amount(b"BALAMT").err(), TreeFault::Missing(0)),
-        (ofx.amount(b"DTEND").err(), TreeFault::Repeated(104)),
-        (ofx.amount(b"DTDUE").err(), TreeFault::Value(22)),
-        (ofx.moment(b"DTPOSTED").err(), TreeFault::Missing(0)),
-        (ofx.moment(b"DTEND").err(), TreeFault::Repeated(104)),
-        (ofx.moment(b"DTSTART").err(), TreeFault::Value(56)),
-        (ofx.maybe_moment(b"DTEND").err(), TreeFault::Repeated(104)),
-        (ofx.maybe_moment(b"DTSTART").err(), TreeFault::Value(56)),
-        (ofx.number(b"CODE", 10).err(), TreeFault::Missing(0)),
-        (ofx.number(b"DTEND", 10).err(), TreeFault::Repeated(104)),
-        (ofx.number(b"TOKEN", 3).err(), TreeFault::Value(74)),
-    ] {
-        assert_eq!(rt; found, Some(fault));
-    }
+    same(&rt, ofx.amount(b"TRNAMT"), Ok(Cents(-1250)));
+    same(&rt, ofx.amount(b"DTDUE"), Err(TreeFault::Value(22)));
+    same(&rt, ofx.moment(b"DTDUE"), Ok(noon));
+    same(&rt, ofx.moment(b"DTEND"), Err(TreeFault::Repeated(104)));
+    same(&rt, ofx.maybe_moment(b"DTDUE"), Ok(Some(noon)));
+    same(&rt, ofx.maybe_moment(b"DTPOSTED"), Ok(None));
+    let fault = TreeFault::Value(56);
+    same(&rt, ofx.maybe_moment(b"DTSTART"), Err(fault));
+    same(&rt, ofx.number(b"TOKEN", 4), Ok(12));
+    same(&rt, ofx.number(b"TOKEN", 3), Err(TreeFault::Value(74)));
 }
 
 #[test]
@@ -148,33 +126,19 @@ fn finds_one_of_three(rt: HostRuntime) {
     let body = b"<OFX><INTRARS><MEMO>a</INTRARS><INTRACANRS><MEMO>b</INTRACANRS></OFX>";
     let tape = tape(&rt, rt.alloc(), body);
     let ofx = Cursor::root(&tape);
-    let only = ofx
-        .one_of(b"INTRARQ", b"INTRACANRS", b"INTRAMODRS")
-        .expect(&rt, "one of three");
-    assert_eq!(rt; only.offset(), 31);
-    assert_eq!(rt;
-        ofx.one_of(b"INTRACANRS", b"INTRAMODRS", b"INTRARS").err(),
-        Some(TreeFault::Repeated(31))
-    );
-    assert_eq!(rt;
-        only.one_of(b"INTRARS", b"INTRAMODRS", b"INTRACANRS").err(),
-        Some(TreeFault::Missing(31))
-    );
+    let only = ofx.one_of(b"INTRARQ", b"INTRACANRS", b"INTRAMODRS");
+    same(&rt, only.expect(&rt, "one of three").offset(), 31);
+    let two = ofx.one_of(b"INTRACANRS", b"INTRAMODRS", b"INTRARS");
+    same(&rt, two.err(), Some(TreeFault::Repeated(31)));
 }
 
 #[test]
 fn reads_ids(rt: HostRuntime) {
-    let body = b"<OFX><SRVRTID>0012<TOKEN>12345678901<FITID>x</OFX>";
+    let body = b"<OFX><SRVRTID>0012<FITID>x</OFX>";
     let tape = tape(&rt, rt.alloc(), body);
     let ofx = Cursor::root(&tape);
-    for (found, wanted) in [
-        (ofx.id(b"SRVRTID"), Ok(12)),
-        (ofx.maybe_id(b"SRVRTID"), Ok(12)),
-        (ofx.id(b"TOKEN"), Ok(0)),
-        (ofx.id(b"FITID"), Ok(0)),
-        (ofx.maybe_id(b"RECSRVRTID"), Ok(0)),
-        (ofx.id(b"RECSRVRTID"), Err(TreeFault::Missing(0))),
-    ] {
-        assert_eq!(rt; found, wanted);
-    }
+    same(&rt, ofx.id(b"SRVRTID"), Ok(12));
+    same(&rt, ofx.maybe_id(b"FITID"), Ok(0));
+    let missing = Err(TreeFault::Missing(0));
+    same(&rt, ofx.id(b"RECSRVRTID"), missing);
 }

@@ -2,6 +2,7 @@
 
 ghost use Rattle.std.specs.Prelude.{◌≡◌, false, is_some};
 
+use crate::same::same;
 use crate::sample::{keys, request_with, setup};
 use bank_core::Book;
 use bank_model::{Event, Printer};
@@ -44,25 +45,15 @@ fn after_a_letter(rt: &impl Abort, alloc: Global, rec: &[u8]) -> MemKeeper
 }
 
 #[test]
-fn an_empty_keeper_opens_the_bank(rt: HostRuntime) {
-    let alloc = rt.alloc();
-    let mut keeper = MemKeeper::new(alloc);
-    let opened = reopen(alloc, keys(&rt), &mut keeper, setup(&rt, alloc), NoPrinter);
-    let (book, accounts) = opened.expect(&rt, "a bank");
-    assert_eq!(rt; book.next_number(), Some(1));
-    assert_eq!(rt; accounts.len(), 2);
-    assert_eq!(rt; accounts[1].number().0, 1);
-    assert_eq!(rt; accounts[1].balance().0, 5_000);
-}
-
-#[test]
 fn what_was_kept_has_happened(rt: HostRuntime) {
     let alloc = rt.alloc();
     let mut keeper = after_a_letter(&rt, alloc, LETTER);
     let opened = reopen(alloc, keys(&rt), &mut keeper, setup(&rt, alloc), NoPrinter);
     let (book, accounts) = opened.expect(&rt, "a bank");
-    assert_eq!(rt; book.next_number(), Some(3));
-    assert_eq!(rt; accounts.len(), 2);
+    same(&rt, book.next_number(), Some(3));
+    same(&rt, accounts.len(), 2);
+    same(&rt, accounts[1].number().0, 1);
+    same(&rt, accounts[1].balance().0, 5_000);
 }
 
 /// Why no bank opens from records of which the first is a letter.
@@ -86,7 +77,7 @@ const STRANGE: &[(&[u8], OpenFault)] = &[
 fn the_record_that_stops_a_bank_is_reported(rt: HostRuntime) {
     for case in STRANGE.iter() {
         let (rec, fault) = *case;
-        assert_eq!(rt; fault_after_a_letter(&rt, rt.alloc(), rec), Some(fault));
+        same(&rt, fault_after_a_letter(&rt, rt.alloc(), rec), Some(fault));
     }
 }
 
@@ -97,8 +88,8 @@ fn a_second_record_that_cannot_be_fetched_is_read(rt: HostRuntime) {
     keeper.append(LETTER).expect(&rt, "room");
     keeper.append(LETTER).expect(&rt, "room");
     let fault = reopen(alloc, keys(&rt), &mut keeper, setup(&rt, alloc), NoPrinter).err();
-    assert_eq!(rt; fault, Some(OpenFault::Read));
-    assert_eq!(rt; keeper.faults(), 1);
+    same(&rt, fault, Some(OpenFault::Read));
+    same(&rt, keeper.faults(), 1);
 }
 
 /// Changes of the sample's request, which asks for a statement of 1001, and the accounts that it names then: with a transfer

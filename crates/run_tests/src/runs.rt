@@ -1,18 +1,16 @@
-//! Whole runs over the memory forms: calls that fail one at a time, calls of one byte, and words of no command.
+//! Whole runs over the memory forms: calls that fail one at a time, and calls of one byte.
 
 ghost use Rattle.std.specs.Prelude.{◌<◌};
 
 mod again;
-mod due;
 mod letters;
-mod moments;
-mod polls;
 mod records;
 
-use crate::sample::{ROOM, joined, keys, replies, requests, sink, source, spelled, texts};
+use crate::same::same;
+use crate::sample::{ROOM, keys, replies, requests, sink, source, texts};
 use bank_samples::sample::SETUP;
 use bank_session::{answer_files, answer_told};
-use ofx_ports::{Clock, Keeper, MemClock, MemKeeper, MemSink, MemSource};
+use ofx_ports::{Keeper, MemClock, MemKeeper, MemSink, MemSource};
 use ofx_types::{Moment, Note, Status, Told};
 use std::alloc::Global;
 use std::process::Abort;
@@ -56,35 +54,6 @@ fn reported_over(
 /// What was written to a sink.
 fn written_to(rt: &impl Abort, alloc: Global, out: &MemSink) -> Vec<u8> {
     out.held().to_vec(alloc).expect(rt, "room")
-}
-
-/// What is written for these frames at the moments of the clock, in a bank without records. Nothing where they aren't all
-/// answered.
-fn written_by_clock(
-    rt: &impl Abort,
-    alloc: Global,
-    frames: &[&str],
-    clock: &mut MemClock,
-) -> String {
-    let mut keeper = MemKeeper::new(alloc);
-    written_over(rt, alloc, frames, &mut keeper, clock)
-}
-
-/// The same over the records of a keeper.
-fn written_over(
-    rt: &impl Abort,
-    alloc: Global,
-    frames: &[&str],
-    keeper: &mut MemKeeper,
-    clock: &mut MemClock,
-) -> String {
-    let input = source(rt, alloc, joined(rt, alloc, frames).as_bytes());
-    let out = sink(rt, alloc);
-    let (reported, written) = reported_over(rt, alloc, &BY_CLOCK, input, out, keeper, clock);
-    if reported.status != Status(0) {
-        return String::new(alloc);
-    }
-    spelled(rt, alloc, &written)
 }
 
 /// The status of a run at the sample's moment, and what it wrote.
@@ -164,9 +133,9 @@ fn a_read_that_fails_stops_the_run(rt: HostRuntime) {
         let setup = failing_source(&rt, alloc, SETUP, 100, &[of_setup]);
         let input = failing_source(&rt, alloc, &bytes, 200, &[of_input]);
         let (status, written) = run(&rt, alloc, setup, input, sink(&rt, alloc));
-        assert_eq!(rt; status, Status(expected), "at read {of_input}");
-        assert_eq!(rt; written.len(), length, "at read {of_input}");
-        assert!(rt; whole.starts_with(&written), "at read {of_input}");
+        let found = (of_input, status, written.len());
+        same(&rt, found, (of_input, Status(expected), length));
+        assert!(rt; whole.starts_with(&written));
     }
 }
 
@@ -192,9 +161,9 @@ fn a_write_that_fails_stops_the_run(rt: HostRuntime) {
         let input = source(&rt, alloc, &bytes);
         let out = failing_sink(&rt, alloc, 300, &[call]);
         let (status, written) = run(&rt, alloc, setup, input, out);
-        assert_eq!(rt; status, Status(expected), "at write {call}");
-        assert_eq!(rt; written.len(), length, "at write {call}");
-        assert!(rt; whole.starts_with(&written), "at write {call}");
+        let found = (call, status, written.len());
+        same(&rt, found, (call, Status(expected), length));
+        assert!(rt; whole.starts_with(&written));
     }
 }
 
@@ -206,42 +175,6 @@ fn single_bytes_are_answered_the_same(rt: HostRuntime) {
     let input = failing_source(&rt, alloc, &bytes, 1, &[]);
     let out = failing_sink(&rt, alloc, 1, &[]);
     let (status, written) = run(&rt, alloc, setup, input, out);
-    assert_eq!(rt; status, Status(0));
-    assert_eq!(rt; written, replies(&rt, alloc, &NAMES));
-}
-
-/// Words of no command: one is missing, is too many, or is no subject.
-const NO_COMMANDS: &[&[&str]] = &[
-    &["answer", "setup"],
-    &["due", "setup", "-", "-"],
-    &["mail", "setup", "-", "bob", ""],
-];
-
-#[test]
-fn words_of_no_command_touch_nothing(rt: HostRuntime) {
-    let alloc = rt.alloc();
-    let mut setup = source(&rt, alloc, SETUP);
-    let mut input = source(&rt, alloc, b"DUE\n");
-    let mut out = sink(&rt, alloc);
-    let mut clock = MemClock::new(alloc, &[Moment(0), Moment(1)]).expect(&rt, "a clock");
-    for arguments in NO_COMMANDS.iter() {
-        let texts = texts(&rt, alloc, *arguments);
-        let mut keeper = MemKeeper::new(alloc);
-        let reported = answer_told(
-            alloc,
-            keys(&rt),
-            &texts,
-            &mut setup,
-            &mut input,
-            &mut out,
-            &mut keeper,
-            &mut clock,
-        );
-        assert_eq!(rt; reported, end(2, Note::Plain));
-        assert_eq!(rt; keeper.calls(), 0);
-    }
-    assert_eq!(rt; setup.calls(), 0);
-    assert_eq!(rt; input.calls(), 0);
-    assert_eq!(rt; out.calls(), 0);
-    assert_eq!(rt; clock.now(), Moment(0));
+    same(&rt, status, Status(0));
+    same(&rt, written, replies(&rt, alloc, &NAMES));
 }

@@ -52,11 +52,6 @@ pub fn reply_with(rt: &impl Abort, alloc: Global, changes: &[(&str, &str)]) -> S
     sample::reply_with(alloc, changes).expect(rt, "a reply")
 }
 
-/// The sample's reply to the transaction of that name at another moment, in 14 digits.
-pub fn reply_at(rt: &impl Abort, alloc: Global, name: &[u8; 2], moment: &str) -> String {
-    sample::reply_at(alloc, name, moment).expect(rt, "a reply")
-}
-
 /// A source of these bytes.
 pub fn source(rt: &impl Abort, alloc: Global, bytes: &[u8]) -> MemSource {
     MemSource::new(alloc, bytes).expect(rt, "a source")

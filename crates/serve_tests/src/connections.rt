@@ -1,9 +1,10 @@
-//! Connections over links in memory: requests sent ahead, cut and refused, calls that fail one at a time, and calls of one byte.
+//! Connections over links in memory: requests that are cut and refused, calls that fail one at a time, and calls of one byte.
 
 mod counters;
 mod office;
 
-use crate::sample::{self, put, request, request_with};
+use crate::same::same;
+use crate::sample::{self, put, request};
 use bank_connection::{ServeError, Served, serve_link};
 use office::BookOffice;
 use ofx_ports::{MemClock, MemLink, MemSink, MemSource};
@@ -24,14 +25,8 @@ const FRAME_HEAD: usize = 9;
 type Outcome = (Result<Served, ServeError>, Vec<u8>);
 
 /// What becomes of a link, over a bank of the sample's setup whose clock is at noon.
-fn served_over(
-    rt: &impl Abort,
-    alloc: Global,
-    incoming: MemSource,
-    outgoing: MemSink,
-    failing: u64,
-) -> Outcome {
-    let mut office = BookOffice::open(rt, alloc, failing);
+fn served_over(rt: &impl Abort, alloc: Global, incoming: MemSource, outgoing: MemSink) -> Outcome {
+    let mut office = BookOffice::open(rt, alloc);
     served_by(rt, alloc, &mut office, incoming, outgoing)
 }
 
@@ -66,13 +61,7 @@ fn sink(rt: &impl Abort, alloc: Global, room: usize) -> MemSink {
 
 /// What becomes of a link whose peer sends these bytes.
 fn served(rt: &impl Abort, alloc: Global, bytes: &[u8]) -> Outcome {
-    served_over(
-        rt,
-        alloc,
-        source(rt, alloc, bytes),
-        sink(rt, alloc, ROOM),
-        0,
-    )
+    served_over(rt, alloc, source(rt, alloc, bytes), sink(rt, alloc, ROOM))
 }
 
 /// A file after the head of a request of this version.
@@ -158,72 +147,59 @@ fn sample_replies(rt: &impl Abort, alloc: Global, count: usize) -> Vec<u8> {
     times(rt, alloc, &sample_reply(rt, alloc, "keep-alive"), count)
 }
 
-#[test]
-fn requests_sent_ahead_are_answered_in_order(rt: HostRuntime) {
-    let alloc = rt.alloc();
-    let (end, written) = served(&rt, alloc, &sample_times(&rt, alloc, 2));
-    assert_eq!(rt; end, Ok(Served::End(2)));
-    assert!(rt; written == sample_replies(&rt, alloc, 2));
-}
-
-#[test]
-fn http_1_0_is_answered_once(rt: HostRuntime) {
-    let alloc = rt.alloc();
-    let mut bytes = sample_request(&rt, alloc, "1.0");
-    put(&rt, &mut bytes, b"POST");
-    let (end, written) = served(&rt, alloc, &bytes);
-    assert_eq!(rt; end, Ok(Served::Closed(1)));
-    assert!(rt; written == sample_reply(&rt, alloc, "close"));
-}
+/// Heads that are refused, and the first line and the body of the reply.
+const REFUSED: &[(&str, &str, &str)] = &[
+    ("\0", "400 Bad Request", "bad head\n"),
+    (
+        "GET /ofx HTTP/1.1\r\n\r\n",
+        "405 Method Not Allowed\r\nAllow: POST",
+        "post only\n",
+    ),
+    (
+        "GET /x HTTP/1.1\r\n\r\n",
+        "405 Method Not Allowed\r\nAllow: POST",
+        "post only\n",
+    ),
+    ("POST /x HTTP/1.1\r\n\r\n", "404 Not Found", "not found\n"),
+    (
+        "POST /ofx HTTP/1.1\r\n\r\n",
+        "411 Length Required",
+        "length needed\n",
+    ),
+    (
+        "POST /ofx HTTP/1.1\r\nContent-Length: 262145\r\n\r\n",
+        "413 Payload Too Large",
+        "too large\n",
+    ),
+];
 
 #[test]
 fn heads_are_refused_in_their_order(rt: HostRuntime) {
     let alloc = rt.alloc();
-    for (head, line, body) in [
-        ("\0", "400 Bad Request", "bad head\n"),
-        (
-            "GET /ofx HTTP/1.1\r\n\r\n",
-            "405 Method Not Allowed\r\nAllow: POST",
-            "post only\n",
-        ),
-        (
-            "GET /x HTTP/1.1\r\n\r\n",
-            "405 Method Not Allowed\r\nAllow: POST",
-            "post only\n",
-        ),
-        ("POST /x HTTP/1.1\r\n\r\n", "404 Not Found", "not found\n"),
-        (
-            "POST /ofx HTTP/1.1\r\n\r\n",
-            "411 Length Required",
-            "length needed\n",
-        ),
-        (
-            "POST /ofx HTTP/1.1\r\nContent-Length: 262145\r\n\r\n",
-            "413 Payload Too Large",
-            "too large\n",
-        ),
-    ] {
+    for (head, line, body) in REFUSED {
         let (end, written) = served(&rt, alloc, head.as_bytes());
-        assert_eq!(rt; end, Ok(Served::Closed(1)));
+        same(&rt, end, Ok(Served::Closed(1)));
         assert!(rt; written == reply(&rt, alloc, line, "text/plain", body.as_bytes(), "close"));
     }
+}
+
+/// How a connection ends whose peer sends these bytes.
+fn end_of(rt: &impl Abort, alloc: Global, bytes: &[u8]) -> Result<Served, ServeError> {
+    let (end, _written) = served(rt, alloc, bytes);
+    end
 }
 
 #[test]
 fn a_link_ends_between_requests_or_within_one(rt: HostRuntime) {
     let alloc = rt.alloc();
     let bytes = sample_times(&rt, alloc, 1);
-    let short = bytes.len().saturating_sub(1);
-    for (size, end) in [
-        (0, Ok(Served::End(0))),
-        (1, Err(ServeError::Cut(1))),
-        (5, Err(ServeError::Cut(5))),
-        (short, Err(ServeError::Cut(short as u64))),
-        (bytes.len(), Ok(Served::End(1))),
-    ] {
-        let (reported, _written) = served(&rt, alloc, bytes.get(..size).unwrap_or(b""));
-        assert_eq!(rt; reported, end);
+    same(&rt, end_of(&rt, alloc, b""), Ok(Served::End(0)));
+    for size in [1, 5, bytes.len().saturating_sub(1)] {
+        let part = bytes.get(..size).unwrap_or(b"");
+        let cut = ServeError::Cut(size as u64);
+        same(&rt, end_of(&rt, alloc, part), Err(cut));
     }
+    same(&rt, end_of(&rt, alloc, &bytes), Ok(Served::End(1)));
 }
 
 #[test]
@@ -232,8 +208,8 @@ fn calls_of_one_byte_change_nothing(rt: HostRuntime) {
     let bytes = sample_times(&rt, alloc, 2);
     let incoming = MemSource::failing(alloc, &bytes, 1, &[]).expect(&rt, "a source");
     let outgoing = MemSink::failing(alloc, ROOM, 1, &[]).expect(&rt, "a sink");
-    let (end, written) = served_over(&rt, alloc, incoming, outgoing, 0);
-    assert_eq!(rt; end, Ok(Served::End(2)));
+    let (end, written) = served_over(&rt, alloc, incoming, outgoing);
+    same(&rt, end, Ok(Served::End(2)));
     assert!(rt; written == sample_replies(&rt, alloc, 2));
 }
 
@@ -245,8 +221,8 @@ fn each_failing_read_ends_the_connection(rt: HostRuntime) {
     // Nine reads give the requests, and one more shows the end.
     for number in 1..11 {
         let incoming = MemSource::failing(alloc, &bytes, 200, &[number]).expect(&rt, "a source");
-        let (end, written) = served_over(&rt, alloc, incoming, sink(&rt, alloc, ROOM), 0);
-        assert_eq!(rt; end, Err(ServeError::ReadFault));
+        let (end, written) = served_over(&rt, alloc, incoming, sink(&rt, alloc, ROOM));
+        same(&rt, end, Err(ServeError::ReadFault));
         assert!(rt; text.starts_with(&written));
     }
 }
@@ -260,12 +236,13 @@ fn each_failing_write_ends_the_connection(rt: HostRuntime) {
     // Three writes for each reply.
     for number in 1..10 {
         let outgoing = MemSink::failing(alloc, ROOM, 400, &[number]).expect(&rt, "a sink");
-        let (end, written) = served_over(&rt, alloc, source(&rt, alloc, &bytes), outgoing, 0);
-        assert_eq!(rt; end, Err(ServeError::WriteFault));
+        let (end, written) = served_over(&rt, alloc, source(&rt, alloc, &bytes), outgoing);
+        same(&rt, end, Err(ServeError::WriteFault));
         assert!(rt; text.starts_with(&written));
-        assert_eq!(rt;
+        same(
+            &rt,
             written.len() as u64,
-            (number - 1) / 3 * size + (number - 1) % 3 * 400
+            (number - 1) / 3 * size + (number - 1) % 3 * 400,
         );
     }
 }
@@ -275,8 +252,8 @@ fn the_hundredth_reply_is_the_last(rt: HostRuntime) {
     let alloc = rt.alloc();
     let bytes = times(&rt, alloc, &posted(&rt, alloc, "1.1", b"X"), 101);
     let outgoing = sink(&rt, alloc, 20_000);
-    let (end, written) = served_over(&rt, alloc, source(&rt, alloc, &bytes), outgoing, 0);
-    assert_eq!(rt; end, Ok(Served::Closed(100)));
+    let (end, written) = served_over(&rt, alloc, source(&rt, alloc, &bytes), outgoing);
+    same(&rt, end, Ok(Served::Closed(100)));
     let last = reply(
         &rt,
         alloc,
@@ -286,31 +263,4 @@ fn the_hundredth_reply_is_the_last(rt: HostRuntime) {
         "close",
     );
     assert!(rt; written.ends_with(&last));
-}
-
-#[test]
-fn a_failed_signon_is_answered_by_itself(rt: HostRuntime) {
-    let alloc = rt.alloc();
-    let request = request_with(&rt, alloc, &[("<USERPASS>secret", "<USERPASS>x")]);
-    let file = request
-        .as_str()
-        .split_once('\n')
-        .map_or("", |parts| parts.1);
-    let (end, written) = served(&rt, alloc, &posted(&rt, alloc, "1.1", file.as_bytes()));
-    assert_eq!(rt; end, Ok(Served::End(1)));
-    let text = str::from_utf8(&written).expect(&rt, "a text");
-    assert!(rt; text.starts_with("HTTP/1.1 200 OK\r\n"));
-    assert!(rt; text.contains("<CODE>15500\r\n"));
-    assert!(rt; !text.contains("STMTTRNRS"));
-}
-
-#[test]
-fn a_failing_keeper_is_reported_and_the_next_request_is_answered(rt: HostRuntime) {
-    let alloc = rt.alloc();
-    let incoming = source(&rt, alloc, &sample_times(&rt, alloc, 2));
-    let (end, written) = served_over(&rt, alloc, incoming, sink(&rt, alloc, ROOM), 1);
-    assert_eq!(rt; end, Ok(Served::End(2)));
-    let mut text = keeper_failed(&rt, alloc);
-    put(&rt, &mut text, &sample_reply(&rt, alloc, "keep-alive"));
-    assert!(rt; written == text);
 }

@@ -6,6 +6,8 @@ mod connections;
 #[cfg(test)]
 mod one_thread;
 #[cfg(test)]
+mod same;
+#[cfg(test)]
 mod sample;
 #[cfg(test)]
 mod servers;

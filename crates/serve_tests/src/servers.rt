@@ -8,6 +8,7 @@ ghost use Rattle.std.specs.Prelude.{◌≡◌, false, is_some};
 
 use crate::connections::{at_noon, posted, sample_reply, sample_request, sample_times};
 use crate::one_thread::written_over;
+use crate::same::same;
 use crate::sample::{keys, put, request_with, setup, texts};
 use bank_connection::Served;
 use bank_samples::sample::SETUP;
@@ -60,10 +61,8 @@ const BY_BOB: [(&str, &str); 4] = [
 pub fn opened_from<K: Keeper>(rt: &impl Abort, alloc: Global, keeper: K) -> Opened<K, OfxPrinter>
     requires { K.unsettled keeper ≡ false }
 {
-    match Opened::open(alloc, keys(rt), keeper, setup(rt, alloc), OfxPrinter) {
-        Ok(opened) => opened,
-        Err((fault, _keeper)) => panic!(rt; "no bank: {fault:?}"),
-    }
+    let opened = Opened::open(alloc, keys(rt), keeper, setup(rt, alloc), OfxPrinter);
+    opened.ok().expect(rt, "a bank")
 }
 
 /// How a link is served by a bank that has opened and whose clock is at noon.
@@ -148,7 +147,7 @@ fn a_bank_serves_a_connection_to_its_end(rt: HostRuntime) {
     let mut link = link_of(&rt, alloc, &sample_times(&rt, alloc, 2));
     let opened = opened_from(&rt, alloc, MemKeeper::new(alloc));
     let served = connected::<Brand, _>(&rt, alloc, opened, &mut link);
-    assert_eq!(rt; served, Served::End(2));
+    same(&rt, served, Served::End(2));
     let mut replies = sample_reply(&rt, alloc, "keep-alive");
     put(&rt, &mut replies, &sample_reply(&rt, alloc, "keep-alive"));
     assert!(rt; link.held() == replies.as_slice());
@@ -157,10 +156,12 @@ fn a_bank_serves_a_connection_to_its_end(rt: HostRuntime) {
 #[test]
 fn http_1_0_is_the_last_request_of_a_connection(rt: HostRuntime) {
     let alloc = rt.alloc();
-    let mut link = link_of(&rt, alloc, &sample_request(&rt, alloc, "1.0"));
+    let mut bytes = sample_request(&rt, alloc, "1.0");
+    put(&rt, &mut bytes, b"POST");
+    let mut link = link_of(&rt, alloc, &bytes);
     let opened = opened_from(&rt, alloc, MemKeeper::new(alloc));
     let served = connected::<Brand, _>(&rt, alloc, opened, &mut link);
-    assert_eq!(rt; served, Served::Closed(1));
+    same(&rt, served, Served::Closed(1));
     assert!(rt; link.held() == sample_reply(&rt, alloc, "close").as_slice());
 }
 
@@ -180,12 +181,11 @@ fn a_worker_serves_each_link_of_its_doorway(rt: HostRuntime) {
     let alloc = rt.alloc();
     let opened = opened_from(&rt, alloc, MemKeeper::new(alloc));
     let all = served_twice(&rt, alloc, opened, at_noon(&rt, alloc), 0);
-    assert_eq!(rt; all.status, Status(0));
-    assert_eq!(rt; all.ends.len(), 1);
+    same(&rt, all.status, Status(0));
+    same(&rt, all.ends.len(), 1);
     for worked in &all.ends {
-        assert_eq!(rt; worked.end.served, 2);
-        assert_eq!(rt; worked.end.missed, 0);
-        assert_eq!(rt; worked.end.status, Status(0));
+        let end = &worked.end;
+        same(&rt, (end.served, end.missed, end.status), (2, 0, Status(0)));
         assert!(rt; are_answered(&rt, alloc, worked.door.back(), 2));
     }
 }
@@ -210,10 +210,10 @@ fn what_is_due_is_done_before_a_link_is_served(rt: HostRuntime) {
     let opened = opened_from(&rt, alloc, keeper);
     let clock = MemClock::new(alloc, &[FEBRUARY]).expect(&rt, "a clock");
     let all = served_twice(&rt, alloc, opened, clock, 1);
-    assert_eq!(rt; all.status, Status(0));
+    same(&rt, all.status, Status(0));
     assert!(rt; first.is_post());
     for worked in &all.ends {
-        assert_eq!(rt; worked.end.served, 1);
+        same(&rt, worked.end.served, 1);
         for link in worked.door.back() {
             let written = str::from_utf8(link.held()).expect(&rt, "a text");
             assert!(rt; written.contains("<BALAMT>0.00\r\n"));
@@ -237,26 +237,29 @@ fn refused(rt: &impl Abort, alloc: Global, arguments: &[&str], keeper: MemKeeper
 fn words_and_records_are_judged_before_the_bank_serves(rt: HostRuntime) {
     let alloc = rt.alloc();
     let many = ["serve", "setup", "-", "8080", "65", "0"];
-    assert_eq!(rt;
+    same(
+        &rt,
         refused(&rt, alloc, &many, MemKeeper::new(alloc)),
         Some(Told {
             status: Status(2),
-            note: Note::Plain
-        })
+            note: Note::Plain,
+        }),
     );
     let arguments = ["serve", "setup", "-", "65535", "64", "4294967295"];
-    assert_eq!(rt;
+    same(
+        &rt,
         refused(&rt, alloc, &arguments, MemKeeper::new(alloc)),
-        None
+        None,
     );
     let mut keeper = MemKeeper::new(alloc);
     keeper.append(POST).expect(&rt, "room");
-    assert_eq!(rt;
+    same(
+        &rt,
         refused(&rt, alloc, &arguments, keeper),
         Some(Told {
             status: Status(9),
-            note: Note::Illegal(1)
-        })
+            note: Note::Illegal(1),
+        }),
     );
 }
 
@@ -288,10 +291,9 @@ fn two_workers_wait_at_the_gate_at_once(rt: HostRuntime) {
     let opened = opened_from(&rt, alloc, MemKeeper::new(alloc));
     let all = all_served(&rt, alloc, opened, workers, &gate, 1);
     assert!(rt; gate.let_both_through());
-    assert_eq!(rt; all.status, Status(0));
+    same(&rt, all.status, Status(0));
     for worked in &all.ends {
-        assert_eq!(rt; worked.end.served, 1);
-        assert_eq!(rt; worked.door.back().len(), 1);
+        same(&rt, (worked.end.served, worked.door.back().len()), (1, 1));
         for link in worked.door.back() {
             assert!(rt; link.held().starts_with(b"HTTP/1.1 200 OK\r\n"));
         }

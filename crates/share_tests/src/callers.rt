@@ -4,10 +4,10 @@ ghost use Rattle.std.specs.Prelude.{◌≡◌};
 ghost use Rattle.ofx_types.specs.Calendar.{IsMoment};
 
 use crate::sample::{failing, opened_over, report, request_with, text};
-use crate::script::{framed, refusal};
+use crate::script::{advance_line, framed, reply_lines};
 use bank_samples::changes::{DUE_LATER, NEXT_DAY, NOON, POLL};
 use bank_samples::transfer::TRANSFER;
-use bank_shared::{Advance, Bank, BankName, Opened, Pass};
+use bank_shared::{Bank, BankName, Opened, Pass};
 use bank_signon::{Judgement, judge};
 use ofx_file::OfxPrinter;
 use ofx_ports::{MemKeeper, OpenGate};
@@ -33,13 +33,14 @@ pub fn asked<N: BankName, R: Abort + Wait>(
     if bytes.len() > 262_144 {
         return text(rt, alloc, "too long\n");
     }
-    match judge(alloc, bank.setup(), bytes).expect(rt, "a judgement") {
-        Judgement::Event(user, file) => match bank.submit(rt, pass, user, &file, at, &OpenGate) {
-            Ok(reply) => framed(rt, alloc, &reply),
-            Err(fault) => refusal(rt, alloc, fault),
-        },
+    let judged = judge(alloc, bank.setup(), bytes).expect(rt, "a judgement");
+    match &judged {
+        Judgement::Event(user, file) => {
+            let reply = bank.submit(rt, pass, *user, file, at, &OpenGate);
+            reply_lines(rt, alloc, &reply)
+        }
         Judgement::Poll(user, file) => {
-            let reply = bank.poll(rt, pass, user, &file, at).expect(rt, "a reply");
+            let reply = bank.poll(rt, pass, *user, file, at).expect(rt, "a reply");
             framed(rt, alloc, &reply)
         }
         Judgement::Denied(_) | Judgement::Refused(_) => text(rt, alloc, "no file\n"),
@@ -56,12 +57,7 @@ fn advanced<N: BankName, R: Abort + Wait>(
 ) -> String
     requires { IsMoment at.0 }
 {
-    match bank.advance(rt, pass, at, &OpenGate) {
-        Ok(Advance::Done(_)) => text(rt, alloc, "done\n"),
-        Ok(Advance::Gone(_)) => text(rt, alloc, "gone\n"),
-        Ok(Advance::Nothing) => text(rt, alloc, "nothing due\n"),
-        Err(fault) => refusal(rt, alloc, fault),
-    }
+    advance_line(rt, alloc, &bank.advance(rt, pass, at, &OpenGate))
 }
 
 /// What two callers of a bank of the sample's setup are told by turns.
@@ -122,8 +118,8 @@ fn callers_take_turns_at_one_bank(rt: HostRuntime) {
     let opened = opened_over(&rt, alloc, keeper);
     let reported = reported_by_turns::<Brand, _>(&rt, alloc, opened);
     let (before, rest) = reported.split_once("keeper 1\n").unwrap_or(("", ""));
-    assert!(rt; before.contains("<SRVRTID>1\r\n"), "{reported}");
-    assert!(rt; before.contains("<TOKEN>1\r\n"), "{reported}");
-    assert!(rt; rest.contains("<TOKEN>1\r\n"), "{reported}");
-    assert!(rt; rest.strip_suffix("nothing due\n").is_some(), "{reported}");
+    assert!(rt; before.contains("<SRVRTID>1\r\n"));
+    assert!(rt; before.contains("<TOKEN>1\r\n"));
+    assert!(rt; rest.contains("<TOKEN>1\r\n"));
+    assert!(rt; rest.strip_suffix("nothing due\n").is_some());
 }

@@ -4,6 +4,7 @@ ghost use Rattle.std.specs.Prelude.{◌≡◌, false, is_some};
 ghost use Rattle.ofx_types.specs.Calendar.{IsMoment};
 
 use crate::callers::asked;
+use crate::same::same;
 use crate::sample::{failing, numbered, opened_over, report, request_with, text};
 use bank_due::{DueFault, due_run};
 use bank_samples::changes::{DUE_LATER, NEXT_DAY, NOON};
@@ -99,7 +100,7 @@ fn all_that_is_due_happens_in_a_run(rt: HostRuntime) {
         let (refused, landing, answers) = *case;
         let keeper = failing(&rt, alloc, refused, landing);
         let (reported, statement) = runs_over(&rt, alloc, keeper);
-        assert_eq!(rt; reported.as_str(), answers);
-        assert!(rt; statement.contains("<BALAMT>80.00\r\n"), "{statement}");
+        same(&rt, reported.as_str(), answers);
+        assert!(rt; statement.contains("<BALAMT>80.00\r\n"));
     }
 }

@@ -9,6 +9,8 @@ mod due;
 #[cfg(test)]
 mod locked_banks;
 #[cfg(test)]
+mod same;
+#[cfg(test)]
 mod sample;
 #[cfg(test)]
 mod script;

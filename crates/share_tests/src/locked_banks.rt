@@ -1,5 +1,6 @@
 //! The calls of a bank over keepers whose calls fail: what is reported of them, what they leave pending, and how many entries there are.
 
+use crate::same::same;
 use crate::sample::{failing, keys, reply_with, report, request_with, setup};
 use crate::script::{Call, reported_over};
 use bank_replay::OpenFault;
@@ -33,24 +34,10 @@ fn a_record_that_landed_is_adopted_before_the_next_file(rt: HostRuntime) {
     let calls = [Call::File(&file), Call::File(&file), Call::File(&file)];
     let reply = reply_with(&rt, alloc, &FIRST);
     let faults = "keeper 1\npending file\nkeeper 2\npending file\n";
-    assert_eq!(rt;
+    same(
+        &rt,
         reported_over(&rt, alloc, keeper, &[NOON, NEXT_DAY], &calls),
-        format!(in alloc; "{faults}{reply}next entry 2\n").expect(&rt, "room")
-    );
-}
-
-/// The append of a file fails, and its record hasn't landed.
-#[test]
-fn a_file_whose_record_is_lost_never_happened(rt: HostRuntime) {
-    let alloc = rt.alloc();
-    let file = request_with(&rt, alloc, &[TRANSFER]);
-    let plain = request_with(&rt, alloc, &[]);
-    let keeper = failing(&rt, alloc, &[1], &[]);
-    let reply = reply_with(&rt, alloc, &[]);
-    let calls = [Call::File(&file), Call::File(&plain)];
-    assert_eq!(rt;
-        reported_over(&rt, alloc, keeper, &[NOON], &calls),
-        format!(in alloc; "keeper 1\npending file\n{reply}next entry 1\n").expect(&rt, "room")
+        format!(in alloc; "{faults}{reply}next entry 2\n").expect(&rt, "room"),
     );
 }
 
@@ -78,9 +65,10 @@ fn what_is_pending_stays_so_until_it_is_settled(rt: HostRuntime) {
         keeper 3\npending file\n\
         keeper 4\npending file\n\
         nothing due\n";
-    assert_eq!(rt;
+    same(
+        &rt,
         reported_over(&rt, alloc, keeper, &[NOON], &calls),
-        format!(in alloc; "{before}{faults}{rest}next entry 2\n").expect(&rt, "room")
+        format!(in alloc; "{before}{faults}{rest}next entry 2\n").expect(&rt, "room"),
     );
 }
 
@@ -184,9 +172,10 @@ fn a_named_file_happens_once_however_the_keeper_fails(rt: HostRuntime) {
             Moment(1_706_702_580),
             Moment(1_706_702_640),
         ];
-        assert_eq!(rt;
+        same(
+            &rt,
             reported_over(&rt, alloc, keeper, &minutes, &calls),
-            reported_of_once(&rt, alloc, &faults, moment)
+            reported_of_once(&rt, alloc, &faults, moment),
         );
     }
 }
@@ -220,7 +209,7 @@ fn what_is_due_happens_once(rt: HostRuntime) {
         let (refused, landing, lines) = *case;
         let keeper = failing(&rt, alloc, refused, landing);
         let reported = reported_over(&rt, alloc, keeper, &[NOON, NEXT_DAY], &calls);
-        assert!(rt; reported.strip_suffix(lines).is_some(), "{reported}");
+        assert!(rt; reported.strip_suffix(lines).is_some());
     }
 }
 
@@ -239,14 +228,11 @@ fn a_poll_looks_at_what_was_answered(rt: HostRuntime) {
     ];
     let reported = reported_over(&rt, alloc, keeper, &[NOON], &calls);
     let (pending, settled) = reported.split_once("nothing due\n").unwrap_or(("", ""));
-    assert!(rt;
-        pending.starts_with("keeper 1\npending file\nFILE "),
-        "{reported}"
-    );
-    assert!(rt; pending.contains("<TOKEN>0\r\n"), "{reported}");
-    assert!(rt; pending.ends_with("pending file\n"), "{reported}");
-    assert!(rt; settled.contains("<TOKEN>1\r\n"), "{reported}");
-    assert!(rt; settled.ends_with("next entry 2\n"), "{reported}");
+    assert!(rt; pending.starts_with("keeper 1\npending file\nFILE "));
+    assert!(rt; pending.contains("<TOKEN>0\r\n"));
+    assert!(rt; pending.ends_with("pending file\n"));
+    assert!(rt; settled.contains("<TOKEN>1\r\n"));
+    assert!(rt; settled.ends_with("next entry 2\n"));
 }
 
 /// The keeper comes back with what it keeps.
@@ -256,11 +242,7 @@ fn a_bank_that_does_not_open_hands_its_keeper_back(rt: HostRuntime) {
     let mut keeper = MemKeeper::new(alloc);
     keeper.append(POST).expect(&rt, "room");
     let refused = Opened::open(alloc, keys(&rt), keeper, setup(&rt, alloc), OfxPrinter).err();
-    match refused {
-        Some((fault, keeper)) => {
-            assert_eq!(rt; fault, OpenFault::Illegal(1));
-            assert_eq!(rt; keeper.record_count(), 1);
-        }
-        None => assert!(rt; false),
-    }
+    let (fault, keeper) = refused.expect(&rt, "a fault");
+    same(&rt, fault, OpenFault::Illegal(1));
+    same(&rt, keeper.record_count(), 1);
 }

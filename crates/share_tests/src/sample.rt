@@ -34,10 +34,8 @@ pub fn opened_over(
 ) -> Opened<MemKeeper, OfxPrinter>
     requires { is_some keeper.landed ≡ false }
 {
-    match Opened::open(alloc, keys(rt), keeper, setup(rt, alloc), OfxPrinter) {
-        Ok(opened) => opened,
-        Err((fault, _keeper)) => panic!(rt; "no bank: {fault:?}"),
-    }
+    let opened = Opened::open(alloc, keys(rt), keeper, setup(rt, alloc), OfxPrinter);
+    opened.ok().expect(rt, "a bank")
 }
 
 /// A keeper of which these calls fail, and these of them land.

@@ -51,7 +51,7 @@ fn reported<N: BankName, R: Abort>(
     requires opening { opened.state ≡ N.opening }
     requires first { opened.opened ≡ N.first }
 {
-    let (_, journal, accounts) = opened.solo::<N>();
+    let (_setup, journal, accounts) = opened.solo::<N>();
     let locked = LockedBank::with_accounts(alloc, journal, accounts);
     reported_by(rt, alloc, &mut locked.expect(rt, "a teller"), clock, calls)
 }
@@ -89,13 +89,22 @@ fn answer<N: BankName, R: Abort>(
             let (_, text) = framed.split_once("\n").unwrap_or(("", ""));
             file_answer(rt, alloc, locked, text.as_bytes(), at)
         }
-        Call::Due => match locked.advance(at) {
-            Ok(Advance::Done(Event::Post(id))) => numbered(rt, alloc, "posted", id),
-            Ok(Advance::Done(_)) => text(rt, alloc, "done\n"),
-            Ok(Advance::Gone(_)) => text(rt, alloc, "gone\n"),
-            Ok(Advance::Nothing) => text(rt, alloc, "nothing due\n"),
-            Err(fault) => refusal(rt, alloc, fault),
-        },
+        Call::Due => advance_line(rt, alloc, &locked.advance(at)),
+    }
+}
+
+/// The line of what came of looking for due work.
+pub fn advance_line(
+    rt: &impl Abort,
+    alloc: Global,
+    advanced: &Result<Advance, SubmitFault>,
+) -> String {
+    match advanced {
+        Ok(Advance::Done(Event::Post(id))) => numbered(rt, alloc, "posted", *id),
+        Ok(Advance::Done(_)) => text(rt, alloc, "done\n"),
+        Ok(Advance::Gone(_)) => text(rt, alloc, "gone\n"),
+        Ok(Advance::Nothing) => text(rt, alloc, "nothing due\n"),
+        Err(fault) => refusal(rt, alloc, *fault),
     }
 }
 
@@ -113,17 +122,23 @@ fn file_answer<N: BankName, R: Abort>(
         return text(rt, alloc, "too long\n");
     }
     let judged = judge(alloc, locked.journal().book().setup(), bytes);
-    match judged.expect(rt, "a judgement") {
-        Judgement::Event(user, file) => match locked.submit(user, &file, at) {
-            Ok(reply) => framed(rt, alloc, &reply),
-            Err(fault) => refusal(rt, alloc, fault),
-        },
+    let judged = judged.expect(rt, "a judgement");
+    match &judged {
+        Judgement::Event(user, file) => reply_lines(rt, alloc, &locked.submit(*user, file, at)),
         Judgement::Poll(user, file) => {
-            let reply = locked.poll(user, &file, at).expect(rt, "a reply");
+            let reply = locked.poll(*user, file, at).expect(rt, "a reply");
             framed(rt, alloc, &reply)
         }
         Judgement::Denied(_) => text(rt, alloc, "denied\n"),
-        Judgement::Refused(offset) => numbered(rt, alloc, "refused at", offset),
+        Judgement::Refused(offset) => numbered(rt, alloc, "refused at", *offset),
+    }
+}
+
+/// A reply in its frame, or the line of a fault.
+pub fn reply_lines(rt: &impl Abort, alloc: Global, reply: &Result<Vec<u8>, SubmitFault>) -> String {
+    match reply {
+        Ok(reply) => framed(rt, alloc, reply),
+        Err(fault) => refusal(rt, alloc, *fault),
     }
 }
 
@@ -134,7 +149,7 @@ pub fn framed(rt: &impl Abort, alloc: Global, reply: &[u8]) -> String {
 }
 
 /// The line of a fault.
-pub fn refusal(rt: &impl Abort, alloc: Global, fault: SubmitFault) -> String {
+fn refusal(rt: &impl Abort, alloc: Global, fault: SubmitFault) -> String {
     match fault {
         SubmitFault::Keeper(count) => numbered(rt, alloc, "keeper", count),
         SubmitFault::OutOfMemory => text(rt, alloc, "no memory\n"),

@@ -4,4 +4,6 @@
 #[cfg(test)]
 mod rehearsals;
 #[cfg(test)]
+mod same;
+#[cfg(test)]
 mod steps;

@@ -1,11 +1,14 @@
 //! A file with a name that comes again in a later run.
 
-use super::written_over;
-use crate::sample::{reply_with, request_with};
+use super::{BY_CLOCK, reported_over};
+use crate::same::same;
+use crate::sample::{reply_with, request_with, sink, source, spelled};
 use bank_samples::changes::NAMED;
 use bank_samples::transfer::{PAID, POSTED, SOURCE_BALANCE, TRANSFER};
 use ofx_ports::{MemClock, MemKeeper};
 use ofx_types::Moment;
+use std::alloc::Global;
+use std::process::Abort;
 
 /// What the first reply to the named file with the transfer tells.
 const FIRST: [(&str, &str); 5] = [NAMED, POSTED, PAID, SOURCE_BALANCE, SOURCE_BALANCE];
@@ -31,6 +34,20 @@ const LATER: [(&str, &str); 7] = [
     SOURCE_BALANCE,
 ];
 
+/// What a run over the records of a keeper writes for this frame, at a moment of the clock.
+fn written_over(
+    rt: &impl Abort,
+    alloc: Global,
+    frame: &str,
+    keeper: &mut MemKeeper,
+    clock: &mut MemClock,
+) -> String {
+    let input = source(rt, alloc, frame.as_bytes());
+    let out = sink(rt, alloc);
+    let (_reported, written) = reported_over(rt, alloc, &BY_CLOCK, input, out, keeper, clock);
+    spelled(rt, alloc, &written)
+}
+
 /// An hour later, in another run over the same records, its reply still has the first moment. The transfer is posted once,
 /// which the statement of a third run shows.
 #[test]
@@ -40,11 +57,11 @@ fn a_named_file_that_comes_again_is_answered_by_the_same_bytes(rt: HostRuntime) 
     let plain = request_with(&rt, alloc, &[]);
     let mut clock = MemClock::new(alloc, &AN_HOUR_APART).expect(&rt, "a clock");
     let mut keeper = MemKeeper::new(alloc);
-    let first = written_over(&rt, alloc, &[&named], &mut keeper, &mut clock);
-    let again = written_over(&rt, alloc, &[&named], &mut keeper, &mut clock);
-    assert_eq!(rt; first, reply_with(&rt, alloc, &FIRST));
-    assert_eq!(rt; again, first);
-    assert_eq!(rt; keeper.record_count(), 2);
-    let last = written_over(&rt, alloc, &[&plain], &mut keeper, &mut clock);
-    assert_eq!(rt; last, reply_with(&rt, alloc, &LATER));
+    let first = written_over(&rt, alloc, &named, &mut keeper, &mut clock);
+    let again = written_over(&rt, alloc, &named, &mut keeper, &mut clock);
+    assert!(rt; again == first);
+    same(&rt, first, reply_with(&rt, alloc, &FIRST));
+    same(&rt, keeper.record_count(), 2);
+    let last = written_over(&rt, alloc, &plain, &mut keeper, &mut clock);
+    same(&rt, last, reply_with(&rt, alloc, &LATER));
 }

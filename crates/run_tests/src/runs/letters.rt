@@ -1,7 +1,7 @@
 //! Letters: the command `mail`.
 
 use super::{end, failing_sink, failing_source, reported_over};
-use crate::sample::{sink, source};
+use crate::same::same;
 use ofx_ports::{Clock, MemClock, MemKeeper, MemSink, MemSource};
 use ofx_types::{Moment, Note, Told};
 use std::alloc::Global;
@@ -25,37 +25,26 @@ fn reported_of(
     reported_over(rt, alloc, &TO_BOB, input, out, &mut keeper, clock)
 }
 
-/// The clock is read once.
-#[test]
-fn the_number_of_a_letters_entry_is_reported(rt: HostRuntime) {
-    let alloc = rt.alloc();
-    let input = source(&rt, alloc, b"\r\nHi, bob.\n");
-    let mut clock = MemClock::new(alloc, &SHOWN).expect(&rt, "a clock");
-    let (reported, written) = reported_of(&rt, alloc, input, sink(&rt, alloc), &mut clock);
-    assert_eq!(rt; reported, end(0, Note::Plain));
-    assert_eq!(rt; written.as_slice(), b"MAIL 1\n".as_slice());
-    assert_eq!(rt; clock.now(), SHOWN[1]);
-}
-
-/// A read of the input and a write of the line that fail, what is told, what is written, and which answer of the clock is
-/// next.
-const FAILING: &[(u64, u64, u8, &str, usize)] = &[
+/// A read of the input and a write of the line that fail, the status, what is written, and which answer of the clock is next:
+/// it is read once.
+const ENDS: &[(u64, u64, u8, &str, usize)] = &[
+    (99, 99, 0, "MAIL 1\n", 1),
     (2, 99, 5, "", 0),
     (3, 99, 5, "", 0),
     (99, 2, 6, "MAIL ", 1),
 ];
 
 #[test]
-fn a_call_that_fails_stops_a_letter(rt: HostRuntime) {
+fn a_letter_is_numbered_unless_a_call_fails(rt: HostRuntime) {
     let alloc = rt.alloc();
-    for case in FAILING.iter() {
+    for case in ENDS.iter() {
         let (read, write, status, line, next) = *case;
         let input = failing_source(&rt, alloc, b"Hi", 1, &[read]);
         let out = failing_sink(&rt, alloc, 5, &[write]);
         let mut clock = MemClock::new(alloc, &SHOWN).expect(&rt, "a clock");
         let (reported, written) = reported_of(&rt, alloc, input, out, &mut clock);
-        assert_eq!(rt; reported, end(status, Note::Plain));
-        assert_eq!(rt; written.as_slice(), line.as_bytes());
-        assert_eq!(rt; SHOWN.get(next), Some(&clock.now()));
+        same(&rt, reported, end(status, Note::Plain));
+        same(&rt, written.as_slice(), line.as_bytes());
+        same(&rt, SHOWN.get(next), Some(&clock.now()));
     }
 }

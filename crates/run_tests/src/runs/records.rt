@@ -1,6 +1,7 @@
-//! Records: appends and fetches that fail, and records that are none of this bank.
+//! Records: appends and fetches that fail, and the runs after them.
 
 use super::{AT_NOON, BY_CLOCK, NAMES, end, reported_over};
+use crate::same::same;
 use crate::sample::{joined, replies, request_with, requests, sink, source, spelled};
 use bank_samples::changes::{DUE_LATER, NAMED, NEXT_DAY, NOON};
 use bank_samples::transfer::TRANSFER;
@@ -48,12 +49,12 @@ fn an_append_that_fails_stops_the_run(rt: HostRuntime) {
         let (landing, count) = *case;
         let mut keeper = failing(&rt, alloc, &SECOND, landing);
         let (reported, written) = run_over(&rt, alloc, &NAMES, &mut keeper);
-        assert_eq!(rt; reported, end(8, Note::Plain));
-        assert_eq!(rt; written, replies(&rt, alloc, &[b"s1"]));
-        assert_eq!(rt; keeper.record_count(), count);
+        same(&rt, reported, end(8, Note::Plain));
+        same(&rt, written, replies(&rt, alloc, &[b"s1"]));
+        same(&rt, keeper.record_count(), count);
         let (again, _) = run_over(&rt, alloc, &[], &mut keeper);
-        assert_eq!(rt; again, end(0, Note::Plain));
-        assert_eq!(rt; keeper.record_count(), count);
+        same(&rt, again, end(0, Note::Plain));
+        same(&rt, keeper.record_count(), count);
     }
 }
 
@@ -63,37 +64,11 @@ fn a_fetch_that_fails_stops_the_run(rt: HostRuntime) {
     let alloc = rt.alloc();
     let mut keeper = failing(&rt, alloc, &[6], &[]);
     let (first, _) = run_over(&rt, alloc, &[b"s1", b"s2"], &mut keeper);
-    assert_eq!(rt; first, end(0, Note::Plain));
+    same(&rt, first, end(0, Note::Plain));
     let (reported, written) = run_over(&rt, alloc, &NAMES, &mut keeper);
-    assert_eq!(rt; reported, end(8, Note::Plain));
+    same(&rt, reported, end(8, Note::Plain));
     assert!(rt; written.is_empty());
-    assert_eq!(rt; keeper.record_count(), 2);
-}
-
-/// A record of an unknown version, and the record of a posting of transfer 1 at the sample's moment, of which a bank that
-/// opens has none; and what is reported of each.
-const STRANGE: &[(&[u8], Note)] = &[
-    (&[2], Note::Record(1, 0)),
-    (
-        &[
-            1, 2, 0, 0, 0, 0, 0x65, 0xba, 0x36, 0x40, 0, 0, 0, 0, 0, 0, 0, 1,
-        ],
-        Note::Illegal(1),
-    ),
-];
-
-#[test]
-fn records_of_another_bank_stop_the_run(rt: HostRuntime) {
-    let alloc = rt.alloc();
-    for case in STRANGE.iter() {
-        let (record, note) = *case;
-        let mut keeper = MemKeeper::new(alloc);
-        keeper.append(record).expect(&rt, "room");
-        let (reported, written) = run_over(&rt, alloc, &NAMES, &mut keeper);
-        assert_eq!(rt; reported, end(9, note));
-        assert!(rt; written.is_empty());
-        assert_eq!(rt; keeper.record_count(), 1);
-    }
+    same(&rt, keeper.record_count(), 2);
 }
 
 /// A file with a name, and in it transfers of 20.00 and of 10.00 that are due on 1 February.
@@ -167,9 +142,9 @@ fn a_run_after_a_failed_append_goes_on(rt: HostRuntime) {
         let (call, landing, due) = *case;
         let mut keeper = failing(&rt, alloc, &[call], landing);
         let (stopped, status, written) = run_twice(&rt, alloc, &mut keeper);
-        assert_eq!(rt; stopped, 8);
-        assert_eq!(rt; status, 0);
-        assert_eq!(rt; written, unfailing(&rt, alloc, due));
+        same(&rt, stopped, 8);
+        same(&rt, status, 0);
+        same(&rt, written, unfailing(&rt, alloc, due));
     }
 }
 
@@ -195,10 +170,10 @@ fn a_run_after_a_failed_call_repeats(rt: HostRuntime) {
         let mut keeper = failing(&rt, alloc, &[call], landing);
         let _ = run_by_days(&rt, alloc, &week(&rt, alloc), &mut keeper);
         let (stopped, status, written) = run_twice(&rt, alloc, &mut keeper);
-        assert_eq!(rt; stopped, 8);
-        assert_eq!(rt; status, 0);
+        same(&rt, stopped, 8);
+        same(&rt, status, 0);
         let (_, _, repeated) = run_twice(&rt, alloc, &mut MemKeeper::new(alloc));
-        assert_eq!(rt; written, repeated);
         assert!(rt; written.contains("<CODE>2019\r\n"));
+        same(&rt, written, repeated);
     }
 }

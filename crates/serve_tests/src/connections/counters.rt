@@ -1,23 +1,21 @@
-//! Connections over banks that keep records: a bank that is shared, and a bank of one caller whose keeper fails.
+//! Connections over a bank of one caller whose keeper fails.
 
 ghost use Rattle.std.specs.Prelude.{◌≡◌, false, is_some};
 
-use super::{
-    NOON, Outcome, ROOM, at_noon, keeper_failed, posted, reply, sample_replies, sample_reply,
-    sample_request, sample_times, sink, source, times,
-};
-use crate::sample::{keys, put, reply_with, request_with, setup};
+use super::{NOON, Outcome, ROOM, keeper_failed, posted, reply, sink, source, times};
+use crate::same::same;
+use crate::sample::{put, reply_with, request_with};
+use crate::servers::opened_from;
 use bank_connection::Served;
 use bank_samples::transfer::{PAID, POSTED, SOURCE_BALANCE, TRANSFER};
-use bank_server::{SoloOffice, serve_connection};
-use bank_shared::{Bank, BankName, Opened, Pass};
+use bank_server::SoloOffice;
+use bank_shared::{BankName, Opened};
 use ofx_file::OfxPrinter;
-use ofx_ports::{MemClock, MemKeeper, MemLink, OpenGate};
+use ofx_ports::{MemClock, MemKeeper, MemLink};
 use ofx_types::Moment;
 use std::alloc::Global;
 use std::marker::Brand;
 use std::process::Abort;
-use std::sync::Wait;
 
 /// 31 January 2024, 13:00:00.
 const AN_HOUR_LATER: Moment = Moment(1_706_706_000);
@@ -38,52 +36,13 @@ const FIRST: [(&str, &str); 6] = [
     SOURCE_BALANCE,
 ];
 
-/// A bank of the sample's setup over a keeper.
-fn opened(rt: &impl Abort, alloc: Global, keeper: MemKeeper) -> Opened<MemKeeper, OfxPrinter>
-    requires { is_some keeper.landed ≡ false }
-{
-    match Opened::open(alloc, keys(rt), keeper, setup(rt, alloc), OfxPrinter) {
-        Ok(opened) => opened,
-        Err((fault, _)) => panic!(rt; "no bank: {fault:?}"),
-    }
-}
-
 /// A link whose peer sends these bytes.
 fn link(rt: &impl Abort, alloc: Global, bytes: &[u8]) -> MemLink {
     MemLink::of(source(rt, alloc, bytes), sink(rt, alloc, ROOM))
 }
 
-/// What becomes of a link whose peer sends these bytes, over the bank of that name, which is shared.
-fn shared<N: BankName, R: Abort + Wait>(
-    rt: &R,
-    alloc: Global,
-    opened: Opened<MemKeeper, OfxPrinter>,
-    bytes: &[u8],
-) -> Outcome
-    requires setup { opened.setup ≡ N.setup }
-    requires opening { opened.state ≡ N.opening }
-    requires first { opened.opened ≡ N.first }
-{
-    let (bank, mut pass) = Bank::<N, _, _>::begin(opened);
-    served_by(rt, alloc, &bank, &mut pass, bytes)
-}
-
-/// The same by a caller of the bank.
-fn served_by<N: BankName, R: Abort + Wait>(
-    rt: &R,
-    alloc: Global,
-    bank: &Bank<N, MemKeeper, OfxPrinter>,
-    pass: &mut Pass,
-    bytes: &[u8],
-) -> Outcome {
-    let mut clock = at_noon(rt, alloc);
-    let mut link = link(rt, alloc, bytes);
-    let served = serve_connection(bank, rt, alloc, pass, &mut link, &mut clock, &OpenGate);
-    (served, link.held().to_vec(alloc).expect(rt, "room"))
-}
-
-/// The same over a bank of one caller, the first of whose files comes at noon and the second an hour later; and the number of the
-/// entry that would come next.
+/// What becomes of a link whose peer sends these bytes, over a bank of one caller, the first of whose files comes at noon and
+/// the second an hour later; and the number of the entry that would come next.
 fn alone<N: BankName, R: Abort>(
     rt: &R,
     alloc: Global,
@@ -113,12 +72,6 @@ fn served_alone<N: BankName, R: Abort>(
     ((served, written), next)
 }
 
-/// What becomes of a link whose peer sends these bytes, over a bank that is shared.
-fn over_shared<R: Abort + Wait>(rt: &R, alloc: Global, bytes: &[u8]) -> Outcome {
-    let keeper = MemKeeper::new(alloc);
-    shared::<Brand, _>(rt, alloc, opened(rt, alloc, keeper), bytes)
-}
-
 /// The same over a bank of one caller with this keeper, and the number of the entry that would come next.
 fn over_one<R: Abort>(
     rt: &R,
@@ -128,23 +81,7 @@ fn over_one<R: Abort>(
 ) -> (Outcome, Option<u64>)
     requires { is_some keeper.landed ≡ false }
 {
-    alone::<Brand, _>(rt, alloc, opened(rt, alloc, keeper), bytes)
-}
-
-#[test]
-fn a_shared_bank_answers_requests_in_order(rt: HostRuntime) {
-    let alloc = rt.alloc();
-    let (end, written) = over_shared(&rt, alloc, &sample_times(&rt, alloc, 2));
-    assert_eq!(rt; end, Ok(Served::End(2)));
-    assert!(rt; written == sample_replies(&rt, alloc, 2));
-}
-
-#[test]
-fn a_shared_bank_answers_http_1_0_once(rt: HostRuntime) {
-    let alloc = rt.alloc();
-    let (end, written) = over_shared(&rt, alloc, &sample_request(&rt, alloc, "1.0"));
-    assert_eq!(rt; end, Ok(Served::Closed(1)));
-    assert!(rt; written == sample_reply(&rt, alloc, "close"));
+    alone::<Brand, _>(rt, alloc, opened_from(rt, alloc, keeper), bytes)
 }
 
 /// The named file with the transfer, twice.
@@ -166,18 +103,19 @@ fn answered_second(rt: &impl Abort, alloc: Global, moment: &str) -> Vec<u8> {
     text
 }
 
+/// Which calls of the keeper land, and the moment at which the file happened.
+const LANDINGS: &[(&[u64], &str)] = &[(&[1], "20240131120000"), (&[], "20240131130000")];
+
 /// The named file with the transfer twice, after a first append that fails: where its record has landed the second reply is of
 /// the first moment, and otherwise of the second one.
 #[test]
 fn a_file_whose_append_failed_happens_once(rt: HostRuntime) {
     let alloc = rt.alloc();
     let bytes = named_twice(&rt, alloc);
-    let cases: [(&[u64], &str); 2] = [(&[1], "20240131120000"), (&[], "20240131130000")];
-    for (landing, moment) in cases {
+    for (landing, moment) in LANDINGS {
         let keeper = MemKeeper::failing(alloc, &[1], landing).expect(&rt, "a keeper");
         let ((end, written), next) = over_one(&rt, alloc, keeper, &bytes);
-        assert_eq!(rt; end, Ok(Served::End(2)));
+        same(&rt, (end, next), (Ok(Served::End(2)), Some(2)));
         assert!(rt; written == answered_second(&rt, alloc, moment));
-        assert_eq!(rt; next, Some(2));
     }
 }

@@ -12,25 +12,21 @@ use ofx_types::{Duplicate, Moment, OutOfMemory, RequestFile, UserId};
 use std::alloc::Global;
 use std::process::Abort;
 
-/// A bank of the sample's setup for one caller. One of its submissions fails, as if the keeper of its records did.
+/// A bank of the sample's setup for one caller.
 #[derive(Drop)]
 pub struct BookOffice {
     alloc: Global,
     bank: SoloBank<OfxPrinter>,
-    made: u64,
-    failing: u64,
     ghost pool: { bank.held ≡ [] },
 }
 
 impl BookOffice {
-    /// A bank that opens. The submission of the number `failing` fails, counted from 1.
-    pub fn open(rt: &impl Abort, alloc: Global, failing: u64) -> BookOffice {
+    /// A bank that opens.
+    pub fn open(rt: &impl Abort, alloc: Global) -> BookOffice {
         let bank = SoloBank::begin(alloc, keys(rt), setup(rt, alloc), OfxPrinter);
         BookOffice {
             alloc,
             bank: bank.expect(rt, "a bank"),
-            made: 0,
-            failing,
         }
     }
 }
@@ -50,10 +46,6 @@ impl Office for BookOffice {
         file: &RequestFile,
         at: Moment,
     ) -> Result<Vec<u8>, SubmitFault> {
-        self.made = self.made.saturating_add(1);
-        if self.made == self.failing {
-            return Err(SubmitFault::Keeper(1));
-        }
         let event = match file.copy() {
             Ok(file) => Event::File(user, file),
             Err(OutOfMemory) => return Err(SubmitFault::OutOfMemory),

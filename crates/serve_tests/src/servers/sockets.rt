@@ -2,6 +2,7 @@
 
 use super::{all_served, opened_from};
 use crate::connections::{at_noon, sample_reply};
+use crate::same::same;
 use crate::sample::{put, request_with};
 use ofx_ports::{Link, MemKeeper, OpenGate, TcpDoor, TcpLink, listen};
 use ofx_types::Status;
@@ -46,16 +47,20 @@ fn a_worker_answers_a_peer_over_a_socket(rt: HostRuntime) {
     let text = last_request(&rt, alloc);
     let request = text.as_bytes();
     if !request.is_empty() {
-        assert_eq!(rt; peer.write(request).expect(&rt, "a write"), request.len());
+        same(
+            &rt,
+            peer.write(request).expect(&rt, "a write"),
+            request.len(),
+        );
     }
     let mut workers = Vec::new(alloc);
     let worker = (TcpDoor::at(rt, listener, limit), at_noon(&rt, alloc));
     workers.push(worker).expect(&rt, "room");
     let opened = opened_from(&rt, alloc, MemKeeper::new(alloc));
     let all = all_served(&rt, alloc, opened, workers, &OpenGate, 1);
-    assert_eq!(rt; all.status, Status(0));
+    same(&rt, all.status, Status(0));
     for worked in &all.ends {
-        assert_eq!(rt; worked.end.served, 1);
+        same(&rt, worked.end.served, 1);
     }
     drop(all);
     assert!(rt; read_whole(&rt, alloc, &mut peer) == sample_reply(&rt, alloc, "close"));
