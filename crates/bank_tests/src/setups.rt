@@ -40,10 +40,10 @@ fn reads_a_setup(rt: HostRuntime) {
     assert!(rt; setup.bank.as_bytes() == b"121099999".as_slice());
     let numbers = (setup.lead, setup.window, setup.entries);
     same(&rt, numbers, (5, 3, 9_999_999_999));
-    same(&rt, setup.users.items().len(), 2);
+    assert!(rt; setup.users.items().len() == 2);
     assert!(rt; setup.users.items()[1].name.as_bytes() == b"bob".as_slice());
     assert!(rt; setup.users.items()[1].pass.as_bytes() == b"hunter".as_slice());
-    same(&rt, setup.accounts.items().len(), 2);
+    assert!(rt; setup.accounts.items().len() == 2);
     let account = &setup.accounts.items()[1];
     assert!(rt; account.name.bank.as_bytes() == b"121099999".as_slice());
     assert!(rt; account.name.number.as_bytes() == b"1002".as_slice());
