@@ -322,9 +322,13 @@ fn clients(rt: &impl Abort, alloc: Global) -> Vec<Client>
 fn world(rt: &impl Abort, alloc: Global) -> World {
     let setup = Setup::read(alloc, SETUP).expect(rt, "the setup");
     let alice = text(rt, alloc, b"alice");
-    let _user = setup.user(&alice).expect(rt, "alice");
-    let keys = keys().expect(rt, "keys");
-    World::new(alloc, keys, setup, clients(rt, alloc)).expect(rt, "a world")
+    match setup.user(&alice) {
+        Some(_) => {
+            let keys = keys().expect(rt, "keys");
+            World::new(alloc, keys, setup, clients(rt, alloc)).expect(rt, "a world")
+        }
+        None => panic!(rt; "alice is no user"),
+    }
 }
 
 fn letter(rt: &impl Abort, alloc: Global, user: UserId) -> Step
