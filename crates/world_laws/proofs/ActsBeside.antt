@@ -15,7 +15,7 @@ use Rattle.client_saved.specs.Bounds.{IsSoundState}
 use Rattle.client_saved.specs.declared.state.ClientState.{ClientState}
 use Rattle.ofx_world.specs.Customer.{CustomerView, Goes, Saves}
 use Rattle.ofx_world.specs.World.{WorldView, MakeStep, RestartStep, DeliverReplyStep, with_customer, with_request}
-use Rattle.world_laws.specs.ClientActs.{Act, makes, takes, gives_up, IsAct, ActsAreSteps, IsBeside, AreBeside, ActsKeepStores}
+use Rattle.world_laws.specs.ClientActs.{Act, making, taking, discarding, IsAct, ActsAreSteps, IsBeside, AreBeside, ActsKeepStores}
 use Rattle.world_laws.specs.ClientStores.{AreRight, AsksRightly, MadeFilesAskRightly, AcceptedRepliesKeepStores, DiscardedFilesKeepStores, StoresStayRight}
 
 -- ---- steps
@@ -53,10 +53,10 @@ module _ (make : MadeFilesAskRightly) (accept : AcceptedRepliesKeepStores) (disc
 
   act_holds : (S R : State) (before between : CustomerView) (act : Act) → IsInOrder setup S → IsInOrder setup R → IsLater S R → IsAct setup before act between
       → IsBeside setup user S before act R → Holds setup user S before.client → Holds setup user R between.client
-  act_holds S R before between (makes wish at) order order_now later (file, made) beside holds =
+  act_holds S R before between (making wish at) order order_now later (file, made) beside holds =
       saved_holds R made.client between made.saves
       (later_both S R made.client order order_now later (make setup S user before.client made.client wish at order made.makes made.saves.1.sound holds.right))
-  act_holds S R before between (takes bytes) order order_now later (reply, spelled, went) of_bank holds = go (accepted before.client reply) refl went
+  act_holds S R before between (taking bytes) order order_now later (reply, spelled, went) of_bank holds = go (accepted before.client reply) refl went
     where
       go : (found : Result Accepted ClientFault) → accepted before.client reply ≡ found → Goes before found between → Holds setup user R between.client
       go (Err fault) is same = subst (λ (c : CustomerView). Holds setup user R c.client) (sym same)
@@ -68,7 +68,7 @@ module _ (make : MadeFilesAskRightly) (accept : AcceptedRepliesKeepStores) (disc
           (accept setup of_bank.before R user of_bank.at before.client of_bank.kept taken within of_bank.order order_now of_bank.goes_on of_bank.outstanding
           holds.sound holds.asks (stay setup S of_bank.before user before.client order of_bank.order of_bank.later holds.right)
           (ap (accepted before.client) same ∙ is))
-  act_holds S R before between gives_up order order_now later saves beside holds =
+  act_holds S R before between discarding order order_now later saves beside holds =
       saved_holds R (discarded before.client) between saves
       (later_both S R (discarded before.client) order order_now later (discard setup S user before.client holds.right))
 

@@ -14,7 +14,7 @@ use Rattle.client_saved.specs.declared.state.ClientState.{ClientState}
 use Rattle.client_saved.specs.declared.state.Outstanding.{Outstanding}
 use Rattle.client_core.specs.Accepting.{Accepted, accepted, accepted_to, accepted_unless, refusal_for, with_replies}
 use Rattle.client_core.specs.ClientForm.{discarded}
-use Rattle.client_core.specs.Making.{made, made_for, with_file}
+use Rattle.client_core.specs.Making.{file_of, made, made_for, with_file}
 use Rattle.client_core.specs.ReportLines.{FollowsRule}
 use Rattle.client_core.specs.Wishes.{IsSoundWish, content_of}
 use Rattle.client_core.specs.declared.content.Content.{Content}
@@ -36,7 +36,7 @@ use Rattle.client_run.specs.declared.stop.ClientStop.{ClientStop}
 use Rattle.client_run.specs.declared.stop.ClientStop.TheVariants as stops
 use Rattle.client_run.specs.declared.stop.StoreOpenFault.{StoreOpenFault}
 use Rattle.ofx_world.specs.Customer.{CustomerView, Goes, sent}
-use Rattle.world_laws.specs.ClientActs.{Act, makes, takes, gives_up, IsAct, AreActs}
+use Rattle.world_laws.specs.ClientActs.{Act, making, taking, discarding, IsAct, AreActs}
 use Rattle.world_laws.specs.ProgramRuns.{customer_of, IsActedOut, RunsAreActs}
 
 -- ---- ends and texts
@@ -53,6 +53,11 @@ stay : (old new : Option (List ℕ)) (text : List ℕ) → old ≡ Some text →
 stay None new text is stays = absurd cc
 stay (Some old) None text is stays = absurd stays
 stay (Some old) (Some new) text is stays = let same : old ≡ text = cc in ap (λ (t : List ℕ). Some t) (stays ∙ same)
+
+-- No file is outstanding, and the number of the next one is as it was.
+record IsFree (client next : ClientState) : Type 0 where
+  pub free : next.outstanding ≡ None
+  pub number : next.next ≡ client.next
 
 -- ---- acts one after another
 
@@ -93,7 +98,7 @@ module _ (setup : Setup) where
   -- ---- a reply
 
   takes_act : (client : ClientState) (body : List ℕ) (reply : ReplyFile) (taken : Accepted) → SpellsReply body reply → accepted client reply ≡ Ok taken
-      → (saved text : List ℕ) → IsSavedText text taken.after → IsAct setup (customer_of client saved) (takes body) (customer_of taken.after text)
+      → (saved text : List ℕ) → IsSavedText text taken.after → IsAct setup (customer_of client saved) (taking body) (customer_of taken.after text)
   takes_act client body reply taken spelled is saved text is_saved =
       (reply, spelled, subst (λ (found : Result Accepted ClientFault). Goes (customer_of client saved) found (customer_of taken.after text)) (sym is) (refl, is_saved))
 
@@ -102,7 +107,7 @@ module _ (setup : Setup) where
       → Does client store client' store'
   takes_does bytes body reply taken (Err fault) client client' store store' out out' end spelled is client_is saves prints saved = absurd (saved fault prints.0)
   takes_does bytes body reply taken (Ok done) client client' store store' out out' end spelled is client_is saves prints saved =
-      saved_act client taken.after client' store store' (takes body) (takes_act client body reply taken spelled is) client_is saves
+      saved_act client taken.after client' store store' (taking body) (takes_act client body reply taken spelled is) client_is saves
 
   goes_does : (client : ClientState) (body : List ℕ) (reply : ReplyFile) (judged : Result Accepted ClientFault) (store : StoreView) (out : OutView) (client' : ClientState) (store' : StoreView) (out' : OutView) (end : Result (Unit {0}) ClientStop)
       → SpellsReply body reply → FollowsRule (accepted client reply) judged → GoesBy client judged store out client' store' out' end → IsSaved end → Does client store client' store'
@@ -114,7 +119,7 @@ module _ (setup : Setup) where
       → client' ≡ discarded client → Saves (discarded client) store store' kept → end ≡ Err (given_up stop kept) → IsSaved end → Does client store client' store'
   gives_does client stop (Err fault) client' store store' end client_is saves end_is saved = absurd (saved fault end_is)
   gives_does client stop (Ok done) client' store store' end client_is saves end_is saved =
-      saved_act client (discarded client) client' store store' gives_up (λ before text is_saved. (refl, is_saved)) client_is saves
+      saved_act client (discarded client) client' store store' discarding (λ before text is_saved. (refl, is_saved)) client_is saves
 
   drops_does : (bad : Bool) (client : ClientState) (stop : CallStop) (store : StoreView) (out : OutView) (client' : ClientState) (store' : StoreView) (out' : OutView) (end : Result (Unit {0}) ClientStop)
       → Drops bad client stop store out client' store' out' end → IsSaved end → Does client store client' store'
@@ -142,11 +147,6 @@ module _ (setup : Setup) where
       follows_does pass ahead link ahead' link' client sends.got store out client' store' out' end sends.calls sends.follows saved
 
   -- ---- a client that may make a file
-
-  -- No file is outstanding, and the number of the next one is as it was.
-  record IsFree (client next : ClientState) : Type 0 where
-    pub free : next.outstanding ≡ None
-    pub number : next.next ≡ client.next
 
   unless_free : (client : ClientState) (file : RequestFile) (reply : ReplyFile) (refusal : Option ClientFault) (taken : Accepted) → accepted_unless client file reply refusal ≡ Ok taken → IsFree client taken.after
   unless_free client file reply (Some fault) taken is = absurd cc
@@ -204,10 +204,10 @@ module _ (setup : Setup) where
       go (Err fault) same = absurd cc
       go (Ok content) same =
           let next_is : with_file client at content ≡ next = cc in
-          subst (λ (c : ClientState). (kept : Outstanding) × (c.outstanding ≡ Some kept)) next_is (_, refl)
+          subst (λ (c : ClientState). (kept : Outstanding) × (c.outstanding ≡ Some kept)) next_is (record { at = at; file = file_of client content }, refl)
 
   makes_act : (client next : ClientState) (wish : Wish) (at : Moment) → client.outstanding ≡ None → client.next < 9999999999 → IsSoundWish wish → made client wish at ≡ Ok next
-      → (saved text : List ℕ) → IsSavedText text next → IsAct setup (customer_of client saved) (makes wish at) (customer_of next text)
+      → (saved text : List ℕ) → IsSavedText text next → IsAct setup (customer_of client saved) (making wish at) (customer_of next text)
   makes_act client next wish at free number sound is saved text is_saved =
       let kept = made_kept client next wish at is in (
         sent setup kept.0,
@@ -227,7 +227,7 @@ module _ (setup : Setup) where
       → end ≡ commands.keep_end kept → IsSaved end → Does client store client' store'
   kept_does client next client' wish at (Err fault) store store' end free number sound is client_is saves end_is saved = absurd (saved fault end_is)
   kept_does client next client' wish at (Ok done) store store' end free number sound is client_is saves end_is saved =
-      saved_act client next client' store store' (makes wish at) (makes_act client next wish at free number sound is) client_is saves
+      saved_act client next client' store store' (making wish at) (makes_act client next wish at free number sound is) client_is saves
 
   makes_does : (wish : Wish) (at : Moment) (client : ClientState) (judged : Result ClientState ClientFault) (store : StoreView) (client' : ClientState) (store' : StoreView) (end : Result (Unit {0}) ClientStop)
       → client.outstanding ≡ None → client.next < 9999999999 → IsSoundWish wish → FollowsRule (made client wish at) judged → KeepsMade judged client store client' store' end

@@ -21,16 +21,15 @@ use Rattle.world_laws.specs.ClientStores.{AreRight, AsksRightly}
 
 -- A client makes the file of a wish at a moment, takes in the reply that these bytes spell, or gives its file up.
 pub data Act : Type 0 where
-  makes : Wish → Moment → Act
-  takes : List ℕ → Act
-  gives_up : Act
+  making : Wish → Moment → Act
+  taking : List ℕ → Act
+  discarding : Act
 
--- Each is saved. Making and taking in are as in the world. A file is given up that the bank can't read, which the world's bank never
--- says.
+-- Each is saved. Making and taking in are as in the world. A file is given up where the bank can't read it; the world has no such reply.
 abbrev pub IsAct : Setup → CustomerView → Act → CustomerView → Type 0
-IsAct setup before (makes wish at) after = (file : List ℕ) × Makes setup before wish at after file
-IsAct setup before (takes bytes) after = Accepts before bytes after
-IsAct setup before gives_up after = Saves (discarded before.client) after
+IsAct setup before (making wish at) after = (file : List ℕ) × Makes setup before wish at after file
+IsAct setup before (taking bytes) after = Accepts before bytes after
+IsAct setup before discarding after = Saves (discarded before.client) after
 
 -- just these acts, in their order
 abbrev pub AreActs : Setup → CustomerView → List Act → CustomerView → Type 0
@@ -66,9 +65,9 @@ pub record IsOfBank (setup : Setup) (user : UserId) (S : State) (customer : Cust
 
 -- Whatever reply a client takes in is of the bank, and it was made since the client's last act.
 abbrev pub IsBeside : Setup → UserId → State → CustomerView → Act → State → Type 0
-IsBeside setup user S before (makes wish at) T = Unit {0}
-IsBeside setup user S before (takes bytes) T = IsOfBank setup user S before bytes T
-IsBeside setup user S before gives_up T = Unit {0}
+IsBeside setup user S before (making wish at) T = Unit {0}
+IsBeside setup user S before (taking bytes) T = IsOfBank setup user S before bytes T
+IsBeside setup user S before discarding T = Unit {0}
 
 -- Acts of a user's client, while the bank comes from one state to another.
 abbrev pub AreBeside : Setup → UserId → State → CustomerView → List Act → State → CustomerView → Type 0
