@@ -1,8 +1,7 @@
 -- The acts of a client beside a bank, and the world's steps that they are.
 use Rattle.std.proofs.Common.{◌≡◌, inl, ℕ, slice_get, List, [], ◌∷◌, Option, Some, Result, Ok, Err, refl, sym, ap, subst, ◌∙◌}
-use Rattle.ofx_types.specs.FileForm.{OneReply, SpellsReply}
+use Rattle.ofx_types.specs.FileForm.{OneReply}
 use Rattle.ofx_types.specs.declared.number.UserId.{UserId}
-use Rattle.ofx_types.specs.declared.reply.ReplyFile.{ReplyFile}
 use Rattle.sync_laws.specs.Histories.{IsInOrder, IsLater}
 use Rattle.bank_model.specs.SetupForm.{IsWithinLimits}
 use Rattle.bank_model.specs.declared.event.State.{State}
@@ -14,7 +13,7 @@ use Rattle.client_laws.specs.Answers.{bank_reply}
 use Rattle.client_saved.specs.Bounds.{IsSoundState}
 use Rattle.client_saved.specs.declared.state.ClientState.{ClientState}
 use Rattle.ofx_world.specs.Customer.{CustomerView, Goes, Saves}
-use Rattle.ofx_world.specs.World.{WorldView, MakeStep, RestartStep, DeliverReplyStep, with_customer, with_request}
+use Rattle.ofx_world.specs.World.{MakeStep, RestartStep, DeliverReplyStep, with_customer, with_request}
 use Rattle.world_laws.specs.ClientActs.{Act, making, taking, discarding, IsAct, ActsAreSteps, IsBeside, AreBeside, ActsKeepStores}
 use Rattle.world_laws.specs.ClientStores.{AreRight, AsksRightly, MadeFilesAskRightly, AcceptedRepliesKeepStores, DiscardedFilesKeepStores, StoresStayRight}
 

@@ -1,8 +1,6 @@
 -- Logs and journals as runs of the world's bank.
-use Rattle.std.proofs.Common.{◌≡◌, ℕ, ◌⊎◌, inl, inr, Bool, true, false, List, [], ◌∷◌, ◌++◌, Option, None, Some, refl, sym, ap, subst, ◌∙◌}
-use Rattle.std.specs.List.{All}
+use Rattle.std.proofs.Common.{◌≡◌, ℕ, inl, inr, Bool, true, false, List, [], ◌∷◌, ◌++◌, Option, None, Some, refl, sym, ap, subst, ◌∙◌}
 use Rattle.std.specs.Option.{IfSome, IsSomeAnd}
-use Rattle.std.proofs.lemmas.List.{append-nil}
 use Rattle.std.proofs.lemmas.List.Elements.{All-weaker}
 use Rattle.std.proofs.lemmas.Option.{same_Some, none-some}
 use Rattle.ofx_types.specs.declared.number.Moment.{Moment}
@@ -12,22 +10,19 @@ use Rattle.bank_model.specs.declared.event.State.{State}
 use Rattle.bank_model.specs.declared.log.LogItem.{LogItem}
 use Rattle.bank_model.specs.declared.log.LogItem.TheVariants.{Effect, Answer, Adopted, Fault}
 use Rattle.bank_model.specs.declared.setup.Setup.{Setup}
-use Rattle.bank_model.specs.declared.submit.SubmitFault.{SubmitFault}
-use Rattle.bank_model.specs.declared.submit.SubmitFault.TheVariants.{Keeper, OutOfMemory}
 use Rattle.bank_model.specs.Log.{endings}
 use Rattle.bank_model.specs.LegalLog.{IsWholeLog, ends}
 use Rattle.bank_model.specs.Rules.{opening_state}
 use Rattle.bank_model.specs.SetupForm.{IsWithinLimits}
 use Rattle.event_codec.specs.Coding.{coded}
 use Rattle.event_codec.specs.Records.{Reopens}
-use Rattle.bank_engine.specs.Calls.{Answers, FailsToCommit, Settles, FailsToSettle}
 use Rattle.bank_engine.specs.Kept.{AreKept, CodeEndings, MayRemain}
 use Rattle.bank_engine.specs.Laws.{IsPlaced, IsAtPlace, LogsReopen}
 use Rattle.bank_engine.specs.Truth.{Awaits, IsTrue}
 use Rattle.bank_engine.specs.Views as engines
 use Rattle.bank_engine.specs.Views.{JournalView}
 use Rattle.ofx_world.specs.Server.{PendingView, ServerView, fresh}
-use Rattle.world_laws.specs.BankLaws.{FreshServersAreSound, SoundServersGoOn, IsReported, HasReply, IsRun, IsAt, LogsAreRuns, IsTried, TrialsGoOn, landed_record, IsPendingAs, IsSeenAs, JournalsAreRuns}
+use Rattle.world_laws.specs.BankLaws.{FreshServersAreSound, SoundServersGoOn, IsReported, HasReply, IsRun, IsAt, LogsAreRuns, IsTried, landed_record, IsPendingAs, IsSeenAs, JournalsAreRuns}
 use Rattle.world_laws.specs.ServedBank.{MayCommit}
 use Rattle.world_laws.proofs.LogRuns.{bank, waiting, pending_waits, seen, MayStay, goes_to_end, comes_by}
 

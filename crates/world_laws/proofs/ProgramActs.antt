@@ -28,7 +28,7 @@ use Rattle.client_run.specs.Commands as commands
 use Rattle.client_run.specs.GoingOn.{sent_to, made_to, acted_to, worked_to, left_if, IsSaved}
 use Rattle.client_run.specs.Lines.{printed}
 use Rattle.client_run.specs.Run.{WorksIf}
-use Rattle.client_run.specs.Saves.{IsClientIn, IsText, Saves, Finds}
+use Rattle.client_run.specs.Saves.{IsClientIn, Saves, Finds}
 use Rattle.client_run.specs.Sending.{Calls, Drops, Follows, GoesBy, PrintsIf, SendsOutstanding, given_up, is_bad_request}
 use Rattle.client_run.specs.Views.{LinkView, StoreView, OutView, PortsView}
 use Rattle.client_run.specs.declared.stop.CallStop.{CallStop}

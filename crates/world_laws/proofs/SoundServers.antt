@@ -1,5 +1,5 @@
 -- What the world says of its bank is kept by each step of a served bank.
-use Rattle.std.proofs.Common.{◌≡◌, ℕ, inl, inr, Bool, true, false, cond, List, [], ◌∷◌, ◌++◌, Option, None, Some, refl, sym, subst}
+use Rattle.std.proofs.Common.{ℕ, inl, inr, Bool, true, false, cond, List, [], ◌∷◌, ◌++◌, Option, None, Some, refl, sym, subst}
 use Rattle.std.specs.Option.{IfSome}
 use Rattle.ofx_types.specs.declared.number.Moment.{Moment}
 use Rattle.bank_model.specs.declared.event.Event.{Event}
@@ -13,7 +13,7 @@ use Rattle.event_codec.specs.Coding.{coded}
 use Rattle.event_codec.specs.Records.{Reopens}
 use Rattle.ofx_world.specs.Customer.{CustomerView}
 use Rattle.ofx_world.specs.Laws.{RecordLaws}
-use Rattle.ofx_world.specs.Server.{PendingView, ServerView, fresh, happened, put_off, happened_unless, committed, given_up, settled_as, settled, with_fault}
+use Rattle.ofx_world.specs.Server.{PendingView, ServerView, fresh, happened, happened_unless, committed, given_up, settled_as, settled, with_fault}
 use Rattle.ofx_world.specs.Sound.{MayBePending, IsSoundWorld}
 use Rattle.ofx_world.specs.World.{WorldView}
 use Rattle.world_laws.specs.BankLaws.{IsSoundServer, SoundServersGoOn}

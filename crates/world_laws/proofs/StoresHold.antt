@@ -1,5 +1,5 @@
 -- All stores of a client that makes a file, takes the bank's reply in, or gives a file up.
-use Rattle.std.proofs.Common.{◌≡◌, List, Option, None, Some, Result, Ok, Err, refl, sym, ap, subst, ◌∙◌}
+use Rattle.std.proofs.Common.{◌≡◌, Option, Result, Ok, Err, sym, subst, ◌∙◌}
 use Rattle.std.specs.Option.{IfSome}
 use Rattle.std.proofs.lemmas.List.Elements.{All-from_recursion, recursion_from_All}
 use Rattle.ofx_types.specs.declared.reply.ReplyFile.{ReplyFile}

@@ -1,5 +1,5 @@
 -- What all stores of a client hold of the bank's history, whatever its files ask and whatever the bank has done since.
-use Rattle.std.specs.Prelude.{◌≡◌, List, All, Some, Ok}
+use Rattle.std.specs.Prelude.{◌≡◌, All, Some, Ok}
 use Rattle.std.specs.List.{AllByRecursion}
 use Rattle.std.specs.Option.{IfSome}
 use Rattle.ofx_types.specs.declared.number.Moment.{Moment}
@@ -8,7 +8,6 @@ use Rattle.sync_laws.specs.Histories.{IsInOrder, IsLater}
 use Rattle.bank_model.specs.Rules.{raised, ask_answers}
 use Rattle.bank_model.specs.SetupForm.{IsWithinLimits}
 use Rattle.bank_model.specs.Stores.{Store, IsRight}
-use Rattle.bank_model.specs.declared.entry.Entry.{Entry}
 use Rattle.bank_model.specs.declared.event.State.{State}
 use Rattle.bank_model.specs.declared.setup.Setup.{Setup}
 use Rattle.client_saved.specs.Bounds.{IsSoundState}
