@@ -31,7 +31,7 @@ use Rattle.client_core.specs.Making.{kind_asked}
 use Rattle.client_core.specs.Objects.{with_store}
 use Rattle.client_laws.specs.Answers.{bank_reply}
 use Rattle.client_saved.specs.Bounds.{same_object, has_store}
-use Rattle.world_laws.proofs.Below.{Laws}
+use Rattle.world_laws.proofs.LawsBelow.{Laws}
 use Rattle.ofx_world.specs.Sound.{is_about, AreApart, AsksAsKnown}
 use Rattle.world_laws.proofs.Objects.{object_is}
 

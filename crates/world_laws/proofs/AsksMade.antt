@@ -18,7 +18,7 @@ use Rattle.client_core.specs.declared.content.Content.{Content}
 use Rattle.client_core.specs.declared.content.Content.TheVariants.{Look, Do}
 use Rattle.client_saved.specs.Bounds.{same_object, same_store, has_store, AreDistinct}
 use Rattle.client_saved.specs.declared.state.ClientState.{ClientState}
-use Rattle.world_laws.proofs.Below.{Laws}
+use Rattle.world_laws.proofs.LawsBelow.{Laws}
 use Rattle.ofx_world.specs.Sound.{AreApart, AsksAsKnown}
 use Rattle.world_laws.proofs.Objects.{object_is, object_itself}
 

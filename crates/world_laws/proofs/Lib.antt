@@ -1,7 +1,7 @@
 mod Accepted
 mod ActsBeside
 mod AsksMade
-mod Below
+mod LawsBelow
 mod JournalRuns
 mod LogRuns
 mod Objects

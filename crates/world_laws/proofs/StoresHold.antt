@@ -17,7 +17,7 @@ use Rattle.client_saved.specs.declared.state.Outstanding.{Outstanding}
 use Rattle.world_laws.specs.ClientStores.{AreRight, IsAsked, AsksRightly, MadeFilesAskRightly, AcceptedRepliesKeepStores, DiscardedFilesKeepStores, StoresStayRight}
 use Rattle.world_laws.proofs.Accepted.{replies_right}
 use Rattle.world_laws.proofs.AsksMade.{asks_known, asks_apart, right_with}
-use Rattle.world_laws.proofs.Below.{Laws}
+use Rattle.world_laws.proofs.LawsBelow.{Laws}
 
 same_ok : {T : Type 0} (a b : T) → ◌≡◌ {A = Result T ClientFault} (Ok a) (Ok b) → a ≡ b
 same_ok a b same = cc
