@@ -21,7 +21,7 @@ use Rattle.bank_engine.specs.Laws.{IsPlaced, IsAtPlace, LogsReopen}
 use Rattle.bank_engine.specs.Truth.{Awaits, IsTrue}
 use Rattle.bank_engine.specs.Views as engines
 use Rattle.bank_engine.specs.Views.{JournalView}
-use Rattle.ofx_world.specs.Server.{PendingView, ServerView, fresh}
+use Rattle.ofx_world.specs.Server.{ServerView, fresh}
 use Rattle.world_laws.specs.BankLaws.{FreshServersAreSound, SoundServersGoOn, IsReported, HasReply, IsRun, IsAt, LogsAreRuns, IsTried, landed_record, IsPendingAs, IsSeenAs, JournalsAreRuns}
 use Rattle.world_laws.specs.ServedBank.{MayCommit}
 use Rattle.world_laws.proofs.LogRuns.{bank, waiting, pending_waits, seen, MayStay, goes_to_end, comes_by}
