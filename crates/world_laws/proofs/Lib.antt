@@ -1,0 +1,10 @@
+mod Accepted
+mod ActsBeside
+mod AsksMade
+mod LawsBelow
+mod JournalRuns
+mod LogRuns
+mod Objects
+mod ProgramActs
+mod SoundServers
+mod StoresHold

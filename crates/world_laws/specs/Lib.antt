@@ -1,0 +1,5 @@
+pub mod ServedBank
+pub mod BankLaws
+pub mod ClientStores
+pub mod ClientActs
+pub mod ProgramRuns
