@@ -4,6 +4,4 @@
 #[cfg(test)]
 mod rehearsals;
 #[cfg(test)]
-mod same;
-#[cfg(test)]
 mod steps;

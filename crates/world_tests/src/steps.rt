@@ -1,20 +1,21 @@
 //! Steps of the world, one after another, and what comes of them. Two clients of alice make transfers of 10.00 and mails.
 
-ghost use Rattle.std.specs.Prelude.{◌≡◌, ◌∷◌, [], codes};
+ghost use Rattle.std.specs.Prelude.{◌≡◌, ◌∷◌, [], codes, IfOk};
 ghost use Rattle.ofx_types.specs.TextRules.{trimmed};
 ghost use Rattle.client_core.specs.ClientForm.{new_client};
 ghost use Rattle.ofx_world.specs.Kept.{HasLawfulClock};
 
-use crate::same::same;
 use bank_core::Book;
 use bank_model::{Printer, Setup};
 use bank_samples::keys::keys;
 use bank_samples::sample::SETUP;
 use client_core::{Client, Wish};
-use ofx_types::{AcctKind, AcctName, Cents, Day, Moment, Sequence, Text, UserId, XferInfo};
+use ofx_types::{
+    AcctKind, AcctName, Cents, Day, Moment, OutOfMemory, Sequence, Text, UserId, XferInfo,
+};
 use ofx_world::{Step, World};
 use std::alloc::Global;
-use std::process::Abort;
+use std::test::Fail;
 
 /// 31 January 2024, 12:00:00.
 const NOON: Moment = Moment(1_706_702_400);
@@ -35,7 +36,7 @@ const TOMORROW: Day = Day(19_754);
 const NOBODY: u32 = 2;
 
 /// A step, in short. Where it doesn't say otherwise it is the first client's.
-#[derive(Clone, Copy)]
+#[derive(Clone, Copy, Debug)]
 enum Do {
     /// A transfer on the business day.
     Make,
@@ -274,78 +275,69 @@ const MIXED: &[(&str, &[Do], Came)] = &[
     ),
 ];
 
-fn text(rt: &impl Abort, alloc: Global, letters: &[u8]) -> Text
-    ensures { result ≡ trimmed letters.now }
+fn text(alloc: Global, letters: &[u8]) -> Result<Text, Fail>
+    ensures { IfOk result (λ text. text ≡ trimmed letters.now) }
 {
-    Text::new(alloc, letters, 32).expect(rt, "a text")
+    Ok(Text::new(alloc, letters, 32)?)
 }
 
-fn account(rt: &impl Abort, alloc: Global, number: &[u8], kind: AcctKind) -> AcctName {
-    AcctName {
-        bank: text(rt, alloc, b"121099999"),
-        number: text(rt, alloc, number),
+fn account(alloc: Global, number: &[u8], kind: AcctKind) -> Result<AcctName, Fail> {
+    Ok(AcctName {
+        bank: text(alloc, b"121099999")?,
+        number: text(alloc, number)?,
         kind,
-    }
-}
-
-fn transfer(rt: &impl Abort, alloc: Global, due: Option<Day>) -> Wish {
-    Wish::Transfer(XferInfo {
-        from: account(rt, alloc, b"1001", AcctKind::Checking),
-        to: account(rt, alloc, b"1002", AcctKind::Savings),
-        amount: Cents(1_000),
-        due,
     })
 }
 
-fn mail(rt: &impl Abort, alloc: Global) -> Wish {
-    Wish::Mail(text(rt, alloc, b"s"), text(rt, alloc, b"b"))
+fn transfer(alloc: Global, due: Option<Day>) -> Result<Wish, Fail> {
+    Ok(Wish::Transfer(XferInfo {
+        from: account(alloc, b"1001", AcctKind::Checking)?,
+        to: account(alloc, b"1002", AcctKind::Savings)?,
+        amount: Cents(1_000),
+        due,
+    }))
 }
 
-fn client(rt: &impl Abort, alloc: Global, name: &[u8]) -> Client
-    ensures { result ≡ new_client (trimmed name.now) (codes "alice") }
+fn client(alloc: Global, name: &[u8]) -> Result<Client, Fail>
+    ensures { IfOk result (λ client. client ≡ new_client (trimmed name.now) (codes "alice")) }
 {
-    let name = text(rt, alloc, name);
-    Client::new(alloc, name, text(rt, alloc, b"alice")).expect(rt, "a client")
+    Ok(Client::new(alloc, text(alloc, name)?, text(alloc, b"alice")?)?)
 }
 
-fn clients(rt: &impl Abort, alloc: Global) -> Vec<Client>
-    ensures { result.items ≡ new_client (codes "c1") (codes "alice") ∷ new_client (codes "c2") (codes "alice") ∷ [] }
+fn clients(alloc: Global) -> Result<Vec<Client>, Fail>
+    ensures { IfOk result (λ clients. clients.items ≡ new_client (codes "c1") (codes "alice") ∷ new_client (codes "c2") (codes "alice") ∷ []) }
 {
     let mut clients = Vec::new(alloc);
-    clients.push(client(rt, alloc, b"c1")).expect(rt, "room");
-    clients.push(client(rt, alloc, b"c2")).expect(rt, "room");
-    clients
+    clients.push(client(alloc, b"c1")?)?;
+    clients.push(client(alloc, b"c2")?)?;
+    Ok(clients)
 }
 
-/// A world of the sample's bank and two clients of alice.
 #[tactic(auto, using(crate::proofs::Clients::new_clients))]
-fn world(rt: &impl Abort, alloc: Global) -> World {
-    let setup = Setup::read(alloc, SETUP).expect(rt, "the setup");
-    let alice = text(rt, alloc, b"alice");
+fn world(alloc: Global) -> Result<World, Fail> {
+    let setup = Setup::read(alloc, SETUP)?;
+    let alice = text(alloc, b"alice")?;
     match setup.user(&alice) {
-        Some(_) => {
-            let keys = keys().expect(rt, "keys");
-            World::new(alloc, keys, setup, clients(rt, alloc)).expect(rt, "a world")
-        }
-        None => panic!(rt; "alice is no user"),
+        Some(_) => Ok(World::new(alloc, keys()?, setup, clients(alloc)?)?),
+        None => Err(Fail::from(OutOfMemory)),
     }
 }
 
-fn letter(rt: &impl Abort, alloc: Global, user: UserId) -> Step
-    ensures { HasLawfulClock result }
+fn letter(alloc: Global, user: UserId) -> Result<Step, Fail>
+    ensures { IfOk result HasLawfulClock }
 {
-    Step::Letter(user, text(rt, alloc, b"s"), text(rt, alloc, b"b"))
+    Ok(Step::Letter(user, text(alloc, b"s")?, text(alloc, b"b")?))
 }
 
-fn step(rt: &impl Abort, alloc: Global, what: Do) -> Step
-    ensures { HasLawfulClock result }
+fn step(alloc: Global, what: Do) -> Result<Step, Fail>
+    ensures { IfOk result HasLawfulClock }
 {
-    match what {
-        Make => Step::Make(0, transfer(rt, alloc, None)),
-        MakeDated => Step::Make(0, transfer(rt, alloc, Some(TOMORROW))),
-        Mail => Step::Make(0, mail(rt, alloc)),
-        OtherMakes => Step::Make(1, transfer(rt, alloc, None)),
-        NobodyMakes => Step::Make(NOBODY, transfer(rt, alloc, None)),
+    Ok(match what {
+        Make => Step::Make(0, transfer(alloc, None)?),
+        MakeDated => Step::Make(0, transfer(alloc, Some(TOMORROW))?),
+        Mail => Step::Make(0, Wish::Mail(text(alloc, b"s")?, text(alloc, b"b")?)),
+        OtherMakes => Step::Make(1, transfer(alloc, None)?),
+        NobodyMakes => Step::Make(NOBODY, transfer(alloc, None)?),
         Again => Step::SendAgain(0),
         NobodyAgain => Step::SendAgain(NOBODY),
         ClientAnew => Step::RestartClient(0),
@@ -355,13 +347,13 @@ fn step(rt: &impl Abort, alloc: Global, what: Do) -> Step
         ReplyToOther(reply) => Step::DeliverReply(1, reply),
         ReplyToNobody(reply) => Step::DeliverReply(NOBODY, reply),
         Due => Step::Due,
-        Letter => letter(rt, alloc, UserId(0)),
-        LetterToNobody => letter(rt, alloc, UserId(9)),
+        Letter => letter(alloc, UserId(0))?,
+        LetterToNobody => letter(alloc, UserId(9))?,
         Fault(landed) => Step::Fault(landed),
         ServerAnew => Step::RestartServer,
         Later => Step::Clock(LATER),
         NextDay => Step::Clock(NEXT_DAY),
-    }
+    })
 }
 
 fn rows_of(client: &Client) -> u64 {
@@ -424,12 +416,12 @@ fn look_at(world: &World) -> Seen {
 }
 
 /// Makes the steps of a case, from noon on.
-fn run(rt: &impl Abort, alloc: Global, world: &mut World, all: &[Do]) {
-    world.run(&[Step::Clock(NOON)]).expect(rt, "room");
+fn run(alloc: Global, world: &mut World, all: &[Do]) -> Result<Seen, Fail> {
+    world.run(&[Step::Clock(NOON)])?;
     for what in all {
-        let step = step(rt, alloc, *what);
-        world.run(&[step]).expect(rt, "room");
+        world.run(&[step(alloc, *what)?])?;
     }
+    Ok(look_at(world))
 }
 
 fn last_entry<P: Printer>(book: &Book<P>) -> u64 {
@@ -439,45 +431,57 @@ fn last_entry<P: Printer>(book: &Book<P>) -> u64 {
     }
 }
 
-/// How many entries there are when the world is over.
-fn entries(rt: &impl Abort, alloc: Global, world: World) -> u64 {
-    let (book, _accounts) = world.into_parts(alloc).expect(rt, "room");
-    last_entry(&book)
+fn entries(alloc: Global, world: World) -> Result<u64, OutOfMemory> {
+    match world.into_parts(alloc) {
+        Ok((book, _accounts)) => Ok(last_entry(&book)),
+        Err(full) => Err(full),
+    }
 }
 
 /// What a case comes to, and what is seen of its replies.
-fn came_of(rt: &impl Abort, alloc: Global, all: &[Do]) -> (Came, Replied) {
-    let mut world = world(rt, alloc);
-    run(rt, alloc, &mut world, all);
-    let seen = look_at(&world);
-    let entries = entries(rt, alloc, world);
-    let counts = [seen.requests, seen.replies, seen.events, entries, seen.rows];
-    ((counts, seen.outstanding), seen.replied)
+fn came_of(alloc: Global, all: &[Do]) -> Result<(Came, Replied), Fail> {
+    let mut world = world(alloc)?;
+    let seen = run(alloc, &mut world, all);
+    let entries = entries(alloc, world);
+    let seen = seen?;
+    let counts = [
+        seen.requests,
+        seen.replies,
+        seen.events,
+        entries?,
+        seen.rows,
+    ];
+    Ok(((counts, seen.outstanding), seen.replied))
 }
 
 #[test]
-fn steps_come_to_what_they_should(rt: HostRuntime) {
+fn steps_come_to_what_they_should(rt: HostRuntime) -> Result<(), Fail> {
     for (name, all, wanted) in CASES {
-        let (came, replied) = came_of(&rt, rt.alloc(), all);
-        same(&rt, (*name, came, replied.alike), (*name, *wanted, true));
+        let (came, replied) = came_of(rt.alloc(), all)?;
+        assert_eq!(rt; came, *wanted, "{name}");
+        assert!(rt; replied.alike, "{name}");
     }
-    for (name, all, wanted) in MIXED {
-        let (came, replied) = came_of(&rt, rt.alloc(), all);
-        same(&rt, (*name, came, replied.alike), (*name, *wanted, false));
-    }
+    Ok(())
 }
 
-/// Steps, and whether the first reply tells noon.
-const AT_NOON: &[(&[Do], bool)] = &[
-    (&[Make, Deliver(0)], true),
-    (&[Make, Fault(true), Deliver(0), Later, Deliver(0)], true),
-    (&[Make, Fault(false), Deliver(0), Later, Deliver(0)], false),
-];
+#[test]
+fn replies_to_several_files_come_to_what_they_should(rt: HostRuntime) -> Result<(), Fail> {
+    for (name, all, wanted) in MIXED {
+        let (came, replied) = came_of(rt.alloc(), all)?;
+        assert_eq!(rt; came, *wanted, "{name}");
+        assert!(rt; !replied.alike, "{name}");
+    }
+    Ok(())
+}
 
 #[test]
-fn an_event_keeps_its_moment_while_it_is_pending(rt: HostRuntime) {
-    for (all, wanted) in AT_NOON {
-        let (_, replied) = came_of(&rt, rt.alloc(), all);
-        same(&rt, replied.at_noon, *wanted);
+fn an_event_keeps_its_moment_while_it_is_pending(rt: HostRuntime) -> Result<(), Fail> {
+    let at_once: &[Do] = &[Make, Deliver(0)];
+    let adopted: &[Do] = &[Make, Fault(true), Deliver(0), Later, Deliver(0)];
+    let anew: &[Do] = &[Make, Fault(false), Deliver(0), Later, Deliver(0)];
+    for (all, wanted) in [(at_once, true), (adopted, true), (anew, false)] {
+        let (_, replied) = came_of(rt.alloc(), all)?;
+        assert_eq!(rt; replied.at_noon, wanted, "{all:?}");
     }
+    Ok(())
 }

@@ -1,9 +1,0 @@
-//! What the tests compare by.
-
-use std::fmt::Debug;
-use std::process::Abort;
-
-/// What was found is what was wanted.
-pub fn same<T: PartialEq + Debug + Drop>(rt: &impl Abort, found: T, wanted: T) {
-    assert_eq!(rt; found, wanted);
-}
