@@ -14,6 +14,23 @@ use std::alloc::Global;
 use std::marker::Model;
 
 /// The accounts of a bank, numbered from 0, each at its place unless it is checked out.
+///
+/// ```rust
+/// use bank_accounts::{Account, AccountPool, Held};
+/// use ofx_types::{AcctId, Cents};
+///
+/// let alloc = rt.alloc();
+/// let first = Account::new(AcctId(0), Cents(10_000));
+/// let second = Account::new(AcctId(1), Cents(5_000));
+/// let accounts = vec![in alloc; first, second].expect(&rt, "room");
+/// let mut pool = AccountPool::from_vec(alloc, accounts).expect(&rt, "room");
+/// // One account is held while an event is answered. The other one stays in the pool.
+/// let mut held = Held::new(alloc);
+/// pool.check_out(&mut held, &[AcctId(1)]).expect(&rt, "room");
+/// assert!(rt; held.balance(AcctId(1)) == Some(Cents(5_000)) && held.balance(AcctId(0)) == None);
+/// pool.check_in(&mut held);
+/// assert!(rt; held.accounts().is_empty());
+/// ```
 pub struct AccountPool {
     slots: Vec<Option<Account>>,
 }

@@ -22,6 +22,35 @@ use std::hash::RandomState;
 /// The arguments `rehearse` and a number ask for the rehearsal of that seed: a world of a bank and three clients takes 2,000 turns, and
 /// six lines tell what came of them. Nothing but the output is used. The status is 0, 6 where a write failed, or 7 where memory was
 /// refused. All other arguments are those of `answer_told`.
+///
+/// ```rust
+/// use bank_commands::bank_told;
+/// use ofx_ports::{MemClock, MemKeeper, MemSink, MemSource};
+/// use ofx_types::{Moment, Status, Text};
+/// use std::hash::RandomState;
+///
+/// let alloc = rt.alloc();
+/// let text = |word: &str| Text::new(alloc, word.as_bytes(), 64).expect(&rt, "a text");
+/// let arguments = vec![in alloc; text("rehearse"), text("seven")];
+/// let mut setup = MemSource::new(alloc, b"").expect(&rt, "a source");
+/// let mut input = MemSource::new(alloc, b"").expect(&rt, "a source");
+/// let mut out = MemSink::new(alloc, 1024).expect(&rt, "a sink");
+/// let mut keeper = MemKeeper::new(alloc);
+/// let mut clock = MemClock::new(alloc, &[Moment(1_706_702_400)]).expect(&rt, "a clock");
+/// let keys = RandomState::new(&rt).expect(&rt, "keys");
+/// let told = bank_told(
+///     alloc,
+///     keys,
+///     &arguments.expect(&rt, "room"),
+///     &mut setup,
+///     &mut input,
+///     &mut out,
+///     &mut keeper,
+///     &mut clock,
+/// );
+/// // The seed is no number, so that the arguments have no form.
+/// assert!(rt; told.status == Status(2) && out.held().is_empty());
+/// ```
 #[tactic(auto, using(crate::proofs::Seeds::one_seed, crate::proofs::Seeds::seeds_are_no_frames, crate::proofs::Seeds::seeds_are_no_due_work, crate::proofs::Seeds::seeds_are_no_mail, crate::proofs::Seeds::seeds_have_form))]
 pub fn bank_told<A: Source, B: Source, W: Sink, K: Keeper, C: Clock>(
     alloc: Global,

@@ -20,6 +20,33 @@ use std::alloc::Global;
 /// | `Cut(n)` | the link ended n bytes into a request |
 /// | `ReadFault`, `WriteFault` | a read or a write of the link failed in this call |
 /// | `OutOfMemory` | memory was refused between two exchanges |
+///
+/// ```rust
+/// use bank_connection::{Served, serve_link};
+/// use bank_model::Setup;
+/// use bank_server::SoloOffice;
+/// use bank_shared::Opened;
+/// use ofx_file::OfxPrinter;
+/// use ofx_ports::{MemClock, MemKeeper, MemLink};
+/// use ofx_types::Moment;
+/// use std::hash::RandomState;
+/// use std::marker::Brand;
+///
+/// let alloc = rt.alloc();
+/// let bytes = b"OFXBANK 1\nBANK 1\nLEAD 5\nWINDOW 3\nENTRIES 99\n\
+///     USER alice secret\nACCT 1001 CHECKING 0 alice\n";
+/// let setup = Setup::read(alloc, bytes).expect(&rt, "a setup");
+/// let keys = RandomState::new(&rt).expect(&rt, "keys");
+/// let Ok(opened) = Opened::open(alloc, keys, MemKeeper::new(alloc), setup, OfxPrinter) else {
+///     panic!(rt; "a bank");
+/// };
+/// let mut office = SoloOffice::<Brand, _, _>::new(alloc, opened).expect(&rt, "room");
+/// let mut clock = MemClock::new(alloc, &[Moment(1_706_702_400)]).expect(&rt, "a clock");
+/// let mut link = MemLink::new(alloc, b"GET /ofx HTTP/1.1\r\n\r\n", 1024).expect(&rt, "a link");
+/// // The method isn't POST, and the connection ends after the reply that says so.
+/// let served = serve_link(alloc, &mut office, &mut link, &mut clock);
+/// assert!(rt; served == Ok(Served::Closed(1)) && link.held().starts_with(b"HTTP/1.1 405 "));
+/// ```
 pub fn serve_link<O: Office, L: Link, C: Clock>(
     alloc: Global,
     office: &mut O,

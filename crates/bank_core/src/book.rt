@@ -28,6 +28,33 @@ use std::hash::RandomState;
 use std::marker::Model;
 
 /// A bank's setup and the state that it is in, with the printer of its replies.
+///
+/// ```rust
+/// use bank_accounts::Held;
+/// use bank_core::Book;
+/// use bank_model::{Event, Setup};
+/// use ofx_file::OfxPrinter;
+/// use ofx_types::{Moment, Text, UserId};
+/// use std::hash::RandomState;
+///
+/// let alloc = rt.alloc();
+/// let bytes = b"OFXBANK 1\nBANK 1\nLEAD 5\nWINDOW 3\nENTRIES 99\n\
+///     USER alice secret\nACCT 1001 CHECKING 0 alice\n";
+/// let setup = Setup::read(alloc, bytes).expect(&rt, "a setup");
+/// let keys = RandomState::new(&rt).expect(&rt, "keys");
+/// let begun = Book::begin(alloc, keys, setup, OfxPrinter);
+/// let (mut book, _accounts) = begun.expect(&rt, "a bank");
+/// let text = |word: &str| Text::new(alloc, word.as_bytes(), 64).expect(&rt, "a text");
+/// let letter = Event::Letter(UserId(0), text("Hello"), text("Hi"));
+/// let noon = Moment(1_706_702_400);
+/// assert!(rt; book.legal(&letter, noon));
+/// // A letter names no account, so none is held. Its step is prepared, and only then taken.
+/// let mut held = Held::new(alloc);
+/// let prepared = book.answer(alloc, &mut held, &letter, noon);
+/// assert!(rt; book.next_number() == Some(1));
+/// let reply = book.adopt(&mut held, prepared.expect(&rt, "room"));
+/// assert!(rt; reply.is_empty() && book.next_number() == Some(2));
+/// ```
 pub struct Book<P: Printer> {
     setup: Setup,
     ledger: Ledger,

@@ -66,6 +66,28 @@ pub(crate) fn add_mail(
 }
 
 /// Writes a user a letter from the bank.
+///
+/// ```rust
+/// use bank_accounts::Held;
+/// use bank_deeds::letter;
+/// use bank_ledger::{Draft, Ledger};
+/// use bank_model::Setup;
+/// use ofx_types::{Day, Moment, Text, UserId};
+/// use std::hash::RandomState;
+///
+/// let alloc = rt.alloc();
+/// let bytes = b"OFXBANK 1\nBANK 1\nLEAD 5\nWINDOW 3\nENTRIES 99\n\
+///     USER alice secret\nACCT 1001 CHECKING 0 alice\n";
+/// let setup = Setup::read(alloc, bytes).expect(&rt, "a setup");
+/// let keys = RandomState::new(&rt).expect(&rt, "keys");
+/// let ledger = Ledger::new(alloc, keys, setup.window);
+/// let (held, noon, today) = (Held::new(alloc), Moment(1_706_702_400), Day(19_753));
+/// let mut draft = Draft::new(alloc, &setup, &ledger, &held, UserId(0), noon, today);
+/// let subject = Text::new(alloc, b"Hello", 64).expect(&rt, "a subject");
+/// let body = Text::new(alloc, b"Hi", 10_000).expect(&rt, "a body");
+/// letter(&mut draft, alloc, UserId(0), &subject, &body).expect(&rt, "room");
+/// assert!(rt; draft.count() == 1 && draft.entries()[0].number == 1);
+/// ```
 pub fn letter(
     draft: &mut Draft<'_>,
     alloc: Global,

@@ -27,6 +27,29 @@ use std::hash::RandomState;
 use std::marker::Model;
 
 /// A bank that answers one file after another, and does what is due.
+///
+/// ```rust
+/// use bank_desk::{Answered, Desk};
+/// use bank_engine::Bare;
+/// use bank_model::Setup;
+/// use ofx_ports::MemKeeper;
+/// use ofx_types::Moment;
+/// use std::hash::RandomState;
+///
+/// let alloc = rt.alloc();
+/// let bytes = b"OFXBANK 1\nBANK 1\nLEAD 5\nWINDOW 3\nENTRIES 99\n\
+///     USER alice secret\nACCT 1001 CHECKING 0 alice\n";
+/// let setup = Setup::read(alloc, bytes).expect(&rt, "a setup");
+/// let keys = RandomState::new(&rt).expect(&rt, "keys");
+/// let mut keeper = MemKeeper::new(alloc);
+/// let mut desk = Desk::open(alloc, keys, setup, &mut keeper).expect(&rt, "a bank");
+/// // The first line of these bytes has a value that isn't allowed, so they are answered by its offset.
+/// let (noon, bytes) = (Moment(1_706_702_400), b"OFXHEADER:200\r\n");
+/// let Ok(Answered::Bad(0)) = desk.answer(alloc, &mut keeper, noon, bytes, Bare) else {
+///     panic!(rt; "no request file");
+/// };
+/// assert!(rt; keeper.record_count() == 0 && desk.next_number() == Some(1));
+/// ```
 pub struct Desk {
     engine: SoloEngine<OfxPrinter>,
 }

@@ -25,6 +25,28 @@ const MAX_EVENTS: u32 = 100_000;
 ///
 /// Which events those are is said where the journal is known, as over a locked bank (`run_due`). Over a bank other callers come between,
 /// and nothing but the number is said.
+///
+/// ```rust
+/// use bank_due::due_run;
+/// use bank_model::Setup;
+/// use bank_shared::{Bank, Opened};
+/// use ofx_file::OfxPrinter;
+/// use ofx_ports::{MemKeeper, OpenGate};
+/// use ofx_types::Moment;
+/// use std::hash::RandomState;
+/// use std::marker::Brand;
+///
+/// let alloc = rt.alloc();
+/// let bytes = b"OFXBANK 1\nBANK 1\nLEAD 5\nWINDOW 3\nENTRIES 99\n\
+///     USER alice secret\nACCT 1001 CHECKING 0 alice\n";
+/// let setup = Setup::read(alloc, bytes).expect(&rt, "a setup");
+/// let keys = RandomState::new(&rt).expect(&rt, "keys");
+/// let Ok(opened) = Opened::open(alloc, keys, MemKeeper::new(alloc), setup, OfxPrinter) else {
+///     panic!(rt; "a bank");
+/// };
+/// let (bank, mut pass) = Bank::<Brand, _, _>::begin(opened);
+/// assert!(rt; due_run(&bank, &rt, &mut pass, Moment(1_706_702_400), &OpenGate) == Ok(0));
+/// ```
 pub fn due_run<R: Wait, N: BankName, K: Keeper, P: Printer, G: Gate>(
     bank: &Bank<N, K, P>,
     rt: &R,

@@ -26,6 +26,34 @@ use std::marker::Model;
 
 /// An engine with all accounts of its bank, for one caller. The accounts that an event names are lent for its step. They stay lent
 /// while the event is pending, so that settling takes no memory.
+///
+/// ```rust
+/// use bank_core::Book;
+/// use bank_engine::{Log, SoloEngine, Unsent};
+/// use bank_model::{Event, Setup, SubmitFault};
+/// use ofx_file::OfxPrinter;
+/// use ofx_ports::MemKeeper;
+/// use ofx_types::{Moment, Text, UserId};
+/// use std::hash::RandomState;
+///
+/// let alloc = rt.alloc();
+/// let bytes = b"OFXBANK 1\nBANK 1\nLEAD 5\nWINDOW 3\nENTRIES 99\n\
+///     USER alice secret\nACCT 1001 CHECKING 0 alice\n";
+/// let setup = Setup::read(alloc, bytes).expect(&rt, "a setup");
+/// let keys = RandomState::new(&rt).expect(&rt, "keys");
+/// let begun = Book::begin(alloc, keys, setup, OfxPrinter);
+/// let (book, accounts) = begun.expect(&rt, "a bank");
+/// let mut engine = SoloEngine::new(alloc, book, accounts).expect(&rt, "room");
+/// let text = |word: &str| Text::new(alloc, word.as_bytes(), 64).expect(&rt, "a text");
+/// let letter = Event::Letter(UserId(0), text("Hello"), text("Hi"));
+/// // The append of its record fails, though the record is stored. The event is pending until that is settled.
+/// let mut keeper = MemKeeper::failing(alloc, &[1], &[1]).expect(&rt, "a keeper");
+/// let (mut log, noon) = (Log::new(), Moment(1_706_702_400));
+/// let reply = engine.commit(alloc, &mut keeper, &mut log, letter, noon, Unsent);
+/// assert!(rt; reply.err() == Some(SubmitFault::Keeper(1)));
+/// assert!(rt; engine.settle(&mut keeper, &mut log) == Ok(true));
+/// assert!(rt; engine.book().next_number() == Some(2));
+/// ```
 pub struct SoloEngine<P: Printer> {
     engine: Engine<P>,
     pool: AccountPool,

@@ -75,6 +75,23 @@ fn prefix_of(ahead: &[u8]) -> Prefix
 }
 
 /// Reads on until the next frame is ahead as a whole, or the input shows that there is none.
+///
+/// ```rust
+/// use bank_frames::{Ahead, Frame, Next, next_frame};
+/// use ofx_ports::MemSource;
+///
+/// // A file of five bytes, and a call for due work.
+/// let mut source = MemSource::new(rt.alloc(), b"FILE 5\nhelloDUE\n").expect(&rt, "a source");
+/// let mut ahead = Ahead::new(rt.alloc()).expect(&rt, "room");
+/// let Ok(Next::Frame(Frame::File(size))) = next_frame(&mut source, &mut ahead) else {
+///     panic!(rt; "a file");
+/// };
+/// assert!(rt; ahead.bytes()[size.head..].starts_with(b"hello") && size.file == 5);
+/// ahead.consume(size.head + size.file);
+/// let Ok(Next::Frame(Frame::Due)) = next_frame(&mut source, &mut ahead) else {
+///     panic!(rt; "due work");
+/// };
+/// ```
 pub fn next_frame<S: Source>(source: &mut S, ahead: &mut Ahead) -> Result<Next, Failed>
     // No byte is lost.
     ensures kept { Keeps (prepend_known ahead.old (S.left source.old)) (prepend_known ahead.new (S.left source.new)) }

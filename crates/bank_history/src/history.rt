@@ -24,6 +24,28 @@ use std::marker::Model;
 ///
 /// An entry comes without taking memory. It is among the recent ones, which have room, until room is made for more: then it
 /// goes to its object.
+///
+/// ```rust
+/// use bank_history::History;
+/// use bank_model::Entry;
+/// use ofx_types::{Change, ObjectId, TrnUid};
+///
+/// // Of each object two entries are held.
+/// let mut history = History::new(rt.alloc(), 2);
+/// history.reserve(3).expect(&rt, "room");
+/// for (number, object) in [(1, 0), (2, 3), (3, 0)] {
+///     history.add(Entry {
+///         number,
+///         object: ObjectId(object),
+///         trnuid: TrnUid::new(b"t1").expect(&rt, "a uid"),
+///         change: Change::DropTransfer(number),
+///     });
+/// }
+/// assert!(rt; history.count() == 3 && history.newest(ObjectId(3)) == 2);
+/// let since = history.since(rt.alloc(), ObjectId(0), 1);
+/// let since = since.expect(&rt, "room");
+/// assert!(rt; since.len() == 1 && since[0].number == 3);
+/// ```
 pub struct History {
     // all entries, for contracts alone
     past: EntryTrace,

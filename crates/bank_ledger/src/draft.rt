@@ -29,6 +29,33 @@ use std::marker::Model;
 /// What an event makes of a bank: its setup, its ledger and the accounts that are held, lent, and what is added.
 ///
 /// The state that it makes is sound at any time.
+///
+/// ```rust
+/// use bank_accounts::Held;
+/// use bank_ledger::{Draft, Ledger};
+/// use bank_model::Setup;
+/// use ofx_types::{Day, Moment, TrnUid, UserId};
+/// use std::hash::RandomState;
+///
+/// let alloc = rt.alloc();
+/// let bytes = b"OFXBANK 1\nBANK 1\nLEAD 5\nWINDOW 3\nENTRIES 99\n\
+///     USER alice secret\nACCT 1001 CHECKING 0 alice\n";
+/// let setup = Setup::read(alloc, bytes).expect(&rt, "a setup");
+/// let keys = RandomState::new(&rt).expect(&rt, "keys");
+/// let mut ledger = Ledger::new(alloc, keys, setup.window);
+/// let (held, noon, today) = (Held::new(alloc), Moment(1_706_702_400), Day(19_753));
+/// let mut draft = Draft::new(alloc, &setup, &ledger, &held, UserId(0), noon, today);
+/// let uid = TrnUid::new(b"t1").expect(&rt, "a uid");
+/// assert!(rt; !draft.is_used(&uid));
+/// draft.use_up(uid).expect(&rt, "room");
+/// // What was added is taken in where there is room for it.
+/// let added = draft.finish();
+/// assert!(rt; added.uid_count() == 1 && added.entries().is_empty());
+/// ledger.reserve(0, 1).expect(&rt, "room");
+/// ledger.take(added);
+/// let uid = TrnUid::new(b"t1").expect(&rt, "a uid");
+/// assert!(rt; ledger.is_used(UserId(0), &uid));
+/// ```
 pub struct Draft<'b> {
     setup: &'b Setup,
     ledger: &'b Ledger,

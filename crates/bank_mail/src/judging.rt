@@ -33,6 +33,24 @@ pub fn judge_bank_mail(
 }
 
 /// The code of a mail about nothing in particular. Takes no memory.
+///
+/// ```rust
+/// use bank_mail::judge_mail;
+/// use ofx_types::{MailText, Moment, Text};
+///
+/// let text = |word: &str| Text::new(rt.alloc(), word.as_bytes(), 64).expect(&rt, "a text");
+/// let mut mail = MailText {
+///     created: Moment(1_706_702_400),
+///     sender: text("alice"),
+///     target: text("BANK"),
+///     subject: text("Hello"),
+///     body: text("Hi"),
+/// };
+/// assert_eq!(rt; judge_mail(&mail), 0);
+/// // The bank takes mail to itself alone.
+/// mail.target = text("bob");
+/// assert_eq!(rt; judge_mail(&mail), 16501);
+/// ```
 #[tactic(auto, unfolding(bank_model::specs::Judging::mail_code))]
 pub fn judge_mail(mail: &MailText) -> u16
     ensures { result ≡ mail_code mail.now }

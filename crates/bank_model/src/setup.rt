@@ -41,6 +41,20 @@ pub struct AccountLine {
 pub type Accounts = Directory<AccountLine>;
 
 /// What stays the same over a bank's life.
+///
+/// ```rust
+/// use bank_model::{Setup, SetupFault};
+/// use ofx_types::{AcctId, UserId};
+///
+/// let bytes = b"OFXBANK 1\nBANK 121099999\nLEAD 5\nWINDOW 3\nENTRIES 9999999999\n\
+///     USER alice secret\nACCT 1001 CHECKING 10000 alice\n";
+/// let setup = Setup::read(rt.alloc(), bytes).expect(&rt, "a setup");
+/// assert!(rt; setup.lead == 5 && setup.accounts.items()[0].opening.0 == 10_000);
+/// assert!(rt; setup.owns(UserId(0), AcctId(0)));
+/// // The second line says another bank id.
+/// let fault = Setup::read(rt.alloc(), b"OFXBANK 1\nBANK\n").err();
+/// assert!(rt; fault == Some(SetupFault::SetupLine(2)));
+/// ```
 pub struct Setup {
     /// The bank's id (BANKID), a word.
     pub bank: Text,

@@ -19,6 +19,34 @@ use std::alloc::Global;
 const FIRST_MOMENT: Moment = Moment(-2_208_988_800);
 
 /// The statement of the account of that name, where it is the user's.
+///
+/// ```rust
+/// use bank_accounts::{Account, Held};
+/// use bank_ledger::{Draft, Ledger};
+/// use bank_model::Setup;
+/// use bank_queries::statement_of;
+/// use ofx_types::{AcctId, AskReply, Cents, Day, Moment, TrnUid, UserId};
+/// use std::hash::RandomState;
+///
+/// let alloc = rt.alloc();
+/// let bytes = b"OFXBANK 1\nBANK 1\nLEAD 5\nWINDOW 3\nENTRIES 99\n\
+///     USER alice secret\nACCT 1001 CHECKING 500 alice\n";
+/// let setup = Setup::read(alloc, bytes).expect(&rt, "a setup");
+/// let keys = RandomState::new(&rt).expect(&rt, "keys");
+/// let ledger = Ledger::new(alloc, keys, setup.window);
+/// let mut held = Held::new(alloc);
+/// held.add(Account::new(AcctId(0), Cents(500)))
+///     .expect(&rt, "room");
+/// let (noon, today) = (Moment(1_706_702_400), Day(19_753));
+/// let draft = Draft::new(alloc, &setup, &ledger, &held, UserId(0), noon, today);
+/// let uid = TrnUid::new(b"t1").expect(&rt, "a uid");
+/// let name = &setup.accounts.items()[0].name;
+/// let reply = statement_of(&draft, alloc, &uid, name, None).expect(&rt, "room");
+/// let AskReply::Statement(_, 0, Some(body)) = reply else {
+///     panic!(rt; "a statement");
+/// };
+/// assert!(rt; body.ledger == Cents(500) && body.list.is_none());
+/// ```
 pub fn statement_of(
     draft: &Draft<'_>,
     alloc: Global,

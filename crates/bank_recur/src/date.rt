@@ -24,6 +24,18 @@ const MONTHS: u64 = 97_200;
 
 /// The date of the transfer at that occurrence of a series, from 0, whose first date is given (FREQ). None exactly where
 /// the date lies after 31 December 9999. Takes no memory.
+///
+/// ```rust
+/// use bank_recur::date_of;
+/// use ofx_types::{Day, Freq};
+///
+/// // From 31 January 2024 on: 29 February and 31 March.
+/// let first = Day(19_753);
+/// assert!(rt; date_of(first, Freq::Monthly, 1) == Some(Day(19_782)));
+/// assert!(rt; date_of(first, Freq::Monthly, 2) == Some(Day(19_813)));
+/// // No date lies after the year 9999.
+/// assert!(rt; date_of(Day::LAST, Freq::Weekly, 1) == None);
+/// ```
 #[tactic(auto, unfolding(bank_model::specs::Recurrence::kth_date, bank_model::specs::Recurrence::day_in_series))]
 pub fn date_of(first: Day, freq: Freq, k: u32) -> Option<Day>
     requires { IsDay first.0 }

@@ -30,6 +30,28 @@ use std::hash::RandomState;
 /// - `Record(n, at)`: record n, from 1, is the first that codes no event, with the offset of its first fault.
 /// - `Illegal(n)`: record n is the first whose event isn't legal after those before it.
 /// - `OutOfMemory`.
+///
+/// ```rust
+/// use bank_model::Setup;
+/// use bank_replay::reopen;
+/// use ofx_file::OfxPrinter;
+/// use ofx_ports::{Keeper, MemKeeper};
+/// use std::hash::RandomState;
+///
+/// let alloc = rt.alloc();
+/// let bytes = b"OFXBANK 1\nBANK 1\nLEAD 5\nWINDOW 3\nENTRIES 99\n\
+///     USER alice secret\nACCT 1001 CHECKING 500 alice\n";
+/// let setup = Setup::read(alloc, bytes).expect(&rt, "a setup");
+/// let keys = RandomState::new(&rt).expect(&rt, "keys");
+/// // The record of a letter to the first user, with the subject `A` and the body `B`.
+/// let mut keeper = MemKeeper::new(alloc);
+/// let record = b"\x01\x04\0\0\0\0\x65\xba\x36\x40\0\0\0\0\0\x01A\0\x01B";
+/// keeper.append(record).expect(&rt, "a record that is stored");
+/// let (book, accounts) = reopen(alloc, keys, &mut keeper, setup, OfxPrinter).expect(
+///     &rt, "a bank",
+/// );
+/// assert!(rt; book.next_number() == Some(2) && accounts[0].balance().0 == 500);
+/// ```
 pub fn reopen<K: Keeper, P: Printer>(
     alloc: Global,
     keys: RandomState,

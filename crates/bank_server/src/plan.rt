@@ -27,6 +27,27 @@ pub struct Plan {
 }
 
 /// What the arguments say: `serve`, the setup, the records, PORT, WORKERS and CONNECTIONS. None where they have another form.
+///
+/// ```rust
+/// use bank_server::{Plan, plan_of};
+/// use ofx_types::Text;
+///
+/// let mut arguments = Vec::new(rt.alloc());
+/// for word in ["serve", "setup", "records", "8080", "4", "0"] {
+///     let word = Text::new(rt.alloc(), word.as_bytes(), 64).expect(&rt, "a word");
+///     arguments.push(word).expect(&rt, "room");
+/// }
+/// assert!(rt;
+///     plan_of(&arguments)
+///         == Some(Plan {
+///             port: 8080,
+///             workers: 4,
+///             most: 0
+///         })
+/// );
+/// // The number of connections is missing.
+/// assert!(rt; plan_of(&arguments[..5]) == None);
+/// ```
 pub fn plan_of(arguments: &[Text]) -> Option<Plan>
     ensures { ReadsPlan arguments.now result }
 {

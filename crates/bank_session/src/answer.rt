@@ -98,6 +98,36 @@ fn run<A: Source, B: Source, W: Sink, K: Keeper, C: Clock>(
 /// | 9 | the number of a record, from 1 | this record is the first whose event isn't legal after those before it; nothing was written |
 /// | 10 | no user | of `mail`: no user of the setup has the name; nothing was written |
 /// | 10 | full | of `mail`: no number is left for an entry; nothing was written |
+///
+/// ```rust
+/// use bank_session::answer_told;
+/// use ofx_ports::{MemClock, MemKeeper, MemSink, MemSource};
+/// use ofx_types::{Moment, Status, Text};
+/// use std::hash::RandomState;
+///
+/// let alloc = rt.alloc();
+/// let text = |word: &str| Text::new(alloc, word.as_bytes(), 64).expect(&rt, "a text");
+/// let arguments = vec![in alloc; text("answer"), text("setup"), text("-")];
+/// let bytes = b"OFXBANK 1\nBANK 1\nLEAD 5\nWINDOW 3\nENTRIES 99\n\
+///     USER alice secret\nACCT 1001 CHECKING 0 alice\n";
+/// let mut setup = MemSource::new(alloc, bytes).expect(&rt, "a source");
+/// let mut input = MemSource::new(alloc, b"DUE\n").expect(&rt, "a source");
+/// let mut out = MemSink::new(alloc, 1024).expect(&rt, "a sink");
+/// let mut keeper = MemKeeper::new(alloc);
+/// let mut clock = MemClock::new(alloc, &[Moment(1_706_702_400)]).expect(&rt, "a clock");
+/// let keys = RandomState::new(&rt).expect(&rt, "keys");
+/// let told = answer_told(
+///     alloc,
+///     keys,
+///     &arguments.expect(&rt, "room"),
+///     &mut setup,
+///     &mut input,
+///     &mut out,
+///     &mut keeper,
+///     &mut clock,
+/// );
+/// assert!(rt; told.status == Status(0) && out.held() == b"DUE 0\n".as_slice());
+/// ```
 pub fn answer_told<A: Source, B: Source, W: Sink, K: Keeper, C: Clock>(
     alloc: Global,
     keys: RandomState,

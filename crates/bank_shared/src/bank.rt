@@ -23,6 +23,30 @@ use std::sync::{Mutex, Wait};
 const ADVANCE: u64 = 1 << 32;
 
 /// The bank that `N` names. Its calls take turns at its locked bank, and each is what the teller's call of that name is.
+///
+/// ```rust
+/// use bank_model::Setup;
+/// use bank_shared::{Advance, Bank, Opened};
+/// use ofx_file::OfxPrinter;
+/// use ofx_ports::{MemKeeper, OpenGate};
+/// use ofx_types::Moment;
+/// use std::hash::RandomState;
+/// use std::marker::Brand;
+///
+/// let alloc = rt.alloc();
+/// let bytes = b"OFXBANK 1\nBANK 1\nLEAD 5\nWINDOW 3\nENTRIES 99\n\
+///     USER alice secret\nACCT 1001 CHECKING 0 alice\n";
+/// let setup = Setup::read(alloc, bytes).expect(&rt, "a setup");
+/// let keys = RandomState::new(&rt).expect(&rt, "keys");
+/// let Ok(opened) = Opened::open(alloc, keys, MemKeeper::new(alloc), setup, OfxPrinter) else {
+///     panic!(rt; "a bank");
+/// };
+/// // In code that is proved this is in a function generic in the bank's name, which is called at `Brand`.
+/// let (bank, mut pass) = Bank::<Brand, _, _>::begin(opened);
+/// let Ok(Advance::Nothing) = bank.advance(&rt, &mut pass, Moment(1_706_702_400), &OpenGate) else {
+///     panic!(rt; "nothing is due");
+/// };
+/// ```
 pub struct Bank<N: BankName, K: Keeper, P: Printer> {
     setup: Setup,
     locked: Mutex<LockedBank<N, K, P>>,

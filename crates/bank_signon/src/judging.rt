@@ -25,6 +25,33 @@ pub enum Judgement {
 }
 
 /// What the bytes of a file of at most 262,144 bytes are to the bank.
+///
+/// ```rust
+/// use bank_model::Setup;
+/// use bank_signon::{Judgement, judge};
+/// use ofx_file::write_request;
+/// use ofx_types::{FileUid, Moment, RequestFile, Sequence, Text, UserId};
+///
+/// let alloc = rt.alloc();
+/// let bytes = b"OFXBANK 1\nBANK 1\nLEAD 5\nWINDOW 3\nENTRIES 99\n\
+///     USER alice secret\nACCT 1001 CHECKING 0 alice\n";
+/// let setup = Setup::read(alloc, bytes).expect(&rt, "a setup");
+/// let file = RequestFile {
+///     version: 160,
+///     older: None,
+///     newer: Some(FileUid::new(b"f1").expect(&rt, "a uid")),
+///     user: Text::new(alloc, b"alice", 32).expect(&rt, "a name"),
+///     pass: Text::new(alloc, b"secret", 64).expect(&rt, "a password"),
+///     asks: Sequence::new(alloc),
+/// };
+/// let bytes = write_request(alloc, &file, Moment(1_706_702_400)).expect(&rt, "room");
+/// let Ok(Judgement::Event(UserId(0), _file)) = judge(alloc, &setup, &bytes) else {
+///     panic!(rt; "an event of the first user");
+/// };
+/// let Ok(Judgement::Refused(0)) = judge(alloc, &setup, b"OFXHEADER:200\r\n") else {
+///     panic!(rt; "no request file");
+/// };
+/// ```
 pub fn judge(alloc: Global, setup: &Setup, bytes: &[u8]) -> Result<Judgement, OutOfMemory>
     requires within { IsWithinLimits setup.now }
     requires fits { length bytes.now ≤ 262144 }

@@ -19,6 +19,27 @@ use std::hash::RandomState;
 use std::marker::Model;
 
 /// A bank for one caller.
+///
+/// ```rust
+/// use bank_model::{Event, Setup};
+/// use bank_solo::SoloBank;
+/// use ofx_file::OfxPrinter;
+/// use ofx_types::{Moment, Text, UserId};
+/// use std::hash::RandomState;
+///
+/// let alloc = rt.alloc();
+/// let bytes = b"OFXBANK 1\nBANK 1\nLEAD 5\nWINDOW 3\nENTRIES 99\n\
+///     USER alice secret\nACCT 1001 CHECKING 0 alice\n";
+/// let setup = Setup::read(alloc, bytes).expect(&rt, "a setup");
+/// let keys = RandomState::new(&rt).expect(&rt, "keys");
+/// let mut bank = SoloBank::begin(alloc, keys, setup, OfxPrinter).expect(&rt, "a bank");
+/// let text = |word: &str| Text::new(alloc, word.as_bytes(), 64).expect(&rt, "a text");
+/// let letter = Event::Letter(UserId(0), text("Hello"), text("Hi"));
+/// let reply = bank
+///     .step(alloc, &letter, Moment(1_706_702_400))
+///     .expect(&rt, "room");
+/// assert!(rt; reply.is_empty() && bank.book().next_number() == Some(2));
+/// ```
 pub struct SoloBank<P: Printer> {
     book: Book<P>,
     pool: AccountPool,

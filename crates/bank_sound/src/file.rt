@@ -20,6 +20,24 @@ const MAX_ASKS: usize = 65_535;
 const MAX_TOKEN: usize = 64;
 
 /// Whether all values of a file are within their bounds.
+///
+/// ```rust
+/// use bank_sound::is_sound;
+/// use ofx_types::{RequestFile, Sequence, Text};
+///
+/// let alloc = rt.alloc();
+/// let mut file = RequestFile {
+///     version: 160,
+///     older: None,
+///     newer: None,
+///     user: Text::new(alloc, b"alice", 32).expect(&rt, "a name"),
+///     pass: Text::new(alloc, b"secret", 64).expect(&rt, "a password"),
+///     asks: Sequence::new(alloc),
+/// };
+/// assert!(rt; is_sound(&file));
+/// file.version = 200;
+/// assert!(rt; !is_sound(&file));
+/// ```
 pub fn is_sound(file: &RequestFile) -> bool
     ensures { IsTrue result ↔ bounds.IsSound file.now }
 {

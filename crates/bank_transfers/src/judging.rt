@@ -17,6 +17,30 @@ use ofx_types::{AcctId, AcctName, Cents, Day, TransferRow, UserId, XferCode, Xfe
 /// The code of a transfer that a user asks for on a business day, when its source has that balance.
 ///
 /// Where the deed is in the synchronisation of one account, `only` is that account. Takes no memory.
+///
+/// ```rust
+/// use bank_model::Setup;
+/// use bank_transfers::judge_transfer;
+/// use ofx_types::{Cents, Day, Duplicate, UserId, XferInfo};
+///
+/// let bytes = b"OFXBANK 1\nBANK 1\nLEAD 5\nWINDOW 3\nENTRIES 99\nUSER alice secret\n\
+///     ACCT 1001 CHECKING 500 alice\nACCT 1002 SAVINGS 0 alice\n";
+/// let setup = Setup::read(rt.alloc(), bytes).expect(&rt, "a setup");
+/// let [first, second] = setup.accounts.items() else {
+///     panic!(rt; "two accounts");
+/// };
+/// let info = XferInfo {
+///     from: first.name.copy().expect(&rt, "room"),
+///     to: second.name.copy().expect(&rt, "room"),
+///     amount: Cents(500),
+///     due: None,
+/// };
+/// let judged = judge_transfer(&setup, UserId(0), None, &info, Day(19_753), Cents(500));
+/// assert_eq!(rt; judged, 0);
+/// // A balance of 4.99 doesn't cover it.
+/// let judged = judge_transfer(&setup, UserId(0), None, &info, Day(19_753), Cents(499));
+/// assert_eq!(rt; judged, 10504);
+/// ```
 #[tactic(auto, unfolding(bank_model::specs::Judging::transfer_code))]
 pub fn judge_transfer(
     setup: &Setup,

@@ -36,6 +36,25 @@ pub struct Order {
 }
 
 /// What the arguments say: PORT, STORE, CLIENT, USER, PASS, BANK and a command. `Usage` where they have another form.
+///
+/// ```rust
+/// use client_arguments::{ArgumentsFault, order_of};
+/// use client_core::Wish;
+/// use ofx_types::Text;
+///
+/// let mut arguments = Vec::new(rt.alloc());
+/// for word in "8080 alice.store c1 alice secret 121099999 show".split(' ') {
+///     let word = Text::new(rt.alloc(), word.as_bytes(), 64).expect(&rt, "a word");
+///     arguments.push(word).expect(&rt, "room");
+/// }
+/// let order = order_of(&arguments).expect(&rt, "an order");
+/// let Wish::Show = order.wish else {
+///     panic!(rt; "the command show");
+/// };
+/// assert_eq!(rt; order.port, 8080);
+/// // The first word alone orders nothing.
+/// assert!(rt; order_of(&arguments[..1]).err() == Some(ArgumentsFault::Usage));
+/// ```
 #[tactic(auto, using(crate::proofs::Bounds::read_in))]
 pub fn order_of(arguments: &[Text]) -> Result<Order, ArgumentsFault>
     ensures form { Reads (AreArguments arguments.now) result }

@@ -33,6 +33,23 @@ const FIRST: u64 = 1;
 /// A customer's program: what it knows of its user's accounts, and the file that it waits to have answered.
 ///
 /// Contracts see all that it knows, whose values are always within their bounds.
+///
+/// ```rust
+/// use client_core::{Client, Wish};
+/// use ofx_types::{Moment, Text};
+///
+/// let alloc = rt.alloc();
+/// let text = |word: &str| Text::new(alloc, word.as_bytes(), 64).expect(&rt, "a text");
+/// let mut client = Client::new(alloc, text("c1"), text("alice")).expect(&rt, "a client");
+/// let wish = Wish::Mail(text("Hello"), text("Hi"));
+/// client
+///     .make_file(&wish, Moment(1_706_702_400))
+///     .expect(&rt, "a file");
+/// // The client is saved before its file is sent. One that is loaded has the same file outstanding.
+/// let saved = client.save_text().expect(&rt, "room");
+/// let loaded = Client::load_text(alloc, &saved).expect(&rt, "the same client");
+/// assert!(rt; loaded.outstanding().is_some() && loaded.next() == client.next());
+/// ```
 pub struct Client {
     state: ClientState,
     alloc: Global,

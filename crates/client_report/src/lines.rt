@@ -47,6 +47,15 @@ pub fn balance_line(
 }
 
 /// The line of a deed that was asked for: `done TRNUID CODE`.
+///
+/// ```rust
+/// use client_report::done_line;
+/// use ofx_types::TrnUid;
+///
+/// let uid = TrnUid::new(b"c1-1").expect(&rt, "a uid");
+/// let line = done_line(rt.alloc(), &uid, 0).expect(&rt, "room");
+/// assert!(rt; line.as_bytes() == b"done c1-1 0".as_slice());
+/// ```
 pub fn done_line(alloc: Global, trnuid: &TrnUid, code: u16) -> Result<Text, OutOfMemory>
     ensures { IfOk result (λ line. line ≡ done_text trnuid.now code) }
 {

@@ -97,6 +97,29 @@ fn run<L: Link, S: StoreKeeper, C: Clock, W: Sink>(
 /// | 18 | an id | no store has the row that the command names |
 ///
 /// With 2 and 15 nothing is sent, printed or saved. With 5, 11 to 14, 16 and 17 the file stays outstanding, but for 400.
+///
+/// ```rust
+/// use client_run::client_told;
+/// use ofx_ports::{MemClock, MemLink, MemSink, MemStore};
+/// use ofx_types::{Moment, Status, Text};
+///
+/// let alloc = rt.alloc();
+/// let mut arguments = Vec::new(alloc);
+/// for word in "8080 alice.store c1 alice secret 121099999 show".split(' ') {
+///     let word = Text::new(alloc, word.as_bytes(), 64).expect(&rt, "a word");
+///     arguments.push(word).expect(&rt, "room");
+/// }
+/// // A new client keeps nothing, and nothing is sent to show that.
+/// let mut link = MemLink::new(alloc, b"", 1024).expect(&rt, "a link");
+/// let mut store = MemStore::new(alloc);
+/// let mut clock = MemClock::new(alloc, &[Moment(0)]).expect(&rt, "a clock");
+/// let mut out = MemSink::new(alloc, 1024).expect(&rt, "a sink");
+/// let told = client_told(
+///     alloc, &arguments, &mut link, &mut store, &mut clock, &mut out,
+/// );
+/// assert!(rt; told.status == Status(0) && link.held().is_empty());
+/// assert!(rt; out.held() == b"client c1 next 1 done NONE\n".as_slice());
+/// ```
 pub fn client_told<L: Link, S: StoreKeeper, C: Clock, W: Sink>(
     alloc: Global,
     arguments: &[Text],

@@ -24,6 +24,25 @@ use std::alloc::Global;
 const CODING: u8 = 1;
 
 /// The saved text of what a client knows, whose values are within their bounds.
+///
+/// ```rust
+/// use client_saved::{ClientState, StoreFault, read_state, write_state};
+/// use ofx_types::{Sequence, Text};
+///
+/// let alloc = rt.alloc();
+/// let state = ClientState {
+///     name: Text::new(alloc, b"c1", 12).expect(&rt, "a name"),
+///     user: Text::new(alloc, b"alice", 32).expect(&rt, "a user"),
+///     next: 1,
+///     done: None,
+///     outstanding: None,
+///     stores: Sequence::new(alloc),
+/// };
+/// let text = write_state(alloc, &state).expect(&rt, "room");
+/// let read = read_state(alloc, &text).expect(&rt, "the same state");
+/// assert!(rt; read.name == state.name && read.user == state.user && read.next == 1);
+/// assert!(rt; read_state(alloc, b"").err() == Some(StoreFault::Bad(0)));
+/// ```
 pub fn write_state(alloc: Global, state: &ClientState) -> Result<Vec<u8>, OutOfMemory>
     requires { IsSoundState state.now }
     ensures { IfOk result (λ text. IsSavedText text.items state.now) }

@@ -23,6 +23,24 @@ const MAX_DIGITS: usize = 10;
 /// What a client keeps of an object: the token up to which it knows the object's history, and the rows that belong to it,
 /// transfers and recurring transfers in rising id and mails in the order in which they came. A store that is marked lost
 /// knows neither until all is asked for again.
+///
+/// ```rust
+/// use client_store::Store;
+/// use ofx_types::{ObjectName, Sequence, SyncKind, SyncReply, Text};
+///
+/// let alloc = rt.alloc();
+/// let mut store = Store::new(alloc, ObjectName::Mail).expect(&rt, "room");
+/// assert!(rt; store.token() == 0 && store.rows().is_empty());
+/// // All that stands was asked for: no mail came up to token 3.
+/// let reply = SyncReply {
+///     object: ObjectName::Mail,
+///     token: Text::new(alloc, b"3", 64).expect(&rt, "a token"),
+///     lost: false,
+///     replies: Sequence::new(alloc),
+/// };
+/// store.take(&SyncKind::Refresh, &reply).expect(&rt, "room");
+/// assert!(rt; store.token() == 3 && store.rows().is_empty() && !store.lost());
+/// ```
 pub struct Store {
     object: ObjectName,
     token: u64,

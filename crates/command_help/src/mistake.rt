@@ -72,6 +72,19 @@ impl fmt::Display for Mistake<'_> {
 }
 
 /// The command that was meant, and what is wrong with the arguments, which have no form.
+///
+/// ```rust
+/// use command_help::{Mistake, mistake_in};
+/// use ofx_types::Text;
+///
+/// let word = Text::new(rt.alloc(), b"answr", 32).expect(&rt, "a word");
+/// let arguments = vec![in rt.alloc(); word].expect(&rt, "room");
+/// let (_topic, mistake) = mistake_in(&arguments);
+/// let Mistake::Unknown(name) = mistake else {
+///     panic!(rt; "no command has this name");
+/// };
+/// assert_eq!(rt; name, "answr");
+/// ```
 pub fn mistake_in(arguments: &[Text]) -> (Topic, Mistake<'_>) {
     if arguments.is_empty() {
         return (Topic::Program, Mistake::NoCommand);

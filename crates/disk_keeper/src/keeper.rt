@@ -31,6 +31,27 @@ const EMPTY: [u8; 9] = *b"OFXKEEP1\0";
 ///
 /// A record is on the disk when its append is acknowledged. A crash at any moment, within a write too, leaves the
 /// acknowledged records in order, and at most the one whose append was begun.
+///
+/// ```rust
+/// use disk_keeper::{DiskKeeper, MemDisk};
+/// use ofx_ports::Keeper;
+///
+/// let alloc = rt.alloc();
+/// // A disk in memory with room for 1,024 bytes.
+/// let disk = MemDisk::new(alloc, b"", 1024).expect(&rt, "a disk");
+/// let Ok(mut keeper) = DiskKeeper::make(disk) else {
+///     panic!(rt; "a keeper");
+/// };
+/// keeper.append(b"one").expect(&rt, "a record on the disk");
+/// // The same records are found by a keeper that opens.
+/// let disk = MemDisk::new(alloc, keeper.disk().bytes(), 1024).expect(&rt, "a disk");
+/// let Ok(mut keeper) = DiskKeeper::open(disk) else {
+///     panic!(rt; "a keeper");
+/// };
+/// let mut record = Vec::new(alloc);
+/// keeper.fetch(1, &mut record).expect(&rt, "the record");
+/// assert!(rt; keeper.len() == 1 && record.as_slice() == b"one".as_slice());
+/// ```
 pub struct DiskKeeper<D: Disk> {
     disk: D,
     // the gate after the last record

@@ -24,6 +24,23 @@ use record_fields::{
 use std::alloc::Global;
 
 /// The record of an event at a moment of the years 1900 to 9999.
+///
+/// ```rust
+/// use bank_model::Event;
+/// use event_codec::{RecordFault, read_event, write_event};
+/// use ofx_types::Moment;
+///
+/// let alloc = rt.alloc();
+/// // The transfer 1 is posted at noon of 31 January 2024.
+/// let noon = Moment(1_706_702_400);
+/// let record = write_event(alloc, &Event::Post(1), noon).expect(&rt, "room");
+/// let Ok((Event::Post(1), at)) = read_event(alloc, &record) else {
+///     panic!(rt; "the same event");
+/// };
+/// assert!(rt; at == noon);
+/// // The first byte is the version of the coding.
+/// assert!(rt; read_event(alloc, b"\x02").err() == Some(RecordFault::Version(2)));
+/// ```
 #[tactic(auto, unfolding(crate::specs::Coding::coded))]
 pub fn write_event(alloc: Global, event: &Event, at: Moment) -> Result<Vec<u8>, OutOfMemory>
     requires moment { IsMoment at.0 }

@@ -26,6 +26,29 @@ pub const MAX_LINES: usize = 500_000;
 /// The lines of statements by account and FITID, each once.
 ///
 /// Contracts see the lines, which are in the order of their banks, account numbers, kinds and FITIDs.
+///
+/// ```rust
+/// use file_register::{ImportFault, Register};
+/// use ofx_types::{Moment, ReplyFile, Sequence};
+///
+/// // A reply file without statements. Those of a bank are read by `ofx_file::read_reply`.
+/// let mut file = ReplyFile {
+///     version: 160,
+///     newer: None,
+///     signon: 0,
+///     moment: Moment(1_706_702_400),
+///     replies: Sequence::new(rt.alloc()),
+/// };
+/// let mut register = Register::new(rt.alloc());
+/// let imported = register.import(&file).expect(&rt, "its lines");
+/// assert!(rt; imported.new == 0 && imported.known == 0);
+/// // A file whose signon failed is refused, and leaves the register as it was.
+/// file.signon = 15500;
+/// assert!(rt; register.import(&file).err() == Some(ImportFault::Signon(15500)));
+/// let saved = register.save_text().expect(&rt, "room");
+/// let loaded = Register::load_text(rt.alloc(), &saved).expect(&rt, "the register");
+/// assert!(rt; loaded.lines().is_empty());
+/// ```
 #[derive(Drop)]
 pub struct Register {
     lines: Vec<Line>,

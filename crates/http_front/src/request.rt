@@ -13,6 +13,17 @@ use httparse::spans::{EMPTY_HEADER_SPAN, HeaderSpan, RequestSpans, parse_request
 use httparse::{Status, is_token, is_uri_token};
 
 /// What the request's head at the start of the bytes tells. It takes no memory.
+///
+/// ```rust
+/// use http_front::{HeadFault, read_request};
+///
+/// let bytes = b"POST /ofx HTTP/1.1\r\nContent-Length: 5\r\n\r\nhello";
+/// let head = read_request(bytes).expect(&rt, "a head");
+/// assert!(rt; head.method_is_post && head.path_is_ofx && head.length == Some(5));
+/// assert_eq!(rt; bytes.len() - head.size, 5);
+/// // More bytes may make these a head.
+/// assert!(rt; read_request(b"POST /ofx HT").err() == Some(HeadFault::NotYet));
+/// ```
 pub fn read_request(buf: &[u8]) -> Result<Head, HeadFault>
     // What is told is told by a head at the start that is taken.
     ensures head { IfOk result (λ head. (h : RequestHead) × (rest : List ℕ) × BeginsRequest buf.now h rest × (head ≡ head_of_request h)) }

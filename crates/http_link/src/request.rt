@@ -117,6 +117,24 @@ pub(crate) fn read_body<L: Link>(
 }
 
 /// Reads the next request whole, unless its head refuses it.
+///
+/// ```rust
+/// use http_link::{Incoming, Next, next_request};
+/// use ofx_ports::MemLink;
+///
+/// let bytes = b"POST /ofx HTTP/1.1\r\nContent-Length: 5\r\n\r\nhello";
+/// let mut link = MemLink::new(rt.alloc(), bytes, 1024).expect(&rt, "a link");
+/// let mut incoming = Incoming::new(rt.alloc());
+/// let Ok(Next::Whole(head, size)) = next_request(&mut incoming, &mut link) else {
+///     panic!(rt; "a whole request");
+/// };
+/// assert_eq!(rt; size - head.size, 5);
+/// // The bytes of a request stay until they are used up. The link ends after it.
+/// incoming.consume(size);
+/// let Ok(Next::End) = next_request(&mut incoming, &mut link) else {
+///     panic!(rt; "no more requests");
+/// };
+/// ```
 pub fn next_request<L: Link>(incoming: &mut Incoming, link: &mut L) -> Result<Next, ServeError>
     ensures kept { Keeps (prepend_known incoming.old (L.left link.old)) (prepend_known incoming.new (L.left link.new)) }
     ensures next { IfOk result (IsNext incoming.new (L.left link.new)) }

@@ -26,6 +26,23 @@ use std::alloc::Global;
 ///
 /// The first fault of its form, with its offset, which is its own where it has another name; `OutOfMemory` where memory
 /// for its texts is refused.
+///
+/// ```rust
+/// use msg_deed::read_deed;
+/// use ofx_tape::Tape;
+/// use ofx_tree::Cursor;
+/// use ofx_types::Deed;
+///
+/// let body = b"<OFX><INTRATRNRQ><TRNUID>t1<INTRACANRQ><SRVRTID>7</INTRACANRQ></INTRATRNRQ></OFX>";
+/// let tape = Tape::read(rt.alloc(), body).expect(&rt, "a tape");
+/// let request = Cursor::root(&tape)
+///     .one(b"INTRATRNRQ")
+///     .expect(&rt, "a request");
+/// let Ok((uid, Deed::CancelTransfer(7))) = read_deed(rt.alloc(), &request) else {
+///     panic!(rt; "the cancellation of the transfer 7");
+/// };
+/// assert!(rt; uid.as_bytes() == b"t1".as_slice());
+/// ```
 #[tactic(auto, unfolding(ofx_types::specs::DeedReading::deed_of))]
 pub fn read_deed(alloc: Global, c: &Cursor<'_>) -> Result<(TrnUid, Deed), TreeFault>
     ensures { ReadsForm result (deed_of c.now) }

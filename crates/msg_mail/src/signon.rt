@@ -26,6 +26,22 @@ const MAX_PASS: u32 = 64;
 /// The first fault of USERID and then USERPASS, each of which occurs once, with a text of at most 32 and 64 bytes:
 /// `Missing` at the SONRQ, `Repeated` at the second one, `Value` at one that is no such text; `OutOfMemory` where memory
 /// for a text is refused. Offsets count from the first byte of the body.
+///
+/// ```rust
+/// use msg_mail::read_signon;
+/// use ofx_tape::Tape;
+/// use ofx_tree::{Cursor, TreeFault};
+///
+/// let alloc = rt.alloc();
+/// let body = b"<OFX><SONRQ><USERID>alice<USERPASS>secret</SONRQ></OFX>";
+/// let tape = Tape::read(alloc, body).expect(&rt, "a tape");
+/// let ofx = Cursor::root(&tape);
+/// let request = ofx.one(b"SONRQ").expect(&rt, "a signon");
+/// let (user, pass) = read_signon(alloc, &request).expect(&rt, "a name and a password");
+/// assert!(rt; user.as_bytes() == b"alice".as_slice() && pass.as_bytes() == b"secret".as_slice());
+/// // The aggregate at offset 0 has no USERID.
+/// assert!(rt; read_signon(alloc, &ofx).err() == Some(TreeFault::Missing(0)));
+/// ```
 #[tactic(auto, unfolding(ofx_types::specs::RequestReading::signon_of))]
 pub fn read_signon(alloc: Global, c: &Cursor<'_>) -> Result<(Text, Text), TreeFault>
     ensures { ReadsForm result (signon_of c.now) }

@@ -21,6 +21,27 @@ const MAX_BYTES: u32 = 32;
 /// The account that a message is about (BANKACCTFROM), which occurs once in it.
 ///
 /// The first fault of its form, with its offset; `OutOfMemory` where memory for its texts is refused.
+///
+/// ```rust
+/// use msg_parts::{print_account, read_account_in};
+/// use ofx_tape::Tape;
+/// use ofx_tree::{Cursor, Sheet};
+/// use ofx_types::AcctKind;
+///
+/// let alloc = rt.alloc();
+/// let body = b"<OFX><BANKACCTFROM><BANKID>1<ACCTID>1001<ACCTTYPE>CHECKING</BANKACCTFROM></OFX>";
+/// let tape = Tape::read(alloc, body).expect(&rt, "a tape");
+/// let account = read_account_in(alloc, &Cursor::root(&tape)).expect(&rt, "an account");
+/// assert!(rt; account.kind == AcctKind::Checking);
+/// assert!(rt; account.number.as_bytes() == b"1001".as_slice());
+/// let mut sheet = Sheet::new(alloc);
+/// print_account(&account, &mut sheet).expect(&rt, "room");
+/// assert!(rt;
+///     sheet
+///         .into_bytes()
+///         .starts_with(b"<BANKACCTFROM>\r\n<BANKID>1\r\n<ACCTID>1001\r\n")
+/// );
+/// ```
 #[tactic(auto, unfolding(ofx_types::specs::MailReading::account_in))]
 pub fn read_account_in(alloc: Global, message: &Cursor<'_>) -> Result<AcctName, TreeFault>
     ensures { ReadsForm result (account_in message.now) }

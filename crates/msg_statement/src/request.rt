@@ -19,6 +19,26 @@ use std::alloc::Global;
 /// The ask that a statement request (STMTTRNRQ) is.
 ///
 /// The first fault of its form, with its offset; `OutOfMemory` where memory for its texts is refused.
+///
+/// ```rust
+/// use msg_statement::read_statement;
+/// use ofx_tape::Tape;
+/// use ofx_tree::Cursor;
+/// use ofx_types::Ask;
+///
+/// let body = b"<OFX><STMTTRNRQ><TRNUID>t1<STMTRQ>\
+///     <BANKACCTFROM><BANKID>1<ACCTID>1001<ACCTTYPE>CHECKING</BANKACCTFROM>\
+///     </STMTRQ></STMTTRNRQ></OFX>";
+/// let tape = Tape::read(rt.alloc(), body).expect(&rt, "a tape");
+/// let request = Cursor::root(&tape)
+///     .one(b"STMTTRNRQ")
+///     .expect(&rt, "a request");
+/// let Ok(Ask::Statement(uid, account, None)) = read_statement(rt.alloc(), &request) else {
+///     panic!(rt; "a statement without a list");
+/// };
+/// assert!(rt; uid.as_bytes() == b"t1".as_slice());
+/// assert!(rt; account.number.as_bytes() == b"1001".as_slice());
+/// ```
 #[tactic(auto, unfolding(ofx_types::specs::RequestReading::statement_of))]
 pub fn read_statement(alloc: Global, c: &Cursor<'_>) -> Result<Ask, TreeFault>
     ensures { ReadsForm result (statement_of c.now) }

@@ -30,6 +30,24 @@ const MAX_BYTES: u32 = 64;
 ///
 /// The first fault of its form, with its offset, which is its own where it has another name; `OutOfMemory` where memory
 /// for its texts or its deeds is refused.
+///
+/// ```rust
+/// use msg_sync::read_sync;
+/// use ofx_tape::Tape;
+/// use ofx_tree::Cursor;
+/// use ofx_types::{ObjectName, SyncKind};
+///
+/// let body = b"<OFX><MAILSYNCRQ><TOKEN>3<REJECTIFMISSING>N</MAILSYNCRQ></OFX>";
+/// let tape = Tape::read(rt.alloc(), body).expect(&rt, "a tape");
+/// let request = Cursor::root(&tape)
+///     .one(b"MAILSYNCRQ")
+///     .expect(&rt, "a synchronisation");
+/// let ask = read_sync(rt.alloc(), &request).expect(&rt, "an ask");
+/// let (ObjectName::Mail, SyncKind::After(token)) = (&ask.object, &ask.kind) else {
+///     panic!(rt; "the mail after a token");
+/// };
+/// assert!(rt; token.as_bytes() == b"3".as_slice() && ask.deeds.items().is_empty());
+/// ```
 #[tactic(auto, unfolding(ofx_types::specs::SyncReading::sync_of))]
 pub fn read_sync(alloc: Global, c: &Cursor<'_>) -> Result<SyncAsk, TreeFault>
     ensures { ReadsForm result (sync_of c.now) }

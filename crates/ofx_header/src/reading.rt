@@ -15,6 +15,19 @@ use ofx_types::{FileUid, HeaderFault, trim};
 ///
 /// The first bad line is `Line` where it doesn't begin with its tag and a colon, and `Value` where its value isn't
 /// allowed. A line whose LF isn't there is `Cut`.
+///
+/// ```rust
+/// use ofx_header::{HeaderFault, read_header};
+///
+/// let bytes =
+///     b"OFXHEADER:100\r\nDATA:OFXSGML\r\nVERSION:160\r\nSECURITY:NONE\r\nENCODING:USASCII\r\n\
+///     CHARSET:1252\r\nCOMPRESSION:NONE\r\nOLDFILEUID:NONE\r\nNEWFILEUID:f1\r\n\r\n<OFX>";
+/// let (header, size) = read_header(bytes).expect(&rt, "a header");
+/// assert!(rt; header.version == 160 && header.older.is_none() && header.newer.is_some());
+/// // The empty line and the body come after the header.
+/// assert_eq!(rt; bytes.len() - size, 7);
+/// assert!(rt; read_header(b"OFXHEADER:200\r\n").err() == Some(HeaderFault::Value(1, 0)));
+/// ```
 pub fn read_header(bytes: &[u8]) -> Result<(Header, usize), HeaderFault>
     // What is read is spelled so.
     ensures spelled { IfOk result (λ x. SpellsHeader bytes.now x.0.version x.0.older x.0.newer x.1) }

@@ -12,6 +12,20 @@ use crate::fault::{Failed, FetchFault, PutFault};
 ///
 /// After an append that failed the record may be stored or not. This is then to be settled, and until it is, only
 /// `settle` and `faults` may be called.
+///
+/// ```rust
+/// use ofx_ports::{Keeper, MemKeeper, PutFault};
+///
+/// // A keeper in memory, whose second call fails though its record is stored.
+/// let mut keeper = MemKeeper::failing(rt.alloc(), &[2], &[2]).expect(&rt, "a keeper");
+/// keeper.append(b"one").expect(&rt, "a record that is stored");
+/// assert!(rt; keeper.append(b"two") == Err(PutFault::Failed));
+/// // That is settled before any other call.
+/// assert!(rt; keeper.settle() == Ok(true));
+/// let mut record = Vec::new(rt.alloc());
+/// keeper.fetch(2, &mut record).expect(&rt, "the record");
+/// assert!(rt; keeper.len() == 2 && record.as_slice() == b"two".as_slice());
+/// ```
 pub trait Keeper: Drop {
     // the records that are stored, oldest first, where they are told
     ghost records: { Self → Option (List (List ℕ)) };

@@ -28,6 +28,19 @@ pub struct Node<'a> {
 }
 
 /// The nodes of a body in the order of their start tags, each aggregate before what is in it.
+///
+/// ```rust
+/// use ofx_tape::{Tape, TapeFault};
+///
+/// let tape = Tape::read(rt.alloc(), b"<OFX><USERID>alice</OFX>").expect(&rt, "a tape");
+/// let [ofx, user] = tape.nodes() else {
+///     panic!(rt; "two start tags");
+/// };
+/// assert!(rt; !ofx.element && user.element && user.value == b"alice".as_slice());
+/// // The end tag at offset 5 closes nothing that is open.
+/// let fault = Tape::read(rt.alloc(), b"<OFX></FI></OFX>").err();
+/// assert!(rt; fault == Some(TapeFault::Mismatch(5)));
+/// ```
 #[derive(Debug, Drop)]
 pub struct Tape<'a> {
     nodes: Vec<Node<'a>>,

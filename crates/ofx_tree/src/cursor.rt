@@ -21,6 +21,19 @@ use std::alloc::Global;
 use std::marker::Model;
 
 /// An element or an aggregate of a tape (OFX 1.6, "SGML Basics").
+///
+/// ```rust
+/// use ofx_tape::Tape;
+/// use ofx_tree::Cursor;
+/// use ofx_types::Cents;
+///
+/// let body = b"<OFX><TRNAMT>-12.05<MEMO>rent &amp; tea</OFX>";
+/// let tape = Tape::read(rt.alloc(), body).expect(&rt, "a tape");
+/// let ofx = Cursor::root(&tape);
+/// assert!(rt; ofx.amount(b"TRNAMT") == Ok(Cents(-1205)));
+/// let memo = ofx.text(rt.alloc(), b"MEMO", 255).expect(&rt, "a memo");
+/// assert!(rt; memo.as_bytes() == b"rent & tea".as_slice());
+/// ```
 #[derive(Debug, Drop)]
 pub struct Cursor<'t> {
     node: &'t Node<'t>,

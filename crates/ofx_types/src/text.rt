@@ -103,6 +103,16 @@ pub(crate) fn fault_in(text: &[u8], most: u32) -> Option<TextFault>
 /// A text: bytes without white space at either end, in which no control byte stands but tab, LF and CR.
 ///
 /// Its copies share the bytes, and take no memory.
+///
+/// ```rust
+/// use ofx_types::{Text, TextFault};
+///
+/// let alloc = rt.alloc();
+/// let name = Text::new(alloc, b" alice\r\n", 32).expect(&rt, "a text");
+/// assert!(rt; name.as_bytes() == b"alice".as_slice());
+/// assert!(rt; Text::new(alloc, b" \t", 32).err() == Some(TextFault::Empty));
+/// assert!(rt; Text::new(alloc, b"alice", 4).err() == Some(TextFault::TooLong(5)));
+/// ```
 #[derive(Debug, Drop)]
 pub struct Text {
     bytes: ArcSlice<u8>,

@@ -24,6 +24,14 @@ const MAX_CENTS: u128 = 9_999_999_999_999;
 /// An amount has an optional sign and digits with at most one point or comma among, before or after them: at most 32
 /// bytes, only zeros after the second digit after the mark, and a magnitude of at most 99,999,999,999.99 dollars.
 /// `ValueFault::Amount` where the bytes spell none.
+///
+/// ```rust
+/// use ofx_types::Cents;
+/// use ofx_values::{ValueFault, read_amount};
+///
+/// assert!(rt; read_amount(b" +1,5 ") == Ok(Cents(150)));
+/// assert!(rt; read_amount(b"1.005") == Err(ValueFault::Amount));
+/// ```
 pub fn read_amount(raw: &[u8]) -> Result<Cents, ValueFault>
     ensures found { IfOk result (λ c. IsAmount raw.now c.0) }
     ensures fault { IfErr result (λ e. e ≡ ValueFault.Amount) }

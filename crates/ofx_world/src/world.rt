@@ -25,6 +25,32 @@ use std::hash::RandomState;
 use std::marker::Model;
 
 /// A bank and its clients, with all files that were ever sent.
+///
+/// ```rust
+/// use bank_model::Setup;
+/// use client_core::{Client, Wish};
+/// use ofx_types::Text;
+/// use ofx_world::{Step, World};
+/// use std::hash::RandomState;
+///
+/// let alloc = rt.alloc();
+/// let bytes = b"OFXBANK 1\nBANK 1\nLEAD 5\nWINDOW 3\nENTRIES 99\n\
+///     USER alice secret\nACCT 1001 CHECKING 0 alice\n";
+/// let setup = Setup::read(alloc, bytes).expect(&rt, "a setup");
+/// let keys = RandomState::new(&rt).expect(&rt, "keys");
+/// let text = |word: &str| Text::new(alloc, word.as_bytes(), 64).expect(&rt, "a text");
+/// let client = Client::new(alloc, text("c1"), text("alice")).expect(&rt, "a client");
+/// let clients = vec![in alloc; client].expect(&rt, "room");
+/// let mut world = World::new(alloc, keys, setup, clients).expect(&rt, "a world");
+/// // The client's file arrives twice, and is answered by the same bytes.
+/// let wish = Wish::Mail(text("Hello"), text("Hi"));
+/// let steps = vec![in alloc; Step::Make(0, wish), Step::Deliver(0), Step::Deliver(0)];
+/// world.run(&steps.expect(&rt, "room")).expect(&rt, "room");
+/// let [first, second] = world.replies() else {
+///     panic!(rt; "two replies");
+/// };
+/// assert!(rt; first.items() == second.items());
+/// ```
 pub struct World {
     parts: Parts,
 }

@@ -15,6 +15,22 @@ use std::marker::Model;
 /// The uids that users have used up, and the replies that are kept for users' files. Each is here once.
 ///
 /// Clients choose the names, so their hashes have keys that no client knows.
+///
+/// ```rust
+/// use ofx_types::{TrnUid, UserId};
+/// use once_records::Records;
+/// use std::hash::RandomState;
+///
+/// let keys = RandomState::new(&rt).expect(&rt, "keys");
+/// let mut records = Records::new(rt.alloc(), keys);
+/// // Room for one uid. Then it is used up without taking memory.
+/// records.reserve(1, 0).expect(&rt, "room");
+/// let uid = TrnUid::new(b"t1").expect(&rt, "a uid");
+/// assert!(rt; !records.used(UserId(0), &uid));
+/// records.use_up(UserId(0), uid);
+/// let uid = TrnUid::new(b"t1").expect(&rt, "a uid");
+/// assert!(rt; records.used(UserId(0), &uid) && !records.used(UserId(1), &uid));
+/// ```
 pub struct Records {
     used: Used,
     kept: Replies,

@@ -50,6 +50,19 @@ pub enum Appended {
 }
 
 /// A log in memory, with its fence.
+///
+/// ```rust
+/// use postgres_model::{Appended, MemEngine};
+///
+/// let mut engine = MemEngine::new(rt.alloc());
+/// let epoch = engine.take(1).expect(&rt, "an epoch");
+/// let group = [b"one".as_slice(), b"two".as_slice()];
+/// assert!(rt; engine.append(epoch, 1, &group) == Ok(Appended::Inserted(2)));
+/// // Another keeper takes the log, so that appends under the epoch before insert nothing.
+/// engine.take(2).expect(&rt, "an epoch");
+/// assert!(rt; engine.append(epoch, 3, &group) == Ok(Appended::Inserted(0)));
+/// assert!(rt; engine.fetch(2) == Some(b"two".as_slice()) && engine.fetch(3).is_none());
+/// ```
 #[derive(Drop)]
 pub struct MemEngine {
     alloc: Global,

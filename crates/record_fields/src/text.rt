@@ -30,6 +30,22 @@ fn text_of(alloc: Global, bytes: &[u8], most: u32) -> Result<Option<Text>, OutOf
 ///
 /// `Bad(at)` where the record ends within it, where it is longer, where white space is at either end, and where a
 /// control byte other than tab, LF and CR is in it.
+///
+/// ```rust
+/// use ofx_types::Text;
+/// use record_fields::{RecordFault, get_text, get_u16, put_text, put_u16};
+///
+/// let alloc = rt.alloc();
+/// let name = Text::new(alloc, b"alice", 32).expect(&rt, "a text");
+/// let mut record = Vec::new(alloc);
+/// put_text(&name, &mut record).expect(&rt, "room");
+/// put_u16(&160, &mut record).expect(&rt, "room");
+/// // Each reader gives the offset of the field after its own.
+/// let (text, next) = get_text(alloc, &record, 0, 32).expect(&rt, "a text");
+/// let (version, end) = get_u16(&record, next).expect(&rt, "a number");
+/// assert!(rt; text == name && version == 160 && end == record.len());
+/// assert!(rt; get_u16(&record, end).err() == Some(RecordFault::Bad(end as u64)));
+/// ```
 #[tactic(auto, unfolding(crate::specs::FieldReading::text_at))]
 pub fn get_text(
     alloc: Global,

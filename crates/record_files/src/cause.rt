@@ -126,6 +126,21 @@ fn words_of(cause: &Cause) -> &'static str {
 }
 
 /// Whether records that began with the setup of one text may go on with that of another.
+///
+/// ```rust
+/// use record_files::{Cause, bound_text, compared};
+///
+/// let alloc = rt.alloc();
+/// // Records are bound to the text of their setup without its passwords.
+/// let began = bound_text(alloc, "OFXBANK 1\nUSER alice secret\n").expect(&rt, "room");
+/// assert!(rt; began.as_str() == "OFXBANK 1\nUSER alice\n");
+/// assert!(rt; compared(alloc, &began, "OFXBANK 1\nUSER alice\n").is_ok());
+/// let other = compared(alloc, &began, "OFXBANK 1\nUSER bob\n");
+/// let Err(Cause::OtherSetup(2, line)) = &other else {
+///     panic!(rt; "another setup from line 2 on");
+/// };
+/// assert!(rt; line.as_str() == "USER alice");
+/// ```
 pub fn compared(alloc: Global, began: &str, lines: &str) -> Result<Binding, Cause> {
     let Some(number) = first_difference(began, lines) else {
         return Ok(Binding::Bound);

@@ -64,6 +64,30 @@ pub fn client_first(alloc: Global, who: Identity) -> Result<Vec<u8>, OutOfMemory
 /// The replies to the server's first message.
 ///
 /// `Refused` exactly where that is no challenge, or its nonce doesn't go on from the client's.
+///
+/// ```rust
+/// use scram_sha256::{Identity, client_first, replies_to};
+///
+/// // The exchange of RFC 7677, section 3.
+/// let who = Identity {
+///     user: b"user",
+///     password: b"pencil",
+///     nonce: b"rOprNGfwEbeRWgbNEkqO",
+/// };
+/// let first = client_first(rt.alloc(), who).expect(&rt, "room");
+/// assert!(rt; first.as_slice() == b"n,,n=user,r=rOprNGfwEbeRWgbNEkqO".as_slice());
+/// let server =
+///     b"r=rOprNGfwEbeRWgbNEkqO%hvYDpWUa2RaTCAfuxFIlj)hNlF$k0,s=W22ZaJ0SNY7soEsUEjb6gQ==,i=4096";
+/// let replies = replies_to(rt.alloc(), who, server).expect(&rt, "replies");
+/// assert!(rt;
+///     replies
+///         .last
+///         .ends_with(b",p=dHzbZapWIk4jUhN+Ute9ytag9zjfMHgsqmmiz7AndVQ=")
+/// );
+/// assert!(rt;
+///     replies.wanted.as_slice() == b"v=6rriTRBi23WpRR/wtup+mMhUZUn/dB5nLTJRsjl95G4=".as_slice()
+/// );
+/// ```
 #[tactic(auto, unfolding(crate::specs::Exchange::replies))]
 pub fn replies_to(alloc: Global, who: Identity, first: &[u8]) -> Result<Replies, ScramFault>
     ensures { Answers replies_of result (exchange.replies who.entry.user.now who.entry.password.now who.entry.nonce.now first.now) }

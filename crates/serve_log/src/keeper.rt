@@ -10,6 +10,17 @@ use std::{fmt, rt};
 
 /// A keeper of records, of which each append that fails is told in a line, and each try to settle one. It says what the keeper
 /// within tells. A fetch that fails isn't told: records are read where the bank opens, and that run tells of it by its end.
+///
+/// ```rust
+/// use ofx_ports::{Keeper, MemKeeper, PutFault};
+/// use serve_log::{AccessLog, Level, LoggedKeeper};
+///
+/// // A keeper whose first call fails. At the level `Warn` a line on the error stream tells it.
+/// let keeper = MemKeeper::failing(rt.alloc(), &[1], &[]).expect(&rt, "a keeper");
+/// let mut keeper = LoggedKeeper::over(keeper, AccessLog::new(rt, Level::Warn));
+/// assert!(rt; keeper.append(b"one") == Err(PutFault::Failed));
+/// assert!(rt; keeper.settle() == Ok(false) && keeper.len() == 0);
+/// ```
 #[derive(Drop)]
 pub struct LoggedKeeper<K: Keeper, R: Copy> {
     keeper: K,

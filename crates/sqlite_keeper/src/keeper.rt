@@ -16,6 +16,20 @@ use std::marker::Model;
 ///
 /// A record is on the disk when its append is acknowledged. A keeper over a file that couldn't be opened has one
 /// record and refuses every call, so that whoever goes over the records meets the fault at the first.
+///
+/// ```rust
+/// use ofx_ports::Keeper;
+/// use sqlite_keeper::SqliteKeeper;
+///
+/// let mut keeper = SqliteKeeper::open(&rt, "records.db");
+/// keeper.append(b"one").expect(&rt, "a record on the disk");
+/// drop(keeper);
+/// // The records outlive their keeper.
+/// let mut keeper = SqliteKeeper::open(&rt, "records.db");
+/// let mut record = Vec::new(rt.alloc());
+/// keeper.fetch(1, &mut record).expect(&rt, "the record");
+/// assert!(rt; keeper.len() == 1 && record.as_slice() == b"one".as_slice());
+/// ```
 pub struct SqliteKeeper {
     rt: HostRuntime,
     path: String,

@@ -18,6 +18,26 @@ use std::alloc::Global;
 use std::marker::Model;
 
 /// The last entries of an object. Their numbers rise.
+///
+/// ```rust
+/// use bank_model::Entry;
+/// use ofx_types::{Change, ObjectId, TrnUid};
+/// use token_window::Window;
+///
+/// // A window of two entries. The third one makes the first leave.
+/// let mut window = Window::new(rt.alloc(), 2).expect(&rt, "a window");
+/// for number in [3, 4, 6] {
+///     window.reserve(1).expect(&rt, "room");
+///     window.add(Entry {
+///         number,
+///         object: ObjectId(0),
+///         trnuid: TrnUid::new(b"t1").expect(&rt, "a uid"),
+///         change: Change::DropTransfer(number),
+///     });
+/// }
+/// assert!(rt; window.floor() == 3 && window.newest() == 6);
+/// assert_eq!(rt; window.since(4).len(), 1);
+/// ```
 pub struct Window {
     /// How many entries it holds at most.
     width: u32,

@@ -26,6 +26,26 @@ use std::alloc::Global;
 /// | `OutOfMemory` | memory for the tags or for the file's texts is refused |
 ///
 /// Offsets count from the first byte.
+///
+/// ```rust
+/// use ofx_file::{read_request, write_request};
+/// use ofx_types::{FileFault, Moment, RequestFile, Sequence, Text};
+///
+/// let alloc = rt.alloc();
+/// let file = RequestFile {
+///     version: 160,
+///     older: None,
+///     newer: None,
+///     user: Text::new(alloc, b"alice", 32).expect(&rt, "a name"),
+///     pass: Text::new(alloc, b"secret", 64).expect(&rt, "a password"),
+///     asks: Sequence::new(alloc),
+/// };
+/// let bytes = write_request(alloc, &file, Moment(1_706_702_400)).expect(&rt, "room");
+/// let read = read_request(alloc, &bytes).expect(&rt, "the same file");
+/// assert!(rt; read.version == 160 && read.user == file.user && read.pass == file.pass);
+/// // The first line of the header has a value that isn't allowed.
+/// assert!(rt; read_request(alloc, b"OFXHEADER:200\r\n").err() == Some(FileFault::Header(0)));
+/// ```
 pub fn read_request(alloc: Global, bytes: &[u8]) -> Result<RequestFile, FileFault>
     ensures request { ReadsRequest bytes.now result }
     ensures all { ReadsAll bytes.now result }
