@@ -1,0 +1,3 @@
+pub mod AccountTable
+pub mod AccountView
+pub mod Row
