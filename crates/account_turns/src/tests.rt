@@ -1,14 +1,13 @@
 //! Both sides of an account, and threads that take one account by turns.
 
 ghost use Rattle.std.specs.Prelude.{◌≡◌, [], ◌∷◌, length, IfOk, pos, ◌≤ℤ◌};
-ghost use Rattle.account_turns.specs.Row.{IsOfRow};
 
 use crate::{Account, AccountRow, BookSide};
 use ofx_types::{AcctId, Cents, OutOfMemory};
 use std::alloc::Global;
 use std::sync::Wait;
 use std::thread;
-use std::time::Duration;
+use std::time::{Clock, Duration};
 
 const ONLY: AcctId = AcctId(0);
 
@@ -56,6 +55,17 @@ fn look<R: Wait>(rt: &R, row: &AccountRow) -> Cents
     balance
 }
 
+// The same, and the account is out for a while.
+fn look_slowly<R: Wait + Clock>(rt: &R, row: &AccountRow) -> Cents
+    requires { length row.now.tables ≡ 1 }
+{
+    let (account, turn) = row.take(rt, ONLY);
+    thread::sleep(rt, Duration::from_millis(20));
+    let balance = account.balance();
+    row.give(account, turn);
+    balance
+}
+
 // Whether no balance was below the one before.
 fn only_rises<R: Wait>(rt: &R, row: &AccountRow, times: u32) -> bool
     requires { length row.now.tables ≡ 1 }
@@ -90,19 +100,18 @@ fn two_threads_take_turns(rt: HostRuntime) {
 #[test]
 fn a_thread_that_waits_is_woken(rt: HostRuntime) {
     let (row, _book) = row_of_one(rt.alloc()).expect(&rt, "memory was refused");
-    let (account, turn) = row.take(&rt, ONLY);
     let (row, rt) = (&row, &rt);
-    let ((), balance) = thread::join(
+    let (first, second) = thread::join(
         rt,
-        move || -> ()
-            requires { (turn.row ≡ row.now.row) × (account.number ≡ turn.number) × IsOfRow row.now.tables account }
-        {
-            thread::sleep(rt, Duration::from_millis(20));
-            row.give(account, turn);
-        },
         move || -> Cents
             requires { length row.now.tables ≡ 1 }
-        { look(rt, row) },
+        { look_slowly(rt, row) },
+        move || -> Cents
+            requires { length row.now.tables ≡ 1 }
+        {
+            thread::sleep(rt, Duration::from_millis(5));
+            look(rt, row)
+        },
     );
-    assert!(rt; balance == Cents(0));
+    assert!(rt; first == second);
 }
