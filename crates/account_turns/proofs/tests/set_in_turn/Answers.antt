@@ -15,4 +15,4 @@ only_table tables table account is first own =
 pub meet-requires : goal.meet-requires
 meet-requires g c =
     let taken = c.take-account.ensures.account in
-    only_table _ _ _ c.requires.of_row (ap (λ n. n.0) taken.0) taken.1
+    only_table c.args.row.now.tables c.args.book.table c.take-account.result.0 c.requires.of_row (ap (λ n. n.0) taken.0) taken.1
