@@ -9,6 +9,8 @@ mod row_rule;
 mod row_steps;
 mod side_rule;
 mod side_steps;
+#[cfg(test)]
+mod tests;
 
 pub use account::Account;
 pub use book_side::BookSide;
