@@ -1,5 +1,5 @@
 -- Each kind of step keeps the rule of the board.
-use Rattle.std.proofs.Common.{◌≡◌, ◌≢◌, ◌⊎◌, ℕ, ◌+◌, ◌%◌, ◌^◌, ◌<◌, ◌≤◌, Bool, true, false, cond, eqb, List, [], ◌∷◌, ◌++◌, length, get_or, set, drop, refl, sym, ap, ◌∙◌, subst, ⊎_elim, le_of_eq, le_refl, append-nil, eq-eqb, ne_eqb, Contains, arith}
+use Rattle.std.proofs.Common.{◌≡◌, ◌≢◌, ◌⊎◌, ℕ, zero, suc, ◌+◌, ◌%◌, ◌^◌, ◌<◌, ◌≤◌, Bool, true, false, cond, eqb, List, [], ◌∷◌, ◌++◌, length, get_or, set, drop, refl, sym, ap, ◌∙◌, subst, ⊎_elim, le_of_eq, le_refl, append-nil, eq-eqb, ne_eqb, Contains, arith}
 use Rattle.std.specs.Prelude.{All}
 use Rattle.std.proofs.lemmas.List.{set-get_or}
 use Rattle.std.proofs.lemmas.List.Elements.{All-nil, All-append, All-push}
@@ -69,7 +69,11 @@ record IsRuledBy (start words : List ℕ) (views : List View) (owner : ℕ → �
 known_by : (start words : List ℕ) (views : List View) (id : ℕ) (view : View) → view.writes ≡ true → get_elem? views id ≡ some view → (h : IsRuled start words views) → IsRuledBy start words views h.owner (view.seen, id)
 known_by start words views id view on at h =
     let is = (h.right id view at).writes on in
-    subst (IsRuledBy start words views h.owner) (λ i. (sym is.1 i, sym is.0 i)) (record { counts = h.counts; ordered = h.ordered; right = h.right })
+    let old : List LogItem × ℕ = (h.log, h.writer) in
+    let now : List LogItem × ℕ = (view.seen, id) in
+    let found : IsRuledBy start words views h.owner old = record { counts = h.counts; ordered = h.ordered; right = h.right } in
+    let same : old ≡ now = λ i. (sym is.1 i, sym is.0 i) in
+    subst (IsRuledBy start words views h.owner) same found
 
 writer_grown : (start : List ℕ) (id : ℕ) (owner : ℕ → ℕ) (view : View) (item : LogItem) → IsRight start view.seen id owner id view → IsRight start (view.seen ++ item ∷ []) id (grown_owner (length (endings view.seen)) id owner) id (with_item item view)
 writer_grown start id owner view item h =
@@ -178,7 +182,7 @@ misses_token start slots id me object st beyond s h _ at _ =
 
 -- ---- splitting
 
-pub splits_child : (start : List ℕ) (id : ℕ) (view : View) → Splits {S = Unit {0}} (Ruled start) id view view (child view)
+pub splits_child : (start : List ℕ) (id : ℕ) (view : View) → Splits (Ruled start) id view view (child view)
 splits_child start id view s h at =
     let right = IsRight start h.log h.writer h.owner in
     let mine = h.right id view at in
@@ -200,7 +204,7 @@ splits_child start id view s h at =
               });
     }
 
-pub splits_first : (start : List ℕ) (id : ℕ) (view : View) → Splits {S = Unit {0}} (Ruled start) id view view empty
+pub splits_first : (start : List ℕ) (id : ℕ) (view : View) → Splits (Ruled start) id view view empty
 splits_first start id view s h at =
     let right = IsRight start h.log h.writer h.owner in
     record {
@@ -225,7 +229,7 @@ handed_over from to owner n own = ap (λ b. cond b to (owner n)) (eq-eqb (owner 
 handed_kept : (from to : ℕ) (owner : ℕ → ℕ) (seat n : ℕ) → seat ≢ from → owner n ≡ seat → handed from to owner n ≡ seat
 handed_kept from to owner seat n apart own = ap (λ b. cond b to (owner n)) (ne_eqb (owner n) from (λ e. apart (sym own ∙ e))) ∙ own
 
-pub splits_note : (start : List ℕ) (id : ℕ) (view : View) → Splits {S = Unit {0}} (Ruled start) id view (noted view) (note_of view)
+pub splits_note : (start : List ℕ) (id : ℕ) (view : View) → Splits (Ruled start) id view (noted view) (note_of view)
 splits_note start id view s h at =
     let new = length (set s.views id (noted view)) in
     let owner' = handed id new h.owner in
@@ -265,7 +269,7 @@ other_view : (views : List View) (id other : ℕ) (both view : View) → ¬ (oth
 other_view views id other both view apart there =
     ⊎_elim (λ (t : (other ≡ id) × (both ≡ view)). absurd (apart t.0)) (λ (t : (other ≢ id) × (get_elem? views other ≡ some view)). t.1) (at_set views id other both view there)
 
-pub joins_note : (start : List ℕ) (id : ℕ) (view : View) (other : ℕ) (note : View) → Joins {S = Unit {0}} (Ruled start) id view other note (with_note view note) empty
+pub joins_note : (start : List ℕ) (id : ℕ) (view : View) (other : ℕ) (note : View) → Joins (Ruled start) id view other note (with_note view note) empty
 joins_note start id view other note s h at apart there =
     let both = with_note view note in
     let owner' = handed other id h.owner in
@@ -313,7 +317,7 @@ compares_logs start slots id me st off_now s h _ at _ =
 
 -- ---- hearing
 
-pub joins_child : (start : List ℕ) (id : ℕ) (view : View) (other : ℕ) (pass : View) → Joins {S = Unit {0}} (Ruled start) id view other pass (with_heard view pass) empty
+pub joins_child : (start : List ℕ) (id : ℕ) (view : View) (other : ℕ) (pass : View) → Joins (Ruled start) id view other pass (with_heard view pass) empty
 joins_child start id view other pass s h at apart there =
     let both = with_heard view pass in
     let right = IsRight start h.log h.writer h.owner in
@@ -362,3 +366,10 @@ misses_token_as start words asked object slots id me st is same beyond =
 pub checks_heard_as : (start words : List ℕ) (slots id : ℕ) (me : Me (Unit {0}) View) (st : Step (Unit {0})) → start ≡ drop 1 words → me.0.writes ≡ true → Allows (Ruled (drop 1 words)) slots id me 0 (λ n. n) (checked start st me)
 checks_heard_as start words slots id me st is on =
     subst (λ (x : List ℕ). Allows (Ruled (drop 1 words)) slots id me 0 (λ n. n) (checked x st me)) (sym is) (checks_heard (drop 1 words) slots id me st on)
+
+-- ---- the beginning, where the words are known by an equation
+
+pub begins_as : (start words known : List ℕ) → words ≡ 0 ∷ start → known ≡ words → IsRuled (drop 1 known) words (fresh_writer ∷ [])
+begins_as start words known is same =
+    subst (λ (ws : List ℕ). IsRuled (drop 1 ws) words (fresh_writer ∷ [])) (sym (same ∙ is))
+        (subst (λ (ws : List ℕ). IsRuled start ws (fresh_writer ∷ [])) (sym is) (begins start))

@@ -4,3 +4,4 @@ pub mod Numbers
 pub mod Views
 pub mod Words
 pub mod Keeping
+pub mod Holding

@@ -30,8 +30,8 @@ below_all n k (x ∷ xs) low h = let b = All-head (λ m. m < k) x xs h in let a 
 
 -- A number above all of a list that isn't empty is above the greatest.
 pub greatest-below : (k : ℕ) (xs : List ℕ) → 0 < length xs → All (λ m. m < k) xs → greatest xs < k
-greatest-below k [] some h = absurd (omega arith)
-greatest-below k (x ∷ xs) some h = let b : x < k = All-head (λ m. m < k) x xs h in below_all 0 k (x ∷ xs) (omega arith) h
+greatest-below k [] filled h = absurd (omega arith)
+greatest-below k (x ∷ xs) filled h = let b : x < k = All-head (λ m. m < k) x xs h in below_all 0 k (x ∷ xs) (omega arith) h
 
 pub last-below : (k n : ℕ) (es : List Entry) → n < k → All (λ m. m < k) (map number_of es) → last_number_from n es < k
 last-below k n [] low h = low

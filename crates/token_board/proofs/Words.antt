@@ -35,9 +35,9 @@ first_order start = record { rises = tt; objects = All-nil (λ (entry : Entry). 
 pub words_effect : (start : List ℕ) (log : List LogItem) (words : List ℕ) (e : Entry) → e.object.0 < length start → AreWords start log words → AreWords start (log ++ Effect e ∷ []) (set words (e.object.0 + 1) e.number)
 words_effect start log words e within h =
     let more : List LogItem = Effect e ∷ [] in
-    let size = h.size in
+    let sized = h.size in
     record {
-      size = length-set words (e.object.0 + 1) e.number ∙ size;
+      size = length-set words (e.object.0 + 1) e.number ∙ sized;
       counted =
           get_or-set_other words (e.object.0 + 1) 0 e.number 0 (λ (z : 0 ≡ e.object.0 + 1). omega arith) ∙ h.counted
           ∙ ap (λ (n : ℕ). n % 2 ^ 64) (sym (count-append log more ∙ add-zero (length (endings log))));
@@ -68,9 +68,9 @@ order_effect start log e within above h =
 
 pub words_ending : (start : List ℕ) (log : List LogItem) (words : List ℕ) (item : LogItem) (count : ℕ) → added (item ∷ []) ≡ [] → count ≡ length (endings (log ++ item ∷ [])) % 2 ^ 64 → AreWords start log words → AreWords start (log ++ item ∷ []) (set words 0 count)
 words_ending start log words item count none is h =
-    let size = h.size in
+    let sized = h.size in
     record {
-      size = length-set words 0 count ∙ size;
+      size = length-set words 0 count ∙ sized;
       counted = get_or-set_at words 0 0 count 0 refl (omega arith) ∙ is;
       newest = λ object below.
           get_or-set_other words 0 (object.0 + 1) count 0 (λ (z : object.0 + 1 ≡ 0). omega arith)
