@@ -3,7 +3,7 @@ use Rattle.std.proofs.Common.{◌≡◌, ◌≢◌, ◌⊎◌, ℕ, zero, suc, �
 use Rattle.std.specs.Prelude.{All}
 use Rattle.std.proofs.lemmas.List.{set-get_or}
 use Rattle.std.proofs.lemmas.List.Elements.{All-nil, All-append, All-push}
-use mathlib.Core.Option.{some, some-injective, some-ne-none}
+use mathlib.Core.Option.{some, none, some-injective, some-ne-none}
 use lib.ListN.{get_elem?}
 use Rattle.atomic_table.specs.Table.{State, Step, Me, Act, keeps, Allows, Splits, Joins}
 use Rattle.atomic_table.proofs.Lists.{at_set, at_snoc}
@@ -24,6 +24,10 @@ use Rattle.token_board.proofs.Lists.{after_set, after_push, Begins-longer, Begin
 use Rattle.token_board.proofs.Logs.{newest-rises, newest-is, newest-none}
 use Rattle.token_board.proofs.Words.{first_words, first_order, words_effect, order_effect, words_ending, order_ending}
 use Rattle.token_board.proofs.Views.{off, longer_either, longer_begins, empty_right, right_owned, moved_to, grown_owner, grown_old, grown_new, grown_owned, grown_tokens, right_grown, claims_all, count_ending}
+
+-- What a step tells here doesn't depend on how it was taken.
+abbrev pub any_step : Step (Unit {0})
+any_step = record { slots = 0; word = 0; first = 0; second = 0; said = none }
 
 -- ---- the beginning
 
