@@ -10,8 +10,9 @@ use Rattle.bank_model.specs.declared.log.LogItem.TheVariants.{Effect, Answer, Ad
 use Rattle.bank_model.specs.declared.log.Ending.{Ending}
 use Rattle.bank_model.specs.declared.log.Ending.TheVariants as lent
 use Rattle.bank_model.specs.Log.{endings, is_ending}
+use Rattle.token_board.specs.declared.view.Load.{Load}
 use Rattle.token_board.specs.declared.view.View.{View}
-use Rattle.token_board.specs.Tokens.{Begins, Rises, AreEndings, AreAbove}
+use Rattle.token_board.specs.Tokens.{Begins, Rises, AreEndings, AreAbove, IsTokenIn}
 use Rattle.token_board.specs.Views.{longer, item_of, claims_of}
 use Rattle.token_board.specs.Steps.{empty, fresh_writer, with_item, child, note_of, noted, with_note, met, compared, with_heard}
 use Rattle.token_board.specs.Holders.{IsWriter, IsPass, IsNote}
@@ -131,3 +132,7 @@ pub meets : (st : Step (Unit {0})) (found : ℕ) (pass note mid me : Me (Unit {0
 meets st found pass note mid me p n above joined seen =
     let t = subst (λ (m : Me (Unit {0}) View). compared st m found me) joined seen in
     record { is = t.0; mine = t.1; theirs = t.2; holds = is_met pass note me p n above t.1 t.2 t.0 }
+
+-- tokens that were heard, of values that are equal
+pub tokens_along : {start start' : List ℕ} {log log' : List LogItem} {loads loads' : List Load} → start ≡ start' → log ≡ log' → loads ≡ loads' → All (IsTokenIn start log) loads → All (IsTokenIn start' log') loads'
+tokens_along s l t h = subst (λ (x : List ℕ × List LogItem × List Load). All (IsTokenIn x.0 x.1) x.2) (λ i. (s i, l i, t i)) h
