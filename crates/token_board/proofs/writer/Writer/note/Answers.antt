@@ -4,7 +4,7 @@ use Rattle.token_board.proofs.writer.Writer.note.Goals as goal
 
 pub split_seat-requires : goal.split_seat-requires
 split_seat-requires c = (
-  ap (λ (v : WriterView). v.table) c.self.view_is ∙ c.requires.own ∙ sym (ap (λ (b : BoardView). b.table) c.board.view_is),
+  search rules,
   search rules,
   splits_note (drop 1 c.board.inside.table.shared.key.value) c.self.inside.seat.id c.self.inside.seat.me.0,
 )
