@@ -42,7 +42,7 @@ is_met pass note me p n above mine theirs is =
       writes = p.writes;
       mine =
           AreEndings-append seen pass.0.owned note.0.owned (AreEndings-begins pass.0.seen seen pass.0.owned mine p.mine)
-              (AreEndings-begins note.0.seen seen note.0.owned theirs n.claimed) above;
+          (AreEndings-begins note.0.seen seen note.0.owned theirs n.claimed) above;
       slots = p.slots;
     })
 
@@ -80,7 +80,7 @@ has_added ended entry writer me w is =
       counted = w.counted ∙ ap (λ (n : ℕ). n % 2 ^ 64) (sym (effect_count log entry));
       claimed =
           subst (AreEndings (log ++ Effect entry ∷ [])) (sym (append-nil writer.0.owned))
-              (AreEndings-begins log (log ++ Effect entry ∷ []) writer.0.owned (Effect entry ∷ [], refl) w.claimed);
+          (AreEndings-begins log (log ++ Effect entry ∷ []) writer.0.owned (Effect entry ∷ [], refl) w.claimed);
       slots = w.slots;
     })
 

@@ -42,6 +42,7 @@ begins start = record { log = []; writer = 0; owner = λ _. 0; counts = first_wo
       owned = All-nil (λ number. (0 ≡ 0) × (number ≤ length (endings [])));
       tokens = All-nil (IsTokenIn start []);
     }
+
     one : (seat : ℕ) (view : View) → get_elem? (fresh_writer ∷ []) seat ≡ some view → IsRight start [] 0 (λ _. 0) seat view
     one zero view e = subst (IsRight start [] 0 (λ _. 0) 0) (some-injective fresh_writer view e) writer_right
     one (suc seat) view e = absurd (some-ne-none view (sym e))
@@ -90,9 +91,9 @@ writer_grown start id owner view item h =
       heard = Begins-longer view.heard log (item ∷ []) h.heard;
       owned =
           All-append (λ number. (grown_owner count id owner number ≡ id) × (number ≤ now)) view.owned (claims_of item now)
-              (grown_owned start log (item ∷ []) id owner id view.owned h.owned)
-              (claims_all (λ number. (grown_owner count id owner number ≡ id) × (number ≤ now)) item now
-              (λ is. (grown_new count id owner now (let e = count_ending log item is in omega arith), le_refl now)));
+          (grown_owned start log (item ∷ []) id owner id view.owned h.owned)
+          (claims_all (λ number. (grown_owner count id owner number ≡ id) × (number ≤ now)) item now
+          (λ is. (grown_new count id owner now (let e = count_ending log item is in omega arith), le_refl now)));
       tokens = grown_tokens start log (item ∷ []) id owner view.tokens h.tokens;
     }
 
@@ -100,8 +101,7 @@ publishes : (start : List ℕ) (slots id : ℕ) (me : Me (Unit {0}) View) (word 
 publishes start slots id me word new item st on words ordered s h _ at _ =
     let view = me.0 in
     let k = known_by start s.words s.views id view on at h in
-    let owner' = grown_owner (length (endings view.seen)) id h.owner in
-    (
+    let owner' = grown_owner (length (endings view.seen)) id h.owner in (
       with_item item view,
       keeps,
       tt,
@@ -113,8 +113,8 @@ publishes start slots id me word new item st on words ordered s h _ at _ =
         ordered = ordered k.ordered;
         right =
             after_set (IsRight start (view.seen ++ item ∷ []) id owner') s.views id (with_item item view)
-                (λ j u apart e. right_grown start view.seen (item ∷ []) id h.owner j u apart (k.right j u e))
-                (writer_grown start id h.owner view item (k.right id view at));
+            (λ j u apart e. right_grown start view.seen (item ∷ []) id h.owner j u apart (k.right j u e))
+            (writer_grown start id h.owner view item (k.right id view at));
       },
       refl,
     )
@@ -122,9 +122,9 @@ publishes start slots id me word new item st on words ordered s h _ at _ =
 pub publishes_effect : (start : List ℕ) (slots id : ℕ) (me : Me (Unit {0}) View) (e : Entry) (item : LogItem) (st : Step (Unit {0})) → item ≡ Effect e → me.0.writes ≡ true → e.object.0 < length start → All (λ n. n < e.number) (numbers_in start me.0.seen) → Allows (Ruled start) slots id me (e.object.0 + 1) (λ _. e.number) (λ _. published item st me e.number)
 publishes_effect start slots id me e item st is on within above =
     subst (λ (i : LogItem). Allows (Ruled start) slots id me (e.object.0 + 1) (λ _. e.number) (λ _. published i st me e.number)) (sym is)
-        (publishes start slots id me (e.object.0 + 1) e.number (Effect e) st on
-        (λ words. words_effect start me.0.seen words e within)
-        (order_effect start me.0.seen e within above))
+    (publishes start slots id me (e.object.0 + 1) e.number (Effect e) st on
+    (λ words. words_effect start me.0.seen words e within)
+    (order_effect start me.0.seen e within above))
 
 adds_nothing : (x : Ending) → added (item_of x ∷ []) ≡ []
 adds_nothing (lent.Answer event at reply) = refl
@@ -134,9 +134,9 @@ adds_nothing (lent.Fault count pending) = refl
 pub publishes_ending : (start : List ℕ) (slots id : ℕ) (me : Me (Unit {0}) View) (x : Ending) (count : ℕ) (item : LogItem) (st : Step (Unit {0})) → item ≡ item_of x → me.0.writes ≡ true → count ≡ length (endings (me.0.seen ++ item_of x ∷ [])) % 2 ^ 64 → Allows (Ruled start) slots id me 0 (λ _. count) (λ _. published item st me count)
 publishes_ending start slots id me x count item st is on counted =
     subst (λ (i : LogItem). Allows (Ruled start) slots id me 0 (λ _. count) (λ _. published i st me count)) (sym is)
-        (publishes start slots id me 0 count (item_of x) st on
-        (λ words. words_ending start me.0.seen words (item_of x) count (adds_nothing x) counted)
-        (order_ending start me.0.seen (item_of x) (adds_nothing x)))
+    (publishes start slots id me 0 count (item_of x) st on
+    (λ words. words_ending start me.0.seen words (item_of x) count (adds_nothing x) counted)
+    (order_ending start me.0.seen (item_of x) (adds_nothing x)))
 
 -- ---- loading a token
 
@@ -160,8 +160,7 @@ loads_token start slots id me object st within s h _ at _ =
     let n : ℕ = get_or s.words (object.0 + 1) 0 in
     let is : n ≡ newest_in start h.log object = h.counts.newest object within in
     let mine = h.right id me.0 at in
-    let token : IsTokenIn start h.log (load_of object n) = λ _. subst (Contains (numbers_of start h.log object)) (sym is) (newest-is start h.log object) in
-    (
+    let token : IsTokenIn start h.log (load_of object n) = λ _. subst (Contains (numbers_of start h.log object)) (sym is) (newest-is start h.log object) in (
       with_token (load_of object n) me.0,
       keeps,
       tt,
@@ -174,8 +173,7 @@ pub misses_token : (start : List ℕ) (slots id : ℕ) (me : Me (Unit {0}) View)
 misses_token start slots id me object st beyond s h _ at _ =
     let is : 0 ≡ newest_in start h.log object = sym (newest-none start h.log object h.ordered beyond) in
     let mine = h.right id me.0 at in
-    let token : IsTokenIn start h.log (load_of object 0) = λ one. absurd (omega arith) in
-    (
+    let token : IsTokenIn start h.log (load_of object 0) = λ one. absurd (omega arith) in (
       with_token (load_of object 0) me.0,
       keeps,
       tt,
@@ -198,14 +196,14 @@ splits_child start id view s h at =
       ordered = h.ordered;
       right =
           after_push right (set s.views id view) (child view)
-              (λ j u _ e. after_set right s.views id view (λ i w _ f. h.right i w f) mine j u e)
-              (record {
-                writes = λ on. absurd (off on);
-                seen = mine.seen;
-                heard = (h.log, refl);
-                owned = All-nil (λ number. (h.owner number ≡ length (set s.views id view)) × (number ≤ length (endings h.log)));
-                tokens = mine.tokens;
-              });
+          (λ j u _ e. after_set right s.views id view (λ i w _ f. h.right i w f) mine j u e)
+          (record {
+            writes = λ on. absurd (off on);
+            seen = mine.seen;
+            heard = (h.log, refl);
+            owned = All-nil (λ number. (h.owner number ≡ length (set s.views id view)) × (number ≤ length (endings h.log)));
+            tokens = mine.tokens;
+          });
     }
 
 pub splits_first : (start : List ℕ) (id : ℕ) (view : View) → Splits (Ruled start) id view view empty
@@ -219,8 +217,8 @@ splits_first start id view s h at =
       ordered = h.ordered;
       right =
           after_push right (set s.views id view) empty
-              (λ j u _ e. after_set right s.views id view (λ i w _ f. h.right i w f) (h.right id view at) j u e)
-              (empty_right start h.log h.writer h.owner (length (set s.views id view)));
+          (λ j u _ e. after_set right s.views id view (λ i w _ f. h.right i w f) (h.right id view at) j u e)
+          (empty_right start h.log h.writer h.owner (length (set s.views id view)));
     }
 
 -- all that one seat owns is owned by another one
@@ -247,24 +245,24 @@ splits_note start id view s h at =
       ordered = h.ordered;
       right =
           after_push right (set s.views id (noted view)) (note_of view)
-              (λ j u _ e.
-              after_set right s.views id (noted view)
-                  (λ i w apart f. right_owned start h.log h.writer h.owner owner' i w (λ n own. handed_kept id new h.owner i n apart own) (h.right i w f))
-                  (record {
-                    writes = mine.writes;
-                    seen = mine.seen;
-                    heard = mine.heard;
-                    owned = All-nil (λ number. (owner' number ≡ id) × (number ≤ length (endings h.log)));
-                    tokens = mine.tokens;
-                  })
-                  j u e)
-              (record {
-                writes = λ on. absurd (off on);
-                seen = mine.seen;
-                heard = (h.log, refl);
-                owned = moved_to start h.log h.writer h.owner owner' id new view.owned (λ n own. handed_over id new h.owner n own) mine.owned;
-                tokens = All-nil (IsTokenIn start h.log);
-              });
+          (λ j u _ e.
+          after_set right s.views id (noted view)
+          (λ i w apart f. right_owned start h.log h.writer h.owner owner' i w (λ n own. handed_kept id new h.owner i n apart own) (h.right i w f))
+          (record {
+            writes = mine.writes;
+            seen = mine.seen;
+            heard = mine.heard;
+            owned = All-nil (λ number. (owner' number ≡ id) × (number ≤ length (endings h.log)));
+            tokens = mine.tokens;
+          })
+          j u e)
+          (record {
+            writes = λ on. absurd (off on);
+            seen = mine.seen;
+            heard = (h.log, refl);
+            owned = moved_to start h.log h.writer h.owner owner' id new view.owned (λ n own. handed_over id new h.owner n own) mine.owned;
+            tokens = All-nil (IsTokenIn start h.log);
+          });
     }
 
 -- ---- meeting
@@ -288,21 +286,21 @@ joins_note start id view other note s h at apart there =
       ordered = h.ordered;
       right =
           after_set right (set s.views id both) other empty
-              (λ j u ne e.
-              after_set (λ i w. i ≢ other → right i w) s.views id both
-                  (λ i w _ f ne'. right_owned start h.log h.writer h.owner owner' i w (λ n own. handed_kept other id h.owner i n ne' own) (h.right i w f))
-                  (λ _. record {
-                    writes = mine.writes;
-                    seen = mine.seen;
-                    heard = theirs.seen;
-                    owned =
-                        All-append (λ number. (owner' number ≡ id) × (number ≤ length (endings h.log))) view.owned note.owned
-                            (moved_to start h.log h.writer h.owner owner' id id view.owned (λ n own. handed_kept other id h.owner id n (λ e'. apart (sym e')) own) mine.owned)
-                            (moved_to start h.log h.writer h.owner owner' other id note.owned (λ n own. handed_over other id h.owner n own) theirs.owned);
-                    tokens = mine.tokens;
-                  })
-                  j u e ne)
-              (empty_right start h.log h.writer owner' other);
+          (λ j u ne e.
+          after_set (λ i w. i ≢ other → right i w) s.views id both
+          (λ i w _ f ne'. right_owned start h.log h.writer h.owner owner' i w (λ n own. handed_kept other id h.owner i n ne' own) (h.right i w f))
+          (λ _. record {
+            writes = mine.writes;
+            seen = mine.seen;
+            heard = theirs.seen;
+            owned =
+                All-append (λ number. (owner' number ≡ id) × (number ≤ length (endings h.log))) view.owned note.owned
+                (moved_to start h.log h.writer h.owner owner' id id view.owned (λ n own. handed_kept other id h.owner id n (λ e'. apart (sym e')) own) mine.owned)
+                (moved_to start h.log h.writer h.owner owner' other id note.owned (λ n own. handed_over other id h.owner n own) theirs.owned);
+            tokens = mine.tokens;
+          })
+          j u e ne)
+          (empty_right start h.log h.writer owner' other);
     }
 
 pub compares_logs : (start : List ℕ) (slots id : ℕ) (me : Me (Unit {0}) View) (st : Step (Unit {0})) → me.0.writes ≡ false → Allows (Ruled start) slots id me 0 (λ n. n) (compared st me)
@@ -310,12 +308,12 @@ compares_logs start slots id me st off_now s h _ at _ =
     let view = me.0 in
     let mine = h.right id view at in
     let met_right : IsRight start h.log h.writer h.owner id (met view) = record {
-          writes = λ on. absurd (off (sym off_now ∙ on));
-          seen = longer_either (λ (l : List LogItem). Begins l h.log) view.seen view.heard mine.seen mine.heard;
-          heard = (h.log, refl);
-          owned = mine.owned;
-          tokens = mine.tokens;
-        } in
+      writes = λ on. absurd (off (sym off_now ∙ on));
+      seen = longer_either (λ (l : List LogItem). Begins l h.log) view.seen view.heard mine.seen mine.heard;
+      heard = (h.log, refl);
+      owned = mine.owned;
+      tokens = mine.tokens;
+    } in
     let both = longer_begins h.log view.seen view.heard mine.seen mine.heard in
     (met view, keeps, tt, same_words start s.words (set s.views id (met view)) 0 (changes start s.words s.views id (met view) h met_right), (refl, both.0, both.1))
 
@@ -335,19 +333,18 @@ joins_child start id view other pass s h at apart there =
       ordered = h.ordered;
       right =
           after_set right (set s.views id both) other empty
-              (λ j u _ e.
-              after_set right s.views id both (λ i w _ f. h.right i w f)
-                  (record { writes = mine.writes; seen = mine.seen; heard = theirs.seen; owned = mine.owned; tokens = theirs.tokens })
-                  j u e)
-              (empty_right start h.log h.writer h.owner other);
+          (λ j u _ e.
+          after_set right s.views id both (λ i w _ f. h.right i w f)
+          (record { writes = mine.writes; seen = mine.seen; heard = theirs.seen; owned = mine.owned; tokens = theirs.tokens })
+          j u e)
+          (empty_right start h.log h.writer h.owner other);
     }
 
 pub checks_heard : (start : List ℕ) (slots id : ℕ) (me : Me (Unit {0}) View) (st : Step (Unit {0})) → me.0.writes ≡ true → Allows (Ruled start) slots id me 0 (λ n. n) (checked start st me)
 checks_heard start slots id me st on s h _ at _ =
     let view = me.0 in
     let mine = h.right id view at in
-    let log = sym (mine.writes on).1 in
-    (
+    let log = sym (mine.writes on).1 in (
       view,
       keeps,
       tt,
@@ -360,12 +357,12 @@ checks_heard start slots id me st on s h _ at _ =
 pub loads_token_as : (start words : List ℕ) (asked object : ObjectId) (slots id : ℕ) (me : Me (Unit {0}) View) (st : Step (Unit {0})) → start ≡ drop 1 words → asked ≡ object → object.0 < length (drop 1 words) → Allows (Ruled (drop 1 words)) slots id me (object.0 + 1) (λ n. n) (loaded start asked st me)
 loads_token_as start words asked object slots id me st is same within =
     subst (λ (x : List ℕ × ObjectId). Allows (Ruled (drop 1 words)) slots id me (object.0 + 1) (λ n. n) (loaded x.0 x.1 st me)) (λ i. (sym is i, sym same i))
-        (loads_token (drop 1 words) slots id me object st within)
+    (loads_token (drop 1 words) slots id me object st within)
 
 pub misses_token_as : (start words : List ℕ) (asked object : ObjectId) (slots id : ℕ) (me : Me (Unit {0}) View) (st : Step (Unit {0})) → start ≡ drop 1 words → asked ≡ object → length (drop 1 words) ≤ object.0 → Allows (Ruled (drop 1 words)) slots id me 0 (λ n. n) (unknown start asked st me)
 misses_token_as start words asked object slots id me st is same beyond =
     subst (λ (x : List ℕ × ObjectId). Allows (Ruled (drop 1 words)) slots id me 0 (λ n. n) (unknown x.0 x.1 st me)) (λ i. (sym is i, sym same i))
-        (misses_token (drop 1 words) slots id me object st beyond)
+    (misses_token (drop 1 words) slots id me object st beyond)
 
 pub checks_heard_as : (start words : List ℕ) (slots id : ℕ) (me : Me (Unit {0}) View) (st : Step (Unit {0})) → start ≡ drop 1 words → me.0.writes ≡ true → Allows (Ruled (drop 1 words)) slots id me 0 (λ n. n) (checked start st me)
 checks_heard_as start words slots id me st is on =
@@ -376,4 +373,4 @@ checks_heard_as start words slots id me st is on =
 pub begins_as : (start words known : List ℕ) → words ≡ 0 ∷ start → known ≡ words → IsRuled (drop 1 known) words (fresh_writer ∷ [])
 begins_as start words known is same =
     subst (λ (ws : List ℕ). IsRuled (drop 1 ws) words (fresh_writer ∷ [])) (sym (same ∙ is))
-        (subst (λ (ws : List ℕ). IsRuled start ws (fresh_writer ∷ [])) (sym is) (begins start))
+    (subst (λ (ws : List ℕ). IsRuled start ws (fresh_writer ∷ [])) (sym is) (begins start))

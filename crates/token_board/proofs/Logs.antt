@@ -77,7 +77,7 @@ numbers-append start log more object =
 pub IsTokenIn-append : (start : List ℕ) (log more : List LogItem) (load : Load) → IsTokenIn start log load → IsTokenIn start (log ++ more) load
 IsTokenIn-append start log more load h = λ one.
     subst (λ (ns : List ℕ). Contains ns load.token) (sym (numbers-append start log more load.object))
-        (Contains-append_left (numbers_of start log load.object) (map number_of (history_of load.object (added more))) load.token (h one))
+    (Contains-append_left (numbers_of start log load.object) (map number_of (history_of load.object (added more))) load.token (h one))
 
 -- the newest token is a token
 pub newest-is : (start : List ℕ) (log : List LogItem) (object : ObjectId) → Contains (numbers_of start log object) (newest_in start log object)

@@ -68,8 +68,8 @@ last-rises object n b (e ∷ es) h le =
     let more : RiseFrom e.number es = h.1 in
     let up : b < e.number = h.0 in
     history_cases (λ (past : List Entry). n ≤ last_number_from n past) object e es
-        (above_between n e.number b (last_number_from e.number (history_of object es)) le up (last-rises object e.number e.number es more (le_refl e.number)))
-        (last-rises object n e.number es more (omega arith))
+    (above_between n e.number b (last_number_from e.number (history_of object es)) le up (last-rises object e.number e.number es more (le_refl e.number)))
+    (last-rises object n e.number es more (omega arith))
 
 pub last-bounded : (object : ObjectId) (n b : ℕ) (es : List Entry) → RiseFrom b es → n ≤ b → last_number_from n (history_of object es) ≤ last_number_from b es
 unfolding history_of
@@ -78,8 +78,8 @@ last-bounded object n b (e ∷ es) h le =
     let more : RiseFrom e.number es = h.1 in
     let up : b < e.number = h.0 in
     history_cases (λ (past : List Entry). last_number_from n past ≤ last_number_from e.number es) object e es
-        (last-bounded object e.number e.number es more (le_refl e.number))
-        (last-bounded object n e.number es more (omega arith))
+    (last-bounded object e.number e.number es more (le_refl e.number))
+    (last-bounded object n e.number es more (omega arith))
 
 -- the number of the last entry is one of the numbers
 pub last-contained : (n : ℕ) (es : List Entry) → Contains (n ∷ map number_of es) (last_number_from n es)
@@ -107,7 +107,7 @@ Rises-append (x ∷ xs) ys h g above = (
 within-begins : (seen log : List LogItem) (numbers : List ℕ) → Begins seen log → All (λ number. (1 ≤ number) × (number ≤ length (endings seen))) numbers → All (λ number. (1 ≤ number) × (number ≤ length (endings log))) numbers
 within-begins seen log numbers h all =
     All-weaker (λ number. (1 ≤ number) × (number ≤ length (endings seen))) (λ number. (1 ≤ number) × (number ≤ length (endings log)))
-        (λ number w. (w.0, le_trans w.1 (count-begins seen log h))) numbers all
+    (λ number w. (w.0, le_trans w.1 (count-begins seen log h))) numbers all
 
 -- endings of a prefix are endings of the log
 pub AreEndings-begins : (seen log : List LogItem) (numbers : List ℕ) → Begins seen log → AreEndings seen numbers → AreEndings log numbers

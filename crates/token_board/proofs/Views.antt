@@ -36,8 +36,8 @@ pub longer_begins : (log xs ys : List LogItem) → Begins xs log → Begins ys l
 longer_begins log xs ys h g =
     let same : xs ++ h.0 ≡ ys ++ g.0 = sym h.1 ∙ g.1 in
     longer_cases (λ (l : List LogItem). Begins xs l × Begins ys l) xs ys
-        (λ le. (([], sym (append-nil xs)), begins_longer ys xs g.0 h.0 (sym same) le))
-        (λ le. (begins_longer xs ys h.0 g.0 same le, ([], sym (append-nil ys))))
+    (λ le. (([], sym (append-nil xs)), begins_longer ys xs g.0 h.0 (sym same) le))
+    (λ le. (begins_longer xs ys h.0 g.0 same le, ([], sym (append-nil ys))))
 
 -- ---- views
 
@@ -54,7 +54,7 @@ module _ (start : List ℕ) (log : List LogItem) (writer : ℕ) where
   owned_moved : (owner owner' : ℕ → ℕ) (seat seat' : ℕ) (numbers : List ℕ) → ((n : ℕ) → owner n ≡ seat → owner' n ≡ seat') → All (λ number. (owner number ≡ seat) × (number ≤ length (endings log))) numbers → All (λ number. (owner' number ≡ seat') × (number ≤ length (endings log))) numbers
   owned_moved owner owner' seat seat' numbers moved all =
       All-weaker (λ number. (owner number ≡ seat) × (number ≤ length (endings log))) (λ number. (owner' number ≡ seat') × (number ≤ length (endings log)))
-          (λ number own. (moved number own.0, own.1)) numbers all
+      (λ number own. (moved number own.0, own.1)) numbers all
 
   -- endings change their owner, and those of the seat stay
   pub right_owned : (owner owner' : ℕ → ℕ) (seat : ℕ) (view : View) → ((n : ℕ) → owner n ≡ seat → owner' n ≡ seat) → IsRight start log writer owner seat view → IsRight start log writer owner' seat view
@@ -86,7 +86,7 @@ module _ (start : List ℕ) (log more : List LogItem) (writer : ℕ) (owner : �
   grown_owned seat numbers all =
       let c = count-append log more in
       All-weaker (λ number. (owner number ≡ seat) × (number ≤ length (endings log))) (λ number. (grown_owner (length (endings log)) writer owner number ≡ seat) × (number ≤ length (endings (log ++ more))))
-          (λ number own. (grown_old (length (endings log)) writer owner number own.1 ∙ own.0, (let le = own.1 in omega arith))) numbers all
+      (λ number own. (grown_old (length (endings log)) writer owner number own.1 ∙ own.0, (let le = own.1 in omega arith))) numbers all
 
   pub grown_tokens : (loads : List Load) → All (IsTokenIn start log) loads → All (IsTokenIn start (log ++ more)) loads
   grown_tokens loads all = All-weaker (IsTokenIn start log) (IsTokenIn start (log ++ more)) (λ load h. IsTokenIn-append start log more load h) loads all

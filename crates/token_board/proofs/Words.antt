@@ -43,13 +43,13 @@ words_effect start log words e within h =
           ∙ ap (λ (n : ℕ). n % 2 ^ 64) (sym (count-append log more ∙ add-zero (length (endings log))));
       newest = λ object below.
           dite (ℕ_discrete object.0 e.object.0)
-              (λ (same : object.0 ≡ e.object.0).
-              get_or-set_at words (e.object.0 + 1) (object.0 + 1) e.number 0 (ap (λ (k : ℕ). k + 1) same) (omega arith)
-              ∙ sym (newest-hit start log more e object refl same))
-              (λ (other : object.0 ≢ e.object.0).
-              get_or-set_other words (e.object.0 + 1) (object.0 + 1) e.number 0 (λ (z : object.0 + 1 ≡ e.object.0 + 1). other (omega arith))
-              ∙ h.newest object below
-              ∙ sym (newest-miss start log more e object refl other));
+          (λ (same : object.0 ≡ e.object.0).
+          get_or-set_at words (e.object.0 + 1) (object.0 + 1) e.number 0 (ap (λ (k : ℕ). k + 1) same) (omega arith)
+          ∙ sym (newest-hit start log more e object refl same))
+          (λ (other : object.0 ≢ e.object.0).
+          get_or-set_other words (e.object.0 + 1) (object.0 + 1) e.number 0 (λ (z : object.0 + 1 ≡ e.object.0 + 1). other (omega arith))
+          ∙ h.newest object below
+          ∙ sym (newest-miss start log more e object refl other));
     }
 
 pub order_effect : (start : List ℕ) (log : List LogItem) (e : Entry) → e.object.0 < length start → All (λ n. n < e.number) (numbers_in start log) → IsOrdered start log → IsOrdered start (log ++ Effect e ∷ [])
@@ -61,7 +61,7 @@ order_effect start log e within above h =
       rises = subst (λ (es : List Entry). RiseFrom (greatest start) es) (sym (added-append log more)) (RiseFrom-push (greatest start) (added log) e h.rises last);
       objects =
           subst (λ (es : List Entry). All (λ (entry : Entry). entry.object.0 < length start) es) (sym (added-append log more))
-              (All-push (λ (entry : Entry). entry.object.0 < length start) (added log) e h.objects within);
+          (All-push (λ (entry : Entry). entry.object.0 < length start) (added log) e h.objects within);
     }
 
 -- ---- an ending more

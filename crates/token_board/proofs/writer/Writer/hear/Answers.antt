@@ -27,6 +27,6 @@ returns-clause-tokens c =
     let start = ap (λ (v : BoardView). v.start) c.board.view_is in
     let log = ap (λ (m : Me (Unit {0}) View). m.0.seen) c.join_seat.ensures.2 ∙ ap (λ (v : WriterView). v.log) c.self.view_is in
     let loads =
-        ap (λ (m : Me (Unit {0}) View). m.0.tokens) c.join_seat.ensures.2 ∙ ap (λ (m : Me (Unit {0}) View). m.0.tokens) c.split_seat-child.ensures.4
-        ∙ ap (λ (v : PassView). v.polled) c.pass.view_is in
+    ap (λ (m : Me (Unit {0}) View). m.0.tokens) c.join_seat.ensures.2 ∙ ap (λ (m : Me (Unit {0}) View). m.0.tokens) c.split_seat-child.ensures.4
+    ∙ ap (λ (v : PassView). v.polled) c.pass.view_is in
     tokens_along start log loads c.check_heard.ensures.tokens
