@@ -14,6 +14,21 @@ use std::snapshot::Snapshot;
 use std::sync::Wait;
 
 /// The accounts of a bank, numbered from 0, each at home or with the thread that has its turn.
+///
+/// ```rust
+/// use account_turns::{Account, AccountRow};
+/// use ofx_types::{AcctId, Cents};
+///
+/// let (account, mut book) = Account::new(rt.alloc(), AcctId(0), Cents(500)).expect(&rt, "room");
+/// let mut accounts = Vec::with_capacity(rt.alloc(), 1).expect(&rt, "room");
+/// accounts.push_reserved(account);
+/// let row = AccountRow::new(rt.alloc(), accounts).expect(&rt, "room");
+/// // Waits until the account is home. Its balance moves with the book's side alone.
+/// let (mut account, turn) = row.take(&rt, AcctId(0));
+/// book.set(&mut account, Cents(300));
+/// assert!(rt; account.balance() == Cents(300));
+/// row.give(account, turn);
+/// ```
 pub struct AccountRow {
     table: RowTable,
 }

@@ -15,6 +15,19 @@ use std::marker::{Brand, Model};
 use std::snapshot::Snapshot;
 
 /// The newest token of each object, and the count of a log's endings. Whoever has a reference may load them with a pass.
+///
+/// ```rust
+/// use ofx_types::ObjectId;
+/// use token_board::Board;
+///
+/// // Object 1 has an entry with the number 7; object 0 has none.
+/// let (board, mut writer, mut pass) = Board::new(rt.alloc(), &[0, 7]).expect(&rt, "room");
+/// assert!(rt; board.newest(&mut pass, ObjectId(1)) == 7);
+/// // Each worker has a pass of its own, which learns what the writer's notes say.
+/// let mut worker = pass.split(&board);
+/// worker.meet(&board, writer.note(&board));
+/// assert!(rt; board.newest(&mut worker, ObjectId(0)) == 0);
+/// ```
 pub struct Board {
     pub(crate) table: BoardTable,
 }
