@@ -11,7 +11,7 @@ use Rattle.bank_model.specs.Rules.{answer_to, state_after, denial}
 use Rattle.bank_model.specs.Polls.{is_poll, poll_reply}
 use Rattle.ofx_ports.specs.Known.{Stays, Grows}
 use Rattle.ofx_ports.specs.Kept.{MayGrow}
-use Rattle.event_codec.specs.Records.{Codes}
+use Rattle.event_codec.specs.Records.{IsWritten}
 use Rattle.bank_signon.specs.Signon.{IsSignedOn, IsDenied, IsRefused}
 use Rattle.bank_desk.specs.Keeping.{AreRecordsOf}
 use Rattle.bank_desk.specs.declared.desk.Answered.{Answered}
@@ -66,5 +66,5 @@ pub record FileUnkept (setup : Setup) (at : Moment) (bytes : List ℕ) (reported
   pub is_signed_on : IsSignedOn setup bytes file user
   pub is_event : is_poll file ≡ false
   pub rec : List ℕ
-  pub codes : Codes rec at (File user file)
+  pub codes : IsWritten rec at (File user file)
   pub lands : MayGrow reported reported' landed rec

@@ -5,7 +5,7 @@ use Rattle.bank_model.specs.Rules.{state_after, due}
 use Rattle.bank_model.specs.DueRun.{after_events, AreDue, run_length, IsDueRun}
 use Rattle.bank_model.specs.declared.event.Event.{Event}
 use Rattle.bank_core.specs.BookView.{BookView}
-use Rattle.event_codec.specs.Records.{Codes}
+use Rattle.event_codec.specs.Records.{IsWritten}
 use Rattle.ofx_ports.specs.Known.{Stays, Grows}
 use Rattle.ofx_ports.specs.Kept.{MayGrow}
 use Rattle.bank_desk.specs.Keeping.{AreRecordsOf}
@@ -15,7 +15,7 @@ use Rattle.bank_desk.specs.declared.fault.DeskFault.TheVariants.{NoMemory, Appen
 -- The event that is due next happened and is kept; or none is due, and nothing happened.
 abbrev pub RunsNext : Moment → BookView → BookView → Option (List (List ℕ)) → Option (List (List ℕ)) → Bool → Type 0
 RunsNext at before after reported reported' true =
-    (event : Event) × (rec : List ℕ) × (due before.setup before.state at ≡ Some event) × Codes rec at event × Grows reported reported' (rec ∷ [])
+    (event : Event) × (rec : List ℕ) × (due before.setup before.state at ≡ Some event) × IsWritten rec at event × Grows reported reported' (rec ∷ [])
     × (after.state ≡ state_after before.setup before.state at event)
 RunsNext at before after reported reported' false = (due before.setup before.state at ≡ None) × Stays reported reported' × (after.state ≡ before.state)
 
@@ -23,7 +23,7 @@ RunsNext at before after reported reported' false = (due before.setup before.sta
 abbrev pub LeavesNext : Moment → BookView → BookView → Option (List (List ℕ)) → Option (List (List ℕ)) → Option Bool → DeskFault → Type 0
 LeavesNext at before after reported reported' landed NoMemory = Stays reported reported' × (after.state ≡ before.state)
 LeavesNext at before after reported reported' landed AppendFailed =
-    (event : Event) × (rec : List ℕ) × (due before.setup before.state at ≡ Some event) × Codes rec at event
+    (event : Event) × (rec : List ℕ) × (due before.setup before.state at ≡ Some event) × IsWritten rec at event
     × MayGrow reported reported' landed rec × (after.state ≡ before.state)
 
 -- A whole run of so many events was made, and is kept.
@@ -63,7 +63,7 @@ pub record WorkUnkept (at : Moment) (before after : BookView) (reported reported
   pub rec : List ℕ
   pub room : length events < run_length
   pub next : due after.setup after.state at ≡ Some event
-  pub codes : Codes rec at event
+  pub codes : IsWritten rec at event
   pub lands : MayGrow between reported' landed rec
 
 abbrev pub StoppedWork : Moment → BookView → BookView → Option (List (List ℕ)) → Option (List (List ℕ)) → Option Bool → DeskFault → Type 0

@@ -14,7 +14,7 @@ use Rattle.bank_model.specs.declared.submit.SubmitFault.TheVariants.{Keeper, Out
 use Rattle.bank_model.specs.Log.{endings}
 use Rattle.bank_model.specs.LegalLog.{MayHappen, group}
 use Rattle.bank_model.specs.Rules.{state_after, answer_to, due}
-use Rattle.event_codec.specs.Records.{Codes}
+use Rattle.event_codec.specs.Records.{IsWritten}
 use Rattle.bank_engine.specs.Steps.{AddsEntries}
 use Rattle.bank_engine.specs.Views.{PendingView, JournalView}
 
@@ -49,7 +49,7 @@ pub record Answers (old new : JournalView) (event : Event) (at : Moment) (reply 
   pub reply_is : reply ≡ answer_to old.setup old.state at event
   pub log : new.log ≡ old.log ++ group old.setup old.state (Answer event at reply)
   pub pending : new.pending ≡ None
-  pub records : (rec : List ℕ) × Codes rec at event × Grows old.records new.records (rec ∷ [])
+  pub records : (rec : List ℕ) × IsWritten rec at event × Grows old.records new.records (rec ∷ [])
   pub unsettled : new.unsettled ≡ false
   pub later : old.faults ≤ new.faults
 
@@ -63,7 +63,7 @@ pub record FailsToKeep (old new : JournalView) (event : Event) (at : Moment) (co
   pub adds : AddsEntries old.setup old.state at event
   pub fails : Fails old new count (Some (event, at))
   pub pending : new.pending ≡ Some (pending_after old event at)
-  pub records : (rec : List ℕ) × Codes rec at event × MayGrow old.records new.records new.landed rec
+  pub records : (rec : List ℕ) × IsWritten rec at event × MayGrow old.records new.records new.landed rec
 
 abbrev pub FailsToCommit : JournalView → JournalView → Event → Moment → SubmitFault → Type 0
 FailsToCommit old new event at (Keeper count) = FailsToKeep old new event at count

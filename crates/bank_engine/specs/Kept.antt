@@ -6,7 +6,7 @@ use Rattle.bank_model.specs.declared.log.LogItem.TheVariants.{Effect, Answer, Ad
 use Rattle.bank_model.specs.declared.setup.Setup.{Setup}
 use Rattle.bank_model.specs.Rules.{opening_state}
 use Rattle.bank_model.specs.Log.{endings}
-use Rattle.event_codec.specs.Records.{Codes, Reopens}
+use Rattle.event_codec.specs.Records.{IsWritten, Reopens}
 use Rattle.bank_engine.specs.Views.{PendingView}
 
 -- There is one record for each event that was answered or adopted, in order, and it codes the event and its moment.
@@ -15,15 +15,15 @@ CodeEndings [] records = records ≡ []
 CodeEndings (Effect entry ∷ more) records = CodeEndings more records
 CodeEndings (Fault count pending ∷ more) records = CodeEndings more records
 CodeEndings (Answer event at reply ∷ more) [] = ⊥
-CodeEndings (Answer event at reply ∷ more) (rec ∷ records) = Codes rec at event × CodeEndings more records
+CodeEndings (Answer event at reply ∷ more) (rec ∷ records) = IsWritten rec at event × CodeEndings more records
 CodeEndings (Adopted fault event at ∷ more) [] = ⊥
-CodeEndings (Adopted fault event at ∷ more) (rec ∷ records) = Codes rec at event × CodeEndings more records
+CodeEndings (Adopted fault event at ∷ more) (rec ∷ records) = IsWritten rec at event × CodeEndings more records
 
 -- the record of the pending event has landed
 pub record HasLanded (landed : Option Bool) (pending : PendingView) (records : List (List ℕ)) : Type 0 where
   pub is_reported : landed ≡ Some true
   pub rec : List ℕ
-  pub codes : Codes rec pending.at pending.event
+  pub codes : IsWritten rec pending.at pending.event
   pub is_it : records ≡ rec ∷ []
 
 -- it hasn't

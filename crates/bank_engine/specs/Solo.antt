@@ -11,7 +11,7 @@ use Rattle.bank_model.specs.declared.setup.Setup.{Setup}
 use Rattle.bank_model.specs.declared.submit.SubmitFault.{SubmitFault}
 use Rattle.bank_model.specs.declared.submit.SubmitFault.TheVariants.{Keeper, OutOfMemory}
 use Rattle.bank_model.specs.Rules.{named}
-use Rattle.event_codec.specs.Records.{Codes}
+use Rattle.event_codec.specs.Records.{IsWritten}
 use Rattle.bank_engine.specs.Calls.{Answers}
 use Rattle.bank_engine.specs.Views.{PendingView, JournalView}
 
@@ -28,7 +28,7 @@ pub record Sends (sent : List ℕ → List ℕ) (old new : JournalView) (event :
 
 -- At most one append was made, of a record of the event. None was made only where memory was refused before it.
 abbrev pub AppendsOne : {K A : Type 0} → (K → K → List ℕ → Result (Unit {0}) PutFault → Type 0) → K → K → Moment → Event → Result A SubmitFault → Type 0
-AppendsOne appends old new at event (Ok line) = (rec : List ℕ) × Codes rec at event × appends old new rec (Ok tt)
-AppendsOne appends old new at event (Err (Keeper count)) = (rec : List ℕ) × Codes rec at event × appends old new rec (Err puts.Failed)
+AppendsOne appends old new at event (Ok line) = (rec : List ℕ) × IsWritten rec at event × appends old new rec (Ok tt)
+AppendsOne appends old new at event (Err (Keeper count)) = (rec : List ℕ) × IsWritten rec at event × appends old new rec (Err puts.Failed)
 AppendsOne appends old new at event (Err OutOfMemory) =
-    (new ≡ old) ⊎ ((rec : List ℕ) × Codes rec at event × appends old new rec (Err puts.OutOfMemory))
+    (new ≡ old) ⊎ ((rec : List ℕ) × IsWritten rec at event × appends old new rec (Err puts.OutOfMemory))

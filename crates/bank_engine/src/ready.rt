@@ -16,14 +16,14 @@ pub struct Ready {
 }
 
 impl Model for Ready {
-    ghost use Rattle.event_codec.specs.Records.{Codes};
+    ghost use Rattle.event_codec.specs.Records.{IsWritten};
     ghost use Rattle.bank_engine.specs.Views.{ReadyView};
 
     ghost Value = { ReadyView };
 
     ghost view = { λ r. record { event = r.event; at = r.at; rec = r.rec; prepared = r.prepared } };
 
-    ghost invariant = { λ r. Codes r.rec r.at r.event };
+    ghost invariant = { λ r. IsWritten r.rec r.at r.event };
 }
 
 impl Ready {

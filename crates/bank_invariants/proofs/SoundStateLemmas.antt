@@ -97,7 +97,7 @@ occurrences_more setup entries entry models occurrences lawful id some =
 
 -- ---- one entry more
 
-pub sound_more : (setup : Setup) (S : State) (entry : Entry) (used : List UsedPair) → IsSoundState setup S → IsNext setup S entry → length S.entries + 1 ≤ setup.entries → IsSoundState setup (record { entries = S.entries; used = used; kept = S.kept; day = S.day }) → IsSoundState setup (record { entries = S.entries ++ entry ∷ []; used = used; kept = S.kept; day = S.day })
+pub sound_more : (setup : Setup) (S : State) (entry : Entry) (used : List UsedPair) → IsSoundState setup S → IsNext setup S entry → length S.entries + 1 ≤ setup.entries → IsSoundState setup (record S { used = used }) → IsSoundState setup (record S { entries = S.entries ++ entry ∷ []; used = used })
 sound_more setup S entry used sound next few rest =
     let count : length (S.entries ++ entry ∷ []) ≡ length S.entries + 1 = length-append S.entries (entry ∷ []) in
     record {
@@ -119,9 +119,9 @@ sound_more setup S entry used sound next few rest =
 -- ---- entries one after another
 
 pub sound_all : (setup : Setup) (S : State) (entries : List Entry) → IsSoundState setup S → AreNext setup S entries → length S.entries + length entries ≤ setup.entries → IsSoundState setup (with_entries S entries)
-sound_all setup S [] sound next few = subst (λ (l : List Entry). IsSoundState setup (record { entries = l; used = S.used; kept = S.kept; day = S.day })) (sym (append-nil S.entries)) sound
+sound_all setup S [] sound next few = subst (λ (l : List Entry). IsSoundState setup (record S { entries = l })) (sym (append-nil S.entries)) sound
 sound_all setup S (entry ∷ more) sound next few =
     let count : length (S.entries ++ entry ∷ []) ≡ length S.entries + 1 = length-append S.entries (entry ∷ []) in
     let here : IsSoundState setup (with_entries S (entry ∷ [])) = sound_more setup S entry S.used sound next.0 (omega arith) sound in
-    subst (λ (l : List Entry). IsSoundState setup (record { entries = l; used = S.used; kept = S.kept; day = S.day })) (append_assoc S.entries (entry ∷ []) more)
+    subst (λ (l : List Entry). IsSoundState setup (record S { entries = l })) (append_assoc S.entries (entry ∷ []) more)
     (sound_all setup (with_entries S (entry ∷ [])) more here next.1 (omega (arith, count)))

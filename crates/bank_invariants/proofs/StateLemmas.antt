@@ -81,7 +81,7 @@ unused-from_code setup S user only at trnuid deed other = unused_code (is_used u
 -- The same history is sound in another state whose uids, kept replies and business day are.
 sound_as : (setup : Setup) (S T : State) → T.entries ≡ S.entries → IsSoundState setup S → UsedOnce T.used → KeptOnce T.kept → IsDay T.day.0 → IsSoundState setup T
 sound_as setup S T is sound once kept day =
-    subst (λ (entries : List Entry). IsSoundState setup (record { entries = entries; used = T.used; kept = T.kept; day = T.day })) (sym is) (record {
+    subst (λ (entries : List Entry). IsSoundState setup (record T { entries = entries })) (sym is) (record {
       numbered = sound.numbered;
       few = sound.few;
       rows = sound.rows;
@@ -119,7 +119,7 @@ extends_same setup S sound = unextended setup S S refl sound sound.used sound.ke
 -- What may come next after a history doesn't depend on uids, kept replies and the day.
 next_as : (setup : Setup) (S T : State) (entry : Entry) → T.entries ≡ S.entries → IsNext setup S entry → IsNext setup T entry
 next_as setup S T entry is next =
-    subst (λ (entries : List Entry). IsNext setup (record { entries = entries; used = T.used; kept = T.kept; day = T.day }) entry) (sym is) (record {
+    subst (λ (entries : List Entry). IsNext setup (record T { entries = entries }) entry) (sym is) (record {
       number = next.number;
       sound = next.sound;
       sound_model = next.sound_model;

@@ -18,7 +18,7 @@ unfolding code_of
 used_code-is setup S user only at trnuid deed used = rw used refl
 
 abbrev with_entries : State → List Entry → State
-with_entries S entries = record { entries = entries; used = S.used; kept = S.kept; day = S.day }
+with_entries S entries = record S { entries = entries }
 
 nothing_done : (setup : Setup) (S : State) (user : UserId) (at : Moment) (trnuid : List ℕ) (deed : Deed) (code : ℕ) → code ≡ 2019 → (answer_with setup S user at trnuid deed code).after ≡ S
 nothing_done setup S user at trnuid deed code used = rw used (ap (with_entries S) (append-nil S.entries))

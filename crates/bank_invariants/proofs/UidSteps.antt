@@ -153,7 +153,7 @@ uids_used user trnuid (entry ∷ entries) all = (either all.0, uids_used user tr
     either (inr same) = inr (ap (λ (uid : List ℕ). is_used user uid (record { user = user; trnuid = trnuid } ∷ [])) same ∙ pair_itself user trnuid)
 
 -- A deed with code 0 adds its entries and its pair, any other refused one its pair alone, and one with a used uid nothing.
-adds_by_code : (setup : Setup) (S : State) (user : UserId) (only : Option AcctId) (at : Moment) (trnuid : List ℕ) (what : Deed) (zero again : Bool) → eqb (code_of setup S user only at trnuid what) 0 ≡ zero → eqb (code_of setup S user only at trnuid what) 2019 ≡ again → AddsByUids (Some user) S (record { entries = S.entries ++ cond zero (done setup S user at trnuid what) []; used = cond again S.used (S.used ++ record { user = user; trnuid = trnuid } ∷ []); kept = S.kept; day = S.day })
+adds_by_code : (setup : Setup) (S : State) (user : UserId) (only : Option AcctId) (at : Moment) (trnuid : List ℕ) (what : Deed) (zero again : Bool) → eqb (code_of setup S user only at trnuid what) 0 ≡ zero → eqb (code_of setup S user only at trnuid what) 2019 ≡ again → AddsByUids (Some user) S (record S { entries = S.entries ++ cond zero (done setup S user at trnuid what) []; used = cond again S.used (S.used ++ record { user = user; trnuid = trnuid } ∷ []) })
 adds_by_code setup S user only at trnuid what true true is other =
     absurd (let same : code_of setup S user only at trnuid what ≡ 0 = eqb-true (code_of setup S user only at trnuid what) 0 is in
     let different : eqb (code_of setup S user only at trnuid what) 2019 ≡ false = ap (λ (n : ℕ). eqb n 2019) same in

@@ -182,11 +182,11 @@ IsPayable-next setup S entry row from to within sound few next gives posted sour
     let good = IsSoundRow-next setup S entry row next gives posted in
     let posts = posts_row S.entries entry row gives posted in
     let apart = apart_occurrences setup row from to good source target in
-    let after : IsSoundState setup (record { entries = S.entries ++ entry ∷ []; used = S.used; kept = S.kept; day = S.day }) = sound_more setup S entry S.used sound next few sound in
+    let after : IsSoundState setup (record S { entries = S.entries ++ entry ∷ [] }) = sound_more setup S entry S.used sound next few sound in
     let after_from = next.covered from in
     let moved_from = balance-moved setup S.entries entry row from to from within posts source target ∙ ap (λ (z : ℤ). balance setup S.entries from +ℤ z) (shift_from row.amount.0 from to apart) in
     let moved_to = balance-moved setup S.entries entry row from to to within posts source target ∙ ap (λ (z : ℤ). balance setup S.entries to +ℤ z) (shift_to row.amount.0 from to apart) in
-    let most_to = balance-most setup (record { entries = S.entries ++ entry ∷ []; used = S.used; kept = S.kept; day = S.day }) to within after in
+    let most_to = balance-most setup (record S { entries = S.entries ++ entry ∷ [] }) to within after in
     let here = sound.covered to in
     record {
       positive = good.not_negative;
@@ -239,11 +239,11 @@ balance_given-is setup S added account amount given found =
 
 -- ---- the draft after it
 
-regrouped : (setup : Setup) (S : State) (added : AddedView) (entry : Entry) (used : List UsedPair) → IsSoundState setup (record { entries = (S.entries ++ added.entries) ++ entry ∷ []; used = used; kept = S.kept; day = added.day }) → IsSoundState setup (record { entries = S.entries ++ (added.entries ++ entry ∷ []); used = used; kept = S.kept; day = added.day })
+regrouped : (setup : Setup) (S : State) (added : AddedView) (entry : Entry) (used : List UsedPair) → IsSoundState setup (record S { entries = (S.entries ++ added.entries) ++ entry ∷ []; used = used; day = added.day }) → IsSoundState setup (record S { entries = S.entries ++ (added.entries ++ entry ∷ []); used = used; day = added.day })
 regrouped setup S added entry used sound =
-    subst (λ (l : List Entry). IsSoundState setup (record { entries = l; used = used; kept = S.kept; day = added.day })) (append_assoc S.entries added.entries (entry ∷ [])) sound
+    subst (λ (l : List Entry). IsSoundState setup (record S { entries = l; used = used; day = added.day })) (append_assoc S.entries added.entries (entry ∷ [])) sound
 
-sound_entered : (setup : Setup) (S : State) (added : AddedView) (entry : Entry) → IsSoundState setup (with_added S added) → length (with_added S added).entries + 1 ≤ setup.entries → IsNext setup (with_added S added) entry → IsSoundState setup (record { entries = S.entries ++ (added.entries ++ entry ∷ []); used = (with_added S added).used; kept = S.kept; day = added.day })
+sound_entered : (setup : Setup) (S : State) (added : AddedView) (entry : Entry) → IsSoundState setup (with_added S added) → length (with_added S added).entries + 1 ≤ setup.entries → IsNext setup (with_added S added) entry → IsSoundState setup (record S { entries = S.entries ++ (added.entries ++ entry ∷ []); used = (with_added S added).used; day = added.day })
 sound_entered setup S added entry sound few next =
     regrouped setup S added entry (with_added S added).used (sound_more setup (with_added S added) entry (with_added S added).used sound next few sound)
 

@@ -43,12 +43,7 @@ pair_of user trnuid = record { user = user; trnuid = trnuid }
 
 -- the state of a bank with what an event adds to it
 abbrev pub with_added : State → AddedView → State
-with_added S added = record {
-  entries = S.entries ++ added.entries;
-  used = S.used ++ map (pair_of added.user) added.uids;
-  kept = S.kept;
-  day = added.day;
-}
+with_added S added = record S { entries = S.entries ++ added.entries; used = S.used ++ map (pair_of added.user) added.uids; day = added.day }
 
 -- Each entry that is added has the next number, and gives its change of the rows. A transfer's row is the last of those added, or else the bank's; so it
 -- is with a recurring transfer, which is cancelled where the bank or what is added cancels it.
@@ -88,12 +83,7 @@ pub record DraftView : Type 0 where
 
 -- the state that a draft makes
 abbrev pub drafted : DraftView → State
-drafted draft = record {
-  entries = draft.before.entries ++ draft.entries;
-  used = draft.before.used ++ map (pair_of draft.user) draft.uids;
-  kept = draft.before.kept;
-  day = draft.day;
-}
+drafted draft = record draft.before { entries = draft.before.entries ++ draft.entries; used = draft.before.used ++ map (pair_of draft.user) draft.uids; day = draft.day }
 
 -- What holds of every draft: the setup is within its limits, the moment lies in the years 1900 to 9999, the accounts have the
 -- balances of the state, and what it makes of the state is sound.

@@ -257,12 +257,7 @@ impl Ledger {
         requires known { IsKnown row_change }
         requires gives { GivesRows self.old.state.entries entry.change row_change }
         ensures window { self.new.window ≡ self.old.window }
-        ensures state { self.new.state ≡ record {
-          entries = self.old.state.entries ++ entry ∷ [];
-          used = self.old.state.used;
-          kept = self.old.state.kept;
-          day = self.old.state.day;
-        } }
+        ensures state { self.new.state ≡ record self.old.state { entries = self.old.state.entries ++ entry ∷ [] } }
         ensures entries { self.old.room.entries ≤ self.new.room.entries + 1 }
         ensures transfers { self.old.room.transfers ≤ self.new.room.transfers + 1 }
         ensures models { self.old.room.models ≤ self.new.room.models + 1 }
@@ -297,12 +292,7 @@ impl Ledger {
         requires room { 0 < self.old.room.pairs }
         requires unused { is_used user trnuid self.old.state.used ≡ false }
         ensures window { self.new.window ≡ self.old.window }
-        ensures state { self.new.state ≡ record {
-          entries = self.old.state.entries;
-          used = self.old.state.used ++ record { user = user; trnuid = trnuid } ∷ [];
-          kept = self.old.state.kept;
-          day = self.old.state.day;
-        } }
+        ensures state { self.new.state ≡ record self.old.state { used = self.old.state.used ++ record { user = user; trnuid = trnuid } ∷ [] } }
         ensures pairs { self.old.room.pairs ≤ self.new.room.pairs + 1 }
         ensures files { self.new.room.files ≡ self.old.room.files }
     {
@@ -324,12 +314,7 @@ impl Ledger {
             → GivesRows (self.old.state.entries ++ take k entries.items) (slice_index_or entries.items k entry).change
             (slice_index_or row_changes.items k row_change) }
         ensures window { self.new.window ≡ self.old.window }
-        ensures state { self.new.state ≡ record {
-          entries = self.old.state.entries ++ entries.items;
-          used = self.old.state.used;
-          kept = self.old.state.kept;
-          day = self.old.state.day;
-        } }
+        ensures state { self.new.state ≡ record self.old.state { entries = self.old.state.entries ++ entries.items } }
         ensures pairs { self.new.room.pairs ≡ self.old.room.pairs }
         ensures files { self.new.room.files ≡ self.old.room.files }
     {
@@ -347,12 +332,7 @@ impl Ledger {
         requires room { length uids.items ≤ self.old.room.pairs }
         requires unused { UsedOnce (self.old.state.used ++ map (pair_of user) uids.items) }
         ensures window { self.new.window ≡ self.old.window }
-        ensures state { self.new.state ≡ record {
-          entries = self.old.state.entries;
-          used = self.old.state.used ++ map (pair_of user) uids.items;
-          kept = self.old.state.kept;
-          day = self.old.state.day;
-        } }
+        ensures state { self.new.state ≡ record self.old.state { used = self.old.state.used ++ map (pair_of user) uids.items } }
         ensures files { self.new.room.files ≡ self.old.room.files }
     {
         for uid in uids {
@@ -383,12 +363,7 @@ impl Ledger {
     /// Lets go the reply to the user's file of that name, where there is one. Takes no memory.
     pub fn release(&mut self, user: UserId, older: &Option<FileUid>)
         ensures window { self.new.window ≡ self.old.window }
-        ensures state { self.new.state ≡ record {
-          entries = self.old.state.entries;
-          used = self.old.state.used;
-          kept = rules.release user older.now self.old.state.kept;
-          day = self.old.state.day;
-        } }
+        ensures state { self.new.state ≡ record self.old.state { kept = rules.release user older.now self.old.state.kept } }
         ensures files { self.old.room.files ≤ self.new.room.files }
     {
         match older {
@@ -404,12 +379,7 @@ impl Ledger {
         requires room { 0 < self.old.room.files }
         requires absent { IfSome newer (λ file. reply_kept user file self.old.state.kept ≡ None) }
         ensures window { self.new.window ≡ self.old.window }
-        ensures state { self.new.state ≡ record {
-          entries = self.old.state.entries;
-          used = self.old.state.used;
-          kept = rules.keep user newer reply.items self.old.state.kept;
-          day = self.old.state.day;
-        } }
+        ensures state { self.new.state ≡ record self.old.state { kept = rules.keep user newer reply.items self.old.state.kept } }
     {
         match newer {
             Some(file) => self.records.keep(user, file, reply),
@@ -420,12 +390,7 @@ impl Ledger {
     /// Sets the business day.
     fn set_day(&mut self, day: Day)
         ensures window { self.new.window ≡ self.old.window }
-        ensures state { self.new.state ≡ record {
-          entries = self.old.state.entries;
-          used = self.old.state.used;
-          kept = self.old.state.kept;
-          day = day;
-        } }
+        ensures state { self.new.state ≡ record self.old.state { day = day } }
         ensures room { self.new.room ≡ self.old.room }
     {
         self.day = day;

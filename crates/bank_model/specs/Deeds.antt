@@ -222,12 +222,7 @@ abbrev pub used_up : ℕ → UserId → List ℕ → List UsedPair → List Used
 used_up code user trnuid used = if code == 2019 then used else used ++ record { user = user; trnuid = trnuid } ∷ []
 
 abbrev pub after_deed : State → UserId → List ℕ → ℕ → List Entry → State
-after_deed S user trnuid code entries = record {
-  entries = S.entries ++ entries;
-  used = used_up code user trnuid S.used;
-  kept = S.kept;
-  day = S.day;
-}
+after_deed S user trnuid code entries = record S { entries = S.entries ++ entries; used = used_up code user trnuid S.used }
 
 -- The answer tells the first entry's change, where there is one.
 abbrev pub first_change : List Entry → Option Change

@@ -47,7 +47,7 @@ opening_state = record { entries = []; used = []; kept = []; day = record { 0 = 
 
 -- Each event first raises the business day to the day of its moment, if that is greater.
 abbrev pub raised : State → Moment → State
-raised S at = record { entries = S.entries; used = S.used; kept = S.kept; day = record { 0 = int_max S.day.0 (day_of at.0) } }
+raised S at = record S { day = record { 0 = int_max S.day.0 (day_of at.0) } }
 
 -- ---- statements
 
@@ -130,7 +130,7 @@ keep user None reply kept = kept
 keep user (Some newer) reply kept = kept ++ record { user = user; file = newer; reply = reply } ∷ []
 
 abbrev pub with_kept : State → List KeptReply → State
-with_kept S kept = record { entries = S.entries; used = S.used; kept = kept; day = S.day }
+with_kept S kept = record S { kept = kept }
 
 -- the bytes that are kept for a file
 abbrev pub kept_for : State → UserId → Option (List ℕ) → Option (List ℕ)
@@ -173,7 +173,7 @@ denial file at = record {
 
 -- What the bank does by itself has no reply.
 abbrev pub with_entries : State → List Entry → State
-with_entries S entries = record { entries = S.entries ++ entries; used = S.used; kept = S.kept; day = S.day }
+with_entries S entries = record S { entries = S.entries ++ entries }
 
 abbrev pub unasked : State → List Entry → Outcome
 unasked S entries = record { reply = []; after = with_entries S entries }

@@ -10,7 +10,7 @@ use Rattle.bank_model.specs.SetupLookups.{user_of}
 use Rattle.bank_model.specs.declared.setup.Setup.{Setup}
 use Rattle.bank_model.specs.declared.event.State.{State}
 use Rattle.bank_model.specs.declared.event.Event.TheVariants.{Letter}
-use Rattle.event_codec.specs.Records.{Codes}
+use Rattle.event_codec.specs.Records.{IsWritten}
 use Rattle.bank_core.specs.BookView.{BookView}
 use Rattle.bank_opening.specs.declared.stop.LetterFault.TheVariants as faults
 use Rattle.bank_opening.specs.declared.stop.Stop.{Stop}
@@ -54,7 +54,7 @@ pub record LetterUnkept (bank : BookView) (name subject body : List ℕ) (before
   pub rec : List ℕ
   pub named : user_of bank.setup name ≡ Some user
   pub legal : IsLegal bank.setup bank.state moment (Letter user subject body)
-  pub codes : Codes rec moment (Letter user subject body)
+  pub codes : IsWritten rec moment (Letter user subject body)
   pub kept : Stays before.records after.records ⊎ Grows before.records after.records (rec ∷ [])
   pub unwritten : Keeps before.held after.held
   pub moments : Grows before.shown after.shown (moment ∷ [])

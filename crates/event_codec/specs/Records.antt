@@ -29,13 +29,18 @@ IsTyped (Post id) = Unit {0}
 IsTyped (Spawn model offset) = IsShort offset
 IsTyped (Letter user subject body) = IsShort user.0
 
--- A record codes an event at a moment of the years 1900 to 9999, all of whose values are within their bounds. Events that
--- differ in the name and the password of a file's user alone have the same record.
-pub record Codes (rec : List ℕ) (at : Moment) (event : Event) : Type 0 where
+-- A record is what is written of an event at a moment of the years 1900 to 9999, all of whose values are within their bounds.
+-- There is one form in which records are written. Events that differ in the name and the password of a file's user alone have
+-- the same record.
+pub record IsWritten (rec : List ℕ) (at : Moment) (event : Event) : Type 0 where
   pub moment : IsMoment at.0
   pub within : IsWithinBounds event
   pub typed : IsTyped event
   pub spelled : rec ≡ coded at event
+
+-- A record codes an event at a moment where it is read as these. Whatever is written is read so, and nothing else is read.
+abbrev pub Codes : List ℕ → Moment → Event → Type 0
+Codes rec at event = IsWritten rec at event
 
 -- A bank comes by these records from one state to another: each codes an event that is legal in the state that those
 -- before it left.

@@ -12,7 +12,7 @@ ghost use Rattle.record_fields.specs.FieldCoding.{u32_bytes, u64_bytes, text_byt
 ghost use Rattle.event_codec.specs.Coding.{kind_of_event, file_bytes, event_bytes};
 ghost use Rattle.bank_model.specs.Events.{without_signon};
 ghost use Rattle.event_codec.specs.Reading.{IsRecordFault, version_at, file_event_at, post_at, spawn_at, letter_at, event_of, kind_at, after_version, record_read};
-ghost use Rattle.event_codec.specs.Records.{Codes, IsWithinBounds, IsShort, IsTyped};
+ghost use Rattle.event_codec.specs.Records.{Codes, IsWritten, IsWithinBounds, IsShort, IsTyped};
 
 use crate::ask::{get_asks, put_asks};
 use bank_model::Event;
@@ -45,7 +45,7 @@ use std::alloc::Global;
 pub fn write_event(alloc: Global, event: &Event, at: Moment) -> Result<Vec<u8>, OutOfMemory>
     requires moment { IsMoment at.0 }
     requires within { IsWithinBounds event.now }
-    ensures { IfOk result (λ rec. Codes rec.items at event.now) }
+    ensures { IfOk result (λ rec. IsWritten rec.items at event.now) }
 {
     let mut out = Vec::new(alloc);
     put_u8(&1, &mut out)?;

@@ -8,12 +8,7 @@ invariant-loop-row_change l = record {
   count : into_iter_len l.row_change-iterator ≡ length (into_iter_items l.row_change-iterator);
   rest : into_iter_items l.rest ≡ drop (length l.yielded) l.fn.entries.items;
   window : l.self.window ≡ l.fn.self.window;
-  state : l.self.state ≡ record {
-    entries = l.fn.self.state.entries ++ take (length l.yielded) l.fn.entries.items;
-    used = l.fn.self.state.used;
-    kept = l.fn.self.state.kept;
-    day = l.fn.self.state.day;
-  };
+  state : l.self.state ≡ record l.fn.self.state { entries = l.fn.self.state.entries ++ take (length l.yielded) l.fn.entries.items };
   entries : length (into_iter_items l.row_change-iterator) ≤ l.self.room.entries;
   transfers : length (into_iter_items l.row_change-iterator) ≤ l.self.room.transfers;
   models : length (into_iter_items l.row_change-iterator) ≤ l.self.room.models;

@@ -8,12 +8,7 @@ invariant-loop-uid l = record {
   items : l.yielded ++ into_iter_items l.uid-iterator ≡ into_iter_items l.initial.uid-iterator;
   count : into_iter_len l.uid-iterator ≡ length (into_iter_items l.uid-iterator);
   window : l.self.window ≡ l.fn.self.window;
-  state : l.self.state ≡ record {
-    entries = l.fn.self.state.entries;
-    used = l.fn.self.state.used ++ map (pair_of l.fn.user) l.yielded;
-    kept = l.fn.self.state.kept;
-    day = l.fn.self.state.day;
-  };
+  state : l.self.state ≡ record l.fn.self.state { used = l.fn.self.state.used ++ map (pair_of l.fn.user) l.yielded };
   pairs : length (into_iter_items l.uid-iterator) ≤ l.self.room.pairs;
   files : l.self.room.files ≡ l.fn.self.room.files;
 }
