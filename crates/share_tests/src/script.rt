@@ -53,7 +53,13 @@ fn reported<N: BankName, R: Abort>(
 {
     let (_setup, journal, accounts) = opened.solo::<N>();
     let locked = LockedBank::with_accounts(alloc, journal, accounts);
-    reported_by(rt, alloc, &mut locked.expect(rt, "a teller"), clock, calls)
+    reported_by(
+        rt,
+        alloc,
+        &mut locked.expect(rt, "a locked bank"),
+        clock,
+        calls,
+    )
 }
 
 /// What the calls of a locked bank tell and leave pending, and the number of the next entry.
