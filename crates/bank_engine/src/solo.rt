@@ -178,8 +178,8 @@ impl<P: Printer> SoloEngine<P> {
         Ok(adopted)
     }
 
-    /// Gives up what is pending without asking the keeper: all accounts are in the pool again. That is right for a bank that ends: the
-    /// one that opens from the records after it finds that of the pending event, or doesn't. Takes no memory.
+    /// Gives up what is pending without asking the keeper: all accounts are in the pool again. That is right for a bank that
+    /// ends: the one that opens from the records after it finds that of the pending event, or doesn't. Takes no memory.
     pub fn give_up(&mut self)
         ensures setup { self.new.setup ≡ self.old.setup }
         ensures state { self.new.state ≡ self.old.state }

@@ -29,8 +29,8 @@ use std::marker::{Model, PhantomData};
 /// The journal of the bank that `N` names.
 ///
 /// Its log is legal from the state in which the bank opened, without a cut group, and its book stands for the state that the log
-/// ends in. Where the keeper told its records when the bank opened, it has these, then those of the events that the log answered and
-/// adopted; while an append that failed isn't settled, its record may be stored besides.
+/// ends in. Where the keeper told its records when the bank opened, it has these, then those of the events that the log
+/// answered and adopted; while an append that failed isn't settled, its record may be stored besides.
 pub struct Journal<N: BankName, K: Keeper, P: Printer> {
     alloc: Global,
     keeper: K,

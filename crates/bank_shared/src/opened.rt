@@ -27,8 +27,8 @@ use std::snapshot::Snapshot;
 
 /// A bank that has opened from its records.
 ///
-/// It has its accounts twice, in the pool for a bank of many callers and in a list for one caller, so that neither takes memory when
-/// it begins: one of both is used.
+/// It has its accounts twice, in the pool for a bank of many callers and in a list for one caller, so that neither takes memory
+/// when it begins: one of both is used.
 pub struct Opened<K: Keeper, P: Printer> {
     alloc: Global,
     setup: Setup,

@@ -1,5 +1,5 @@
--- Exactly where a run is refused for its words or for the text that is kept, and what comes of the bytes that a bank sends, as far as
--- nothing of the outside fails and memory is there.
+-- Exactly where a run is refused for its words or for the text that is kept, and what comes of the bytes that a bank sends, as
+-- far as nothing of the outside fails and memory is there.
 use Rattle.std.specs.Prelude.{◌≡◌, ◌≢◌, ℕ, List, [], length, Some, Result, Ok, Err, ◌⊎◌}
 use Rattle.std.specs.Io.KnownBytes.{prepend_known}
 use Rattle.ofx_ports.specs.Faults.{Rose}

@@ -70,12 +70,12 @@ fn run<L: Link, S: StoreKeeper, C: Clock, W: Sink>(
 
 /// Does what the arguments order, over a link to the bank, and says how the run ended.
 ///
-/// The arguments are PORT, STORE, CLIENT, USER, PASS, BANK and one command; PORT and STORE were used to open the link and the store.
-/// The client in the store's text goes on from where it was; an empty text is a new client. For `show` it is printed what the
-/// client keeps. For `check` a poll is sent, and the newest tokens of an account's objects are printed; nothing is saved. For
-/// every other command a file that is outstanding from an earlier run is sent again first and its reply is taken in. Then the
-/// file of the command is made at the moment that the clock shows and saved, and only then sent; its reply is taken in, the
-/// client saved, and only then the lines that report it are printed (OFX 1.6, "File-Based Error Recovery", "Data
+/// The arguments are PORT, STORE, CLIENT, USER, PASS, BANK and one command; PORT and STORE were used to open the link and the
+/// store. The client in the store's text goes on from where it was; an empty text is a new client. For `show` it is printed
+/// what the client keeps. For `check` a poll is sent, and the newest tokens of an account's objects are printed; nothing is
+/// saved. For every other command a file that is outstanding from an earlier run is sent again first and its reply is taken in.
+/// Then the file of the command is made at the moment that the clock shows and saved, and only then sent; its reply is taken
+/// in, the client saved, and only then the lines that report it are printed (OFX 1.6, "File-Based Error Recovery", "Data
 /// Synchronization").
 ///
 /// | Status | Note | Where |

@@ -1,4 +1,5 @@
-//! Calls of a locked bank, one after another, in lines of text: what each is told and leaves pending, and how many entries there are.
+//! Calls of a locked bank, one after another, in lines of text: what each is told and leaves pending, and how many entries
+//! there are.
 
 ghost use Rattle.std.specs.Prelude.{◌≡◌, ◌<◌, false, is_some, length, All};
 ghost use Rattle.ofx_types.specs.Calendar.{IsMoment};
