@@ -151,7 +151,7 @@ impl<P: Printer> SoloEngine<P> {
         sent
     }
 
-    /// Settles whether the record of the pending event stands, and answers whether the event is adopted: it has happened at its
+    /// Settles whether the record of the pending event is stored, and answers whether the event is adopted: it has happened at its
     /// moment. Afterwards nothing is pending. Takes no memory.
     ///
     /// - `Keeper(n)`: the keeper's count of faults rose to n in this call. The event is pending still.

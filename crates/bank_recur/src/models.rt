@@ -88,8 +88,8 @@ impl Models {
         }
     }
 
-    /// The place of the next transfer of the recurring transfer with this id, which is there, in its series from 0.
-    /// Takes no memory.
+    /// The occurrence, from 0, at which the recurring transfer with this id makes its next transfer. The recurring transfer is
+    /// there. Takes no memory.
     pub fn next_k(&self, id: u64) -> u32
         requires { is_some (row_found id self.now.series) ≡ true }
         ensures held { result ≡ occurrence_found id self.now.series }

@@ -64,7 +64,7 @@ pub record BeginsWith (bytes : List ℕ) (code : ℕ) (body : List ℕ) : Type 0
   pub size : ℕ
   pub is_reply : IsReply (take size bytes) code body
 
--- A body spells no reply file, and its fault is at this place.
+-- A body spells no reply file, and its fault is at this offset.
 abbrev pub IsNoReplyAt : List ℕ → ℕ → Type 0
 IsNoReplyAt body at =
     IsReplyFaultOf body (Header at) ⊎ (IsReplyFaultOf body (Syntax at) ⊎ IsReplyFaultOf body (Form at))

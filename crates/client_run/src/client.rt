@@ -87,11 +87,11 @@ fn run<L: Link, S: StoreKeeper, C: Clock, W: Sink>(
 /// | 7 | | memory was refused |
 /// | 8 | | a call of the store failed |
 /// | 11 | the code | the reply's HTTP code isn't 200; after 400 the outstanding file is given up, and that is saved |
-/// | 12 | a place | the reply's body spells no reply file |
+/// | 12 | an offset | the reply's body spells no reply file |
 /// | 12 | the number of a reply, from 1 | this one doesn't answer what was asked |
 /// | 13 | | the reply is to another file |
 /// | 14 | the code | the signon failed |
-/// | 15 | a place | the store's text has no form |
+/// | 15 | an offset | the store's text has no form |
 /// | 16 | | the reply's head has no form or no usable length |
 /// | 17 | a number of bytes | the link ended so far into the reply |
 /// | 18 | an id | no store has the row that the command names |

@@ -28,7 +28,7 @@ pub record AwaitsRequest (bytes : List ℕ) : Type 0 where
   pub none : HasNoRequest bytes
   pub may : MayBecomeRequest bytes
 
--- What a request's head tells: whether the method is POST and the target `/ofx`, byte for byte; the usable length of the body;
+-- What a request's head says: whether the method is POST and the target `/ofx`, byte for byte; the usable length of the body;
 -- whether the connection ends after it; and its number of bytes.
 abbrev pub head_of_request : RequestHead → Head
 head_of_request h =
