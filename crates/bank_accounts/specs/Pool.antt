@@ -1,4 +1,5 @@
--- The accounts of a bank that are in the pool, each at the place of its number, and those that are checked out for the step of an event.
+-- The accounts of a bank that are in the pool, each at the place of its number, and those that are checked out for the step of
+-- an event.
 use Rattle.std.specs.Prelude.{◌≡◌, ℕ, ◌<◌, ◌⊎◌, List, length, slice_index_or, Option, None, Some, All, IsSome}
 use Rattle.std.specs.Option.{IfSome}
 use Rattle.ofx_types.specs.declared.number.AcctId.{AcctId}

@@ -19,9 +19,9 @@ use std::hash::RandomState;
 
 /// Does what the arguments ask for, and answers how that ended.
 ///
-/// The arguments `rehearse` and a number ask for the rehearsal of that seed: a world of a bank and three clients takes 2,000 turns, and
-/// six lines tell what came of them. Nothing but the output is used. The status is 0, 6 where a write failed, or 7 where memory was
-/// refused. All other arguments are those of `answer_told`.
+/// The arguments `rehearse` and a number ask for the rehearsal of that seed: a world of a bank and three clients takes 2,000
+/// turns, and six lines report what came of them. Nothing but the output is used. The status is 0, 6 where a write failed, or 7
+/// where memory was refused. All other arguments are those of `answer_told`.
 ///
 /// ```rust
 /// use bank_commands::bank_told;

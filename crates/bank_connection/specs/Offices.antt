@@ -47,7 +47,8 @@ pub record IsRightView (setup : Setup) (view : OfficeView) : Type 0 where
   pub rises : Rises view.mine
   pub own : All (λ number. (1 ≤ number) × (number ≤ length (endings view.seen))) view.mine
 
--- Where an office says what it knows, it tells it again, and the two are related so. One that doesn't tell never does.
+-- An office that says what it knows before a call says it after the call, and the two are related so. One that doesn't say
+-- never does.
 abbrev pub Knows : Option OfficeView → Option OfficeView → (OfficeView → OfficeView → Type 0) → Type 0
 Knows None None P = ⊤
 Knows None (Some w) P = ⊥

@@ -25,7 +25,7 @@ use std::alloc::Global;
 pub enum Answer {
     /// A reply file.
     File(Vec<u8>),
-    /// The body spells no file: a line that tells the offset of the fault.
+    /// The body spells no file: a line that reports the offset of the fault.
     Misspelled(Vec<u8>),
     /// A call of the keeper of the records failed.
     KeeperFailed,

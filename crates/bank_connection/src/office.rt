@@ -11,13 +11,13 @@ ghost use Rattle.bank_connection.specs.Offices.{OfficeView, IsRightView, Knows, 
 use bank_model::{Setup, SubmitFault};
 use ofx_types::{Moment, OutOfMemory, RequestFile, UserId};
 
-/// Answers the files of users who signed on. What it knows of its bank, where it tells it, is right before and after each
+/// Answers the files of users who signed on. What it knows of its bank, where it says so, is right before and after each
 /// call, and no call changes the setup or the state that the bank opened in.
 pub trait Office {
     // the setup of the bank
     ghost setup: { Self → TheSetup };
 
-    // what it knows of the bank, where it tells it
+    // what it knows of the bank, where it says so
     ghost knows: { Self → Option OfficeView };
 
     /// The setup of the bank.

@@ -90,7 +90,7 @@ fn done_reply(
     reported(draft, index, trnuid, deed)
 }
 
-/// The reply to a deed that is done: it says what the entry at this occurrence of those that are added says.
+/// The reply to a deed that is done: it says what the entry at this index of those that are added says.
 fn reported(
     draft: &Draft<'_>,
     index: usize,

@@ -1,4 +1,4 @@
--- A run of due work over a bank whose journal is told, and why it ended.
+-- A run of due work over a bank whose journal is known, and why it ended.
 use Rattle.std.specs.Prelude.{◌≡◌, ℕ, ◌<◌, ⊤, List, [], ◌∷◌, ◌++◌, length, Option, None, Some, Result, Ok, Err}
 use Rattle.ofx_types.specs.declared.number.Moment.{Moment}
 use Rattle.bank_model.specs.declared.event.Event.{Event}
@@ -10,7 +10,7 @@ use Rattle.bank_engine.specs.Views.{JournalView}
 use Rattle.bank_due.specs.declared.fault.DueFault.{DueFault}
 use Rattle.bank_due.specs.declared.fault.DueFault.TheVariants as faults
 
--- Where the journal is known, it is told again, and the two are related so. One that isn't told never is.
+-- A journal that is known before a call is known after it, and the two are related so. One that isn't known stays unknown.
 abbrev pub Knows : Option JournalView → Option JournalView → (JournalView → JournalView → Type 0) → Type 0
 Knows None None P = ⊤
 Knows None (Some w) P = ⊥

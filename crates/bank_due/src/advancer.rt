@@ -13,7 +13,7 @@ use ofx_types::Moment;
 
 /// Who makes what is due first at a moment happen, one event in a call.
 pub trait Advancer {
-    // the journal of the bank, where it is told
+    // the journal of the bank, where it is known
     ghost knows: { Self → Option JournalView };
 
     /// Makes what is due first at a moment happen.
@@ -26,7 +26,7 @@ pub trait Advancer {
         ensures fails { IfErr result (λ fault. Knows (knows self.old) (knows self.new) (λ old new. FailsToAdvance old new at fault)) };
 }
 
-/// The locked bank tells its journal.
+/// The journal of a locked bank is known.
 impl<N: BankName, K: Keeper, P: Printer> Advancer for LockedBank<N, K, P> {
     ghost knows = { λ locked. Some locked };
 

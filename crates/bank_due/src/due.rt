@@ -23,8 +23,8 @@ const MAX_EVENTS: u32 = 100_000;
 /// - `Keeper(n)`: the keeper's count of faults rose to n in the last look of this call.
 /// - `OutOfMemory`.
 ///
-/// Which events those are is said where the journal is known, as over a locked bank (`run_due`). Over a bank other callers come between,
-/// and nothing but the number is said.
+/// Only the bound of the number is proved here: other callers' calls may come between two events. Which events happened and why
+/// the run ended is proved where the journal is known, as over a locked bank (`run_due`).
 ///
 /// ```rust
 /// use bank_due::due_run;

@@ -1,4 +1,4 @@
--- The records of a bank, as its log tells them.
+-- The records of a bank, as its log gives them.
 use Rattle.std.specs.Prelude.{◌≡◌, ℕ, ◌⊎◌, Bool, true, false, List, [], ◌∷◌, ◌++◌, Option, None, Some}
 use Rattle.bank_model.specs.declared.event.State.{State}
 use Rattle.bank_model.specs.declared.log.LogItem.{LogItem}
@@ -31,7 +31,7 @@ pub record IsLost (landed : Option Bool) (records : List (List ℕ)) : Type 0 wh
   pub is_reported : landed ≡ Some false
   pub none : records ≡ []
 
--- Where an append failed and isn't settled, the record of its event stands where it has landed. Otherwise nothing stands.
+-- Where an append failed and isn't settled, the record of its event is stored where it has landed. Otherwise none is.
 abbrev pub MayRemain : Option Bool → Option PendingView → List (List ℕ) → Type 0
 MayRemain landed None records = records ≡ []
 MayRemain landed (Some pending) records = HasLanded landed pending records ⊎ IsLost landed records

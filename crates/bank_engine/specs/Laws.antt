@@ -27,8 +27,8 @@ pub record TruthGoesOn : Type 0 where
   pub settles : (old new : JournalView) (adopted : Bool) → Settles old new adopted → Keeps old new
   pub unsettled : (old new : JournalView) (fault : SubmitFault) → FailsToSettle old new fault → Keeps old new
 
--- An answer of a log is the bank's at its place: among the records stands that of its event, and in the state to which those before it
--- lead, this is what the bank answers.
+-- An answer of a log is the bank's at its place: among the records stands that of its event, and in the state to which those
+-- before it lead, this is what the bank answers.
 pub record IsAtPlace (setup : Setup) (records : List (List ℕ)) (event : Event) (at : Moment) (reply : List ℕ) : Type 0 where
   pub earlier : List (List ℕ)
   pub rec : List ℕ

@@ -1,4 +1,4 @@
--- What the calls of an engine with all accounts at home do besides.
+-- What else the calls of an engine do that has all accounts in the pool.
 use Rattle.std.specs.Prelude.{◌≡◌, ◌⊎◌, ℕ, List, [], Option, None, Some, Result, Ok, Err}
 use Rattle.ofx_ports.specs.declared.fault.PutFault.{PutFault}
 use Rattle.ofx_ports.specs.declared.fault.PutFault.TheVariants as puts

@@ -31,9 +31,9 @@ pub record ReadyView : Type 0 where
 
 -- What an engine sees of the keeper of its records.
 pub record KeeperView : Type 0 where
-  -- the records, where they are told
+  -- the records, where they are known
   pub records : Option (List (List ℕ))
-  -- whether the record of the append that failed is stored, where this is told
+  -- whether the record of the append that failed is stored, where this is known
   pub landed : Option Bool
   -- whether an append failed and isn't settled
   pub unsettled : Bool

@@ -49,7 +49,7 @@ pub(crate) fn answer<L: Publisher, P: Printer>(
     reply
 }
 
-/// Takes the step of an event whose append had failed, and whose record stands all the same. The event is published as adopted.
+/// Takes the step of an event whose append had failed, and whose record is stored all the same. The event is published as adopted.
 pub(crate) fn adopt<L: Publisher, P: Printer>(
     book: &mut Book<P>,
     log: &mut L,

@@ -12,7 +12,7 @@ use bank_model::{Event, Printer};
 use ofx_types::OutOfMemory;
 use std::alloc::Global;
 
-/// Checks out the accounts that an event names, and no others. Where memory is refused, all are at home again.
+/// Checks out the accounts that an event names, and no others. Where memory is refused, all are in the pool again.
 pub fn check_out<P: Printer>(
     alloc: Global,
     book: &Book<P>,

@@ -203,7 +203,7 @@ impl<P: Printer> Engine<P> {
         Ok(line)
     }
 
-    /// Settles whether the record of the pending event stands, and answers whether the event is adopted: it has happened at its
+    /// Settles whether the record of the pending event is stored, and answers whether the event is adopted: it has happened at its
     /// moment. Afterwards nothing is pending. The accounts that the event names are held. Takes no memory.
     ///
     /// - `Keeper(n)`: the keeper's count of faults rose to n in this call. The event is pending still.

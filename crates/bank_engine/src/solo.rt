@@ -151,7 +151,7 @@ impl<P: Printer> SoloEngine<P> {
         sent
     }
 
-    /// Settles whether the record of the pending event stands, and answers whether the event is adopted: it has happened at its
+    /// Settles whether the record of the pending event is stored, and answers whether the event is adopted: it has happened at its
     /// moment. Afterwards nothing is pending. Takes no memory.
     ///
     /// - `Keeper(n)`: the keeper's count of faults rose to n in this call. The event is pending still.
@@ -178,8 +178,8 @@ impl<P: Printer> SoloEngine<P> {
         Ok(adopted)
     }
 
-    /// Gives up what is pending without asking the keeper: all accounts are at home again. That is right for a bank that ends: the
-    /// one that opens from the records after it finds that of the pending event, or doesn't. Takes no memory.
+    /// Gives up what is pending without asking the keeper: all accounts are in the pool again. That is right for a bank that
+    /// ends: the one that opens from the records after it finds that of the pending event, or doesn't. Takes no memory.
     pub fn give_up(&mut self)
         ensures setup { self.new.setup ≡ self.old.setup }
         ensures state { self.new.state ≡ self.old.state }

@@ -99,7 +99,7 @@ fn first_line(line: &[u8]) -> Option<FirstLine>
     }
 }
 
-/// What is at the prefix of the bytes that are ahead.
+/// What the bytes that are ahead begin with.
 #[derive(Clone, Copy, Debug, PartialEq, Eq)]
 pub enum FrameHead {
     /// The first line of a file's frame.
@@ -120,7 +120,7 @@ fn line_end(ahead: &[u8]) -> Option<usize>
     ahead.iter().take(MAX_HEAD).position(|byte| *byte == b'\n')
 }
 
-/// What is at the prefix of the bytes.
+/// What the bytes begin with.
 pub fn frame_head_of(ahead: &[u8]) -> FrameHead
     ensures { IsHeadOf ahead.now result }
 {

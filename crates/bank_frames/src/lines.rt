@@ -9,7 +9,7 @@ use ofx_types::OutOfMemory;
 use ofx_values::print_number;
 use std::alloc::Global;
 
-/// The line for a file that isn't answered, which tells an offset in it.
+/// The line for a file that isn't answered, which reports an offset in it.
 pub fn bad_file_line(alloc: Global, offset: u64) -> Result<Vec<u8>, OutOfMemory>
     ensures { IfOk result (λ line. line.items ≡ bad_line offset) }
 {
@@ -43,7 +43,7 @@ pub fn due_work_line(count: u64, room: Vec<u8>) -> Vec<u8>
     line
 }
 
-/// The line that tells the number of a letter's entry.
+/// The line that reports the number of a letter's entry.
 pub fn letter_line(alloc: Global, number: u64) -> Result<Vec<u8>, OutOfMemory>
     ensures { IfOk result (λ line. line.items ≡ mail_line number) }
 {

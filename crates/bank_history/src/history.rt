@@ -96,7 +96,7 @@ impl Drop for History {
 }
 
 impl History {
-    /// There is no entry. The history of each object is told so many entries back, from 1 to 10,000. Takes no memory.
+    /// There is no entry. The history of each object goes back so many entries, from 1 to 10,000. Takes no memory.
     pub fn new(alloc: Global, width: u32) -> History
         requires width { (0 < width) × (width < 10001) }
         ensures width { result.width ≡ width }
@@ -163,7 +163,7 @@ impl History {
     }
 
     /// Whether a token is below the number of the entry before the last so many of an object, which is 0 where there are
-    /// no more than these. They are no more than its history is told back.
+    /// no more than these. They are no more than its history goes back.
     pub fn is_past(&self, object: ObjectId, token: u64, kept: usize) -> bool
         requires kept { kept ≤ self.now.width }
         ensures { result ≡ nat_lt token (last_number (take (length (history_of object self.now.entries) - kept)

@@ -45,8 +45,8 @@ pair_of user trnuid = record { user = user; trnuid = trnuid }
 abbrev pub with_added : State → AddedView → State
 with_added S added = record S { entries = S.entries ++ added.entries; used = S.used ++ map (pair_of added.user) added.uids; day = added.day }
 
--- Each entry that is added has the next number, and gives its change of the rows. A transfer's row is the last of those added, or else the bank's; so it
--- is with a recurring transfer, which is cancelled where the bank or what is added cancels it.
+-- Each entry that is added has the next number, and gives its change of the rows. A transfer's row is the last of those added,
+-- or else the bank's; so it is with a recurring transfer, which is cancelled where the bank or what is added cancels it.
 pub record IsAdded (S : State) (added : AddedView) : Type 0 where
   pub count : length added.row_changes ≡ length added.entries
   pub numbered : (k : ℕ) (entry : Entry) → k < length added.entries →

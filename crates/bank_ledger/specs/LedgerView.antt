@@ -10,7 +10,7 @@ pub record Room : Type 0 where
   pub pairs : ℕ
   pub files : ℕ
 
--- How far back each object's history is told, the state that is written down, and the room that is reserved.
+-- How far back each object's history goes, the state that is written down, and the room that is reserved.
 pub record LedgerView : Type 0 where
   pub window : ℕ
   pub state : State

@@ -90,7 +90,7 @@ impl Drop for Ledger {
 
 impl Ledger {
     /// The state in which a bank opens. Takes no memory. Clients' names are found by hashes with these keys, and the history of
-    /// each object is told so many entries back, from 1 to 10,000.
+    /// each object goes back so many entries, from 1 to 10,000.
     pub fn new(alloc: Global, keys: RandomState, window: u32) -> Ledger
         requires window { (0 < window) × (window < 10001) }
         ensures window { result.window ≡ window }
@@ -120,7 +120,7 @@ impl Ledger {
     }
 
     /// Whether a token is below the number of the entry before the last so many of an object, which is 0 where there are
-    /// no more than these. They are no more than its history is told back.
+    /// no more than these. They are no more than its history goes back.
     pub fn is_past(&self, object: ObjectId, token: u64, kept: usize) -> bool
         requires kept { kept ≤ self.now.window }
         ensures { result ≡ nat_lt token (last_number (take (length (history_of object self.now.state.entries) - kept)

@@ -114,8 +114,8 @@ abbrev pub occurrence_date : Option ModelRow → ℕ → Option Day
 occurrence_date None occurrence = None
 occurrence_date (Some row) occurrence = kth_date row.first row.recur.freq occurrence
 
--- The transfer that the recurring transfer of this id makes at this occurrence of its series. It is said of an occurrence at which one may
--- be made; whether it may is `may_spawn`.
+-- The transfer that the recurring transfer of this id makes at this occurrence of its series. It is said of an occurrence at
+-- which one may be made; whether it may is `may_spawn`.
 unfoldable pub spawns : Setup → State → ℕ → ℕ → List Entry
 spawns setup S id occurrence = spawns_on setup S (model_of id S.entries) (occurrence_date (model_of id S.entries) occurrence)
 

@@ -211,9 +211,9 @@ abbrev pub answer_to : Setup → State → Moment → Event → List ℕ
 answer_to setup S at event = (step setup S at event).reply
 
 -- A file is legal for a user of the setup where it is sound and no poll. A transfer may be posted where it waits and is due,
--- and a recurring transfer may make the transfer at the next occurrence of its series, where it isn't cancelled, the series has that
--- place and its date is at most LEAD days after the business day. A letter has a subject of 1 to 64 bytes and a body of 1 to
--- 10,000. All but a file need a number that is left for their entry.
+-- and a recurring transfer may make the transfer at the next occurrence of its series, where it isn't cancelled, the series has
+-- that place and its date is at most LEAD days after the business day. A letter has a subject of 1 to 64 bytes and a body of 1
+-- to 10,000. All but a file need a number that is left for their entry.
 abbrev pub IsLegal : Setup → State → Moment → Event → Type 0
 IsLegal setup S at (File user file) = (user.0 < length setup.users) × IsSound file × (is_poll file ≡ false)
 IsLegal setup S at (Post id) = may_post setup (raised S at) (row_of id S.entries) ≡ true

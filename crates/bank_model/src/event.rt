@@ -11,7 +11,7 @@ pub enum Event {
     File(UserId, RequestFile),
     /// The transfer with this id, which waits and is due, is posted, or closed where there is no cover.
     Post(u64),
-    /// The recurring transfer with this id makes its next transfer, which has this place in its series, from 0.
+    /// The recurring transfer with this id makes its next transfer, which is this occurrence of its series, from 0.
     Spawn(u64, u32),
     /// The bank writes a user a letter with this subject, 1 to 64 bytes, and this body, 1 to 10,000 bytes.
     Letter(UserId, Text, Text),

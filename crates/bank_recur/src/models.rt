@@ -18,7 +18,7 @@ use std::alloc::Global;
 use std::collections::HashMap;
 use std::marker::Model;
 
-/// The recurring transfers of a bank, in the order in which they were made, the offset of each under its id, and the next
+/// The recurring transfers of a bank, in the order in which they were made, the index of each under its id, and the next
 /// transfers of those that make one, in the order in which they are made. There is a place for one of each.
 pub struct Models {
     series: Vec<HeldSeries>,
@@ -88,8 +88,8 @@ impl Models {
         }
     }
 
-    /// The place of the next transfer of the recurring transfer with this id, which is there, in its series from 0.
-    /// Takes no memory.
+    /// The occurrence, from 0, at which the recurring transfer with this id makes its next transfer. The recurring transfer is
+    /// there. Takes no memory.
     pub fn next_k(&self, id: u64) -> u32
         requires { is_some (row_found id self.now.series) ≡ true }
         ensures held { result ≡ occurrence_found id self.now.series }
@@ -130,7 +130,7 @@ impl Models {
         ensures room { self.old.room ≤ self.new.room + 1 }
     {
         let id = row.id;
-        match self.occurrence_of(id) {
+        match self.index_of(id) {
             Some(at) => {
                 let one = &mut self.series[at];
                 let before = one.date_ahead();
@@ -157,7 +157,7 @@ impl Models {
             → Represents self.new (entries ++ entry ∷ []) }
         ensures room { self.new.room ≡ self.old.room }
     {
-        if let Some(at) = self.occurrence_of(id) {
+        if let Some(at) = self.index_of(id) {
             let one = &mut self.series[at];
             let before = one.date_ahead();
             one.cancel();
@@ -175,7 +175,7 @@ impl Models {
             → Represents self.new (entries ++ entry ∷ []) }
         ensures room { self.new.room ≡ self.old.room }
     {
-        if let Some(at) = self.occurrence_of(id) {
+        if let Some(at) = self.index_of(id) {
             let one = &mut self.series[at];
             let before = one.date_ahead();
             one.step();
@@ -204,8 +204,8 @@ impl Models {
         }
     }
 
-    /// Where the recurring transfer with this id stands.
-    fn occurrence_of(&self, id: u64) -> Option<usize>
+    /// The index of the recurring transfer with this id.
+    fn index_of(&self, id: u64) -> Option<usize>
         ensures { result ≡ position (λ one. one.row.id == id) self.now.series }
     {
         match self.offsets.get(&id) {
@@ -218,7 +218,7 @@ impl Models {
     fn own(&self, id: u64) -> Option<&HeldSeries>
         ensures { option_copied result ≡ series_found id self.now.series }
     {
-        match self.occurrence_of(id) {
+        match self.index_of(id) {
             Some(at) => Some(&self.series[at]),
             None => None,
         }

@@ -33,7 +33,7 @@ opened setup reported opening holds = (holds.records, holds.reopens)
 abbrev pub BooksAreRight : Type 0
 BooksAreRight = (setup : Setup) (S : State) → IsWithinLimits setup → IsSoundState setup S → AreBooksRight setup S
 
--- what is known is right, where the book and the log are the teller's
+-- what is known is right, where the book and the log are the locked bank's
 pub known_right : (setup own : Setup) (opening state : State) (polled : List Load) (locked first second : JournalView) → BooksAreRight → HasOpened setup opening
     → first ≡ locked → second ≡ locked → own ≡ first.setup → state ≡ first.state → first.setup ≡ setup → IsWithinLimits own → IsSoundState own state
     → IsWholeLog setup opening second.log → second.state ≡ ends setup opening second.log

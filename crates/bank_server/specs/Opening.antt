@@ -68,7 +68,7 @@ pub record HasRecords (before : OpeningPorts) (setup : Setup) (records : List (L
   pub spelled : SpellsSetup text setup
   pub records_are : before.records ≡ Some records
 
--- The first record that codes no event is refused with 9, and its number and the offset of its fault are told.
+-- The first record that codes no event is refused with 9, and its number and the offset of its fault are reported.
 abbrev pub RefusesRecord : OpeningPorts → OpeningPorts → Told → Type 0
 RefusesRecord before after what =
     (setup : Setup) (records : List (List ℕ)) (number offset : ℕ) → HasRecords before setup records

@@ -20,8 +20,8 @@ use ofx_types::{Text, Told};
 use std::alloc::Global;
 use std::hash::RandomState;
 
-/// Judges the arguments of `serve`, reads the setup whole, and opens the bank from the records that the keeper has. Each refusal hands the
-/// keeper back. Clients' names are found by hashes with these keys.
+/// Judges the arguments of `serve`, reads the setup whole, and opens the bank from the records that the keeper has. Each
+/// refusal hands the keeper back. Clients' names are found by hashes with these keys.
 ///
 /// | Status | Note | Where |
 /// |---|---|---|

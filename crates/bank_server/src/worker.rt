@@ -31,8 +31,8 @@ pub struct WorkerEnd {
 }
 
 /// Serves connections one after another: `most` of them, or 4,294,967,295 where that is 0. Before each it reads the clock and does
-/// what is due at that moment; where this isn't done to its end, it goes on all the same. Each link that the doorway gives is served
-/// to its end, and then handed back.
+/// what is due at that moment; where this isn't done to its end, it goes on all the same. Each link that the doorway gives is
+/// served to its end, and then handed back.
 ///
 /// The status is 0 where it served as many as it may or the doorway was closed, and 5 where the doorway failed.
 pub fn serve_worker<

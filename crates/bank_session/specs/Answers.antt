@@ -17,7 +17,7 @@ use Rattle.bank_desk.specs.Keeping.{AreRecordsOf}
 use Rattle.bank_signon.specs.Signon.{IsSignedOn, IsRefused}
 use Rattle.bank_desk.specs.Answering.{Replies, Polls, Denies}
 
--- For any other bytes the line tells the offset, and nothing changes. Nothing is kept.
+-- For any other bytes the line reports the offset, and nothing changes. Nothing is kept.
 pub record IsBad (before : State) (bytes line : List ℕ) (records : List (List ℕ)) (after : State) : Type 0 where
   pub offset : ℕ
   pub refused : IsRefused bytes offset

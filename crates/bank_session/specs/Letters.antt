@@ -83,7 +83,7 @@ pub record CanWrite (bank : BookView) (to : UserId × ℕ) (subject body : List 
   pub left : has_number bank.setup bank.state ≡ true
   pub next : to.1 ≡ length bank.state.entries + 1
 
--- A letter is an event of the bank with its record, and the line tells the number of its entry.
+-- A letter is an event of the bank with its record, and the line reports the number of its entry.
 pub record WritesLetter (setup : Setup) (at : Moment) (before : State) (user : UserId) (subject body line rec : List ℕ) (after : State) : Type 0 where
   pub legal : IsLegal setup before at (Letter user subject body)
   pub codes : Codes rec at (Letter user subject body)

@@ -53,7 +53,7 @@ pub record HasRecords (before : PortsView) (setup : Setup) (records : List (List
   pub spelled : SpellsSetup text setup
   pub records_are : before.records ≡ Some records
 
--- The first record that codes no event ends it with 9, and its number and the offset of its fault are told.
+-- The first record that codes no event ends it with 9, and its number and the offset of its fault are reported.
 abbrev pub RefusesRecord : (PortsView → PortsView → Told → Type 0) → PortsView → PortsView → Told → Type 0
 RefusesRecord Stopped before after what =
     (setup : Setup) (records : List (List ℕ)) (number offset : ℕ) → HasRecords before setup records

@@ -94,8 +94,8 @@ fn run<A: Source, B: Source, W: Sink, K: Keeper, C: Clock>(
 /// | 6 | | a write failed; a prefix of the text is written |
 /// | 7 | | memory was refused; the frames before are answered |
 /// | 8 | | a call of the keeper failed; the frames before are answered, and the record whose append failed may have landed |
-/// | 9 | the number of a record, from 1, and the offset of its first fault | this record is the first that codes no event; nothing was written |
-/// | 9 | the number of a record, from 1 | this record is the first whose event isn't legal after those before it; nothing was written |
+/// | 9 | a record's number, from 1, and its first fault's offset | it is the first that codes no event; nothing was written |
+/// | 9 | a record's number, from 1 | it is the first whose event isn't legal after those before it; nothing was written |
 /// | 10 | no user | of `mail`: no user of the setup has the name; nothing was written |
 /// | 10 | full | of `mail`: no number is left for an entry; nothing was written |
 ///

@@ -17,7 +17,7 @@ use ofx_ports::Keeper;
 use ofx_types::{Duplicate, Moment, Text, UserId};
 use std::alloc::Global;
 
-/// Writes a user a letter at that moment, as the entry of that number, and tells the number. All memory is taken before
+/// Writes a user a letter at that moment, as the entry of that number, and reports the number. All memory is taken before
 /// the record is appended.
 pub fn letter<K: Keeper>(
     alloc: Global,

@@ -1,8 +1,8 @@
 //! Whole runs of the bank's server: frames of request files in, replies out; the work that is due; and letters to users.
 //!
-//! A run reads its words and its setup, then answers each frame of its input in turn, does once what is due, or writes a letter. The
-//! clauses of `answer_told` say what it wrote, for which frames and at which moments, why it ended, and what people are
-//! told of that.
+//! A run reads its words and its setup, then answers each frame of its input in turn, does once what is due, or writes a
+//! letter. The clauses of `answer_told` say what it wrote, for which frames and at which moments, why it ended, and what people
+//! are told of that.
 #![tactic(auto)]
 
 mod addressee;

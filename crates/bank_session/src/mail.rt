@@ -22,7 +22,7 @@ use ofx_types::{Text, UserId};
 use std::alloc::Global;
 use std::hash::RandomState;
 
-/// Reads the setup, opens the bank from its records, reads the body, writes the letter that the arguments ask for, and tells the
+/// Reads the setup, opens the bank from its records, reads the body, writes the letter that the arguments ask for, and reports the
 /// number of its entry.
 pub fn send_letter<A: Source, B: Source, W: Sink, K: Keeper, C: Clock>(
     alloc: Global,

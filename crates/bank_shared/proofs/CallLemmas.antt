@@ -77,7 +77,7 @@ pub true_committed : {A : Type 0} (items : A → List ℕ) (result : Result A Su
 true_committed items (Ok reply) setup opening first old new event at none answers fails = true_answered setup opening first old new event at (items reply) none answers
 true_committed items (Err fault) setup opening first old new event at none answers fails = true_uncommitted setup opening first old new event at fault none fails
 
--- ---- a teller's settling
+-- ---- a locked bank's settling
 
 -- what couldn't be settled is pending still
 pub leaves_pending : {A : Type 0} (result : Result A SubmitFault) (old new : JournalView) → IfErr result (FailsToSettle old new) → IfErr result (LeavesPending old new)

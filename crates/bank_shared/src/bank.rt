@@ -22,7 +22,7 @@ use std::sync::{Mutex, Wait};
 /// The call of a gate before due work is looked for.
 const ADVANCE: u64 = 1 << 32;
 
-/// The bank that `N` names. Its calls take turns at its locked bank, and each is what the teller's call of that name is.
+/// The bank that `N` names. Its calls take turns at its locked bank, and each makes the locked bank's call of that name.
 ///
 /// ```rust
 /// use bank_model::Setup;
@@ -103,6 +103,9 @@ impl<N: BankName, K: Keeper, P: Printer> Bank<N, K, P> {
 
     /// Answers a file of a user, which is sound and no poll. The gate is passed with the user's number before the lock is taken.
     ///
+    /// That the journal keeps its rule is proved of this call, and no more: other callers' calls come before and after it. What it
+    /// answers is proved of `LockedBank::submit`, which it makes.
+    ///
     /// - `Keeper(n)`: the keeper's count of faults rose to n in this call, and the log has this fault.
     /// - `OutOfMemory`.
     pub fn submit<R: Wait, G: Gate>(
@@ -124,6 +127,9 @@ impl<N: BankName, K: Keeper, P: Printer> Bank<N, K, P> {
     }
 
     /// Makes what is due first at a moment happen. The gate is passed with 2^32 before the lock is taken.
+    ///
+    /// That the journal keeps its rule is proved of this call, and no more, as of `submit`. What it answers is proved of
+    /// `LockedBank::advance`, which it makes.
     ///
     /// - `Keeper(n)`: the keeper's count of faults rose to n in this call, and the log has this fault.
     /// - `OutOfMemory`.

@@ -16,8 +16,8 @@ use ofx_ports::Keeper;
 use ofx_types::OutOfMemory;
 use std::alloc::Global;
 
-/// Checks out the accounts that the pending event names, and none where nothing is pending. Where memory is refused, all are in the pool
-/// again.
+/// Checks out the accounts that the pending event names, and none where nothing is pending. Where memory is refused, all are in
+/// the pool again.
 pub(crate) fn check_out_for_pending<N: BankName, K: Keeper, P: Printer>(
     alloc: Global,
     journal: &Journal<N, K, P>,

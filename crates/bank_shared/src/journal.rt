@@ -29,8 +29,8 @@ use std::marker::{Model, PhantomData};
 /// The journal of the bank that `N` names.
 ///
 /// Its log is legal from the state in which the bank opened, without a cut group, and its book stands for the state that the log
-/// ends in. Where the keeper told its records when the bank opened, it has these, then those of the events that the log answered and
-/// adopted; while an append that failed isn't settled, its record may be stored besides.
+/// ends in. Where the keeper's records were known when the bank opened, it has these, then those of the events that the log
+/// answered and adopted; while an append that failed isn't settled, its record may be stored besides.
 pub struct Journal<N: BankName, K: Keeper, P: Printer> {
     alloc: Global,
     keeper: K,
@@ -112,7 +112,7 @@ impl<N: BankName, K: Keeper, P: Printer> Journal<N, K, P> {
         self.engine.pending()
     }
 
-    /// Settles whether the record of the pending event stands. Where it does, the event is adopted: it has happened at its moment.
+    /// Settles whether the record of the pending event is stored. Where it is, the event is adopted: it has happened at its moment.
     /// Afterwards nothing is pending. The accounts that the event names are held. Takes no memory.
     ///
     /// - `Keeper(n)`: the keeper's count of faults rose to n in this call. The event is still pending.

@@ -27,8 +27,8 @@ use std::snapshot::Snapshot;
 
 /// A bank that has opened from its records.
 ///
-/// It has its accounts twice, in the pool for a bank of many callers and in a list for one caller, so that neither takes memory when
-/// it begins: one of both is used.
+/// It has its accounts twice, in the pool for a bank of many callers and in a list for one caller, so that neither takes memory
+/// when it begins: one of both is used.
 pub struct Opened<K: Keeper, P: Printer> {
     alloc: Global,
     setup: Setup,
@@ -82,7 +82,7 @@ impl<K: Keeper, P: Printer> Opened<K, P> {
     /// Clients' names are found by hashes with these keys.
     ///
     /// - `Read` only where the keeper's count of faults rose in this call.
-    /// - `Record(n, at)`: record n, from 1, is the first that codes no event, with the place of its first fault.
+    /// - `Record(n, at)`: record n, from 1, is the first that codes no event, with the offset of its first fault.
     /// - `Illegal(n)`: record n is the first whose event isn't legal after those before it.
     /// - `OutOfMemory`.
     pub fn open(

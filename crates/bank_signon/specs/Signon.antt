@@ -41,7 +41,8 @@ pub record IsOfUser (setup : Setup) (bytes : List ℕ) (user : UserId) (file : R
   pub known : user.0 < length setup.users
   pub sound : IsSound file
 
--- It is an event or a poll where its user signs on, is denied where the signon fails, and has an offset to tell where it is refused.
+-- It is an event or a poll where its user signs on, is denied where the signon fails, and has an offset to tell where it is
+-- refused.
 abbrev pub IsJudged : Setup → List ℕ → Judgement → Type 0
 IsJudged setup bytes (Event user file) = IsOfUser setup bytes user file × (is_poll file ≡ false)
 IsJudged setup bytes (Poll user file) = IsOfUser setup bytes user file × (is_poll file ≡ true)

@@ -114,8 +114,8 @@ impl<P: Printer> SoloBank<P> {
         &self.book
     }
 
-    /// What the event answers at that moment, and the state that it leaves. The accounts that it names are checked out for its step,
-    /// which `adopt` takes and `give_up` doesn't. All memory of the event is taken here; where it is refused, all
+    /// What the event answers at that moment, and the state that it leaves. The accounts that it names are checked out for its
+    /// step, which `adopt` takes and `give_up` doesn't. All memory of the event is taken here; where it is refused, all
     /// accounts are in the pool.
     pub fn prepare(
         &mut self,

@@ -176,7 +176,8 @@ impl Postings {
 
     /// What a statement of the account tells of a period.
     ///
-    /// It goes back from the account's last posting: to the one before it, or over many at once where none of them is in the period.
+    /// It goes back from the account's last posting: to the one before it, or over many at once where none of them is in the
+    /// period.
     pub(crate) fn lines(
         &self,
         alloc: Global,

@@ -23,8 +23,8 @@ pub(crate) struct DueTask {
     pub(crate) id: Reverse<u64>,
 }
 
-/// A transfer with the id of the recurring transfer that made it (RECSRVRTID, 0 is none), and its own (SRVRTID). The greater id of a
-/// recurring transfer comes first, so those that none made come last.
+/// A transfer with the id of the recurring transfer that made it (RECSRVRTID, 0 is none), and its own (SRVRTID). The greater id
+/// of a recurring transfer comes first, so those that none made come last.
 #[derive(Clone, Copy, PartialEq, Eq, PartialOrd, Ord)]
 pub(crate) struct Made {
     pub(crate) model: Reverse<u64>,

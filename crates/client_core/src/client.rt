@@ -213,9 +213,9 @@ impl Client {
         write_state(self.alloc, &self.state)
     }
 
-    /// The client that a saved text tells of. What `save_text` gives is told as it was.
+    /// The client that a saved text describes. What `save_text` gives is read back as it was.
     ///
-    /// `Bad(at)` exactly where the text tells of none: the first field without a form begins at `at`, or all have one and more
+    /// `Bad(at)` exactly where the text describes none: the first field without a form begins at `at`, or all have one and more
     /// bytes stand from `at` on.
     pub fn load_text(alloc: Global, bytes: &[u8]) -> Result<Client, StoreFault>
         // The bytes are the saved text of the client that is found.

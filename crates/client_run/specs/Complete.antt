@@ -35,8 +35,8 @@ pub record Answers (all : List ℕ) (reply : ReplyFile) : Type 0 where
   pub begins : BeginsWith all 200 body
   pub spells : SpellsReply body reply
 
--- Where the bank answers the file that waits, the client is the one that the rule makes of that reply, unless a read or a write fails
--- or memory is refused.
+-- Where the bank answers the file that waits, the client is the one that the rule makes of that reply, unless a read or a write
+-- fails or memory is refused.
 abbrev pub AcceptsTheBanks : Type 0
 AcceptsTheBanks = (setup : Setup) (S : State) (user : UserId) (at : Moment) (pass : List ℕ) (client : ClientState) (kept : Outstanding)
     (all ahead : List ℕ) (link : LinkView) (store : StoreView) (out : OutView) (client' : ClientState) (ahead' : List ℕ) (link' : LinkView)

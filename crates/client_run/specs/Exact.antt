@@ -1,5 +1,5 @@
--- Exactly where a run is refused for its words or for the text that is kept, and what comes of the bytes that a bank sends, as far as
--- nothing of the outside fails and memory is there.
+-- Exactly where a run is refused for its words or for the text that is kept, and what comes of the bytes that a bank sends, as
+-- far as nothing of the outside fails and memory is there.
 use Rattle.std.specs.Prelude.{◌≡◌, ◌≢◌, ℕ, List, [], length, Some, Result, Ok, Err, ◌⊎◌}
 use Rattle.std.specs.Io.KnownBytes.{prepend_known}
 use Rattle.ofx_ports.specs.Faults.{Rose}
@@ -26,7 +26,7 @@ abbrev pub RefusesArguments : Type 0
 RefusesArguments = (arguments : List (List ℕ)) (before after : PortsView) (what : Told) → IsClientRun arguments before after what → IsUsage arguments
     → ((what ≡ reported 2 Plain) ⊎ (what ≡ reported 7 Plain)) × (after ≡ before)
 
--- The arguments have a form, and the store tells its text.
+-- The arguments have a form, and the store's text is known.
 pub record HasText (arguments : List (List ℕ)) (before : PortsView) (order : Order) (text : List ℕ) : Type 0 where
   pub are_arguments : AreArguments arguments order
   pub text_is : before.store.text ≡ Some text
@@ -41,7 +41,7 @@ RefusesOthers = (arguments : List (List ℕ)) (before after : PortsView) (what :
     → IsClientRun arguments before after what → HasText arguments before order text → IsClientIn order text client → (IsOurs order client → ⊥)
     → (what ≡ reported 2 Plain) ⊎ IsUnopened before after what
 
--- A text that isn't empty and has no form ends it with 15, and the place of its first fault is reported.
+-- A text that isn't empty and has no form ends it with 15, and the offset of its first fault is reported.
 abbrev pub RefusesText : Type 0
 RefusesText = (arguments : List (List ℕ)) (before after : PortsView) (what : Told) (order : Order) (text : List ℕ) (at : ℕ)
     → IsClientRun arguments before after what → HasText arguments before order text → (text ≢ []) → IsFirstFault text at
@@ -62,7 +62,7 @@ abbrev pub OnlyRefusesThese : Type 0
 OnlyRefusesThese = (arguments : List (List ℕ)) (before after : PortsView) (what : Told) (note : Note) → IsClientRun arguments before after what
     → what ≡ reported 2 note → IsUsage arguments ⊎ IsOthers arguments before
 
--- The arguments have a form, and the text, where it is told, has none and its first fault is at this place.
+-- The arguments have a form, and the text, where it is known, has none and its first fault is at this offset.
 pub record IsFaulty (arguments : List (List ℕ)) (before : PortsView) (at : ℕ) : Type 0 where
   pub order : Order
   pub are_arguments : AreArguments arguments order

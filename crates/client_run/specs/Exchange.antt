@@ -33,8 +33,8 @@ with_pass pass file = record {
 unfoldable pub request_bytes : List ℕ → RequestFile → Moment → List ℕ
 request_bytes pass file at = request_of (file_text (with_pass pass file) at)
 
--- A request is sent whole, and the count of faults hasn't fallen. Where a write fails a prefix of it may be, and where memory is refused
--- nothing is.
+-- A request is sent whole, and the count of faults hasn't fallen. Where a write fails a prefix of it may be, and where memory
+-- is refused nothing is.
 abbrev pub Sends : List ℕ → Option (List ℕ) → Option (List ℕ) → ℕ → ℕ → Result (Unit {0}) CallStop → Type 0
 Sends request before after faults faults' (Ok done) = Appends before after request × (faults ≤ faults')
 Sends request before after faults faults' (Err WriteFailed) = AppendsPart before after request × Rose faults faults'
@@ -64,13 +64,13 @@ pub record BeginsWith (bytes : List ℕ) (code : ℕ) (body : List ℕ) : Type 0
   pub size : ℕ
   pub is_reply : IsReply (take size bytes) code body
 
--- A body spells no reply file, and its fault is at this place.
+-- A body spells no reply file, and its fault is at this offset.
 abbrev pub IsNoReplyAt : List ℕ → ℕ → Type 0
 IsNoReplyAt body at =
     IsReplyFaultOf body (Header at) ⊎ (IsReplyFaultOf body (Syntax at) ⊎ IsReplyFaultOf body (Form at))
 
--- Why the bytes that have come bring no reply file: a read failed, or the link ended, where they are unfinished; they have no usable
--- head; the code isn't 200; or the body spells none.
+-- Why the bytes that have come bring no reply file: a read failed, or the link ended, where they are unfinished; they have no
+-- usable head; the code isn't 200; or the body spells none.
 abbrev pub BringsNothing : List ℕ → LinkView → LinkView → CallStop → Type 0
 BringsNothing bytes before after ReadFailed = IsUnfinishedReply bytes × Rose before.read_faults after.read_faults
 BringsNothing bytes before after BadHead = HasBadHead bytes
@@ -104,8 +104,8 @@ Receives ahead before ahead' after (Err stop) = IsUnread ahead before ahead' aft
 
 -- ---- both
 
--- A request is sent whole before anything is read. Where a write fails, or memory is refused, a prefix of it may be. Where a reply file
--- is brought neither of the link's counts of faults has fallen.
+-- A request is sent whole before anything is read. Where a write fails, or memory is refused, a prefix of it may be. Where a
+-- reply file is brought neither of the link's counts of faults has fallen.
 abbrev pub Exchanges : List ℕ → List ℕ → LinkView → List ℕ → LinkView → Result ReplyFile CallStop → Type 0
 Exchanges request ahead before ahead' after (Err WriteFailed) =
     AppendsPart before.sent after.sent request × Rose before.write_faults after.write_faults × IsUnread ahead before ahead' after

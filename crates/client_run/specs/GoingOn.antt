@@ -63,8 +63,8 @@ FindsJust client (Err (opens.Bad at)) = ⊥
 FindsJust client (Err opens.Failed) = Unit {0}
 FindsJust client (Err opens.OutOfMemory) = Unit {0}
 
--- A run and a later one, for the same client and the same user. The store tells its text, and the later run has what the earlier one
--- left in it.
+-- A run and a later one, for the same client and the same user. The store tells its text, and the later run has what the
+-- earlier one left in it.
 pub record ComesAfter (order later_order : Order) (before after later_before : PortsView) : Type 0 where
   pub text : List ℕ
   pub reported_is : before.store.text ≡ Some text

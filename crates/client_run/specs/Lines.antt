@@ -36,7 +36,8 @@ line text = text ++ 10 ∷ []
 abbrev pub printed : List (List ℕ) → List ℕ
 printed lines = flat_map line lines
 
--- Bytes are printed whole, and the count of faults hasn't fallen. Where a write fails a prefix of them may be, and where memory is refused nothing is.
+-- Bytes are printed whole, and the count of faults hasn't fallen. Where a write fails a prefix of them may be, and where memory
+-- is refused nothing is.
 abbrev pub Prints : List ℕ → OutView → OutView → Result (Unit {0}) PutFault → Type 0
 Prints bytes before after (Ok done) = Appends before.held after.held bytes × (before.faults ≤ after.faults)
 Prints bytes before after (Err puts.Failed) = AppendsPart before.held after.held bytes × Rose before.faults after.faults

@@ -54,8 +54,8 @@ pub record Opens (order : Order) (before after : StoreView) (found : Result Clie
 
 -- ---- saving
 
--- What a client knows stands from now on, and the count of faults hasn't fallen. After a save that failed it stands or what stood before, and after want of memory what
--- stood before.
+-- What a client knows stands from now on, and the count of faults hasn't fallen. After a save that failed it stands or what
+-- stood before, and after want of memory what stood before.
 abbrev pub Saves : ClientState → StoreView → StoreView → Result (Unit {0}) PutFault → Type 0
 Saves client before after (Ok done) =
     (text : List ℕ) × IsSavedText text client × Becomes before.text after.text text × (before.faults ≤ after.faults)

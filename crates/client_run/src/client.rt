@@ -70,12 +70,12 @@ fn run<L: Link, S: StoreKeeper, C: Clock, W: Sink>(
 
 /// Does what the arguments order, over a link to the bank, and says how the run ended.
 ///
-/// The arguments are PORT, STORE, CLIENT, USER, PASS, BANK and one command; PORT and STORE were used to open the link and the store.
-/// The client in the store's text goes on from where it was; an empty text is a new client. For `show` it is printed what the
-/// client keeps. For `check` a poll is sent, and the newest tokens of an account's objects are printed; nothing is saved. For
-/// every other command a file that is outstanding from an earlier run is sent again first and its reply is taken in. Then the
-/// file of the command is made at the moment that the clock shows and saved, and only then sent; its reply is taken in, the
-/// client saved, and only then the lines that report it are printed (OFX 1.6, "File-Based Error Recovery", "Data
+/// The arguments are PORT, STORE, CLIENT, USER, PASS, BANK and one command; PORT and STORE were used to open the link and the
+/// store. The client in the store's text goes on from where it was; an empty text is a new client. For `show` it is printed
+/// what the client keeps. For `check` a poll is sent, and the newest tokens of an account's objects are printed; nothing is
+/// saved. For every other command a file that is outstanding from an earlier run is sent again first and its reply is taken in.
+/// Then the file of the command is made at the moment that the clock shows and saved, and only then sent; its reply is taken
+/// in, the client saved, and only then the lines that report it are printed (OFX 1.6, "File-Based Error Recovery", "Data
 /// Synchronization").
 ///
 /// | Status | Note | Where |
@@ -87,11 +87,11 @@ fn run<L: Link, S: StoreKeeper, C: Clock, W: Sink>(
 /// | 7 | | memory was refused |
 /// | 8 | | a call of the store failed |
 /// | 11 | the code | the reply's HTTP code isn't 200; after 400 the outstanding file is given up, and that is saved |
-/// | 12 | a place | the reply's body spells no reply file |
+/// | 12 | an offset | the reply's body spells no reply file |
 /// | 12 | the number of a reply, from 1 | this one doesn't answer what was asked |
 /// | 13 | | the reply is to another file |
 /// | 14 | the code | the signon failed |
-/// | 15 | a place | the store's text has no form |
+/// | 15 | an offset | the store's text has no form |
 /// | 16 | | the reply's head has no form or no usable length |
 /// | 17 | a number of bytes | the link ended so far into the reply |
 /// | 18 | an id | no store has the row that the command names |

@@ -28,8 +28,8 @@ pub fn broken_stores()
     ensures { OnlyBrokenStores }
 {}
 
-/// A run ends with the status of a failed read only where a read of the link failed in it, and with that of a failed write only where
-/// a write of the link or of the output did.
+/// A run ends with the status of a failed read only where a read of the link failed in it, and with that of a failed write only
+/// where a write of the link or of the output did.
 pub fn broken_links()
     ensures reads { OnlyBrokenReads }
     ensures writes { OnlyBrokenWrites }
@@ -47,8 +47,8 @@ pub fn exact_replies()
     bad_heads_stay();
 }
 
-/// A run goes on from where the one before it ended: where that one saved all that it was to save, the client that is found is the one
-/// with which it ended.
+/// A run goes on from where the one before it ended: where that one saved all that it was to save, the client that is found is
+/// the one with which it ended.
 pub fn runs_go_on()
     ensures { GoesOn }
 {
@@ -56,8 +56,8 @@ pub fn runs_go_on()
     faults_save_nothing();
 }
 
-/// A client that sends the file that waits, and to which the bank answers that file, takes the reply in: it is then the client that the
-/// rule makes of that reply, unless a read or a write fails or memory is refused.
+/// A client that sends the file that waits, and to which the bank answers that file, takes the reply in: it is then the client
+/// that the rule makes of that reply, unless a read or a write fails or memory is refused.
 pub fn bank_replies_are_accepted()
     ensures { AcceptsTheBanks }
 {

@@ -1,4 +1,4 @@
-//! What a client knows, and why a saved text tells nothing.
+//! What a client knows, and why a saved text isn't one of a client.
 
 ghost use Rattle.std.specs.Prelude.{◌≡◌};
 ghost use Rattle.client_saved.specs.declared.state.StoreFault.TheVariants as faults;
@@ -36,7 +36,7 @@ pub struct ClientState {
     pub stores: Stores,
 }
 
-/// Why a saved text tells nothing, or why it couldn't be read.
+/// Why a saved text isn't one of a client, or why it couldn't be read.
 #[derive(Clone, Copy, Debug, PartialEq, Eq, Error)]
 pub enum StoreFault {
     /// The first field without a form begins at this byte, counted from 0.

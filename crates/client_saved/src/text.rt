@@ -67,9 +67,9 @@ fn put_state(state: &ClientState, out: &mut Vec<u8>) -> Result<(), OutOfMemory>
     put_stores(state.stores.items(), out)
 }
 
-/// What a client knows, as a saved text tells it.
+/// What a client knows, as a saved text says it.
 ///
-/// `Bad(at)` exactly where the text tells nothing: the fields are looked at from the left, and the first without a form
+/// `Bad(at)` exactly where the text isn't one of a client: the fields are looked at from the left, and the first without a form
 /// begins at `at`, or all have one and more bytes stand from `at` on. An object that has a store already, and a row that
 /// isn't of its store's family or whose id isn't above the one before it, have no form at their first byte. The file that
 /// waits for its reply has the client's user and an empty password.

@@ -15,8 +15,8 @@ pub fn is_version(argument: &str) -> bool {
 
 /// Whether a word after the command asks for help. Arguments that have a form are let be: a letter may be about `--help`.
 pub fn asks_for_help(arguments: &[Text]) -> bool {
-    for offset in 1..arguments.len() {
-        if is_help_option(text_at(arguments, offset)) {
+    for index in 1..arguments.len() {
+        if is_help_option(text_at(arguments, index)) {
             return true;
         }
     }

@@ -96,8 +96,8 @@ pub fn text_at(arguments: &[Text], offset: usize) -> &str {
     }
 }
 
-/// Whether the arguments at the places of the setup and of the records may be paths. One that begins with `-` may be none, unless it is
-/// `-` alone, which names no file.
+/// Whether the arguments at the places of the setup and of the records may be paths. One that begins with `-` may be none,
+/// unless it is `-` alone, which names no file.
 pub fn has_paths(arguments: &[Text]) -> bool {
     is_path(text_at(arguments, 1)) && is_path(text_at(arguments, 2))
 }

@@ -16,7 +16,7 @@ use std::marker::Model;
 
 mod crash;
 
-/// A disk in memory, which tells all that was done to it. It can be set which of its calls fail, and which of the
+/// A disk in memory, which shows all that was done to it. It can be set which of its calls fail, and which of the
 /// writes that fail have put their bytes all the same.
 pub struct MemDisk {
     found: Vec<u8>,

@@ -50,8 +50,8 @@ pub fn exact_refusals()
     ensures others { OthersAreTaken }
 {}
 
-/// The register after many files is that of all their lines. Of files without clashing lines that have at most 500,000 together none
-/// is refused but for its signon or for memory.
+/// The register after many files is that of all their lines. Of files without clashing lines that have at most 500,000 together
+/// none is refused but for its signon or for memory.
 pub fn imports_add_up()
     ensures register { ImportsAddUp }
     ensures none { NoneIsRefused }

@@ -1,4 +1,5 @@
--- What the fields of a head say (RFC 9110; RFC 9112). A field is its name and its value, and the value has no space or tab at either end.
+-- What the fields of a head say (RFC 9110; RFC 9112). A field is its name and its value, and the value has no space or tab at
+-- either end.
 use Rattle.std.specs.Prelude.{ℕ, Bool, ◌&&◌, ◌||◌, ◌==◌, List, [], ◌∷◌, map, filter, codes, if◌then◌else◌, Option, Some, None}
 use Rattle.std.specs.Option.{option_and_then}
 use Rattle.std.specs.List.{list_any}
@@ -19,7 +20,8 @@ only [] = None
 only (value ∷ []) = Some value
 only (value ∷ another ∷ values) = None
 
--- The length of the body: what the one Content-Length field says in 1 to 9 digits. None is usable where that field occurs twice, whether or not both agree, or where a Transfer-Encoding field stands.
+-- The length of the body: what the one Content-Length field says in 1 to 9 digits. None is usable where that field occurs
+-- twice, whether or not both agree, or where a Transfer-Encoding field stands.
 unfoldable pub usable_length : List (List ℕ × List ℕ) → Option ℕ
 usable_length fields =
     if list_any (is_named (codes "Transfer-Encoding")) fields then None

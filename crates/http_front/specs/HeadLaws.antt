@@ -32,7 +32,8 @@ WrittenReplyIsRead =
     let text = reply_head code size last in
     (h : ResponseHead) × BeginsResponse (text ++ rest) h rest × (head_of_response h ≡ record { code = code; length = Some size; size = length text })
 
--- The head of the client's request that was written is one head, whatever follows, and tells that it is a POST to `/ofx` with this length, and not the last.
+-- The head of the client's request that was written is one head, whatever follows, and says that it is a POST to `/ofx` with
+-- this length, and not the last.
 abbrev pub WrittenPostIsRead : Type 0
 WrittenPostIsRead =
     (size : ℕ) (rest : List ℕ) → size < 10 ^ 9 →

@@ -8,7 +8,8 @@ use Rattle.http_front.specs.declared.head.HeadFault.{HeadFault}
 use Rattle.http_front.specs.declared.head.HeadFault.TheVariants.{NotYet, Bad}
 use Rattle.http_front.specs.Fields.{usable_length, is_last}
 
--- A head is taken where it has at most 8,192 bytes and at most 64 fields. Its bytes are all those up to the end of the empty line after its fields; empty lines before its first line are among them.
+-- A head is taken where it has at most 8,192 bytes and at most 64 fields. Its bytes are all those up to the end of the empty
+-- line after its fields; empty lines before its first line are among them.
 abbrev pub IsTaken : ℕ → ℕ → Type 0
 IsTaken size fields = (size ≤ 8192) × (fields ≤ 64)
 
@@ -20,13 +21,15 @@ BeginsRequest bytes h rest = ReadsRequest bytes h rest × IsTaken (length (print
 abbrev pub BeginsNoRequest : List ℕ → Type 0
 BeginsNoRequest bytes = (h : RequestHead) (rest : List ℕ) → ¬ (BeginsRequest bytes h rest)
 
--- More of a request's head is awaited: fewer than 8,192 bytes are there, they hold no whole head, and either some bytes can follow that make them a head, of whatever length and number of fields, or they end within the request target.
+-- More of a request's head is awaited: fewer than 8,192 bytes are there, they hold no whole head, and either some bytes can
+-- follow that make them a head, of whatever length and number of fields, or they end within the request target.
 pub record AwaitsRequest (bytes : List ℕ) : Type 0 where
   pub short : length bytes < 8192
   pub none : HasNoRequest bytes
   pub may : MayBecomeRequest bytes
 
--- What a request's head tells: whether the method is POST and the target `/ofx`, byte for byte; the usable length of the body; whether the connection ends after it; and its number of bytes.
+-- What a request's head says: whether the method is POST and the target `/ofx`, byte for byte; the usable length of the body;
+-- whether the connection ends after it; and its number of bytes.
 abbrev pub head_of_request : RequestHead → Head
 head_of_request h =
     let fields = map name_and_value h.fields in

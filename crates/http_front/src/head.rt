@@ -1,6 +1,6 @@
 //! What heads tell, and why there is none.
 
-/// What a request's head tells.
+/// What a request's head says.
 #[derive(Clone, Copy, PartialEq, Eq)]
 pub struct Head {
     /// The method is `POST`, byte for byte.
@@ -15,7 +15,7 @@ pub struct Head {
     pub size: usize,
 }
 
-/// What a reply's head tells.
+/// What a reply's head says.
 #[derive(Clone, Copy, PartialEq, Eq)]
 pub struct ReplyHead {
     /// The status code, below 1,000.

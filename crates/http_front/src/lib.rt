@@ -1,7 +1,7 @@
 //! The heads of HTTP messages: a request's and a reply's head read, and the two that are written.
 //!
 //! `read_request` and `read_response` look at the bytes that have come so far, and answer what a head at their start
-//! tells, that more of it is awaited, or that it is bad. They take no memory. `write_head` and `write_post` append the
+//! says, that more of it is awaited, or that it is bad. They take no memory. `write_head` and `write_post` append the
 //! head of a reply and of the client's request.
 #![tactic(auto)]
 

@@ -12,7 +12,7 @@ use crate::head::{FIELDS_IN_ALL, Head, HeadFault, MAX_BYTES, MAX_FIELDS};
 use httparse::spans::{EMPTY_HEADER_SPAN, HeaderSpan, RequestSpans, parse_request};
 use httparse::{Status, is_token, is_uri_token};
 
-/// What the request's head at the start of the bytes tells. It takes no memory.
+/// What the request's head at the start of the bytes says. It takes no memory.
 ///
 /// ```rust
 /// use http_front::{HeadFault, read_request};
@@ -25,7 +25,7 @@ use httparse::{Status, is_token, is_uri_token};
 /// assert!(rt; read_request(b"POST /ofx HT").err() == Some(HeadFault::NotYet));
 /// ```
 pub fn read_request(buf: &[u8]) -> Result<Head, HeadFault>
-    // What is told is told by a head at the start that is taken.
+    // A head is reported only where one at the start of the bytes is taken, and says what that one says.
     ensures head { IfOk result (λ head. (h : RequestHead) × (rest : List ℕ) × BeginsRequest buf.now h rest × (head ≡ head_of_request h)) }
     ensures within { IfOk result (λ head. (0 < head.size) × (head.size ≤ length buf.now) × (head.size ≤ 8192)) }
     // Such a head is reported.
@@ -51,7 +51,7 @@ fn judge(buf: &[u8]) -> Result<Head, HeadFault>
     }
 }
 
-/// What the head at these offsets tells.
+/// What the head at these offsets says.
 fn head_of(buf: &[u8], spans: RequestSpans, fields: &[HeaderSpan]) -> Head
     requires { IsRequestWithin buf.now fields.now spans }
     ensures { (h : RequestHead) → IsRequestAt buf.now fields.now spans h → result ≡ head_of_request h }

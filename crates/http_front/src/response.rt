@@ -10,9 +10,9 @@ use crate::head::{FIELDS_IN_ALL, HeadFault, MAX_BYTES, MAX_FIELDS, ReplyHead};
 use httparse::Status;
 use httparse::spans::{EMPTY_HEADER_SPAN, HeaderSpan, ResponseSpans, parse_response};
 
-/// What the reply's head at the start of the bytes tells. It takes no memory.
+/// What the reply's head at the start of the bytes says. It takes no memory.
 pub fn read_response(buf: &[u8]) -> Result<ReplyHead, HeadFault>
-    // What is told is told by a head at the start that is taken.
+    // A head is reported only where one at the start of the bytes is taken, and says what that one says.
     ensures head { IfOk result (λ head. (h : ResponseHead) × (rest : List ℕ) × BeginsResponse buf.now h rest × (head ≡ head_of_response h)) }
     ensures within { IfOk result (λ head. (0 < head.size) × (head.size ≤ length buf.now) × (head.size ≤ 8192)) }
     // Such a head is reported.
@@ -38,7 +38,7 @@ fn judge(buf: &[u8]) -> Result<ReplyHead, HeadFault>
     }
 }
 
-/// What the head at these offsets tells.
+/// What the head at these offsets says.
 fn head_of(buf: &[u8], spans: ResponseSpans, fields: &[HeaderSpan]) -> ReplyHead
     requires { IsResponseWithin buf.now fields.now spans }
     ensures { (h : ResponseHead) → IsResponseAt buf.now fields.now spans h → result ≡ head_of_response h }

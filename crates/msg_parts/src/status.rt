@@ -13,8 +13,8 @@ const MAX_BYTES: usize = 5;
 
 /// The code of the STATUS that occurs once among these children: 1 to 5 digits, at most 65,535. It takes no memory.
 ///
-/// `Missing` at the aggregate's place where STATUS or its CODE doesn't stand, `Repeated` at the second one's where either
-/// stands more than once, `Value` at the offset of a CODE that is no such number.
+/// `Missing` at the aggregate's offset where STATUS or its CODE isn't there, `Repeated` at the second one's where either
+/// occurs more than once, `Value` at the offset of a CODE that is no such number.
 #[tactic(auto, unfolding(ofx_types::specs::ReplyReading::status_of))]
 pub fn read_status(c: &Cursor<'_>) -> Result<u16, TreeFault>
     ensures { result ≡ reading.status_of c.now }

@@ -1,4 +1,4 @@
-//! What is at the prefix of bytes: a tag, white space, a value.
+//! What bytes begin with: a tag, white space, a value.
 
 ghost use Rattle.std.specs.Prelude.{◌≡◌, ◌≤◌, ◌∷◌, ◌&&◌, true, nat_le, not, length, position};
 ghost use Rattle.std.specs.List.{list_all};
@@ -10,7 +10,7 @@ ghost use Rattle.ofx_tape.specs.TagScan.{IsNameAt, IsTagAfter};
 
 use ofx_types::is_white_space;
 
-/// The prefix of what follows a `<` or a `</`.
+/// What comes first after a `<` or a `</`.
 pub(crate) enum NameAt<'a> {
     /// A name and a `>`: the name, and the bytes after the `>`.
     Whole(&'a [u8], &'a [u8]),

@@ -18,11 +18,11 @@ pub struct Day(pub i32);
 #[derive(Clone, Copy, Debug, PartialEq, Eq, PartialOrd, Ord)]
 pub struct Moment(pub i64);
 
-/// An account of a setup, by its offset among the account lines, from 0.
+/// An account of a setup, by its index among the account lines, from 0.
 #[derive(Clone, Copy, Debug, PartialEq, Eq, PartialOrd, Ord)]
 pub struct AcctId(pub u32);
 
-/// A user of a setup, by the offset among the user lines, from 0.
+/// A user of a setup, by its index among the user lines, from 0.
 #[derive(Clone, Copy, Debug, PartialEq, Eq, PartialOrd, Ord)]
 pub struct UserId(pub u32);
 

@@ -17,8 +17,8 @@ use Rattle.ofx_world.specs.Truths.{HasRightStores}
 use Rattle.ofx_world.specs.World.{WorldView, with_customer, with_request}
 use Rattle.ofx_world.proofs.Lists.{same_some, at_all, got, got_new, stays_there, set_same}
 
--- What a client has become fits a world in which it was another: it has the same name and user, has given the same numbers and perhaps
--- more, and whatever was its file still is.
+-- What a client has become fits a world in which it was another: it has the same name and user, has given the same numbers and
+-- perhaps more, and whatever was its file still is.
 pub record Becomes (world : WorldView) (old new : CustomerView) : Type 0 where
   pub name : new.client.name ≡ old.client.name
   pub user : new.client.user ≡ old.client.user

@@ -1,4 +1,5 @@
--- What the bank does leaves a world sound: it settles what is pending, answers a request, does due work, writes a letter, or starts anew.
+-- What the bank does leaves a world sound: it settles what is pending, answers a request, does due work, writes a letter, or
+-- starts anew.
 use Rattle.std.proofs.Common.{◌≡◌, ℕ, ◌<◌, ◌^◌, Bool, true, false, cond, List, length, slice_get, Option, None, Some, refl, sym, ap, subst, ◌∙◌, arith}
 use Rattle.std.specs.Option.{option_map}
 use Rattle.ofx_types.specs.Calendar.{IsMoment}

@@ -1,4 +1,5 @@
--- What the bank's half of the world rests on: records that landed, what a commit and a start anew leave, and files that are read again.
+-- What the bank's half of the world rests on: records that landed, what a commit and a start anew leave, and files that are
+-- read again.
 use Rattle.std.proofs.Common.{◌≡◌, ◌≢◌, ℕ, Bool, true, false, List, [], ◌∷◌, ◌++◌, Option, None, Some, Result, Ok, Err, refl, sym, ap, subst, ◌∙◌, append-nil}
 use Rattle.std.specs.Prelude.{if◌then◌else◌, is_some, OnErr}
 use Rattle.ofx_types.specs.Calendar.{IsMoment}

@@ -61,8 +61,8 @@ pub record IsGiven (customers : List CustomerView) (name : List ℕ) : Type 0 wh
 abbrev pub IsEarlier : ClientState → ℕ → List ℕ → Type 0
 IsEarlier client number older = (earlier : ℕ) × (earlier < number) × (older ≡ file_name client.name earlier)
 
--- A file is one of a client's: it has a number that the client has given, is of the client's user, and names an earlier file or none
--- as the last that was answered. Where it has the name of the outstanding file it is that file.
+-- A file is one of a client's: it has a number that the client has given, is of the client's user, and names an earlier file or
+-- none as the last that was answered. Where it has the name of the outstanding file it is that file.
 pub record IsOf (setup : Setup) (client : ClientState) (file : RequestFile) : Type 0 where
   pub number : ℕ
   pub name : List ℕ

@@ -58,9 +58,10 @@ HasRightStores setup entries customer = (user : UserId) → user_of setup custom
 
 -- ---- the whole
 
--- The bank is in the state to which the records lead that aren't pending. No user's TRNUID is used up twice; no balance, which is what
--- its rule gives, is below zero, and all together are the openings. Each reply is the one-thread bank's at its place; all replies to a
--- file that is outstanding are alike; each client acts for a user of the setup; and each store of a client is right, or marked lost.
+-- The bank is in the state to which the records lead that aren't pending. No user's TRNUID is used up twice; no balance, which
+-- is what its rule gives, is below zero, and all together are the openings. Each reply is the one-thread bank's at its place;
+-- all replies to a file that is outstanding are alike; each client acts for a user of the setup; and each store of a client is
+-- right, or marked lost.
 pub record IsRightWorld (world : WorldView) : Type 0 where
   pub reopened : Reopens world.server.setup opening_state world.server.records world.server.state
   pub books : AreBooksRight world.server.setup world.server.state

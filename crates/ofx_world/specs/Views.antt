@@ -15,8 +15,8 @@ pub record Unsettled : Type 0 where
   pub rec : List ℕ
   pub landed : Bool
 
--- The records that were acknowledged, what a failed append has left unsettled, the fault that is set for the next append, and how many
--- appends failed.
+-- The records that were acknowledged, what a failed append has left unsettled, the fault that is set for the next append, and
+-- how many appends failed.
 pub record KeeperView : Type 0 where
   pub records : List (List ℕ)
   pub unsettled : Option Unsettled

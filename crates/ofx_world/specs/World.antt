@@ -16,8 +16,8 @@ use Rattle.ofx_world.specs.Server.{ServerView, committed, reply_to, settled, due
 use Rattle.ofx_world.specs.declared.step.Step.{Step}
 use Rattle.ofx_world.specs.declared.step.Step.TheVariants as steps
 
--- The bank, the clients, all requests that were ever sent and all replies that were ever given, in their order, and the clock. Files,
--- like clients, are numbered from 0.
+-- The bank, the clients, all requests that were ever sent and all replies that were ever given, in their order, and the clock.
+-- Files, like clients, are numbered from 0.
 pub record WorldView : Type 0 where
   pub server : ServerView
   pub customers : List CustomerView

@@ -1,4 +1,4 @@
-//! A keeper of records in memory, whose next append can be reported to fail.
+//! A keeper of records in memory, whose next append can be set to fail.
 
 ghost use Rattle.std.specs.Prelude.{◌≡◌, ◌-◌, ◌≤◌, true, false, [], ◌++◌, Some, None, length, slice_get, is_ok, is_some, IfOk, IfSome, OnOk, OnErr, IsErr, IsErrOf};
 ghost use Rattle.std.specs.Option.{option_map};

@@ -118,7 +118,7 @@ impl Server {
         self.keeper.set_fault(Some(landed));
     }
 
-    /// Settles what is pending: an event whose record stands has happened at its moment. Takes no memory.
+    /// Settles what is pending: an event whose record is stored has happened at its moment. Takes no memory.
     pub(crate) fn settle(&mut self)
         ensures settled { self.new ≡ settled self.old }
         ensures pending { self.new.pending ≡ None }

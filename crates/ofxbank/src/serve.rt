@@ -29,8 +29,8 @@ type Door = LoggedDoor<TcpListener, HostRuntime, HostRuntime>;
 /// A worker's doorway and its clock.
 type Worker = (Door, SystemClock<HostRuntime>);
 
-/// The end of serving the bank of this setup over the records that the third word names: those of a file, or of none with `-`. The threads
-/// are those of `threads`.
+/// The end of serving the bank of this setup over the records that the third word names: those of a file, or of none with `-`.
+/// The threads are those of `threads`.
 pub fn served<R: Threads + Wait + Sync>(
     threads: &R,
     rt: &HostRuntime,
@@ -124,9 +124,9 @@ fn workers_at(
     let listener = listen(rt, plan.port)?;
     let limit = Duration::from_secs(LINK_SECONDS);
     let mut workers = room;
-    for offset in 0..plan.workers {
+    for index in 0..plan.workers {
         let door = TcpDoor::at(*rt, listener.try_clone()?, limit);
-        let logged = LoggedDoor::over(door, rt.alloc(), journal, offset + 1);
+        let logged = LoggedDoor::over(door, rt.alloc(), journal, index + 1);
         workers.push((logged, SystemClock::new(*rt)))?;
     }
     Ok(workers)

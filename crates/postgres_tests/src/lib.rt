@@ -1,5 +1,5 @@
-//! Tests of what a keeper over PostgreSQL is built from, by public calls: the sign-on by the vectors of its standards, and the engine
-//! in memory.
+//! Tests of what a keeper over PostgreSQL is built from, by public calls: the sign-on by the vectors of its standards, and the
+//! engine in memory.
 #![tactic(auto)]
 
 #[cfg(test)]

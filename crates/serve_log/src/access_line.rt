@@ -83,8 +83,8 @@ fn write_name<W: fmt::Write>(f: &mut fmt::Formatter<W>, name: &[u8]) -> fmt::Res
 
 /// How many asks of each kind were answered, of those of which there were any.
 fn write_asks<W: fmt::Write>(f: &mut fmt::Formatter<W>, asks: &[u32; KIND_COUNT]) -> fmt::Result {
-    for offset in 0..KIND_COUNT {
-        let (name, count) = (KINDS[offset].2, asks[offset]);
+    for index in 0..KIND_COUNT {
+        let (name, count) = (KINDS[index].2, asks[index]);
         if count > 0 {
             write!(f, " {name}={count}")?;
         }

@@ -102,11 +102,11 @@ fn after_tag(
     if let Some(end) = inside {
         return if tag == end { None } else { inside };
     }
-    for offset in 0..KIND_COUNT {
-        let (start, end, _name) = KINDS[offset];
+    for index in 0..KIND_COUNT {
+        let (start, end, _name) = KINDS[index];
         if tag == start {
-            note.asks[offset] = note.asks[offset].saturating_add(1);
-            return if offset < SYNC_COUNT { Some(end) } else { None };
+            note.asks[index] = note.asks[index].saturating_add(1);
+            return if index < SYNC_COUNT { Some(end) } else { None };
         }
     }
     None

@@ -1,4 +1,5 @@
-//! The calls of a bank over keepers whose calls fail: what is reported of them, what they leave pending, and how many entries there are.
+//! The calls of a bank over keepers whose calls fail: what is reported of them, what they leave pending, and how many entries
+//! there are.
 
 use crate::same::same;
 use crate::sample::{failing, keys, reply_with, report, request_with, setup};

@@ -1,4 +1,5 @@
-//! Calls of a locked bank, one after another, in lines of text: what each is told and leaves pending, and how many entries there are.
+//! Calls of a locked bank, one after another, in lines of text: what each is told and leaves pending, and how many entries
+//! there are.
 
 ghost use Rattle.std.specs.Prelude.{◌≡◌, ◌<◌, false, is_some, length, All};
 ghost use Rattle.ofx_types.specs.Calendar.{IsMoment};
@@ -53,7 +54,13 @@ fn reported<N: BankName, R: Abort>(
 {
     let (_setup, journal, accounts) = opened.solo::<N>();
     let locked = LockedBank::with_accounts(alloc, journal, accounts);
-    reported_by(rt, alloc, &mut locked.expect(rt, "a teller"), clock, calls)
+    reported_by(
+        rt,
+        alloc,
+        &mut locked.expect(rt, "a locked bank"),
+        clock,
+        calls,
+    )
 }
 
 /// What the calls of a locked bank tell and leave pending, and the number of the next entry.

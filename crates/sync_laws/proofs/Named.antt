@@ -1,4 +1,5 @@
--- A user's store is right just where it holds the rows that its client's own rule makes, and where its name has no object it is empty.
+-- A user's store is right just where it holds the rows that its client's own rule makes, and where its name has no object it is
+-- empty.
 use Rattle.std.proofs.Common.{◌≡◌, ℕ, ◌≤◌, nat_lt, inl, inr, false, List, Option, None, Some, refl, sym, ap, ◌∙◌, subst, arith}
 use Rattle.std.specs.Fmt.{decimal}
 use Rattle.std.proofs.lemmas.Bool.{true≢false}

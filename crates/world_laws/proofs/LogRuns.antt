@@ -57,8 +57,8 @@ pending_waits items number event at is =
 
 -- ---- what comes of it
 
--- Whether its record is stored: it is where the event is adopted later, this much is known of it after the last ending, and otherwise it
--- was lost.
+-- Whether its record is stored: it is where the event is adopted later, this much is known of it after the last ending, and
+-- otherwise it was lost.
 abbrev fate : Option Bool → List LogItem → Option Bool
 fate final [] = final
 fate final (Effect entry ∷ more) = None

@@ -71,8 +71,8 @@ HasReply setup records (Answer event at reply) = IsReported setup records event 
 HasReply setup records (Adopted fault event at) = Unit {0}
 HasReply setup records (Fault count pending) = Unit {0}
 
--- A fresh bank of the world comes by the records from which a served bank opened, and then goes along its log. It is sound then, and each
--- reply in the log is the one-thread bank's at its place among its records.
+-- A fresh bank of the world comes by the records from which a served bank opened, and then goes along its log. It is sound
+-- then, and each reply in the log is the one-thread bank's at its place among its records.
 pub record IsRun (setup : Setup) (first : List (List ℕ)) (log : List LogItem) (after : ServerView) : Type 0 where
   pub opened : ServerView
   pub opens : ComesBy (fresh setup) first opened

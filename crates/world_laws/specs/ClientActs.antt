@@ -25,7 +25,8 @@ pub data Act : Type 0 where
   taking : List ℕ → Act
   discarding : Act
 
--- Each is saved. Making and taking in are as in the world. A file is given up where the bank can't read it; the world has no such reply.
+-- Each is saved. Making and taking in are as in the world. A file is given up where the bank can't read it; the world has no
+-- such reply.
 abbrev pub IsAct : Setup → CustomerView → Act → CustomerView → Type 0
 IsAct setup before (making wish at) after = (file : List ℕ) × Makes setup before wish at after file
 IsAct setup before (taking bytes) after = Accepts before bytes after
@@ -38,8 +39,8 @@ AreActs setup before (act ∷ more) after = (between : CustomerView) × IsAct se
 
 -- ---- acts as steps of the world
 
--- Where the client is one of a world's, making a file and taking in a reply that was given are steps of the world, and so is a start from
--- the saved text.
+-- Where the client is one of a world's, making a file and taking in a reply that was given are steps of the world, and so is a
+-- start from the saved text.
 pub record ActsAreSteps : Type 0 where
   pub makes : (world : WorldView) (index : ℕ) (customer new : CustomerView) (wish : Wish) (file : List ℕ)
       → slice_get world.customers index ≡ Some customer → Makes world.server.setup customer wish world.clock new file

@@ -38,8 +38,8 @@ abbrev pub MadeFilesAskRightly : Type 0
 MadeFilesAskRightly = (setup : Setup) (S : State) (user : UserId) (client next : ClientState) (wish : Wish) (at : Moment) → IsInOrder setup S
     → made client wish at ≡ Ok next → IsSoundState next → AreRight setup user S client → AsksRightly next × AreRight setup user S next
 
--- Whoever asked rightly, and accepts the bank's reply to the file, has stores that are right, whatever the bank has done since: they were
--- when the bank replied.
+-- Whoever asked rightly, and accepts the bank's reply to the file, has stores that are right, whatever the bank has done since:
+-- they were when the bank replied.
 abbrev pub AcceptedRepliesKeepStores : Type 0
 AcceptedRepliesKeepStores = (setup : Setup) (before now : State) (user : UserId) (at : Moment) (client : ClientState) (kept : Outstanding) (taken : Accepted)
     → IsWithinLimits setup → IsInOrder setup before → IsInOrder setup now

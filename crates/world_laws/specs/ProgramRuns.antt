@@ -16,8 +16,8 @@ use Rattle.world_laws.specs.ClientActs.{Act, AreActs}
 abbrev pub customer_of : ClientState → List ℕ → CustomerView
 customer_of client saved = record { client = client; saved = saved }
 
--- From the client that was found the acts lead to the one with which the run ends. Where the store tells its text, the client that was
--- found is the one in it, and the text is in the end the one that the last act saved.
+-- From the client that was found the acts lead to the one with which the run ends. Where the store tells its text, the client
+-- that was found is the one in it, and the text is in the end the one that the last act saved.
 pub record IsActedOut (setup : Setup) (order : Order) (before after : PortsView) (client left : ClientState) (saved : List ℕ) : Type 0 where
   pub acts : List Act
   pub last : List ℕ
@@ -25,8 +25,8 @@ pub record IsActedOut (setup : Setup) (order : Order) (before after : PortsView)
   pub starts : before.store.text ≡ Some saved → IsClientIn order saved client
   pub stands : before.store.text ≡ Some saved → after.store.text ≡ Some last
 
--- Where no save of a run failed, all that it did of the client that it found are acts of that client. The wish is within bounds, as that
--- of all arguments that have a form.
+-- Where no save of a run failed, all that it did of the client that it found are acts of that client. The wish is within
+-- bounds, as that of all arguments that have a form.
 abbrev pub RunsAreActs : Type 0
 RunsAreActs = (setup : Setup) (arguments : List (List ℕ)) (before after : PortsView) (what : Told) (run : IsRun arguments before after what)
     (client left : ClientState) (saved : List ℕ) → IsInBounds run.order.wish → run.runs.found ≡ Ok client

@@ -1,7 +1,8 @@
-//! What joins a served bank and a customer's program to the world of `ofx_world`, so that what is proved of the world holds of them.
+//! What joins a served bank and a customer's program to the world of `ofx_world`, so that what is proved of the world holds of
+//! them.
 //!
-//! The log of a served bank is a run of the world's bank (`bank`). All stores of a client stay right at once (`stores`). A run of the
-//! customer's program is what its client does in the world (`program`). Nothing here runs: each contract is a law.
+//! The log of a served bank is a run of the world's bank (`bank`). All stores of a client stay right at once (`stores`). A run
+//! of the customer's program is what its client does in the world (`program`). Nothing here runs: each contract is a law.
 #![tactic(auto)]
 
 mod bank;

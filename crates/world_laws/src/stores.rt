@@ -6,8 +6,8 @@ ghost use Rattle.world_laws.specs.ClientStores.{MadeFilesAskRightly, AcceptedRep
 use crate::below::{laws_of_histories, laws_of_stores};
 use ofx_file::laws::one_reply;
 
-/// After a reply of the bank that a client accepted, each of its stores holds its object's entries up to its token, or is marked lost.
-/// The premises are what making a file gives.
+/// After a reply of the bank that a client accepted, each of its stores holds its object's entries up to its token, or is
+/// marked lost. The premises are what making a file gives.
 pub fn all_stores_hold()
     ensures makes { MadeFilesAskRightly }
     ensures accepts { AcceptedRepliesKeepStores }

@@ -19,10 +19,10 @@ use ofx_types::{Day, Moment, RequestFile, Text, TransferRow, UserId, XferCode};
 impl<P: Printer> Book<P> {
     /// Whether the event may happen at that moment.
     ///
-    /// A file is of a user of the setup, all its values are within their bounds, and it is no poll. A transfer that is posted waits, and is
-    /// due on or before the business day. A recurring transfer makes the transfer at just the next occurrence of its series, for
-    /// a date at most the setup's LEAD days after the business day. A letter is to a user of the setup, its subject has 1 to 64
-    /// bytes and its body 1 to 10,000. For all but a file a number is left. Takes no memory.
+    /// A file is of a user of the setup, all its values are within their bounds, and it is no poll. A transfer that is posted
+    /// waits, and is due on or before the business day. A recurring transfer makes the transfer at just the next occurrence of
+    /// its series, for a date at most the setup's LEAD days after the business day. A letter is to a user of the setup, its
+    /// subject has 1 to 64 bytes and its body 1 to 10,000. For all but a file a number is left. Takes no memory.
     pub fn legal(&self, event: &Event, at: Moment) -> bool
         requires { IsMoment at.0 }
         ensures { IsTrue result ↔ IsLegal self.now.setup self.now.state at event.now }

@@ -105,7 +105,7 @@ impl<P: Printer> Book<P> {
     }
 }
 
-/// A reply that tells a token alone.
+/// A reply that gives a token alone.
 fn token_reply(
     alloc: Global,
     ask: &SyncAsk,

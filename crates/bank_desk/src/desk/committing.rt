@@ -21,8 +21,8 @@ impl Desk {
     /// All memory is taken before the record is appended, and the bank takes the step after it, which takes none. So the keeper
     /// has one record more exactly where the event has happened: memory is refused to no event whose append was acknowledged.
     /// Where memory is refused or the append fails the bank is as before. Where the append failed the record may be stored, and
-    /// whether it does is the keeper's own word, which is to be settled: the step is given up, and who opens the bank again finds
-    /// the record or doesn't.
+    /// only the keeper can say whether it is, when this is settled: the step is given up, and who opens the bank again finds the
+    /// record or doesn't.
     pub fn commit<K: Keeper, E: Envelope>(
         &mut self,
         alloc: Global,

@@ -22,19 +22,19 @@ pub fn series_begins()
     ensures { (first : Day) (freq : Freq) → IsDay first.0 → kth_date first freq 0 ≡ Some first }
 {}
 
-/// Each date of a series lies after those at the places before it.
+/// Each date of a series lies after those of the occurrences before it.
 pub fn series_rises()
     ensures { (first a b : Day) (freq : Freq) (j k : ℕ) → IsDay first.0 → kth_date first freq j ≡ Some a
         → kth_date first freq k ≡ Some b → j < k → a.0 <ℤ b.0 }
 {}
 
-/// After a place without a date no place has one.
+/// After an occurrence without a date none has one.
 pub fn series_ends()
     ensures { (first : Day) (freq : Freq) (j k : ℕ) → IsDay first.0 → kth_date first freq j ≡ None → j ≤ k
         → kth_date first freq k ≡ None }
 {}
 
-/// No more places of a series have dates than the calendar has days, and each of its dates is one of those.
+/// No more occurrences of a series have dates than the calendar has days, and each of its dates is one of those.
 pub fn series_has_few_occurrences()
     ensures { (first date : Day) (freq : Freq) (k : ℕ) → IsDay first.0 → kth_date first freq k ≡ Some date
         → (k ≤ 2958463) × IsDay date.0 }

@@ -20,8 +20,8 @@ pub enum PollTrace<T> {
     After(Snapshot<PollTrace<T>>, Snapshot<T>, Snapshot<UserId>, Snapshot<RequestFile>),
 }
 
-/// One poll more.
-pub(crate) fn rest<N: BankName, K: Keeper, P: Printer>(
+/// The trace with one poll more.
+pub(crate) fn with_poll<N: BankName, K: Keeper, P: Printer>(
     trail: &PollTrace<LockedBank<N, K, P>>,
     locked: &LockedBank<N, K, P>,
     user: UserId,

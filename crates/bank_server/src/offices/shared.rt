@@ -56,7 +56,7 @@ impl<'a, N: BankName, K: Keeper, P: Printer, R: Wait, G: Gate> Office
     }
 }
 
-/// Serves a connection to its end over the bank that `N` names, as `serve_link` does. What the bank's lock keeps isn't told: the
+/// Serves a connection to its end over the bank that `N` names, as `serve_link` does. What the bank's lock keeps isn't known: the
 /// replies are those over some log.
 pub fn serve_connection<N: BankName, K: Keeper, P: Printer, R: Wait, L: Link, C: Clock, G: Gate>(
     bank: &Bank<N, K, P>,

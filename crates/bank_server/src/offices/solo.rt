@@ -10,7 +10,7 @@ ghost use Rattle.bank_connection.specs.Connection.{around, Converses};
 ghost use Rattle.bank_connection.specs.Offices.{IsRightView, Knows, IsCommitted, IsUncommitted, IsLooked, HasLoaded};
 ghost use Rattle.bank_server.specs.OfficeViews.{office_view};
 
-use crate::offices::poll_trace::{PollTrace, rest};
+use crate::offices::poll_trace::{PollTrace, with_poll};
 use bank_connection::laws::newest_are_reported;
 use bank_connection::{Office, ServeError, Served, serve_link};
 use bank_invariants::laws::states::books_are_right;
@@ -133,7 +133,7 @@ impl<N: BankName, K: Keeper, P: Printer> Office for SoloOffice<N, K, P> {
         newest_are_reported();
         self.known();
         let reply = self.locked.poll(user, file, at)?;
-        self.polls = rest(&self.polls, &self.locked, user, file);
+        self.polls = with_poll(&self.polls, &self.locked, user, file);
         self.known();
         Ok(reply)
     }

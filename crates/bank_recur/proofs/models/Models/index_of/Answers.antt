@@ -2,7 +2,7 @@ use Rattle.std.proofs.Common.{eqb, ap, ◌∙◌}
 use Rattle.std.specs.List.{position}
 use Rattle.bank_recur.specs.ModelsView.{Series, ModelsView}
 use Rattle.bank_recur.proofs.RepresentsLemmas.{occurrence_by_id}
-use Rattle.bank_recur.proofs.models.Models.occurrence_of.Goals as goal
+use Rattle.bank_recur.proofs.models.Models.index_of.Goals as goal
 
 pub returns-in-Some : goal.returns-in-Some
 returns-in-Some c =
