@@ -31,23 +31,14 @@ use std::hash::RandomState;
 ///
 /// let alloc = rt.alloc();
 /// let text = |word: &str| Text::new(alloc, word.as_bytes(), 64).expect(&rt, "a text");
-/// let arguments = vec![in alloc; text("rehearse"), text("seven")];
+/// let arguments = vec![in alloc; text("rehearse"), text("seven")].expect(&rt, "room");
 /// let mut setup = MemSource::new(alloc, b"").expect(&rt, "a source");
 /// let mut input = MemSource::new(alloc, b"").expect(&rt, "a source");
 /// let mut out = MemSink::new(alloc, 1024).expect(&rt, "a sink");
 /// let mut keeper = MemKeeper::new(alloc);
 /// let mut clock = MemClock::new(alloc, &[Moment(1_706_702_400)]).expect(&rt, "a clock");
 /// let keys = RandomState::new(&rt).expect(&rt, "keys");
-/// let told = bank_told(
-///     alloc,
-///     keys,
-///     &arguments.expect(&rt, "room"),
-///     &mut setup,
-///     &mut input,
-///     &mut out,
-///     &mut keeper,
-///     &mut clock,
-/// );
+/// let told = bank_told(alloc, keys, &arguments, &mut setup, &mut input, &mut out, &mut keeper, &mut clock);
 /// // The seed is no number, so that the arguments have no form.
 /// assert!(rt; told.status == Status(2) && out.held().is_empty());
 /// ```

@@ -47,9 +47,7 @@ use std::hash::RandomState;
 /// let mut keeper = MemKeeper::new(alloc);
 /// let record = b"\x01\x04\0\0\0\0\x65\xba\x36\x40\0\0\0\0\0\x01A\0\x01B";
 /// keeper.append(record).expect(&rt, "a record that is stored");
-/// let (book, accounts) = reopen(alloc, keys, &mut keeper, setup, OfxPrinter).expect(
-///     &rt, "a bank",
-/// );
+/// let (book, accounts) = reopen(alloc, keys, &mut keeper, setup, OfxPrinter).expect(&rt, "a bank");
 /// assert!(rt; book.next_number() == Some(2) && accounts[0].balance().0 == 500);
 /// ```
 pub fn reopen<K: Keeper, P: Printer>(

@@ -37,14 +37,7 @@ pub struct Plan {
 ///     let word = Text::new(rt.alloc(), word.as_bytes(), 64).expect(&rt, "a word");
 ///     arguments.push(word).expect(&rt, "room");
 /// }
-/// assert!(rt;
-///     plan_of(&arguments)
-///         == Some(Plan {
-///             port: 8080,
-///             workers: 4,
-///             most: 0
-///         })
-/// );
+/// assert!(rt; plan_of(&arguments) == Some(Plan { port: 8080, workers: 4, most: 0 }));
 /// // The number of connections is missing.
 /// assert!(rt; plan_of(&arguments[..5]) == None);
 /// ```

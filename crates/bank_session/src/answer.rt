@@ -107,7 +107,7 @@ fn run<A: Source, B: Source, W: Sink, K: Keeper, C: Clock>(
 ///
 /// let alloc = rt.alloc();
 /// let text = |word: &str| Text::new(alloc, word.as_bytes(), 64).expect(&rt, "a text");
-/// let arguments = vec![in alloc; text("answer"), text("setup"), text("-")];
+/// let arguments = vec![in alloc; text("answer"), text("setup"), text("-")].expect(&rt, "room");
 /// let bytes = b"OFXBANK 1\nBANK 1\nLEAD 5\nWINDOW 3\nENTRIES 99\n\
 ///     USER alice secret\nACCT 1001 CHECKING 0 alice\n";
 /// let mut setup = MemSource::new(alloc, bytes).expect(&rt, "a source");
@@ -116,16 +116,7 @@ fn run<A: Source, B: Source, W: Sink, K: Keeper, C: Clock>(
 /// let mut keeper = MemKeeper::new(alloc);
 /// let mut clock = MemClock::new(alloc, &[Moment(1_706_702_400)]).expect(&rt, "a clock");
 /// let keys = RandomState::new(&rt).expect(&rt, "keys");
-/// let told = answer_told(
-///     alloc,
-///     keys,
-///     &arguments.expect(&rt, "room"),
-///     &mut setup,
-///     &mut input,
-///     &mut out,
-///     &mut keeper,
-///     &mut clock,
-/// );
+/// let told = answer_told(alloc, keys, &arguments, &mut setup, &mut input, &mut out, &mut keeper, &mut clock);
 /// assert!(rt; told.status == Status(0) && out.held() == b"DUE 0\n".as_slice());
 /// ```
 pub fn answer_told<A: Source, B: Source, W: Sink, K: Keeper, C: Clock>(
