@@ -18,7 +18,9 @@ use httparse::{Status, is_token, is_uri_token};
 /// use http_front::{HeadFault, read_request};
 ///
 /// let bytes = b"POST /ofx HTTP/1.1\r\nContent-Length: 5\r\n\r\nhello";
-/// let head = read_request(bytes).expect(&rt, "a head");
+/// let Ok(head) = read_request(bytes) else {
+///     panic!(rt; "a head");
+/// };
 /// assert!(rt; head.method_is_post && head.path_is_ofx && head.length == Some(5));
 /// assert_eq!(rt; bytes.len() - head.size, 5);
 /// // More bytes may make these a head.

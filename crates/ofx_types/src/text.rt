@@ -110,7 +110,7 @@ pub(crate) fn fault_in(text: &[u8], most: u32) -> Option<TextFault>
 /// let alloc = rt.alloc();
 /// let name = Text::new(alloc, b" alice\r\n", 32).expect(&rt, "a text");
 /// assert!(rt; name.as_bytes() == b"alice".as_slice());
-/// assert!(rt; Text::new(alloc, b" \t", 32).err() == Some(TextFault::Empty));
+/// assert!(rt; Text::new(alloc, b"al\x01ce", 32).err() == Some(TextFault::BadByte(2)));
 /// assert!(rt; Text::new(alloc, b"alice", 4).err() == Some(TextFault::TooLong(5)));
 /// ```
 #[derive(Debug, Drop)]
