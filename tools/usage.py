@@ -2,13 +2,13 @@
 import re
 import subprocess
 
-MOST_SECONDS = 20
+MAX_SECONDS = 20
 FORM = re.compile(r"^(?:[Uu]sage:)?\s+(\S+ .*)$")
 
 
 def said(program, *words):
     """What the program prints on its standard output. It ends with status 0."""
-    done = subprocess.run([program, *words], stdin=subprocess.DEVNULL, capture_output=True, timeout=MOST_SECONDS)
+    done = subprocess.run([program, *words], stdin=subprocess.DEVNULL, capture_output=True, timeout=MAX_SECONDS)
     if done.returncode != 0:
         raise SystemExit("%s %s ends with status %d" % (program, " ".join(words), done.returncode))
     return done.stdout.decode()
@@ -44,7 +44,7 @@ class Help:
 def help_of(program, command):
     """The paragraphs of a command's own help. None where it has none."""
     done = subprocess.run([program, command, "--help"], stdin=subprocess.DEVNULL, capture_output=True,
-                          timeout=MOST_SECONDS)
+                          timeout=MAX_SECONDS)
     if done.returncode != 0 or not done.stdout:
         return None
     return paragraphs(done.stdout.decode())

@@ -13,7 +13,7 @@ from reference.sync import newest
 from served.link import Link
 from served.server import Wrong
 
-MOST_COMMANDS = 24
+MAX_COMMANDS = 24
 DONE = "done "
 
 
@@ -29,7 +29,7 @@ class Day(Trial):
         self.fates = []
 
     def live(self):
-        for _ in range(self.r.randint(MOST_COMMANDS // 2, MOST_COMMANDS)):
+        for _ in range(self.r.randint(MAX_COMMANDS // 2, MAX_COMMANDS)):
             self.between()
             self.command(self.r.choice(self.customers))
         self.judge_stores()

@@ -9,7 +9,7 @@ import struct
 import threading
 
 from served.link import Link
-from served.server import MOST_SECONDS, Wrong
+from served.server import MAX_SECONDS, Wrong
 
 LENGTH = re.compile(rb"(?i)\r\ncontent-length: *([0-9]+)")
 LOOK = 0.02  # seconds
@@ -85,7 +85,7 @@ class Relay(threading.Thread):
                     self.wrong = wrong
 
     def talk(self, link):
-        link.settimeout(MOST_SECONDS)
+        link.settimeout(MAX_SECONDS)
         link.setsockopt(socket.IPPROTO_TCP, socket.TCP_NODELAY, 1)
         talk, self.bank = Talk(), None
         self.talks.append(talk)
@@ -134,7 +134,7 @@ class Relay(threading.Thread):
     def calls(self):
         """How many connections were made to it so far, all of which are over. It makes one itself, which is taken in
         behind all others."""
-        with socket.create_connection(("127.0.0.1", self.port), MOST_SECONDS) as own:
+        with socket.create_connection(("127.0.0.1", self.port), MAX_SECONDS) as own:
             own.shutdown(socket.SHUT_WR)
             try:
                 own.recv(1)
@@ -151,7 +151,7 @@ class Relay(threading.Thread):
 
 def some(link):
     """What a link has next; nothing where it has ended."""
-    link.socket.settimeout(MOST_SECONDS)
+    link.socket.settimeout(MAX_SECONDS)
     link.take_in()
     come, link.come = link.come, b""
     return come

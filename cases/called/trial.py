@@ -12,7 +12,7 @@ from written.disk_file import read
 from written.pieces import sample
 
 RECORDS = "disk:records"
-MOST_SECONDS = 120  # of a run of the bank's program by hand
+MAX_SECONDS = 120  # of a run of the bank's program by hand
 
 
 class Trial(Desk):
@@ -43,7 +43,7 @@ class Trial(Desk):
         """What a run of the bank's program prints, over its records while nobody serves."""
         try:
             done = subprocess.run([self.bank, *words], cwd=self.folder, input=stream, stdout=subprocess.PIPE,
-                                  stderr=subprocess.PIPE, timeout=MOST_SECONDS)
+                                  stderr=subprocess.PIPE, timeout=MAX_SECONDS)
         except subprocess.TimeoutExpired:
             raise Wrong("the run of %r doesn't end" % (words,)) from None
         if done.returncode != 0:

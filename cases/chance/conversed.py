@@ -10,7 +10,7 @@ from chance.spelled import ONE_LINE, spelled
 from written.pieces import FILES
 
 IN_A_BATCH = 100
-MOST_REQUESTS = 6
+MAX_REQUESTS = 6
 MANY_REQUESTS = 103  # more than a connection has
 MANY_SHARE = 0.005
 PIECES = (65536, 65536, 1500, 200)  # of so many bytes is a stream sent, or of a fiftieth of it where that is more
@@ -102,7 +102,7 @@ def conversation(r, bases):
         file = renamed(r, r.choice(bases))
         stream = b"".join(plain(file) for _ in range(MANY_REQUESTS))
     else:
-        stream = b"".join(request(r, r.choice(bases)) for _ in range(r.randrange(1, MOST_REQUESTS + 1)))
+        stream = b"".join(request(r, r.choice(bases)) for _ in range(r.randrange(1, MAX_REQUESTS + 1)))
     for _ in range(r.choice((0, 0, 0, 0, 0, 1, 2))):
         if stream:
             stream = a_damage(r, stream)

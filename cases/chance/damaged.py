@@ -19,7 +19,7 @@ IN_A_BATCH = 500
 # Well spelled files that a batch does its damage to.
 BASES = 40
 DUE_SHARE = 0.05
-MOST_BYTES = 262144
+MAX_BYTES = 262144
 
 TAG = re.compile(rb"</?[A-Za-z0-9._-]+>")
 START_TAG = re.compile(rb"<([A-Za-z0-9._-]+)>")
@@ -334,7 +334,7 @@ def a_filling(r, file):
     if r.random() < 0.98:
         return a_value(r, file)
     places = [tag.start() for tag in TAG.finditer(file)] or [len(file)]
-    at, unit, room = r.choice(places), r.choice(UNITS), r.choice((2000, 20000, MOST_BYTES - len(file)))
+    at, unit, room = r.choice(places), r.choice(UNITS), r.choice((2000, 20000, MAX_BYTES - len(file)))
     return file[:at] + unit * (room // len(unit)) + file[at:]
 
 
@@ -358,7 +358,7 @@ def damaged(r, file):
     for _ in range(r.choice(COUNTS)):
         if file:
             file = r.choice(DEEDS)(r, file)
-    return file[:MOST_BYTES]
+    return file[:MAX_BYTES]
 
 
 def batch(seed, number):

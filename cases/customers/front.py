@@ -5,7 +5,7 @@ import subprocess
 import time
 
 from customers.tools import path_of, said
-from served.server import MOST_SECONDS, Wrong, free_port
+from served.server import MAX_SECONDS, Wrong, free_port
 
 NEEDS = "nginx", "openssl"
 CONFIGURATION = """daemon off;
@@ -51,7 +51,7 @@ class Front:
         self.await_listening()
 
     def await_listening(self):
-        end = time.monotonic() + MOST_SECONDS
+        end = time.monotonic() + MAX_SECONDS
         while not os.path.exists(os.path.join(self.folder, "nginx.pid")):
             if self.child.poll() is not None or time.monotonic() > end:
                 self.stop()

@@ -4,7 +4,7 @@ import urllib.error
 import urllib.request
 from http.server import BaseHTTPRequestHandler, ThreadingHTTPServer
 
-from served.server import MOST_SECONDS
+from served.server import MAX_SECONDS
 
 
 class Recorder:
@@ -50,7 +50,7 @@ def handler(bank, bodies):
 def answer(bank, body):
     """What the bank answers to a body: the code, the type and the body."""
     try:
-        with urllib.request.urlopen(urllib.request.Request(bank, body), timeout=MOST_SECONDS) as reply:
+        with urllib.request.urlopen(urllib.request.Request(bank, body), timeout=MAX_SECONDS) as reply:
             return reply.status, reply.headers["Content-Type"], reply.read()
     except urllib.error.HTTPError as refused:
         return refused.code, refused.headers["Content-Type"] or "text/plain", refused.read()

@@ -5,7 +5,7 @@ import subprocess
 
 from served.server import Wrong
 
-MOST_SECONDS = 60
+MAX_SECONDS = 60
 PATHS = os.environ.get("PATH", "") + ":/usr/sbin:/sbin"
 
 
@@ -19,7 +19,7 @@ def run(words, folder, **environment):
     words = [path_of(words[0]), *words[1:]]
     try:
         return subprocess.run(words, cwd=folder, stdin=subprocess.DEVNULL, stdout=subprocess.PIPE,
-                              stderr=subprocess.PIPE, env={**os.environ, **environment}, timeout=MOST_SECONDS)
+                              stderr=subprocess.PIPE, env={**os.environ, **environment}, timeout=MAX_SECONDS)
     except subprocess.TimeoutExpired:
         raise Wrong("%s doesn't end" % os.path.basename(words[0]))
 

@@ -10,8 +10,8 @@ import time
 from killed.stream import Wrong
 from written.frames import answers
 
-MOST_SECONDS = 20  # from the start or from what was read last
-MOST_SECONDS_TO_DIE = 60  # a process that waits for its disk can't die before that answers
+MAX_SECONDS = 20  # from the start or from what was read last
+MAX_SECONDS_TO_DIE = 60  # a process that waits for its disk can't die before that answers
 ONE_PAGE = 4096  # the least that a pipe holds
 LOOK = 0.002  # seconds
 LOOKS_ASLEEP = 5
@@ -29,7 +29,7 @@ class Run:
         self.child = subprocess.Popen(words, cwd=folder, restore_signals=False, preexec_fn=limit(room), **pipes)
         if is_narrow:
             fcntl.fcntl(self.child.stdout, fcntl.F_SETPIPE_SZ, ONE_PAGE)
-        self.end = time.monotonic() + MOST_SECONDS
+        self.end = time.monotonic() + MAX_SECONDS
         self.written = b""
         try:
             self.child.stdin.write(stream)
@@ -42,7 +42,7 @@ class Run:
         more = os.read(self.child.stdout.fileno(), 1 << 20) if ready else b""
         self.written += more
         if more:
-            self.end = max(self.end, time.monotonic() + MOST_SECONDS)
+            self.end = max(self.end, time.monotonic() + MAX_SECONDS)
         return bool(more)
 
     def wait_for(self, count):
@@ -68,7 +68,7 @@ class Run:
         it has no reason to have ended before. Its output isn't read until then, which would let a held-up answer out.
         """
         self.child.send_signal(signal.SIGKILL)
-        self.end = time.monotonic() + MOST_SECONDS_TO_DIE
+        self.end = time.monotonic() + MAX_SECONDS_TO_DIE
         self.wait()
         return self.close()
 

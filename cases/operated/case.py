@@ -6,7 +6,7 @@ import tempfile
 from contextlib import contextmanager
 
 SAMPLES = os.path.join(os.path.dirname(os.path.abspath(__file__)), "..", "..", "samples")
-MOST_SECONDS = 60
+MAX_SECONDS = 60
 AT = ("--at", "20240131120000")
 
 CASES = []
@@ -61,7 +61,7 @@ class Place:
 
     def run(self, *words, stream=b"", **options):
         return subprocess.run([self.program, *words], input=stream, stdout=subprocess.PIPE, stderr=subprocess.PIPE,
-                              cwd=self.folder, timeout=MOST_SECONDS, **options)
+                              cwd=self.folder, timeout=MAX_SECONDS, **options)
 
     @contextmanager
     def running(self, *words):
@@ -100,7 +100,7 @@ def judge(program, one):
         try:
             one(Place(program, folder))
         except subprocess.TimeoutExpired:
-            raise Wrong("no end in %d seconds" % MOST_SECONDS)
+            raise Wrong("no end in %d seconds" % MAX_SECONDS)
 
 
 KINDS = ("bank.db", "disk:bank.ofx")

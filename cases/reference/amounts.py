@@ -8,19 +8,19 @@ import re
 from .text import trimmed
 
 AMOUNT = re.compile(rb"([+-]?)(?=[.,]?[0-9])([0-9]*)(?:[.,]([0-9]*))?")
-MOST_BYTES = 32
-MOST_CENTS = 9999999999999
+MAX_BYTES = 32
+MAX_CENTS = 9999999999999
 
 
 def read_amount(raw):
     """The cents that an amount stands for. None where the bytes are no amount, more than 32, or past the greatest."""
     raw = trimmed(raw)
     amount = AMOUNT.fullmatch(raw)
-    if amount is None or len(raw) > MOST_BYTES:
+    if amount is None or len(raw) > MAX_BYTES:
         return None
     sign, dollars, parts = amount[1], amount[2], amount[3] or b""
     cents = int(dollars + parts[:2].ljust(2, b"0"))
-    if parts[2:].strip(b"0") or cents > MOST_CENTS:
+    if parts[2:].strip(b"0") or cents > MAX_CENTS:
         return None
     return -cents if sign == b"-" else cents
 

@@ -9,16 +9,16 @@ from .events import File, Letter
 from .fault import Fault
 from .happening import due_run, happen, opened
 from .kept import exchanged
-from .requests import MOST_IN_A_BODY, MOST_IN_A_SUBJECT, read_request
+from .requests import MAX_IN_A_BODY, MAX_IN_A_SUBJECT, read_request
 from .setup import SetupFault, read_setup
 from .stopped import Stopped
 from .sync import is_poll
 from .tags import FORBIDDEN
 from .text import trimmed
 
-MOST_FRAMES = 1000000
-MOST_BYTES = 262144
-MOST_IN_A_WORD = 10000
+MAX_FRAMES = 1000000
+MAX_BYTES = 262144
+MAX_IN_A_WORD = 10000
 
 FRAME_LINE = re.compile(rb"(?:FILE (0|[1-9][0-9]{0,5})|DUE)\n")
 
@@ -76,7 +76,7 @@ def is_word(word):
         word.decode("utf-8")
     except UnicodeDecodeError:
         return False
-    return len(word) <= MOST_IN_A_WORD and not FORBIDDEN.search(word)
+    return len(word) <= MAX_IN_A_WORD and not FORBIDDEN.search(word)
 
 
 def clock_of(words):
@@ -90,7 +90,7 @@ def clock_of(words):
     if len(words) == 3:
         return now if words[0] in (b"answer", b"due") else None
     if words[0] == b"mail":
-        return now if 1 <= len(words[4]) <= MOST_IN_A_SUBJECT else None
+        return now if 1 <= len(words[4]) <= MAX_IN_A_SUBJECT else None
     at = read_moment(words[4]) if (words[0], words[3]) == (b"answer", b"--at") else None
     return None if at is None else lambda: at
 
@@ -102,7 +102,7 @@ def now():
 def mailed(bank, user, subject, given, clock):
     """The line of a letter to a user, with the number of its entry. The input is its body."""
     body = trimmed(given)
-    if len(given) > MOST_BYTES or not 1 <= len(body) <= MOST_IN_A_BODY or FORBIDDEN.search(body):
+    if len(given) > MAX_BYTES or not 1 <= len(body) <= MAX_IN_A_BODY or FORBIDDEN.search(body):
         raise Stopped(4, "frame at 0")
     if user not in bank.setup.users:
         raise Stopped(10, "no user")
@@ -118,8 +118,8 @@ def frames_of(bank, frames, clock):
     count = place = 0
     while place < len(frames):
         line = FRAME_LINE.match(frames, place)
-        size = int(line[1] or 0) if line else MOST_BYTES + 1
-        if count == MOST_FRAMES or size > MOST_BYTES or len(frames) < line.end() + size:
+        size = int(line[1] or 0) if line else MAX_BYTES + 1
+        if count == MAX_FRAMES or size > MAX_BYTES or len(frames) < line.end() + size:
             raise Stopped(4, "frame at %d" % place)
         count, place = count + 1, line.end() + size
         yield answered(bank, None if line[1] is None else frames[line.end():place], clock())

@@ -10,7 +10,7 @@ from .requests import FLAGS, Account, Terms, bank_account, mail, named, read_id,
 from .tags import read_tags
 
 CODES = (WAITING, POSTED, NO_FUNDS)
-MOST_CODE = 65535
+MAX_CODE = 65535
 
 
 class Told(NamedTuple):
@@ -65,7 +65,7 @@ def status(node):
 
 def read_code(value):
     """A code of 1 to 5 digits, at most 65,535. None where it isn't so."""
-    return int(value) if re.fullmatch(rb"[0-9]{1,5}", value) and int(value) <= MOST_CODE else None
+    return int(value) if re.fullmatch(rb"[0-9]{1,5}", value) and int(value) <= MAX_CODE else None
 
 
 def answers_in(messages, forms):

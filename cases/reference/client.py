@@ -11,7 +11,7 @@ from .requests import (
 )
 
 VERSION = b"160"
-MOST_NEXT = 9999999999  # the number at which no further file has a name
+MAX_NEXT = 9999999999  # the number at which no further file has a name
 TO_THE_BANK = b"BANK"
 
 

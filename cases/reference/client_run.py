@@ -9,7 +9,7 @@ from typing import NamedTuple, Optional
 from .answers import read_reply
 from .asked import written_request
 from .bank import Object
-from .client import MOST_NEXT, Client, Refused, judge, polled
+from .client import MAX_NEXT, Client, Refused, judge, polled
 from .client_lines import newest_line, shown
 from .client_text import client_in, text_of
 from .client_words import order_of
@@ -83,7 +83,7 @@ class Run:
             client = client_in(self.text)
         except NoForm as fault:
             raise Stopped(15, "store at %d" % fault.at) from None
-        if (client.name, client.user) != (name, user) or client.next >= MOST_NEXT:
+        if (client.name, client.user) != (name, user) or client.next >= MAX_NEXT:
             raise Stopped(2, "usage")
         return client
 

@@ -9,7 +9,7 @@ import re
 from . import records
 from .bank import NO_FUNDS, POSTED, WAITING, Letter, Model, Object, Row
 from .client import Client, Outstanding, Store
-from .recorded import MOST_CENTS, Fields, NoForm, request
+from .recorded import MAX_CENTS, Fields, NoForm, request
 from .records import FAMILIES, flag, moment, number, optional, signed, text, uid
 from .requests import Terms
 
@@ -100,4 +100,4 @@ def row_in(fields, kind, before):
 
 def terms_in(fields):
     source, target = fields.account(), fields.account()
-    return Terms(source, target, fields.number(8, range(-MOST_CENTS, MOST_CENTS + 1), signed=True), fields.day())
+    return Terms(source, target, fields.number(8, range(-MAX_CENTS, MAX_CENTS + 1), signed=True), fields.day())

@@ -7,12 +7,12 @@ from .answer import is_word
 from .client import Wish
 from .client_text import NAME
 from .dates import read_moment
-from .requests import FREQUENCIES, KINDS, MOST_IN_A_BODY, MOST_IN_A_SUBJECT, Account, Series, Terms, read_id
+from .requests import FREQUENCIES, KINDS, MAX_IN_A_BODY, MAX_IN_A_SUBJECT, Account, Series, Terms, read_id
 from .text import trimmed
 
 NUMBER = re.compile(rb"0|[1-9][0-9]*")
 DAY = re.compile(rb"[0-9]{8}")
-MOST_PORT, MOST_IN_A_SERIES = 65535, 999
+MAX_PORT, MAX_IN_A_SERIES = 65535, 999
 
 
 class NoForm(Exception):
@@ -38,7 +38,7 @@ def order_of(words):
         if not NAME.fullmatch(name) or command not in COMMANDS:
             raise NoForm
         wish = COMMANDS[command](within(bank, 32), *rest)
-        return Order(whole(port, MOST_PORT), store, name, within(user, 32), within(password, 64),
+        return Order(whole(port, MAX_PORT), store, name, within(user, 32), within(password, 64),
                      wish._replace(command=command))
     except (NoForm, TypeError):  # a TypeError where another number of words stands there
         return None
@@ -98,12 +98,12 @@ def modify(bank, id, number, kind, amount, due):
 def repeat(bank, number, kind, to_number, to_kind, amount, first, frequency, count):
     if frequency not in FREQUENCIES:
         raise NoForm
-    series = Series(whole(count, MOST_IN_A_SERIES) or None, frequency)
+    series = Series(whole(count, MAX_IN_A_SERIES) or None, frequency)
     return transfer(bank, number, kind, to_number, to_kind, amount, first)._replace(series=series)
 
 
 def mail(bank, subject, body):
-    return Wish(None, subject=within(subject, MOST_IN_A_SUBJECT), body=within(body, MOST_IN_A_BODY))
+    return Wish(None, subject=within(subject, MAX_IN_A_SUBJECT), body=within(body, MAX_IN_A_BODY))
 
 
 def show(bank):

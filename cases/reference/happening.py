@@ -10,7 +10,7 @@ from .records import record_of
 from .stopped import Stopped
 from .sync import is_poll
 
-MOST_EVENTS = 100000  # of one run of due work
+MAX_EVENTS = 100000  # of one run of due work
 
 
 def opened(setup, records):
@@ -59,9 +59,9 @@ def user_of(bank, event):
 
 def due_run(bank, at):
     """Does what is due at this moment, up to 100,000 events. How many they were."""
-    for count in range(MOST_EVENTS):
+    for count in range(MAX_EVENTS):
         event = next_due(bank, at)
         if event is None:
             return count
         happen(bank, event, at)
-    return MOST_EVENTS
+    return MAX_EVENTS

@@ -2,10 +2,10 @@
 import re
 from typing import NamedTuple, Optional
 
-MOST_IN_A_HEAD = 8192
-MOST_FIELDS = 64
-MOST_IN_A_BODY = 262144
-MOST_EXCHANGES = 100
+MAX_IN_A_HEAD = 8192
+MAX_FIELDS = 64
+MAX_IN_A_BODY = 262144
+MAX_EXCHANGES = 100
 
 LINE_END = rb"\r?\n"
 TOKEN = rb"[!#$%&'*+.^_`|~0-9A-Za-z-]+"
@@ -83,10 +83,10 @@ def within_limits(read, data):
     try:
         head = read(data)
     except NotYet:
-        if len(data) >= MOST_IN_A_HEAD:
+        if len(data) >= MAX_IN_A_HEAD:
             raise Bad from None
         raise
-    if head.size > MOST_IN_A_HEAD or len(head.fields) > MOST_FIELDS:
+    if head.size > MAX_IN_A_HEAD or len(head.fields) > MAX_FIELDS:
         raise Bad
     return head
 
@@ -134,7 +134,7 @@ def refusal(head):
     length = usable_length(head)
     if length is None:
         return 411
-    return 413 if length > MOST_IN_A_BODY else None
+    return 413 if length > MAX_IN_A_BODY else None
 
 
 def is_last(head):
@@ -143,7 +143,7 @@ def is_last(head):
 
 def next_request(data, at):
     """The request that begins there, and where it ends. NotYet where it isn't whole."""
-    rest = data[at:at + MOST_IN_A_HEAD + 1]
+    rest = data[at:at + MAX_IN_A_HEAD + 1]
     try:
         head = read_head(rest)
     except Bad:
@@ -162,7 +162,7 @@ def requests(data):
     """The requests that are answered of all that comes on a connection, in order. Behind a refused one, one that says
     so, and the hundredth the connection ends; a request that isn't whole is answered by nothing."""
     found, at = [], 0
-    while at < len(data) and len(found) < MOST_EXCHANGES:
+    while at < len(data) and len(found) < MAX_EXCHANGES:
         try:
             one, at = next_request(data, at)
         except NotYet:
@@ -184,4 +184,4 @@ def reply(code, body, closes):
 
 def closes(one, number):
     """Whether the reply to a request says that the connection ends, by its number on the connection, from 1."""
-    return isinstance(one, Refused) or one.is_last or number == MOST_EXCHANGES
+    return isinstance(one, Refused) or one.is_last or number == MAX_EXCHANGES

@@ -12,18 +12,18 @@ from .events import File, Letter, Post, Spawn
 from .header import Header, is_uid
 from .records import ASKS, CHOICES, DEED, DEEDS, EPOCH, EVENTS, FAMILIES, FIRST_DAY, VERSION
 from .requests import (
-    FREQUENCIES, KINDS, MAIL_TEXTS, MOST_IN_A_BODY, MOST_IN_A_SUBJECT, Account, Mail, Mailing, Period, Recurring,
+    FREQUENCIES, KINDS, MAIL_TEXTS, MAX_IN_A_BODY, MAX_IN_A_SUBJECT, Account, Mail, Mailing, Period, Recurring,
     Request, Series, Statement, Sync, Terms, Transfer,
 )
 from .tags import FORBIDDEN
 from .text import trimmed
 
 FILE_VERSIONS = (102, 103, 151, 160)
-MOST_ID = 9999999999
-MOST_CENTS = 9999999999999
-MOST_IN_A_SERIES = 999
-LEAST_DAY, MOST_DAY = (date(1900, 1, 1) - FIRST_DAY).days, (date.max - FIRST_DAY).days
-LEAST_MOMENT, MOST_MOMENT = LEAST_DAY * 86400, MOST_DAY * 86400 + 86399
+MAX_ID = 9999999999
+MAX_CENTS = 9999999999999
+MAX_IN_A_SERIES = 999
+LEAST_DAY, MAX_DAY = (date(1900, 1, 1) - FIRST_DAY).days, (date.max - FIRST_DAY).days
+LEAST_MOMENT, MAX_MOMENT = LEAST_DAY * 86400, MAX_DAY * 86400 + 86399
 
 STATEMENT, SYNC = ASKS[Statement], ASKS[Sync]
 OF_MAIL = (b"MAIL", b"MAILRQ")  # the family, and the form of a deed, that stand behind the asks of the bank
@@ -74,14 +74,14 @@ class Fields:
         return self.sized(1, lambda value: 1 <= len(value) <= 36 and is_text(value) and value != b"0")
 
     def moment(self):
-        seconds = self.number(8, range(LEAST_MOMENT, MOST_MOMENT + 1), signed=True)
+        seconds = self.number(8, range(LEAST_MOMENT, MAX_MOMENT + 1), signed=True)
         return EPOCH + timedelta(seconds=seconds)
 
     def day(self):
-        return FIRST_DAY + timedelta(days=self.number(4, range(LEAST_DAY, MOST_DAY + 1), signed=True))
+        return FIRST_DAY + timedelta(days=self.number(4, range(LEAST_DAY, MAX_DAY + 1), signed=True))
 
     def id(self):
-        return self.number(8, range(MOST_ID + 1))
+        return self.number(8, range(MAX_ID + 1))
 
     def flag(self):
         return self.number(1, range(2)) == 1
@@ -98,11 +98,11 @@ class Fields:
 
     def terms(self):
         source, target = self.account(), self.account()
-        cents = self.number(8, range(-MOST_CENTS, MOST_CENTS + 1), signed=True)
+        cents = self.number(8, range(-MAX_CENTS, MAX_CENTS + 1), signed=True)
         return Terms(source, target, cents, self.optional(self.day))
 
     def series(self):
-        count = self.optional(lambda: self.number(2, range(1, MOST_IN_A_SERIES + 1)))
+        count = self.optional(lambda: self.number(2, range(1, MAX_IN_A_SERIES + 1)))
         return Series(count, self.one_of(FREQUENCIES))
 
     def mail(self):
@@ -188,7 +188,7 @@ def sync(fields, behind_mail):
 
 
 def letter(fields):
-    return Letter(fields.number(4), fields.text(MOST_IN_A_SUBJECT), fields.text(MOST_IN_A_BODY))
+    return Letter(fields.number(4), fields.text(MAX_IN_A_SUBJECT), fields.text(MAX_IN_A_BODY))
 
 
 READERS = {

@@ -4,7 +4,7 @@ from typing import NamedTuple
 
 from .http import EMPTY_LINES, UNFINISHED, VALUE, Bad, NotYet, fields_of, part, usable_length, within_limits
 
-MOST_IN_A_REPLY = 67108864
+MAX_IN_A_REPLY = 67108864
 
 # The version, the code, and the phrase, which may be left out.
 VERSION = re.compile(rb"HTTP/1\.[01] ")
@@ -58,7 +58,7 @@ def next_reply(data):
     except NotYet:
         raise NoReply("cut", len(data)) from None
     length = usable_length(head)
-    if length is None or length > MOST_IN_A_REPLY:
+    if length is None or length > MAX_IN_A_REPLY:
         raise NoReply("head")
     if head.size + length > len(data):
         raise NoReply("cut", len(data))

@@ -9,10 +9,10 @@ from typing import NamedTuple
 
 from .requests import KINDS, Account
 
-MOST_BYTES = 262144
-MOST_USERS = MOST_ACCOUNTS = 1000
-MOST_OBJECTS = 1000000  # the window times the number of objects
-MOST_OPENINGS = 9999999999999
+MAX_BYTES = 262144
+MAX_USERS = MAX_ACCOUNTS = 1000
+MAX_OBJECTS = 1000000  # the window times the number of objects
+MAX_OPENINGS = 9999999999999
 
 WORD = re.compile(rb"[!-~]{1,32}")
 NUMBER = re.compile(rb"0|[1-9][0-9]*")
@@ -57,12 +57,12 @@ def read_setup(text):
         end = text.find(b"\n", at) + 1
         words = words_of(LINE_END.sub(b"", text[at:end]))
         count += 1
-        if not 0 < end <= MOST_BYTES or words is None or not setup.take(words):
+        if not 0 < end <= MAX_BYTES or words is None or not setup.take(words):
             raise SetupFault(count)
         at = end
     if not setup.accounts:
         raise SetupFault(count + 1)
-    if setup.window * (3 * len(setup.accounts) + len(setup.users)) > MOST_OBJECTS:
+    if setup.window * (3 * len(setup.accounts) + len(setup.users)) > MAX_OBJECTS:
         raise SetupFault(count)
     return Setup(setup.bank, setup.lead_days, setup.window, setup.most_entries, setup.users, setup.accounts)
 
@@ -104,17 +104,17 @@ class Lines:
         return len(words) == 2 and words[0] == b"ENTRIES" and self.most_entries is not None
 
     def user(self, words):
-        if len(words) != 3 or self.accounts or words[1] in self.users or len(self.users) == MOST_USERS:
+        if len(words) != 3 or self.accounts or words[1] in self.users or len(self.users) == MAX_USERS:
             return False
         self.users[words[1]] = words[2]
         return True
 
     def account(self, words):
-        if len(words) < 5 or words[2] not in KINDS or len(self.accounts) == MOST_ACCOUNTS:
+        if len(words) < 5 or words[2] not in KINDS or len(self.accounts) == MAX_ACCOUNTS:
             return False
         name, owners = Account(self.bank, words[1], words[2]), words[4:]
-        cents = number(words[3], 0, MOST_OPENINGS)
-        if cents is None or sum(opening for opening, _ in self.accounts.values()) + cents > MOST_OPENINGS:
+        cents = number(words[3], 0, MAX_OPENINGS)
+        if cents is None or sum(opening for opening, _ in self.accounts.values()) + cents > MAX_OPENINGS:
             return False
         if name in self.accounts or len(set(owners)) != len(owners) or not set(owners) <= set(self.users):
             return False

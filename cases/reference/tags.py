@@ -5,7 +5,7 @@ from .fault import Fault
 from .names import AGGREGATES, ELEMENTS
 from .text import trimmed
 
-MOST_OPEN = 16
+MAX_OPEN = 16
 
 # A piece is a whole tag, a run of text, or a `<` that begins no whole tag.
 PIECE = re.compile(rb"<(/?)([A-Za-z0-9._-]{1,32})>|[^<]+|<")
@@ -76,7 +76,7 @@ def start_tag(file, piece, top, opened):
         raise Fault("Tag", at)
     # A name that is neither always an element nor always an aggregate is what stands behind it.
     element = name in ELEMENTS or (name not in AGGREGATES and TEXT_AHEAD.match(file, piece.end()) is not None)
-    if not element and len(opened) == MOST_OPEN:
+    if not element and len(opened) == MAX_OPEN:
         raise Fault("Depth", at)
     node = Node(name, at, element)
     if opened:

@@ -4,7 +4,7 @@ import socket
 import struct
 import time
 
-from served.server import MOST_SECONDS
+from served.server import MAX_SECONDS
 
 PIECE = 65536
 
@@ -13,7 +13,7 @@ class Link:
     """A connection to a server on this machine. What is sent goes out at once."""
 
     def __init__(self, port):
-        self.socket = socket.create_connection(("127.0.0.1", port), timeout=MOST_SECONDS)
+        self.socket = socket.create_connection(("127.0.0.1", port), timeout=MAX_SECONDS)
         self.socket.setsockopt(socket.IPPROTO_TCP, socket.TCP_NODELAY, 1)
         self.come = b""  # what was read and isn't taken
         self.all = b""  # what was read
@@ -38,7 +38,7 @@ class Link:
         """Sends the whole stream, in pieces of at most so many bytes, and ends the sending, reading meanwhile. All that
         comes until the server closes, and whether it closes in time."""
         self.socket.setblocking(False)
-        end, sent, ended = time.monotonic() + MOST_SECONDS, 0, False
+        end, sent, ended = time.monotonic() + MAX_SECONDS, 0, False
         while time.monotonic() < end:
             if sent == len(stream) and not ended:
                 ended = True
@@ -74,7 +74,7 @@ class Link:
 
     def read(self, size):
         """So many bytes, or fewer where no more come in time or the server closes."""
-        self.socket.settimeout(MOST_SECONDS)
+        self.socket.settimeout(MAX_SECONDS)
         while len(self.come) < size and self.take_in():
             pass
         some, self.come = self.come[:size], self.come[size:]
@@ -82,7 +82,7 @@ class Link:
 
     def rest(self):
         """All that comes until the server closes."""
-        self.socket.settimeout(MOST_SECONDS)
+        self.socket.settimeout(MAX_SECONDS)
         while self.take_in():
             pass
         some, self.come = self.come, b""

@@ -14,7 +14,7 @@ from reference.requests import read_request
 from reference.setup import read_setup
 from served.link import Link
 from served.requests import FILE, asking, request
-from served.server import MOST_SECONDS, Server, Wrong
+from served.server import MAX_SECONDS, Server, Wrong
 from written.disk_file import read
 from written.pieces import sample
 
@@ -303,7 +303,7 @@ def posted_in(come):
 
 def outcome(program, folder, *words):
     done = subprocess.run([program, "serve", *words], cwd=folder, stdin=subprocess.DEVNULL, stdout=subprocess.PIPE,
-                          stderr=subprocess.PIPE, timeout=MOST_SECONDS)
+                          stderr=subprocess.PIPE, timeout=MAX_SECONDS)
     return done.returncode, done.stderr.split(b"\n")[0].decode(), done.stdout
 
 

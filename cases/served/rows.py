@@ -7,7 +7,7 @@ from served.requests import FILE, REST, asking, head, length, request
 
 GOOD = request()
 LARGEST = 262144
-MOST_IN_A_HEAD = 8192
+MAX_IN_A_HEAD = 8192
 HUNDRED = 100
 
 
@@ -138,14 +138,14 @@ def bodies():
 
 def limits():
     """The limits of heads and connections, and one beyond."""
-    yield "a head of 8,192 bytes", sized(MOST_IN_A_HEAD) + GOOD, [200, 200]
-    yield "a head of 8,193 bytes", sized(MOST_IN_A_HEAD + 1), [400]
-    yield "8,192 bytes without a head's end", b"POST /ofx HTTP/1.1\r\nX: " + b"x" * (MOST_IN_A_HEAD - 23), [400]
-    yield "8,191 bytes without a head's end", b"POST /ofx HTTP/1.1\r\nX: " + b"x" * (MOST_IN_A_HEAD - 24), []
-    yield "8,192 bytes of a method", b"x" * MOST_IN_A_HEAD, [400]
-    yield "8,191 bytes of a method", b"x" * (MOST_IN_A_HEAD - 1), []
-    yield "8,192 bytes of empty lines", b"\r\n" * (MOST_IN_A_HEAD // 2), [400]
-    yield "a target too long", lined(b"POST /" + b"x" * MOST_IN_A_HEAD + b" HTTP/1.1"), [400]
+    yield "a head of 8,192 bytes", sized(MAX_IN_A_HEAD) + GOOD, [200, 200]
+    yield "a head of 8,193 bytes", sized(MAX_IN_A_HEAD + 1), [400]
+    yield "8,192 bytes without a head's end", b"POST /ofx HTTP/1.1\r\nX: " + b"x" * (MAX_IN_A_HEAD - 23), [400]
+    yield "8,191 bytes without a head's end", b"POST /ofx HTTP/1.1\r\nX: " + b"x" * (MAX_IN_A_HEAD - 24), []
+    yield "8,192 bytes of a method", b"x" * MAX_IN_A_HEAD, [400]
+    yield "8,191 bytes of a method", b"x" * (MAX_IN_A_HEAD - 1), []
+    yield "8,192 bytes of empty lines", b"\r\n" * (MAX_IN_A_HEAD // 2), [400]
+    yield "a target too long", lined(b"POST /" + b"x" * MAX_IN_A_HEAD + b" HTTP/1.1"), [400]
     yield "64 fields", with_fields(64) + GOOD, [200, 200]
     yield "65 fields", with_fields(65), [400]
     yield "65 fields without an end", with_fields(65)[:-len(FILE) - 2], []

@@ -8,7 +8,7 @@ import time
 
 from written.pieces import sample
 
-MOST_SECONDS = 20
+MAX_SECONDS = 20
 LOOK = 0.01  # seconds
 LISTENS = re.compile(rb"^listens at .*\n(?:.*\n)*records .*\n", re.MULTILINE)
 
@@ -46,7 +46,7 @@ class Server:
         self.await_listening()
 
     def await_listening(self):
-        end = time.monotonic() + MOST_SECONDS
+        end = time.monotonic() + MAX_SECONDS
         while not LISTENS.search(self.told()):
             if self.child.poll() is not None:
                 raise Wrong("the server ended with status %d and %r" % (self.child.returncode, self.told()))
@@ -72,7 +72,7 @@ class Server:
     def wait(self):
         """The status with which it ends by itself."""
         try:
-            return self.child.wait(MOST_SECONDS)
+            return self.child.wait(MAX_SECONDS)
         except subprocess.TimeoutExpired:
             raise Wrong("the server doesn't end")
 
