@@ -29,7 +29,7 @@ http {
 
 
 class Fixed:
-    """A run of nginx with four processes, which ends a connection behind a hundred requests, as the bank does."""
+    """A run of nginx with four processes, which ends a connection after a hundred requests, as the bank does."""
 
     def __init__(self, folder, answer):
         self.port = free_port()

@@ -12,11 +12,11 @@ wrk.body = f:read("*a")
 f:close()
 """
 # The number of the request in the place of each `@` in its TRNUID.
-NUMBERED = ONE + """local before, behind = wrk.body:match("^(.-<TRNUID>)@(.*)$")
+NUMBERED = ONE + """local before, rest = wrk.body:match("^(.-<TRNUID>)@(.*)$")
 local number = 0
 request = function()
     number = number + 1
-    return wrk.format(nil, nil, nil, before .. "x" .. number .. behind)
+    return wrk.format(nil, nil, nil, before .. "x" .. number .. rest)
 end
 """
 UNITS = {"us": 1e-6, "ms": 1e-3, "s": 1, "m": 60}

@@ -7,7 +7,7 @@ from written.frames import answers
 from written.pieces import SAMPLES, sample
 
 FOLDER = os.path.join(SAMPLES, "clients")
-MOMENT = "20261231120000"  # of each answer, behind the days of the recording
+MOMENT = "20261231120000"  # of each answer, after the days of the recording
 WORDS = ["answer", "setup", "-", "--at", MOMENT]
 ROW = re.compile(r"^\| `([a-z-]+)` \| [^|]* \| ([0-9,; ]+) \|", re.MULTILINE)
 CODE = re.compile(rb"^<CODE>([0-9]+)\r$", re.MULTILINE)

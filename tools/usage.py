@@ -15,20 +15,20 @@ def said(program, *words):
 
 
 def version(program):
-    """Name and version, as `ofxbank 0.1.0`."""
+    """Name and version, as `ofxbank VERSION`."""
     return said(program, "--version").strip()
 
 
 def paragraphs(text):
-    """The lines with the forms of commands, and then each paragraph's lines. The first may stand right behind the forms."""
+    """The lines with the forms of commands, and then each paragraph's lines. The first may come right after the forms."""
     first, *rest = [part.split("\n") for part in text.strip("\n").split("\n\n")]
     forms = [line for line in first if FORM.match(line)]
-    behind = [line for line in first if not FORM.match(line)]
-    return [forms, *([behind] if behind else []), *rest]
+    following = [line for line in first if not FORM.match(line)]
+    return [forms, *([following] if following else []), *rest]
 
 
 class Help:
-    """The program's help: `forms` of its commands, and the paragraphs behind them."""
+    """The program's help: `forms` of its commands, and the paragraphs after them."""
 
     def __init__(self, program, name):
         usage, *self.paragraphs = paragraphs(said(program, "--help"))

@@ -1,4 +1,4 @@
-"""What people are told behind the first line of the error stream."""
+"""What people are told after the first line of the error stream."""
 import os
 
 from reference.client_words import order_of
@@ -16,7 +16,7 @@ USAGE = "Usage: ofxclient "
 
 
 def judge_advice(words, status, told):
-    """Judges what stands behind the first line, for a run with these words. With 2 the usage stands last."""
+    """Judges what stands after the first line, for a run with these words. With 2 the usage stands last."""
     words = [os.fsencode(word) for word in words]
     lines = told.decode("utf-8", "replace").split("\n")[1:]
     has_form = order_of(words) is not None
@@ -26,5 +26,5 @@ def judge_advice(words, status, told):
         named, said = SECOND[status]
         named %= trimmed(words[0 if named == PORT else 1]).decode("utf-8", "replace")
         if named not in lines[0] or said not in lines[0] or status != 2 and lines[1:] != [""]:
-            raise Wrong("with status %d %r is told behind the first line, wanted a line with %r and %r" % (
+            raise Wrong("with status %d %r is told after the first line, wanted a line with %r and %r" % (
                 status, lines, named, said))

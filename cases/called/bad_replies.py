@@ -33,7 +33,7 @@ def refused(desk, act, status, note, command=TRANSFER):
     c1 = desk.new_customer()
     desk.fails(c1, command, status, note, act)
     if command != CHECK:
-        expect(waits(c1), True, "that a file waits behind %r" % note)
+        expect(waits(c1), True, "that a file waits after %r" % note)
     return c1
 
 
@@ -72,12 +72,12 @@ def nobody_listens(desk):
 
 @test
 def codes(desk):
-    """every other code than 200 is told, and the file waits, but behind 400"""
+    """every other code than 200 is told, and the file waits, but after 400"""
     for code in (100, 201, 204, 301, 404, 405, 411, 413, 500, 503, 999):
         refused(desk, says(b"HTTP/1.1 %d X\r\nContent-Length: 3\r\n\r\nno\n" % code), 11, "http %d" % code)
     c1 = desk.new_customer()
     desk.fails(c1, TRANSFER, 11, "http 400", says(BAD_FILE))
-    expect(waits(c1), False, "that a file waits behind 400")
+    expect(waits(c1), False, "that a file waits after 400")
     desk.says(c1, "show", "client c1 next 2 done NONE", "intra 1001 CHECKING token 0 lost N rows 0")
     c1 = refused(desk, says(BAD_FILE[:-1]), 17, "cut at %d" % (len(BAD_FILE) - 1))
     desk.fails(c1, SYNC, 11, "http 400", says(BAD_FILE))
@@ -144,7 +144,7 @@ def damaged(desk):
         c1 = desk.new_customer()
         done, lines = desk.run_whole(c1, TRANSFER, Paper().answers(edited(old, new)))
         expect((done.status, done.note().startswith("bad reply at "), lines), (12, True, []), "the end with %r" % new)
-        expect(waits(c1), True, "that a file waits behind %r" % new)
+        expect(waits(c1), True, "that a file waits after %r" % new)
 
 
 @test
@@ -214,7 +214,7 @@ def too_few(desk):
 
 @test
 def lengths(desk):
-    """a length that is twice the reply's is waited for in vain; one that is shorter cuts the file; what comes behind a
+    """a length that is twice the reply's is waited for in vain; one that is shorter cuts the file; what comes after a
     reply isn't looked at"""
     def said(times):
         def change(whole):

@@ -86,10 +86,10 @@ def flipped(desk):
 
 @test
 def more(desk):
-    """a byte more behind a text has no form there"""
+    """a byte more after a text has no form there"""
     for text in (RICH, text_of(Client(b"c1", b"alice"))):
         for byte in (b"\x00", b"\x01", b"\n"):
-            expect(shown(desk, text + byte), (15, "store at %d" % len(text)), "the end with %r behind" % byte)
+            expect(shown(desk, text + byte), (15, "store at %d" % len(text)), "the end with %r after" % byte)
 
 
 def kept(*stores):

@@ -25,7 +25,7 @@ class Done(NamedTuple):
     status: int
     output: bytes
     told: bytes  # on the error stream
-    saved: bytes  # the text that is kept behind it; empty where none is
+    saved: bytes  # the text that is kept after it; empty where none is
     began: object  # moments
     ended: object
 
@@ -81,7 +81,7 @@ class Customer:
         return self.run_words(self.words(port, command), ready)
 
     def run_words(self, words, ready=None):
-        """As `run`, of these words. What it tells people behind its first line is judged."""
+        """As `run`, of these words. What it tells people after its first line is judged."""
         began, Customer.runs = now(), Customer.runs + 1
         self.began.clear()
         self.child = subprocess.Popen([self.program, *words], cwd=self.folder, stdin=subprocess.DEVNULL,

@@ -60,7 +60,7 @@ def reply_is_lost(trial):
         expect(len(trial.second.bank.transfers), number, "the number of transfers at the bank")
         said = trial.run(c1, SYNC)
         expect(said[0], "done %s-1-1 0" % name, "what the next run prints first")
-        expect(said[2], "balance 1001 CHECKING %d.%02d" % divmod(cents, 100), "the balance behind it")
+        expect(said[2], "balance 1001 CHECKING %d.%02d" % divmod(cents, 100), "the balance after it")
         expect(len(trial.second.bank.transfers), number, "the number of transfers at the bank, sent again")
         expect(trial.balance("1002", "SAVINGS"), 15000 - cents, "the balance of 1002")
 
@@ -246,7 +246,7 @@ def refused_transfers(trial):
 
 @test
 def server_ends(trial):
-    """where the bank is stopped nothing is lost, and the runs behind its next start go on"""
+    """where the bank is stopped nothing is lost, and the runs after its next start go on"""
     c1 = trial.customer()
     trial.fails(c1, TRANSFER, 17, "cut at 0", loses())
     trial.stop()
@@ -313,7 +313,7 @@ def in_memory(trial):
         done = c1.run(trial.relay.port, command)
         trial.judge_bank(trial.relay.last(), done)
         expect(done.lines(), ["done c1-1-1 0", "intra 1001 CHECKING token 1 lost N rows 1"], "what it prints")
-        expect(trial.balance("1001", "CHECKING"), 9000, "the balance behind the first payment, the one that is made")
+        expect(trial.balance("1001", "CHECKING"), 9000, "the balance after the first payment, the one that is made")
     expect(os.listdir(trial.folder), before, "the files")
 
 

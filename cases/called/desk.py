@@ -41,11 +41,11 @@ class Desk:
         """The run of `show`, which calls nobody."""
         calls = self.relay.calls()
         done = customer.run_words(words, ready)
-        expect(self.relay.calls(), calls, "the number of connections behind show")
+        expect(self.relay.calls(), calls, "the number of connections after show")
         return done
 
     def run_killed(self, customer, command, seconds):
-        """A run that is killed so many seconds behind its start. What is kept then is what was, or a text that the run
+        """A run that is killed so many seconds after its start. What is kept then is what was, or a text that the run
         was to save."""
         self.relay.act, self.relay.count = passes, 0
         before, words = customer.text(), customer.words(self.relay.port, command)

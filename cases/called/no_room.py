@@ -161,7 +161,7 @@ class Saves:
         expect(os.path.exists(c1.store + ".new"), False, "that a draft stays beside")
 
     def bars(self, c1, act):
-        """The action behind which nothing can be saved."""
+        """The action after which nothing can be saved."""
         def then(exchange, number):
             act(exchange, number)
             self.how.bar(c1.process())

@@ -21,7 +21,7 @@ class Paper:
 
     def answers(self, change=None, end=None, of=0):
         """The action by which this bank answers. `change` makes of the reply to the exchange of this number what is
-        given in its place, and behind that the connection ends in this way."""
+        given in its place, and after that the connection ends in this way."""
         def act(exchange, number):
             exchange.reply = reply(200, self.file(exchange.request), closes=False)
             if number == of:

@@ -1,4 +1,4 @@
-"""A random day at a bank, behind a proxy that cuts, delays, repeats and swaps, and what has to hold behind it."""
+"""A random day at a bank, behind a proxy that cuts, delays, repeats and swaps, and what has to hold after it."""
 import random
 
 from called.desk import expect

@@ -22,7 +22,7 @@ class Exchange:
     def __init__(self, relay, talk, request):
         self.relay, self.talk, self.request, self.reply = relay, talk, request, b""
         self.given = None  # what the customer gets
-        self.ends = False  # whether its connection ends behind that
+        self.ends = False  # whether its connection ends after that
         self.is_reset = False  # and how
 
 
@@ -133,7 +133,7 @@ class Relay(threading.Thread):
 
     def calls(self):
         """How many connections were made to it so far, all of which are over. It makes one itself, which is taken in
-        behind all others."""
+        after all others."""
         with socket.create_connection(("127.0.0.1", self.port), MAX_SECONDS) as own:
             own.shutdown(socket.SHUT_WR)
             try:

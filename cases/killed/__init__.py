@@ -1,1 +1,1 @@
-"""Runs that may be killed at any time, and what must be found behind them."""
+"""Runs that may be killed at any time, and what must be found after them."""

@@ -113,7 +113,7 @@ class Client:
             raise Wrong("a token has lost its place")
 
     def judge_last(self):
-        """Judges that all was done, where all is answered and the question was asked behind that."""
+        """Judges that all was done, where all is answered and the question was asked after that."""
         left = set(map(str.encode, self.asked)) - self.told
         if left:
             raise Wrong("%d transfers never ran, as %s" % (len(left), min(left).decode()))

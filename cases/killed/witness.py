@@ -21,7 +21,7 @@ class Witness:
         self.is_unsettled = False  # whether the next start may take back what landed last
 
     def judge(self, at, frames, written, records):
-        """Judges what a run has written for these frames, and the records behind it. The answers."""
+        """Judges what a run has written for these frames, and the records after it. The answers."""
         self.look_back(records)
         got = whole(answers(written))
         for one, got_one in zip(frames, got):

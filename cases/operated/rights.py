@@ -31,7 +31,7 @@ def log_for_the_owner(place):
 
 @case
 def open_setup(place):
-    """a setup that others can read is told, behind an empty line where the run is well"""
+    """a setup that others can read is told, after an empty line where the run is well"""
     os.chmod(place.path("setup"), 0o644)
     told = "warning: setup: others can read it, and it has the passwords; chmod 600 setup"
     place.tells(0, ["", told], "due", "setup", "-")

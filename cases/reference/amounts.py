@@ -1,7 +1,7 @@
 """Amounts of money, as they stand in the values of elements, and the cents that they stand for.
 
-An amount is perhaps a sign, and digits, at least one. Among them, before them or behind them one mark may stand, a
-point or a comma, which parts dollars from cents. Behind the second digit behind the mark only zeros may stand.
+An amount is perhaps a sign, and digits, at least one. Among them, before them or after them one mark may stand, a
+point or a comma, which parts dollars from cents. After the second digit after the mark only zeros may stand.
 """
 import re
 

@@ -27,12 +27,12 @@ class Outcome(NamedTuple):
     status: int
     output: bytes
     note: Optional[str]  # the first line of the error stream, which says why the run ended; None where it is empty
-    records: Optional[list]  # all that are kept behind the run; None where no bank was opened, and nothing changes
+    records: Optional[list]  # all that are kept after the run; None where no bank was opened, and nothing changes
 
 
 def answer(words, setup_text, given, takes_output=True, kept=()):
     """The outcome of a run with these words, whose second one is the path of the setup's text, on an input, over the
-    records that are kept behind the third. Text and input are None where they can't be read, and so is a record."""
+    records that are kept after the third. Text and input are None where they can't be read, and so is a record."""
     words, written, bank = [trimmed(word) for word in words], [], None
     try:
         bank = bank_of(words, setup_text, kept)
@@ -46,7 +46,7 @@ def answer(words, setup_text, given, takes_output=True, kept=()):
 
 
 def bank_of(words, setup_text, kept):
-    """The bank that a run with these words opens; behind `-` nothing is kept."""
+    """The bank that a run with these words opens; after `-` nothing is kept."""
     if clock_of(words) is None:
         raise Stopped(2, "usage")
     if setup_text is None:

@@ -67,7 +67,7 @@ class Store:
 
 
 def changed(rows, change):
-    """The rows behind a change. What is new or changed takes the place of its id, and a changed transfer keeps the
+    """The rows after a change. What is new or changed takes the place of its id, and a changed transfer keeps the
     model of the row that is there; what is cancelled goes; a mail comes last."""
     if isinstance(change.what, Letter):
         return rows + [change.what]

@@ -27,7 +27,7 @@ class Link(NamedTuple):
 
     data: bytes
     is_there: bool = True  # False where nobody lets the program in
-    fails: bool = False  # whether a read fails behind all that comes
+    fails: bool = False  # whether a read fails after all that comes
 
 
 class Outcome(NamedTuple):
@@ -35,7 +35,7 @@ class Outcome(NamedTuple):
     note: Optional[str]  # the first line of the error stream; None where it is empty
     output: bytes
     sent: bytes
-    saved: bytes  # the text that is kept behind the run
+    saved: bytes  # the text that is kept after the run
 
 
 class Run:

@@ -1,7 +1,7 @@
-"""Dates, as they stand in the values of elements and behind `--at`, and the moments in GMT that they stand for.
+"""Dates, as they stand in the values of elements and after `--at`, and the moments in GMT that they stand for.
 
-A date is `YYYYMMDD`, which is midnight, or `YYYYMMDDHHMMSS`. Behind the second form a point and three digits may stand,
-which are dropped. Behind all of this a zone may stand: `[`, an offset, perhaps `:` and a name, and `]`. An offset is
+A date is `YYYYMMDD`, which is midnight, or `YYYYMMDDHHMMSS`. After the second form a point and three digits may stand,
+which are dropped. After all of this a zone may stand: `[`, an offset, perhaps `:` and a name, and `]`. An offset is
 perhaps a sign, one or two digits of hours, and perhaps a point and one or two digits, which are decimal parts of an
 hour. A name is up to 32 bytes of which none is a bracket. Without a zone the date is GMT.
 """

@@ -30,7 +30,7 @@ def spawns_by(bank, day):
 
 def next_day(bank, id, day):
     """The day of the next transfer of this model. None where it can't make one on this day: the next day of the series
-    is there and at most LEAD days behind."""
+    is there and at most LEAD days after."""
     model = bank.models[id]
     count, frequency = model.series
     if id in bank.cancelled or (count is not None and bank.made[id] >= count):

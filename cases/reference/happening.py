@@ -14,7 +14,7 @@ MAX_EVENTS = 100000  # of one run of due work
 
 
 def opened(setup, records):
-    """The bank that these records come to, each of an event that may happen behind those before. A record that can't be
+    """The bank that these records come to, each of an event that may happen after those before. A record that can't be
     read from the file is None."""
     bank = Bank(setup)
     for number, record in enumerate(records, 1):

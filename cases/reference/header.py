@@ -24,7 +24,7 @@ class Header(NamedTuple):
     older: Optional[bytes]  # OLDFILEUID, None for NONE
     newer: Optional[bytes]  # NEWFILEUID, None for NONE
     lines: tuple  # where each line begins
-    size: int  # the body begins behind it
+    size: int  # the body begins after it
 
 
 def is_uid(value):

@@ -1,4 +1,4 @@
-"""HTTP: the heads of requests, what refuses them, the bodies behind them, and the heads of replies."""
+"""HTTP: the heads of requests, what refuses them, the bodies after them, and the heads of replies."""
 import re
 from typing import NamedTuple, Optional
 
@@ -10,7 +10,7 @@ MAX_EXCHANGES = 100
 LINE_END = rb"\r?\n"
 TOKEN = rb"[!#$%&'*+.^_`|~0-9A-Za-z-]+"
 VALUE = rb"[\t\x20-\x7e\x80-\xff]*"
-# From the left; each part stands behind the one before.
+# From the left; each part stands after the one before.
 EMPTY_LINES = re.compile(rb"(?:%s)*" % LINE_END)
 METHOD = re.compile(rb"(%s) " % TOKEN)
 TARGET = re.compile(rb"([\x21-\x7e\x80-\xff]+) ")
@@ -43,7 +43,7 @@ class Head(NamedTuple):
 
 
 class Refused(NamedTuple):
-    """A request that its head refuses. The connection ends behind it."""
+    """A request that its head refuses. The connection ends after it."""
 
     code: int
     body: bytes
@@ -53,7 +53,7 @@ class Whole(NamedTuple):
     """A whole request."""
 
     file: bytes
-    is_last: bool  # whether it says that its connection ends behind it
+    is_last: bool  # whether it says that its connection ends after it
 
 
 class Bad(Exception):
@@ -159,7 +159,7 @@ def next_request(data, at):
 
 
 def requests(data):
-    """The requests that are answered of all that comes on a connection, in order. Behind a refused one, one that says
+    """The requests that are answered of all that comes on a connection, in order. After a refused one, one that says
     so, and the hundredth the connection ends; a request that isn't whole is answered by nothing."""
     found, at = [], 0
     while at < len(data) and len(found) < MAX_EXCHANGES:

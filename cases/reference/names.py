@@ -1,4 +1,4 @@
-"""The names whose kind doesn't depend on what stands behind them."""
+"""The names whose kind doesn't depend on what stands after them."""
 
 # Always elements.
 ELEMENTS = frozenset(b"""

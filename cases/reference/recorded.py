@@ -2,7 +2,7 @@
 
 A field is a number, a flag, a text or uid with its length, or the byte that says which of several follows. One that is
 cut has no form, and neither has one whose value is out of its bounds. Where several fields decide, it is the first
-behind which nothing could make the record one of an event any more: which deed or object may stand depends on what
+after which nothing could make the record one of an event any more: which deed or object may stand depends on what
 stands before.
 """
 from datetime import date, timedelta
@@ -26,7 +26,7 @@ LEAST_DAY, MAX_DAY = (date(1900, 1, 1) - FIRST_DAY).days, (date.max - FIRST_DAY)
 LEAST_MOMENT, MAX_MOMENT = LEAST_DAY * 86400, MAX_DAY * 86400 + 86399
 
 STATEMENT, SYNC = ASKS[Statement], ASKS[Sync]
-OF_MAIL = (b"MAIL", b"MAILRQ")  # the family, and the form of a deed, that stand behind the asks of the bank
+OF_MAIL = (b"MAIL", b"MAILRQ")  # the family, and the form of a deed, that stand after the asks of the bank
 
 
 class NoForm(Exception):
@@ -57,7 +57,7 @@ class Fields:
         return value
 
     def sized(self, size, has_form):
-        """The bytes behind their length, a number of this size."""
+        """The bytes after their length, a number of this size."""
         length = int.from_bytes(self.record[self.at:self.at + size], "big")
         value = self.record[self.at + size:self.at + size + length]
         return self.taken(size + length, value, has_form(value))
@@ -151,7 +151,7 @@ def is_of_mail(ask):
 
 
 def ask(fields, behind_mail):
-    """An ask. Behind one of mail only asks of mail may stand."""
+    """An ask. After one of mail only asks of mail may stand."""
     kind = fields.number(1, (DEED, SYNC) if behind_mail else (STATEMENT, DEED, SYNC))
     if kind == SYNC:
         return sync(fields, behind_mail)

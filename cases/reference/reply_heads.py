@@ -1,4 +1,4 @@
-"""HTTP as a client sees it: the head that it writes, the heads of replies, and the bodies behind them."""
+"""HTTP as a client sees it: the head that it writes, the heads of replies, and the bodies after them."""
 import re
 from typing import NamedTuple
 
@@ -50,7 +50,7 @@ def any_head(data):
 
 
 def next_reply(data):
-    """The code, the body, and the size of the reply that begins the bytes, behind which nothing comes."""
+    """The code, the body, and the size of the reply that begins the bytes, after which nothing comes."""
     try:
         head = read_head(data)
     except Bad:

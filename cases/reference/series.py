@@ -2,7 +2,7 @@
 
 A day is counted in weeks, or in months with its day of the month, which becomes the month's last day in a month that
 is too short for it. TWICEMONTHLY has two days of the month, 15 apart: that of the first day, and one that is 15 later
-in the same month, or 15 earlier in the next month where the first day is behind the 15th.
+in the same month, or 15 earlier in the next month where the first day is after the 15th.
 """
 from datetime import MAXYEAR, date, timedelta
 
@@ -11,7 +11,7 @@ MONTHS = {b"MONTHLY": 1, b"BIMONTHLY": 2, b"QUARTERLY": 3, b"SEMIANNUALLY": 6, b
 
 
 def day_of(first, frequency, k):
-    """The k-th day, k from 0. None where it would be behind 31 December 9999."""
+    """The k-th day, k from 0. None where it would be after 31 December 9999."""
     if frequency in WEEKS:
         days = 7 * WEEKS[frequency] * k
         return first + timedelta(days) if days <= (date.max - first).days else None
@@ -26,7 +26,7 @@ def day_of(first, frequency, k):
 
 
 def in_month(first, months, day):
-    """The day of the month that is so many months behind the first day's."""
+    """The day of the month that is so many months after the first day's."""
     years, month = divmod(first.month - 1 + months, 12)
     year, month = first.year + years, month + 1
     return date(year, month, min(day, month_length(year, month))) if year <= MAXYEAR else None

@@ -1,7 +1,7 @@
 """The setup's text: a bank, its users and its accounts, one line each.
 
 The first five lines stand in one order: `OFXBANK 1`, `BANK id`, `LEAD 0` to 30, `WINDOW 1` to 10,000 and `ENTRIES 1` to
-9,999,999,999. Behind them stand 1 to 1,000 lines `USER name password`, then 1 to 1,000 lines `ACCT number kind cents
+9,999,999,999. After them stand 1 to 1,000 lines `USER name password`, then 1 to 1,000 lines `ACCT number kind cents
 owner ..`. Each line ends in LF or CRLF, the last one too.
 """
 import re
@@ -51,7 +51,7 @@ def words_of(line):
 
 
 def read_setup(text):
-    """The setup that a text spells; otherwise the first line at fault, or the line that is missing behind the last."""
+    """The setup that a text spells; otherwise the first line at fault, or the line that is missing after the last."""
     setup, count, at = Lines(), 0, 0
     while at < len(text):
         end = text.find(b"\n", at) + 1

@@ -74,7 +74,7 @@ def start_tag(file, piece, top, opened):
     behind_the_end = top is not None and not opened
     if behind_the_end or (top is None and name != b"OFX"):
         raise Fault("Tag", at)
-    # A name that is neither always an element nor always an aggregate is what stands behind it.
+    # A name that is neither always an element nor always an aggregate is what stands after it.
     element = name in ELEMENTS or (name not in AGGREGATES and TEXT_AHEAD.match(file, piece.end()) is not None)
     if not element and len(opened) == MAX_OPEN:
         raise Fault("Depth", at)

@@ -82,7 +82,7 @@ def refusal_of_new_terms(bank, terms, old):
 
 
 def refusal_of_day(bank, terms):
-    """What is to wait has a day, behind the business day."""
+    """What is to wait has a day, after the business day."""
     return NO_DUE_DAY if terms.due is None or terms.due <= bank.day else None
 
 

@@ -29,7 +29,7 @@ class Judge:
     def __init__(self, setup_text):
         self.bank = opened(read_setup(setup_text), [])
         self.lost = 0  # replies
-        self.since = now()  # a moment that isn't behind the end of the last connection, or of the run's beginning
+        self.since = now()  # a moment that isn't after the end of the last connection, or of the run's beginning
 
     def judge(self, stream, output, began, ended, records, was_reset=False):
         """Judges what came on a connection between these moments, on which this was sent, by the records that were
@@ -98,11 +98,11 @@ class Judge:
         return records[known] if known < len(records) else None
 
     def judge_rest(self, records):
-        """Judges the records behind the last connection, of due work."""
+        """Judges the records after the last connection, of due work."""
         while self.next_record(records) is not None:
             event, at = read_record(self.next_record(records))
             if next_due(self.bank, within(at, self.since, now())) != event:
-                raise Wrong("%r is kept behind the last connection" % (event,))
+                raise Wrong("%r is kept after the last connection" % (event,))
             happen(self.bank, event, at)
         if records != self.bank.records:
             raise Wrong("%d records are kept, and %d events have happened" % (len(records), len(self.bank.records)))

@@ -131,8 +131,8 @@ def refused_while_sending(program, folder):
             expect(link.was_reset, False, "a reset while they send")
         with Link(server.port) as link:
             link.send(too_large)
-            expect(link.rest(), want, "the answer to who reads behind all")
-            expect(link.was_reset, False, "a reset behind all")
+            expect(link.rest(), want, "the answer to who reads after all")
+            expect(link.was_reset, False, "a reset after all")
 
 
 def bad_at_once(program, folder):
@@ -179,7 +179,7 @@ def more_than_workers(program, folder):
 
 
 def no_room(program, folder):
-    """while the records can't be written 503 is said, and behind that the bank goes on"""
+    """while the records can't be written 503 is said, and after that the bank goes on"""
     with Server(program, folder, "disk:records") as server, Link(server.port) as link:
         expect_answer(link)
         _, most = resource.prlimit(server.child.pid, resource.RLIMIT_FSIZE)
@@ -194,7 +194,7 @@ def no_room(program, folder):
 
 
 def by_itself(program, folder):
-    """a run ends behind its connections, with status 0, and says how many there were"""
+    """a run ends after its connections, with status 0, and says how many there were"""
     with Server(program, folder, workers=3, connections=2) as server:
         for _ in range(6):
             with Link(server.port) as link:
@@ -268,7 +268,7 @@ def numbered(number):
 
 def sent_in_turn(server, known, r):
     """Sends what isn't answered, and more, each file when the one before it was answered, and kills the server some time
-    behind the last one's. How many were sent, and how many were answered by then."""
+    after the last one's. How many were sent, and how many were answered by then."""
     with Link(server.port) as link:
         count = 1 + r.randrange(MANY_FILES // 4)
         for k in range(count):
@@ -282,7 +282,7 @@ def sent_in_turn(server, known, r):
 
 
 def sent_at_once(server, known, r):
-    """Sends what isn't answered, and more, all at once, and kills the server some time behind a reply. How many were sent,
+    """Sends what isn't answered, and more, all at once, and kills the server some time after a reply. How many were sent,
     and how many were answered by then: a reply that was written may be lost with its connection, so more may be kept."""
     with Link(server.port) as link:
         link.send(b"".join(numbered(known + k) for k in range(MANY_FILES)))

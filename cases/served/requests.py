@@ -15,7 +15,7 @@ def head(line=b"POST /ofx HTTP/1.1", fields=REST + length(len(FILE)), end=b"\r\n
 
 
 def request(file=FILE, line=b"POST /ofx HTTP/1.1", more=b""):
-    """A whole request with this file as its body, and these fields behind its others."""
+    """A whole request with this file as its body, and these fields after its others."""
     return head(line, REST + length(len(file)) + more) + file
 
 

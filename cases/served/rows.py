@@ -1,7 +1,7 @@
 """What is sent on a connection, and the codes of the replies to it, as the table of statuses has them.
 
 A row is a name, the stream of bytes that is sent before the sending ends, and the codes. A good request is answered by
-200 and the connection goes on, so that a good one in front or behind shows where a request ends.
+200 and the connection goes on, so that a good one in front or after shows where a request ends.
 """
 from served.requests import FILE, REST, asking, head, length, request
 
@@ -17,7 +17,7 @@ def lined(line):
 
 
 def fields(some):
-    """A request with these fields behind its others."""
+    """A request with these fields after its others."""
     return request(more=some)
 
 
@@ -92,12 +92,12 @@ def spelled_fields():
     """Fields."""
     for more in (b"Connection: close\r\n", b"connection:CLOSE\r\n", b"CONNECTION: \t Close \t\r\n",
                  b"Connection: keep-alive\r\nConnection: close\r\n"):
-        yield "closes behind %r" % more, fields(more) + GOOD, [200]
+        yield "closes after %r" % more, fields(more) + GOOD, [200]
     for more in (b"Connection: keep-alive\r\n", b"Connection: close, TE\r\n", b"Connection: closed\r\n",
                  b"Connection:\r\n", b"X-Connection: close\r\n", b"Expect: 100-continue\r\n",
                  b"Content-Type: text/x\r\n", b"Content-Encoding: gzip\r\n", b"Upgrade: h2c\r\n", b"X:\xff\r\n",
                  b"X:\t\r\n", b"X: \r\n"):
-        yield "goes on behind %r" % more, fields(more) + GOOD, [200, 200]
+        yield "goes on after %r" % more, fields(more) + GOOD, [200, 200]
     for more in (b"X : 1\r\n", b" X: 1\r\n", b"\tX: 1\r\n", b": 1\r\n", b"X\r\n", b"X: 1\r 2\r\n", b"X: \x00\r\n",
                  b"X: \x7f\r\n", b"X: \x1f\r\n", b"X\x00: 1\r\n", b"X(: 1\r\n", b"X: 1\r\n folded\r\n",
                  b"X: 1\r\n\tfolded\r\n", b"X: 1\r\r\n", b"\xc3\xa4: 1\r\n"):
@@ -127,10 +127,10 @@ def bodies():
     # The first letter of the next request belongs to the body.
     yield "said a byte too long", head(fields=REST + length(len(FILE) + 1)) + FILE + GOOD, [400, 405]
     yield "a byte short", GOOD + GOOD[:-1], [200]
-    yield "white space behind the file", request(filled(1000)) + GOOD, [200, 200]
+    yield "white space after the file", request(filled(1000)) + GOOD, [200, 200]
     yield "a file of the greatest size", request(filled(LARGEST)) + GOOD, [200, 200]
     yield "a file of a byte more", request(filled(LARGEST + 1)), [413]
-    yield "a file of a byte more, and what is behind it", request(filled(LARGEST + 1)) + GOOD * 100, [413]
+    yield "a file of a byte more, and what is after it", request(filled(LARGEST + 1)) + GOOD * 100, [413]
     yield "the greatest length of nine digits", head(fields=length(999999999)) + FILE, [413]
     yield "a wrong password", request(FILE.replace(b"secret", b"Secret")) + GOOD, [200, 200]
     yield "an account of nobody", request(FILE.replace(b">1001", b">1009")) + GOOD, [200, 200]

@@ -1,7 +1,7 @@
 """A case as it stands in a line of a file of answers/.
 
     name     what it shows
-    words    the words behind the program's name; SETUP stands for the path of the case's setup, and RECORDS for that of
+    words    the words after the program's name; SETUP stands for the path of the case's setup, and RECORDS for that of
              its file of records. Without them they are answer SETUP - --at 20240131120000
     setup    the setup's text, in pieces (pieces.py says which there are), null where there is no such file; without it
              the setup is samples/setup

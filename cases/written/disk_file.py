@@ -1,5 +1,5 @@
 """Files of records on a disk, as `ofxbank` keeps them with `disk:PATH`: the mark, then for each record a gate of 1, its
-length in eight bytes with the most significant first, and its bytes; then a gate that isn't 1. What stands behind that
+length in eight bytes with the most significant first, and its bytes; then a gate that isn't 1. What stands after that
 gate is left of an append that failed, and counts for nothing."""
 import fcntl
 import os
@@ -9,7 +9,7 @@ from contextlib import contextmanager
 FRONT = b"disk:"  # of the word that names such a file
 MARK, OPEN, SHUT = b"OFXKEEP1", b"\x01", b"\x00"
 SIZE = 8  # bytes of a length
-SETUP = ".setup"  # behind the path of a file, that of the setup to which it is bound
+SETUP = ".setup"  # after the path of a file, that of the setup to which it is bound
 
 Record = namedtuple("Record", "place bytes")  # where its gate stands
 

@@ -13,7 +13,7 @@ def frame(file):
 
 
 def answers(output):
-    """The answers in an output: lines, each `FILE n` with as many of the n bytes behind it as there are."""
+    """The answers in an output: lines, each `FILE n` with as many of the n bytes after it as there are."""
     found, at = [], 0
     while at < len(output):
         end = LINE.match(output, at).end()

@@ -10,7 +10,7 @@
     {"repeated": N}            N copies of the reply to the first model at that bank, x1 of 10.00 from 1001, MONTHLY
     {"stopped": N}             N copies of the reply to x2, which cancels it with what waits
     {"newest": N}              N copies of the reply to the first synchronisation there, of the transfers of 1001
-    {"told": N}                N copies of the reply to one that asks for what is above 0 behind that transfer
+    {"told": N}                N copies of the reply to one that asks for what is above 0 after that transfer
     {"mailed": N}              N copies of the reply to the first mail there, m1
     {"request": CHANGES}       one frame, of the file in samples/statement.request with changes; the replies likewise
     {"sample": NAME}           the bytes of the file of this name in samples/

@@ -8,7 +8,7 @@ from contextlib import closing, contextmanager
 
 TABLE = "CREATE TABLE records (number INTEGER PRIMARY KEY, bytes BLOB NOT NULL) STRICT"
 SETUP = "CREATE TABLE setup (lines TEXT NOT NULL) STRICT"
-# A table for rows that TABLE refuses; it gets the text of TABLE behind them.
+# A table for rows that TABLE refuses; it gets the text of TABLE after them.
 LOOSE_TABLE = "CREATE TABLE records (number INTEGER PRIMARY KEY, bytes)"
 INSERT = "INSERT INTO records VALUES (?, ?)"
 FRONT = b""  # of the word that names such a file
