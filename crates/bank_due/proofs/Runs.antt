@@ -1,6 +1,7 @@
 -- A run of due work so far, one look more, and each of its ends.
 use Rattle.std.proofs.Common.{◌≡◌, ℕ, ◌+◌, ◌<◌, List, [], ◌∷◌, ◌++◌, length, Option, None, Some, Err, refl, sym, ap, ◌∙◌, subst, arith, length-append}
 use Rattle.ofx_types.specs.declared.number.Moment.{Moment}
+use Rattle.bank_model.specs.DueRun.{run_length}
 use Rattle.bank_model.specs.declared.event.Event.{Event}
 use Rattle.bank_model.specs.declared.submit.SubmitFault.{SubmitFault}
 use Rattle.bank_model.specs.declared.submit.SubmitFault.TheVariants as refused
@@ -47,6 +48,7 @@ gone at n event a b c p q = through (HasDone at n) (λ old new. Advances old new
 -- the last event that a run may have
 pub left : (at : Moment) (n : ℕ) (event : Event) (a b c : Option JournalView) → n + 1 ≡ 100000 → Knows a b (HasDone at n) → Knows b c (λ old new. Advances old new at (Done event))
     → Knows a c (λ old new. RunsDue old new at (Err (faults.Left (id_in event))))
+unfolding run_length
 left at n event a b c last p q = through (HasDone at n) (λ old new. Advances old new at (Done event)) (λ old new. RunsDue old new at (Err (faults.Left (id_in event)))) a b c (λ u v w had due. record {
   earlier = had.events;
   last = event;
@@ -56,6 +58,7 @@ left at n event a b c last p q = through (HasDone at n) (λ old new. Advances ol
 }) p q
 
 breaks : (at : Moment) (n : ℕ) (fault : SubmitFault) (u v w : JournalView) → n < 100000 → HasDone at n u v → FailsToAdvance v w at fault → RunsDue u w at (Err (fault_of fault))
+unfolding run_length
 breaks at n (refused.Keeper count) u v w few had fails = record { events = had.events; between = v; few = omega (arith, had.counted, few); does = had.does; fails = fails }
 breaks at n refused.OutOfMemory u v w few had fails = record { events = had.events; between = v; few = omega (arith, had.counted, few); does = had.does; fails = fails }
 

@@ -1,6 +1,7 @@
 -- A run of due work over a bank whose journal is known, and why it ended.
 use Rattle.std.specs.Prelude.{◌≡◌, ℕ, ◌<◌, ⊤, List, [], ◌∷◌, ◌++◌, length, Option, None, Some, Result, Ok, Err}
 use Rattle.ofx_types.specs.declared.number.Moment.{Moment}
+use Rattle.bank_model.specs.DueRun.{run_length}
 use Rattle.bank_model.specs.declared.event.Event.{Event}
 use Rattle.bank_model.specs.declared.event.Event.TheVariants.{File, Post, Spawn, Letter}
 use Rattle.bank_model.specs.declared.submit.SubmitFault.{SubmitFault}
@@ -45,7 +46,7 @@ pub record DoesAll (old new : JournalView) (at : Moment) (count : ℕ) : Type 0 
 pub record LeavesSome (old new : JournalView) (at : Moment) (id : ℕ) : Type 0 where
   pub earlier : List Event
   pub last : Event
-  pub counted : length (earlier ++ last ∷ []) ≡ 100000
+  pub counted : length (earlier ++ last ∷ []) ≡ run_length
   pub does : DoesEach old new at (earlier ++ last ∷ [])
   pub id_is : id_in last ≡ id
 
@@ -53,7 +54,7 @@ pub record LeavesSome (old new : JournalView) (at : Moment) (id : ℕ) : Type 0 
 pub record Breaks (old new : JournalView) (at : Moment) (fault : SubmitFault) : Type 0 where
   pub events : List Event
   pub between : JournalView
-  pub few : length events < 100000
+  pub few : length events < run_length
   pub does : DoesEach old between at events
   pub fails : FailsToAdvance between new at fault
 

@@ -2,19 +2,18 @@
 
 ghost use Rattle.std.specs.Prelude.{◌≡◌, ◌<◌, IfOk};
 ghost use Rattle.ofx_types.specs.Calendar.{IsMoment};
+ghost use Rattle.bank_model.specs.DueRun.{run_length};
 ghost use Rattle.bank_due.specs.DueRuns.{Knows, RunsDue, id_in};
 
 use crate::advancer::Advancer;
 use crate::caller::Caller;
 use crate::fault::DueFault;
+use bank_engine::MAX_DUE_EVENTS;
 use bank_model::{Event, Printer};
 use bank_shared::{Advance, Bank, BankName, Pass};
 use ofx_ports::{Gate, Keeper};
 use ofx_types::Moment;
 use std::sync::Wait;
-
-/// The most events of a run.
-const MAX_EVENTS: u32 = 100_000;
 
 /// Makes what is due at a moment happen, one event after another, until nothing is due, and answers how many they were: fewer
 /// than 100,000.
@@ -55,7 +54,7 @@ pub fn due_run<R: Wait, N: BankName, K: Keeper, P: Printer, G: Gate>(
     gate: &G,
 ) -> Result<u32, DueFault>
     requires moment { IsMoment at.0 }
-    ensures few { IfOk result (λ count. count < 100000) }
+    ensures few { IfOk result (λ count. count < run_length) }
 {
     let mut caller = Caller {
         rt,
@@ -69,22 +68,23 @@ pub fn due_run<R: Wait, N: BankName, K: Keeper, P: Printer, G: Gate>(
 /// Makes what is due at a moment happen, one event after another, until nothing is due, and answers how many they were.
 ///
 /// An event that was due and may no longer happen, since another one came between, isn't counted.
+#[tactic(auto, unfolding(bank_model::specs::DueRun::run_length))]
 pub fn run_due<R: Wait, A: Advancer>(rt: &R, advancer: &mut A, at: Moment) -> Result<u32, DueFault>
     requires moment { IsMoment at.0 }
     ensures runs { Knows (A.knows advancer.old) (A.knows advancer.new) (λ old new. RunsDue old new at result) }
-    ensures few { IfOk result (λ count. count < 100000) }
+    ensures few { IfOk result (λ count. count < run_length) }
 {
     let mut count = 0;
     for _ in rt.forever() {
         match advancer.advance(at)? {
             Advance::Done(event) => {
                 count += 1;
-                if count == MAX_EVENTS {
+                if count == MAX_DUE_EVENTS {
                     return Err(DueFault::Left(id_of(&event)));
                 }
             }
             Advance::Gone(_) => {}
-            Advance::Nothing => return Ok(count),
+            Advance::Nothing => return Ok(count as u32),
         }
     }
     unreachable!()

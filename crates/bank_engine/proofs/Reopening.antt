@@ -1,7 +1,5 @@
 -- The records of a whole log, read again.
-use Rattle.std.proofs.Common.{◌≡◌, ℕ, List, [], ◌∷◌, ◌++◌, fold, refl, sym, ap, ◌∙◌, subst, append_assoc}
-use Rattle.std.specs.List.{All}
-use Rattle.std.proofs.lemmas.List.Elements.{All-cons, All-nil}
+use Rattle.std.proofs.Common.{◌≡◌, ℕ, List, [], ◌∷◌, ◌++◌, fold, refl, sym, subst}
 use Rattle.bank_model.specs.declared.event.Event.{Event}
 use Rattle.bank_model.specs.declared.event.State.{State}
 use Rattle.bank_model.specs.declared.log.LogItem.{LogItem}
@@ -13,7 +11,7 @@ use Rattle.bank_model.specs.Rules.{opening_state, answer_to, state_after}
 use Rattle.event_codec.specs.Records.{Codes, Reopens}
 use Rattle.ofx_types.specs.declared.number.Moment.{Moment}
 use Rattle.bank_engine.specs.Kept.{CodeEndings}
-use Rattle.bank_engine.specs.Laws.{IsPlaced, LeadsOn}
+use Rattle.bank_engine.specs.Laws.{AreAnswered, LeadsOn}
 
 -- records that lead from one state to the next, and others on from there
 reopens_on : (setup : Setup) (S T U : State) (records more : List (List ℕ)) → Reopens setup S records T → Reopens setup T more U → Reopens setup S (records ++ more) U
@@ -33,28 +31,27 @@ endings_lead setup S before (Adopted fault event at ∷ items) [] legal code = a
 endings_lead setup S before (Adopted fault event at ∷ items) (rec ∷ records) legal code =
     (at, event, code.0, legal.0.0.1, endings_lead setup (state_after setup S at event) (before ++ Adopted fault event at ∷ []) items records legal.1 code.1)
 
--- Each answer among the endings is at its place.
-are_placed : (setup : Setup) (earlier : List (List ℕ)) (S : State) (before items : List LogItem) (records : List (List ℕ)) → Reopens setup opening_state earlier S → AreLegalEndings setup S before items → CodeEndings items records → All (IsPlaced setup (earlier ++ records)) items
-are_placed setup earlier S before [] records reopens legal code = All-nil (IsPlaced setup (earlier ++ records))
-are_placed setup earlier S before (Effect entry ∷ items) records reopens legal code = absurd legal.0
-are_placed setup earlier S before (Fault count pending ∷ items) records reopens legal code =
-    All-cons (IsPlaced setup (earlier ++ records)) (Fault count pending) items tt (are_placed setup earlier S (before ++ Fault count pending ∷ []) items records reopens legal.1 code)
-are_placed setup earlier S before (Answer event at reply ∷ items) [] reopens legal code = absurd code
-are_placed setup earlier S before (Answer event at reply ∷ items) (rec ∷ records) reopens legal code =
-    All-cons (IsPlaced setup (earlier ++ rec ∷ records)) (Answer event at reply) items
-    record { earlier = earlier; rec = rec; later = records; parts = refl; state = S; reopens = reopens; codes = code.0; reply_is = legal.0.1 }
-    (subst (λ (rs : List (List ℕ)). All (IsPlaced setup rs) items) (append_assoc earlier (rec ∷ []) records)
-    (are_placed setup (earlier ++ rec ∷ []) (state_after setup S at event) (before ++ Answer event at reply ∷ []) items records
-    (reopens_on setup opening_state S (state_after setup S at event) earlier (rec ∷ []) reopens (at, event, code.0, legal.0.0.1, refl)) legal.1 code.1))
-are_placed setup earlier S before (Adopted fault event at ∷ items) [] reopens legal code = absurd code
-are_placed setup earlier S before (Adopted fault event at ∷ items) (rec ∷ records) reopens legal code =
-    All-cons (IsPlaced setup (earlier ++ rec ∷ records)) (Adopted fault event at) items tt
-    (subst (λ (rs : List (List ℕ)). All (IsPlaced setup rs) items) (append_assoc earlier (rec ∷ []) records)
-    (are_placed setup (earlier ++ rec ∷ []) (state_after setup S at event) (before ++ Adopted fault event at ∷ []) items records
-    (reopens_on setup opening_state S (state_after setup S at event) earlier (rec ∷ []) reopens (at, event, code.0, legal.0.0.1, refl)) legal.1 code.1))
+-- Each answer among the endings is the bank's at its own record.
+are_answered : (setup : Setup) (earlier : List (List ℕ)) (S : State) (before items : List LogItem) (records : List (List ℕ)) → Reopens setup opening_state earlier S → AreLegalEndings setup S before items → CodeEndings items records → AreAnswered setup earlier items records
+are_answered setup earlier S before [] records reopens legal code = code
+are_answered setup earlier S before (Effect entry ∷ items) records reopens legal code = absurd legal.0
+are_answered setup earlier S before (Fault count pending ∷ items) records reopens legal code =
+    are_answered setup earlier S (before ++ Fault count pending ∷ []) items records reopens legal.1 code
+are_answered setup earlier S before (Answer event at reply ∷ items) [] reopens legal code = absurd code
+are_answered setup earlier S before (Answer event at reply ∷ items) (rec ∷ records) reopens legal code = (
+  record { codes = code.0; state = S; reopens = reopens; reply_is = legal.0.1 },
+  are_answered setup (earlier ++ rec ∷ []) (state_after setup S at event) (before ++ Answer event at reply ∷ []) items records
+      (reopens_on setup opening_state S (state_after setup S at event) earlier (rec ∷ []) reopens (at, event, code.0, legal.0.0.1, refl)) legal.1 code.1,
+)
+are_answered setup earlier S before (Adopted fault event at ∷ items) [] reopens legal code = absurd code
+are_answered setup earlier S before (Adopted fault event at ∷ items) (rec ∷ records) reopens legal code = (
+  code.0,
+  are_answered setup (earlier ++ rec ∷ []) (state_after setup S at event) (before ++ Adopted fault event at ∷ []) items records
+      (reopens_on setup opening_state S (state_after setup S at event) earlier (rec ∷ []) reopens (at, event, code.0, legal.0.0.1, refl)) legal.1 code.1,
+)
 
 pub logs_lead : (setup : Setup) (opening : State) (first coded : List (List ℕ)) (log : List LogItem) → Reopens setup opening_state first opening → IsWholeLog setup opening log → CodeEndings (endings log) coded → LeadsOn setup opening first coded log
 logs_lead setup opening first coded log reopens whole code = record {
   reopens = reopens_on setup opening_state opening (ends setup opening log) first coded reopens (endings_lead setup opening [] (endings log) coded whole.may_end code);
-  answers = are_placed setup first opening [] (endings log) coded reopens whole.may_end code;
+  answers = are_answered setup first opening [] (endings log) coded reopens whole.may_end code;
 }

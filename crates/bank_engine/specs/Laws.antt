@@ -1,5 +1,5 @@
 -- Laws of journals, of logs and of their records.
-use Rattle.std.specs.Prelude.{◌≡◌, ℕ, Bool, List, ◌∷◌, ◌++◌, All, Option, None}
+use Rattle.std.specs.Prelude.{◌≡◌, ℕ, Bool, List, [], ◌∷◌, ◌++◌, Option, None}
 use Rattle.bank_model.specs.declared.event.Event.{Event}
 use Rattle.bank_model.specs.declared.event.State.{State}
 use Rattle.bank_model.specs.declared.log.LogItem.{LogItem}
@@ -27,28 +27,30 @@ pub record TruthGoesOn : Type 0 where
   pub settles : (old new : JournalView) (adopted : Bool) → Settles old new adopted → Keeps old new
   pub unsettled : (old new : JournalView) (fault : SubmitFault) → FailsToSettle old new fault → Keeps old new
 
--- An answer of a log is the bank's at its place: among the records stands that of its event, and in the state to which those
--- before it lead, this is what the bank answers.
-pub record IsAtPlace (setup : Setup) (records : List (List ℕ)) (event : Event) (at : Moment) (reply : List ℕ) : Type 0 where
-  pub earlier : List (List ℕ)
-  pub rec : List ℕ
-  pub later : List (List ℕ)
-  pub parts : records ≡ earlier ++ rec ∷ later
+-- An event was answered as the bank answers it in the state to which the records before its own lead.
+pub record IsAnswered (setup : Setup) (earlier : List (List ℕ)) (rec : List ℕ) (event : Event) (at : Moment) (reply : List ℕ) : Type 0 where
+  pub codes : Codes rec at event
   pub state : State
   pub reopens : Reopens setup opening_state earlier state
-  pub codes : Codes rec at event
   pub reply_is : reply ≡ answer_to setup state at event
 
-abbrev pub IsPlaced : Setup → List (List ℕ) → LogItem → Type 0
-IsPlaced setup records (Effect entry) = Unit {0}
-IsPlaced setup records (Answer event at reply) = IsAtPlace setup records event at reply
-IsPlaced setup records (Adopted fault event at) = Unit {0}
-IsPlaced setup records (Fault count pending) = Unit {0}
+-- After the earlier records there is one for each event that was answered or adopted, in order, and each answer is the bank's at
+-- its own record.
+abbrev pub AreAnswered : Setup → (earlier : List (List ℕ)) → List LogItem → (records : List (List ℕ)) → Type 0
+AreAnswered setup earlier [] records = records ≡ []
+AreAnswered setup earlier (Effect entry ∷ more) records = AreAnswered setup earlier more records
+AreAnswered setup earlier (Fault count pending ∷ more) records = AreAnswered setup earlier more records
+AreAnswered setup earlier (Answer event at reply ∷ more) [] = ⊥
+AreAnswered setup earlier (Answer event at reply ∷ more) (rec ∷ records) =
+    IsAnswered setup earlier rec event at reply × AreAnswered setup (earlier ++ rec ∷ []) more records
+AreAnswered setup earlier (Adopted fault event at ∷ more) [] = ⊥
+AreAnswered setup earlier (Adopted fault event at ∷ more) (rec ∷ records) =
+    Codes rec at event × AreAnswered setup (earlier ++ rec ∷ []) more records
 
 -- After the records from which a bank opened, those of a whole log lead to the state in which it ends.
 pub record LeadsOn (setup : Setup) (opening : State) (first coded : List (List ℕ)) (log : List LogItem) : Type 0 where
   pub reopens : Reopens setup opening_state (first ++ coded) (ends setup opening log)
-  pub answers : All (IsPlaced setup (first ++ coded)) (endings log)
+  pub answers : AreAnswered setup first (endings log) coded
 
 abbrev pub LogsReopen : Type 0
 LogsReopen = (setup : Setup) (opening : State) (first coded : List (List ℕ)) (log : List LogItem)

@@ -8,8 +8,8 @@ pub fn truth_goes_on()
     ensures { TruthGoesOn }
 {}
 
-/// The records of a whole log lead from the state in which the bank opened to the one in which the log ends, and each reply in the
-/// log is the bank's at its place.
+/// The records of a whole log lead from the state in which the bank opened to the one in which the log ends. The n-th event that was
+/// answered or adopted has the n-th of them, and its reply is the bank's in the state to which the records before that one lead.
 pub fn logs_reopen()
     ensures { LogsReopen }
 {}

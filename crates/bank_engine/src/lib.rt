@@ -8,6 +8,7 @@
 
 mod applying;
 mod checkout;
+mod due;
 mod engine;
 mod envelope;
 pub mod laws;
@@ -19,6 +20,7 @@ mod ready;
 mod solo;
 
 pub use checkout::check_out;
+pub use due::MAX_DUE_EVENTS;
 pub use engine::Engine;
 pub use envelope::{Bare, Envelope, Unsent};
 pub use log::Log;

@@ -3,6 +3,7 @@ use Rattle.std.specs.Prelude.{◌≡◌, ℕ, ◌<◌, ◌≤◌, ◌⊎◌, ◌
 use Rattle.ofx_ports.specs.Faults.{Rose}
 use Rattle.ofx_ports.specs.Known.{Grows}
 use Rattle.ofx_types.specs.declared.number.Moment.{Moment}
+use Rattle.bank_model.specs.DueRun.{run_length}
 use Rattle.bank_model.specs.declared.setup.Setup.{Setup}
 use Rattle.bank_connection.specs.Connection.{Converses}
 use Rattle.bank_due.specs.declared.fault.DueFault.{DueFault}
@@ -23,7 +24,7 @@ pub record Turn (L : Type 0) : Type 0 where
 
 -- A due run that ends well has had fewer events than a run has.
 abbrev pub IsDueEnd : Result ℕ DueFault → Type 0
-IsDueEnd (Ok count) = count < 100000
+IsDueEnd (Ok count) = count < run_length
 IsDueEnd (Err fault) = Unit {0}
 
 -- The clock is read for a due run, which comes to this end. Over a shared bank nothing else is said of it.

@@ -1,11 +1,11 @@
 //! The engine in memory: a log whose calls do what the model says.
 
-ghost use Rattle.std.specs.Prelude.{◌≡◌, ◌==◌, [], Some, None, IfOk, OnOk, OnErr, map, option_map, if◌then◌else◌};
+ghost use Rattle.std.specs.Prelude.{◌≡◌, ◌≢◌, ◌↔◌, ◌==◌, ◌+◌, ◌^◌, ◌≤◌, [], Some, None, Err, IfOk, OnOk, OnErr, length, map, option_map, if◌then◌else◌};
 ghost use Rattle.postgres_model.specs.Engine.{taken, retaken, appended, append_answer, record_at};
 ghost use Rattle.postgres_model.specs.MemView.{answer_of};
 
 use crate::rows::{StoredRow, find, insert, is_any_taken};
-use std::alloc::{AllocError, AllocFailed, Global};
+use std::alloc::{AllocError, Global};
 use std::marker::Model;
 use thiserror::Error;
 
@@ -26,16 +26,6 @@ impl From<AllocError> for EngineFault {
     ghost from_gives = { λ _ e. e ≡ faults.OutOfMemory };
 
     fn from(_refused: AllocError) -> EngineFault {
-        EngineFault::OutOfMemory
-    }
-}
-
-impl<T: Drop> From<AllocFailed<T>> for EngineFault {
-    ghost use Rattle.postgres_model.specs.declared.engine.EngineFault.TheVariants as faults;
-
-    ghost from_gives = { λ _ e. e ≡ faults.OutOfMemory };
-
-    fn from(_refused: AllocFailed<T>) -> EngineFault {
         EngineFault::OutOfMemory
     }
 }
@@ -92,10 +82,14 @@ impl MemEngine {
         }
     }
 
-    /// Takes the log, with a token that was never sent before, and gives the new epoch.
+    /// Takes the log, with a token that was never sent before, and gives the new epoch. Takes no memory.
+    ///
+    /// - `Spent`: the epoch is the last that there is.
     pub fn take(&mut self, token: u64) -> Result<u64, EngineFault>
         ensures log { OnOk result (self.new ≡ taken self.old token) }
         ensures epoch { IfOk result (λ epoch. epoch ≡ self.new.epoch) }
+        ensures spent { (result ≡ Err EngineFault.Spent) ↔ (self.old.epoch + 1 ≡ 2 ^ 64) }
+        ensures memory { result ≢ Err EngineFault.OutOfMemory }
         ensures refused { OnErr result (self.new ≡ self.old) }
     {
         if self.epoch == u64::MAX {
@@ -106,10 +100,14 @@ impl MemEngine {
         Ok(self.epoch)
     }
 
-    /// Takes a new epoch where the holder's token is this one. Else nothing changes, and there is no epoch.
+    /// Takes a new epoch where the holder's token is this one. Else nothing changes, and there is no epoch. Takes no memory.
+    ///
+    /// - `Spent`: the token is the holder's, and the epoch is the last that there is.
     pub fn retake(&mut self, token: u64) -> Result<Option<u64>, EngineFault>
         ensures log { OnOk result (self.new ≡ retaken self.old token) }
         ensures epoch { IfOk result (λ taken. taken ≡ (if self.old.holder == token then Some self.new.epoch else None)) }
+        ensures spent { (result ≡ Err EngineFault.Spent) ↔ ((self.old.holder ≡ token) × (self.old.epoch + 1 ≡ 2 ^ 64)) }
+        ensures memory { result ≢ Err EngineFault.OutOfMemory }
         ensures refused { OnErr result (self.new ≡ self.old) }
     {
         if self.holder != token {
@@ -123,6 +121,9 @@ impl MemEngine {
     }
 
     /// Appends a group of records under an epoch, the first one under this number.
+    ///
+    /// - `Spent`: the epoch is the log's, and the group's numbers would go past the last that there is.
+    /// - `OutOfMemory`.
     pub fn append(
         &mut self,
         epoch: u64,
@@ -131,6 +132,7 @@ impl MemEngine {
     ) -> Result<Appended, EngineFault>
         ensures log { OnOk result (self.new ≡ appended self.old epoch first (map (λ r. r.now) group.now)) }
         ensures answer { IfOk result (λ done. answer_of done ≡ append_answer self.old epoch first (map (λ r. r.now) group.now)) }
+        ensures spent { (result ≡ Err EngineFault.Spent) ↔ ((self.old.epoch ≡ epoch) × (2 ^ 64 ≤ first + length group.now)) }
         ensures refused { OnErr result (self.new ≡ self.old) }
     {
         if self.epoch != epoch {

@@ -3,8 +3,7 @@
 ghost use Rattle.std.specs.Prelude.{◌≡◌, ◌+◌, ◌++◌, ◌<◌, ◌^◌, length, map, option_map, IfOk, OnOk, OnErr};
 ghost use Rattle.postgres_model.specs.Engine.{record_at, is_taken, numbered};
 
-use crate::engine::EngineFault;
-use std::alloc::Global;
+use std::alloc::{AllocError, Global};
 use std::marker::Model;
 
 /// A row of the table of records.
@@ -23,7 +22,7 @@ impl Model for StoredRow {
 }
 
 impl StoredRow {
-    fn new(alloc: Global, number: u64, bytes: &[u8]) -> Result<StoredRow, EngineFault>
+    fn new(alloc: Global, number: u64, bytes: &[u8]) -> Result<StoredRow, AllocError>
         ensures { IfOk result (λ r. r ≡ record { number = number; bytes = bytes.now }) }
     {
         Ok(StoredRow {
@@ -76,7 +75,7 @@ pub(crate) fn insert(
     rows: &mut Vec<StoredRow>,
     first: u64,
     group: &[&[u8]],
-) -> Result<(), EngineFault>
+) -> Result<(), AllocError>
     requires { first + length group.now < 2 ^ 64 }
     ensures ok { OnOk result (rows.new.items ≡ rows.old.items ++ numbered first (map (λ r. r.now) group.now)) }
     ensures err { OnErr result (rows.new.items ≡ rows.old.items) }
@@ -87,7 +86,7 @@ pub(crate) fn insert(
 }
 
 /// The rows of a group, numbered from the first on.
-fn rows_of(alloc: Global, first: u64, group: &[&[u8]]) -> Result<Vec<StoredRow>, EngineFault>
+fn rows_of(alloc: Global, first: u64, group: &[&[u8]]) -> Result<Vec<StoredRow>, AllocError>
     requires { first + length group.now < 2 ^ 64 }
     ensures { IfOk result (λ rows. rows.items ≡ numbered first (map (λ r. r.now) group.now)) }
 {

@@ -1,6 +1,6 @@
 //! The engine in memory: takes, appends that are fenced, and numbers that are taken.
 
-use postgres_model::{Appended, MemEngine};
+use postgres_model::{Appended, EngineFault, MemEngine};
 
 #[test]
 fn a_log_is_taken_and_appended_to(rt: HostRuntime) {
@@ -14,6 +14,7 @@ fn a_log_is_taken_and_appended_to(rt: HostRuntime) {
     assert_eq!(rt; engine.retake(11), Ok(None));
     assert_eq!(rt; engine.retake(12), Ok(Some(3)));
     assert_eq!(rt; engine.append(3, 3, &group), Ok(Appended::Inserted(2)));
+    assert_eq!(rt; engine.append(3, u64::MAX, &group), Err(EngineFault::Spent));
     assert_eq!(rt; engine.fetch(4), Some(b"two".as_slice()));
     assert_eq!(rt; engine.fetch(5), None);
 }

@@ -32,31 +32,48 @@ fn codes_are_those_of_the_standard(rt: HostRuntime) {
     }
 }
 
-const RFC_NONCE: &[u8] = b"rOprNGfwEbeRWgbNEkqO";
-
-const RFC_FIRST: &[u8] =
+const CHALLENGE: &[u8] =
     b"r=rOprNGfwEbeRWgbNEkqO%hvYDpWUa2RaTCAfuxFIlj)hNlF$k0,s=W22ZaJ0SNY7soEsUEjb6gQ==,i=4096";
 
-const RFC_LAST: &[u8] =
-    b"c=biws,r=rOprNGfwEbeRWgbNEkqO%hvYDpWUa2RaTCAfuxFIlj)hNlF$k0,p=dHzbZapWIk4jUhN+Ute9ytag9zjfMHgsqmmiz7AndVQ=";
+/// A user's name, the client's two messages, and the server's last one.
+const SIGN_ONS: &[(&[u8], &[u8], &[u8], &[u8])] = &[
+    // The exchange of RFC 7677, section 3.
+    (
+        b"user",
+        b"n,,n=user,r=rOprNGfwEbeRWgbNEkqO",
+        b"c=biws,r=rOprNGfwEbeRWgbNEkqO%hvYDpWUa2RaTCAfuxFIlj)hNlF$k0,p=dHzbZapWIk4jUhN+Ute9ytag9zjfMHgsqmmiz7AndVQ=",
+        b"v=6rriTRBi23WpRR/wtup+mMhUZUn/dB5nLTJRsjl95G4=",
+    ),
+    // The same with a name that has to be escaped. The codes are those of Python's `hashlib` and `hmac`.
+    (
+        b"a,b=c",
+        b"n,,n=a=2Cb=3Dc,r=rOprNGfwEbeRWgbNEkqO",
+        b"c=biws,r=rOprNGfwEbeRWgbNEkqO%hvYDpWUa2RaTCAfuxFIlj)hNlF$k0,p=SZPNPeS9o66WjPx3GO+3ry3VEj0oTmhDA8jaGvHNN0g=",
+        b"v=qQFrXBHbHp99TSlxiDo0Wi+5Uc2kduey2yh8Wv7jYyw=",
+    ),
+];
 
-const RFC_WANTED: &[u8] = b"v=6rriTRBi23WpRR/wtup+mMhUZUn/dB5nLTJRsjl95G4=";
-
-fn rfc_client() -> Identity<'static> {
+fn client(user: &'static [u8]) -> Identity<'static> {
     Identity {
-        user: b"user",
+        user,
         password: b"pencil",
-        nonce: RFC_NONCE,
+        nonce: b"rOprNGfwEbeRWgbNEkqO",
     }
 }
 
 #[test]
-fn a_sign_on_goes_as_in_the_standard(rt: HostRuntime) {
-    let first = client_first(rt.alloc(), rfc_client()).expect(&rt, "room");
-    same(&rt, &first, b"n,,n=user,r=rOprNGfwEbeRWgbNEkqO");
-    let replies = replies_to(rt.alloc(), rfc_client(), RFC_FIRST).expect(&rt, "replies");
-    same(&rt, &replies.last, RFC_LAST);
-    same(&rt, &replies.wanted, RFC_WANTED);
+fn sign_ons_go_as_in_the_standard(rt: HostRuntime) {
+    for (user, first, last, wanted) in SIGN_ONS {
+        let who = client(*user);
+        same(
+            &rt,
+            &client_first(rt.alloc(), who).expect(&rt, "room"),
+            first,
+        );
+        let replies = replies_to(rt.alloc(), who, CHALLENGE).expect(&rt, "replies");
+        same(&rt, &replies.last, last);
+        same(&rt, &replies.wanted, wanted);
+    }
 }
 
 const REFUSED: &[&[u8]] = &[
@@ -75,7 +92,7 @@ const REFUSED: &[&[u8]] = &[
 #[test]
 fn other_challenges_are_refused(rt: HostRuntime) {
     for text in REFUSED {
-        match replies_to(rt.alloc(), rfc_client(), text) {
+        match replies_to(rt.alloc(), client(b"user"), text) {
             Ok(_) => assert!(rt; false, "a challenge that is none was answered"),
             Err(fault) => assert_eq!(rt; fault, ScramFault::Refused),
         }

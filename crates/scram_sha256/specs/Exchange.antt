@@ -1,6 +1,6 @@
 -- The four messages of a sign-on (RFC 5802, RFC 7677).
 use Rattle.std.specs.Prelude.{◌≡◌, ℕ, List, [], ◌∷◌, ◌++◌, length, drop, codes, Bool, true, false, nat_eq, nat_lt, nat_le, ◌==◌, ◌&&◌, if◌then◌else◌, Option, None, Some, Result, Ok, Err}
-use Rattle.std.specs.List.{before_first, after_first, starts_with}
+use Rattle.std.specs.List.{before_first, after_first, flat_map, starts_with}
 use Rattle.ofx_types.specs.TextRules.{trimmed}
 use Rattle.ofx_types.specs.NumberReading.{number_at}
 use Rattle.base64.specs.Engines.{standard}
@@ -12,8 +12,15 @@ use Rattle.scram_sha256.specs.Salted.{xor, salted}
 
 -- ---- what the client says first
 
+-- A comma ends an attribute, so in a user's name it is escaped as =2C, and an equals sign as =3D (RFC 5802, section 5.1).
+abbrev pub escaped_byte : ℕ → List ℕ
+escaped_byte b = if b == 61 then codes "=3D" else (if b == 44 then codes "=2C" else b ∷ [])
+
+abbrev pub escaped : List ℕ → List ℕ
+escaped user = flat_map escaped_byte user
+
 abbrev pub first_bare : (user nonce : List ℕ) → List ℕ
-first_bare user nonce = codes "n=" ++ user ++ codes ",r=" ++ nonce
+first_bare user nonce = codes "n=" ++ escaped user ++ codes ",r=" ++ nonce
 
 -- Nothing of the connection is bound in: there is no TLS.
 abbrev pub client_first : (user nonce : List ℕ) → List ℕ

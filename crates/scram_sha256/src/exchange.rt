@@ -1,6 +1,6 @@
 //! The client's messages, and what it wants to hear.
 
-ghost use Rattle.std.specs.Prelude.{◌≡◌, ◌≤◌, IfOk};
+ghost use Rattle.std.specs.Prelude.{◌≡◌, ◌≤◌, ◌++◌, IfOk, OnOk};
 ghost use Rattle.scram_sha256.specs.Exchange as exchange;
 ghost use Rattle.scram_sha256.specs.Views.{challenge_of, Answers, replies_of};
 
@@ -41,7 +41,7 @@ pub struct Replies {
     pub wanted: Vec<u8>,
 }
 
-/// Who signs on. The name and the nonce are printable and have no comma, and the nonce was never used before.
+/// Who signs on. The name is UTF-8 without a zero byte. The nonce is printable, has no comma, and was never used before.
 #[derive(Clone, Copy)]
 pub struct Identity<'a> {
     pub user: &'a [u8],
@@ -54,11 +54,41 @@ pub fn client_first(alloc: Global, who: Identity) -> Result<Vec<u8>, OutOfMemory
     ensures { IfOk result (λ text. text.items ≡ exchange.client_first who.entry.user.now who.entry.nonce.now) }
 {
     let mut text = Vec::new(alloc);
-    text.extend_from_slice(b"n,,n=")?;
-    text.extend_from_slice(who.user)?;
+    text.extend_from_slice(b"n,,")?;
+    push_first_bare(who, &mut text)?;
+    Ok(text)
+}
+
+/// Appends the client's first message without its header.
+fn push_first_bare(who: Identity, text: &mut Vec<u8>) -> Result<(), AllocError>
+    ensures { OnOk result (text.new.items ≡ text.old.items ++ exchange.first_bare who.entry.user.now who.entry.nonce.now) }
+{
+    text.extend_from_slice(b"n=")?;
+    escape(who.user, text)?;
     text.extend_from_slice(b",r=")?;
     text.extend_from_slice(who.nonce)?;
-    Ok(text)
+    Ok(())
+}
+
+/// Appends a user's name, commas and equals signs escaped.
+fn escape(user: &[u8], text: &mut Vec<u8>) -> Result<(), AllocError>
+    ensures { OnOk result (text.new.items ≡ text.old.items ++ exchange.escaped user.now) }
+{
+    for byte in user {
+        escape_byte(*byte, text)?;
+    }
+    Ok(())
+}
+
+fn escape_byte(byte: u8, text: &mut Vec<u8>) -> Result<(), AllocError>
+    ensures { OnOk result (text.new.items ≡ text.old.items ++ exchange.escaped_byte byte) }
+{
+    match byte {
+        b'=' => text.extend_from_slice(b"=3D")?,
+        b',' => text.extend_from_slice(b"=2C")?,
+        _ => text.push(byte)?,
+    }
+    Ok(())
 }
 
 /// The replies to the server's first message.
@@ -126,10 +156,7 @@ fn said_before(
     ensures { IfOk result (λ text. text.items ≡ exchange.said who.entry.user.now who.entry.nonce.now first.now (challenge_of asked.now)) }
 {
     let mut text = Vec::new(alloc);
-    text.extend_from_slice(b"n=")?;
-    text.extend_from_slice(who.user)?;
-    text.extend_from_slice(b",r=")?;
-    text.extend_from_slice(who.nonce)?;
+    push_first_bare(who, &mut text)?;
     text.extend_from_slice(b",")?;
     text.extend_from_slice(first)?;
     text.extend_from_slice(b",c=biws,r=")?;

@@ -1,7 +1,8 @@
 -- Logs and journals as runs of the world's bank.
-use Rattle.std.proofs.Common.{◌≡◌, ℕ, inl, inr, Bool, true, false, List, [], ◌∷◌, ◌++◌, Option, None, Some, refl, sym, ap, subst, ◌∙◌}
+use Rattle.std.proofs.Common.{◌≡◌, ℕ, inl, inr, Bool, true, false, List, [], ◌∷◌, ◌++◌, Option, None, Some, refl, sym, ap, subst, append_assoc, ◌∙◌}
 use Rattle.std.specs.Option.{IfSome, IsSomeAnd}
-use Rattle.std.proofs.lemmas.List.Elements.{All-weaker}
+use Rattle.std.specs.List.{All}
+use Rattle.std.proofs.lemmas.List.Elements.{All-cons, All-nil}
 use Rattle.std.proofs.lemmas.Option.{same_Some, none-some}
 use Rattle.ofx_types.specs.declared.number.Moment.{Moment}
 use Rattle.bank_model.specs.declared.event.Event.{Event}
@@ -17,7 +18,7 @@ use Rattle.bank_model.specs.SetupForm.{IsWithinLimits}
 use Rattle.event_codec.specs.Coding.{coded}
 use Rattle.event_codec.specs.Records.{Reopens}
 use Rattle.bank_engine.specs.Kept.{AreKept, CodeEndings, MayRemain}
-use Rattle.bank_engine.specs.Laws.{IsPlaced, IsAtPlace, LogsReopen}
+use Rattle.bank_engine.specs.Laws.{IsAnswered, AreAnswered, LogsReopen}
 use Rattle.bank_engine.specs.Truth.{Awaits, IsTrue}
 use Rattle.bank_engine.specs.Views as engines
 use Rattle.bank_engine.specs.Views.{JournalView}
@@ -28,30 +29,42 @@ use Rattle.world_laws.proofs.LogRuns.{bank, waiting, pending_waits, seen, MaySta
 
 -- ---- replies
 
-reported : (setup : Setup) (records : List (List ℕ)) (event : Event) (at : Moment) (reply : List ℕ) → IsAtPlace setup records event at reply
-    → IsReported setup records event reply
-reported setup records (events.File user file) at reply placed = record {
-  earlier = placed.earlier;
-  rec = placed.rec;
-  later = placed.later;
-  parts = placed.parts;
-  state = placed.state;
-  holds = placed.reopens;
+reported : (setup : Setup) (earlier : List (List ℕ)) (rec : List ℕ) (later : List (List ℕ)) (event : Event) (at : Moment) (reply : List ℕ)
+    → IsAnswered setup earlier rec event at reply → IsReported setup (earlier ++ rec ∷ later) event reply
+reported setup earlier rec later (events.File user file) at reply answered = record {
+  earlier = earlier;
+  rec = rec;
+  later = later;
+  parts = refl;
+  state = answered.state;
+  holds = answered.reopens;
   at = at;
   user = user;
   file = file;
-  codes = placed.codes;
-  is_answer = placed.reply_is;
+  codes = answered.codes;
+  is_answer = answered.reply_is;
 }
-reported setup records (events.Post id) at reply placed = placed.reply_is
-reported setup records (events.Spawn model offset) at reply placed = placed.reply_is
-reported setup records (events.Letter user subject body) at reply placed = placed.reply_is
+reported setup earlier rec later (events.Post id) at reply answered = answered.reply_is
+reported setup earlier rec later (events.Spawn model offset) at reply answered = answered.reply_is
+reported setup earlier rec later (events.Letter user subject body) at reply answered = answered.reply_is
 
-has_reply : (setup : Setup) (records : List (List ℕ)) (item : LogItem) → IsPlaced setup records item → HasReply setup records item
-has_reply setup records (Effect entry) placed = tt
-has_reply setup records (Answer event at reply) placed = reported setup records event at reply placed
-has_reply setup records (Adopted fault event at) placed = tt
-has_reply setup records (Fault count pending) placed = tt
+have_replies : (setup : Setup) (earlier : List (List ℕ)) (items : List LogItem) (records : List (List ℕ)) → AreAnswered setup earlier items records
+    → All (HasReply setup (earlier ++ records)) items
+have_replies setup earlier [] records answered = All-nil (HasReply setup (earlier ++ records))
+have_replies setup earlier (Effect entry ∷ items) records answered =
+    All-cons (HasReply setup (earlier ++ records)) (Effect entry) items tt (have_replies setup earlier items records answered)
+have_replies setup earlier (Fault count pending ∷ items) records answered =
+    All-cons (HasReply setup (earlier ++ records)) (Fault count pending) items tt (have_replies setup earlier items records answered)
+have_replies setup earlier (Answer event at reply ∷ items) [] answered = absurd answered
+have_replies setup earlier (Answer event at reply ∷ items) (rec ∷ records) answered =
+    All-cons (HasReply setup (earlier ++ rec ∷ records)) (Answer event at reply) items (reported setup earlier rec records event at reply answered.0)
+    (subst (λ (rs : List (List ℕ)). All (HasReply setup rs) items) (append_assoc earlier (rec ∷ []) records)
+    (have_replies setup (earlier ++ rec ∷ []) items records answered.1))
+have_replies setup earlier (Adopted fault event at ∷ items) [] answered = absurd answered
+have_replies setup earlier (Adopted fault event at ∷ items) (rec ∷ records) answered =
+    All-cons (HasReply setup (earlier ++ rec ∷ records)) (Adopted fault event at) items tt
+    (subst (λ (rs : List (List ℕ)). All (HasReply setup rs) items) (append_assoc earlier (rec ∷ []) records)
+    (have_replies setup (earlier ++ rec ∷ []) items records answered.1))
 
 -- ---- a log
 
@@ -69,7 +82,7 @@ module _ (fresh_sound : FreshServersAreSound) (go_on : SoundServersGoOn) (reopen
         opens = opens;
         goes = goes;
         sound = go_on.log _ _ (endings log) goes (go_on.records (fresh setup) (bank setup opening first None) first opens (fresh_sound setup within));
-        replies = All-weaker (IsPlaced setup (first ++ written)) (HasReply setup (first ++ written)) (has_reply setup (first ++ written)) (endings log) leads.answers;
+        replies = have_replies setup first (endings log) written leads.answers;
       }
 
   pub log_run : (opening : State) (first written : List (List ℕ)) (log : List LogItem) → Reopens setup opening_state first opening

@@ -7,13 +7,10 @@ ghost use Rattle.bank_desk.specs.DueSteps.{RunsNext, LeavesNext, MadeRun, Stoppe
 
 use crate::desk::Desk;
 use crate::fault::DeskFault;
-use bank_engine::Unsent;
+use bank_engine::{MAX_DUE_EVENTS, Unsent};
 use ofx_ports::Keeper;
 use ofx_types::Moment;
 use std::alloc::Global;
-
-/// The most events of a run of due work.
-const MAX_DUE: u64 = 100_000;
 
 impl Desk {
     /// Does what is due at that moment, one event after another, until none is or they are as many as a run has, and counts
@@ -35,7 +32,7 @@ impl Desk {
         ensures faults { CountsFaults (K.faults keeper.old) (K.faults keeper.new) (IsErrOf result DeskFault.AppendFailed) }
     {
         let mut count = 0;
-        while count < MAX_DUE {
+        while count < MAX_DUE_EVENTS {
             if !self.run_next(alloc, keeper, at)? {
                 return Ok(count);
             }
