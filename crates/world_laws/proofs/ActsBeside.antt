@@ -15,7 +15,7 @@ use Rattle.client_saved.specs.declared.state.ClientState.{ClientState}
 use Rattle.ofx_world.specs.Customer.{CustomerView, Goes, Saves}
 use Rattle.ofx_world.specs.World.{MakeStep, RestartStep, DeliverReplyStep, with_customer, with_request}
 use Rattle.world_laws.specs.ClientActs.{Act, making, taking, discarding, IsAct, ActsAreSteps, IsBeside, AreBeside, ActsKeepStores}
-use Rattle.world_laws.specs.ClientStores.{AreRight, AsksRightly, MadeFilesAskRightly, AcceptedRepliesKeepStores, DiscardedFilesKeepStores, StoresStayRight}
+use Rattle.client_laws.specs.ClientStores.{AreRight, AsksRightly, MadeFilesAskRightly, AcceptedRepliesKeepStores, DiscardedFilesKeepStores, StoresStayRight}
 
 -- ---- steps
 

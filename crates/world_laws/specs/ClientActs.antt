@@ -11,13 +11,13 @@ use Rattle.bank_model.specs.declared.setup.Setup.{Setup}
 use Rattle.client_core.specs.ClientForm.{discarded}
 use Rattle.client_core.specs.declared.wish.Wish.{Wish}
 use Rattle.client_laws.specs.Answers.{bank_reply}
+use Rattle.client_laws.specs.ClientStores.{AreRight, AsksRightly}
 use Rattle.client_saved.specs.Bounds.{IsSoundState}
 use Rattle.client_saved.specs.declared.state.Outstanding.{Outstanding}
 use Rattle.ofx_world.specs.Customer as of_client
 use Rattle.ofx_world.specs.Customer.{CustomerView, Makes, Accepts, Saves}
 use Rattle.ofx_world.specs.World.{WorldView, IsStep, with_customer, with_request}
 use Rattle.ofx_world.specs.declared.step.Step.TheVariants as steps
-use Rattle.world_laws.specs.ClientStores.{AreRight, AsksRightly}
 
 -- A client makes the file of a wish at a moment, takes in the reply that these bytes spell, or gives its file up.
 pub data Act : Type 0 where
