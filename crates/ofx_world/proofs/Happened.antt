@@ -245,16 +245,18 @@ module _ (laws : Laws) (world : WorldView) (sound : IsSoundWorld world) (at : Mo
         other_kept newer same found_there = answered_on after (laws.histories.event_grows setup S at (File user file)) reply
             (sym (release_other owner user own file.older S.kept apart) ∙ sym same ∙ found_there)
 
+        by_test : (name : List ℕ) → kept_for S user file.newer ≡ None → file.newer ≡ Some name
+            → reply_kept owner own (keep user (Some name) answer (release user file.older S.kept)) ≡ Some reply
+            → (b : Bool) → is_named owner own (record { user = user; file = name; reply = answer }) ≡ b → IsAnswered setup after customer kept owner reply
+        by_test name none is found_there true here =
+            let same : name ≡ own = bytes_eq_is name own (and_parts (eqb user.0 owner.0) (bytes_eq name own) here).1 in
+            answered_now none (is ∙ ap (λ (n : List ℕ). Some n) same) reply found
+        by_test name none is found_there false other = other_kept (Some name) (keep_other owner user own name answer (release user file.older S.kept) other) found_there
+
         by_name : kept_for S user file.newer ≡ None → (newer : Option (List ℕ)) → file.newer ≡ newer
             → reply_kept owner own (keep user newer answer (release user file.older S.kept)) ≡ Some reply → IsAnswered setup after customer kept owner reply
         by_name none None is found_there = other_kept None refl found_there
-        by_name none (Some name) is found_there = by_test (is_named owner own (record { user = user; file = name; reply = answer })) refl
-          where
-            by_test : (b : Bool) → is_named owner own (record { user = user; file = name; reply = answer }) ≡ b → IsAnswered setup after customer kept owner reply
-            by_test true here =
-                let same : name ≡ own = bytes_eq_is name own (and_parts (eqb user.0 owner.0) (bytes_eq name own) here).1 in
-                answered_now none (is ∙ ap (λ (n : List ℕ). Some n) same) reply found
-            by_test false other = other_kept (Some name) (keep_other owner user own name answer (release user file.older S.kept) other) found_there
+        by_name none (Some name) is found_there = by_test name none is found_there (is_named owner own (record { user = user; file = name; reply = answer })) refl
 
     -- The reply that is given to it is the kept one.
     pub given_is_kept : Bears own answer → reply_kept owner own after.kept ≡ Some answer

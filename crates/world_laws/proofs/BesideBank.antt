@@ -162,15 +162,16 @@ module _ (clients_keep : StepsKeepWorlds) (banks_keep : BanksKeepWorlds) where
 
 -- ---- the next run of the bank
 
+abbrev bank_with : ServerView → Option PendingView → Option Bool → ServerView
+bank_with one pending fault = record { setup = one.setup; state = one.state; records = one.records; pending = pending; fault = fault }
+
 -- What is settled is at rest.
 pub settled_at_rest : (server : ServerView) → server.fault ≡ None → settled server ≡ at_rest server.setup (settled server).state (settled server).records
 unfolding settled
 settled_at_rest server quiet = go server.pending refl
   where
     none_set : (one : ServerView) → one.pending ≡ None → one.fault ≡ None → one ≡ at_rest one.setup one.state one.records
-    none_set one pending fault =
-        ap (λ (found : Option PendingView). record { setup = one.setup; state = one.state; records = one.records; pending = found; fault = one.fault }) pending
-        ∙ ap (λ (found : Option Bool). record { setup = one.setup; state = one.state; records = one.records; pending = None; fault = found }) fault
+    none_set one pending fault = ap (λ (found : Option PendingView). bank_with one found one.fault) pending ∙ ap (bank_with one None) fault
 
     go : (pending : Option PendingView) → server.pending ≡ pending
         → settled_as server pending ≡ at_rest server.setup (settled_as server pending).state (settled_as server pending).records
