@@ -2,14 +2,14 @@
 use Rattle.std.proofs.Common.{◌≡◌, ℕ, ◌≤◌, slice_get, Option, None, Some, refl, sym, ap, subst, arith}
 use Rattle.client_core.specs.ClientForm.{discarded}
 use Rattle.client_saved.specs.declared.state.ClientState.{ClientState}
-use Rattle.ofx_world.specs.Customer.{CustomerView, Saves}
+use Rattle.ofx_world.specs.Customer.{CustomerView, IsSavedAs}
 use Rattle.ofx_world.specs.Sound.{IsSoundCustomer, IsSoundWorld}
 use Rattle.ofx_world.specs.Truths.{HasRightStores}
 use Rattle.ofx_world.specs.World.{WorldView, with_customer}
 use Rattle.ofx_world.proofs.Changed.{seen, Becomes, changed_keeps}
 use Rattle.ofx_world.proofs.Lists.{none_some, at_all}
 
-module _ (world : WorldView) (sound : IsSoundWorld world) (index : ℕ) (old new : CustomerView) (was : slice_get world.customers index ≡ Some old) (saves : Saves (discarded old.client) new) where
+module _ (world : WorldView) (sound : IsSoundWorld world) (index : ℕ) (old new : CustomerView) (was : slice_get world.customers index ≡ Some old) (saves : IsSavedAs (discarded old.client) new) where
   customer : IsSoundCustomer world.server.setup old
   customer = at_all (IsSoundCustomer world.server.setup) world.customers index old sound.customers was
 

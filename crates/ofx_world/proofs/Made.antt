@@ -15,7 +15,7 @@ use Rattle.client_laws.specs.ClientStores.{AreRight, AsksRightly}
 use Rattle.client_saved.specs.SavedText.{IsSavedText}
 use Rattle.client_saved.specs.declared.state.ClientState.{ClientState}
 use Rattle.client_saved.specs.declared.state.Outstanding.{Outstanding}
-use Rattle.ofx_world.specs.Customer.{CustomerView, Makes, sent}
+use Rattle.ofx_world.specs.Customer.{CustomerView, MakesFile, sent}
 use Rattle.ofx_world.specs.Laws.{Laws}
 use Rattle.ofx_world.specs.Sound.{IsKnownName, IsEarlier, IsOf, IsLast, IsSoundCustomer, IsSoundKept, IsSoundWorld}
 use Rattle.ofx_world.specs.Truths.{HasRightStores}
@@ -119,7 +119,7 @@ none_made fault a same = cc
 
 -- A client that makes the file of a wish, saves that and sends the file, leaves the world sound.
 pub made_keeps : Laws → (world : WorldView) (index : ℕ) (old new : CustomerView) (wish : Wish) (at : Moment) (file : List ℕ)
-    → slice_get world.customers index ≡ Some old → Makes world.server.setup old wish at new file
+    → slice_get world.customers index ≡ Some old → MakesFile world.server.setup old wish at new file
     → IsSoundWorld world → IsSoundWorld (with_request (with_customer world index new) file)
 unfolding made
 made_keeps laws world index old new wish at file was makes sound = go (content_of old.client wish at) makes.makes

@@ -17,7 +17,7 @@ use Rattle.client_laws.specs.ClientStores.{AreRight, IsAsked}
 use Rattle.client_saved.specs.SavedText.{IsSavedText}
 use Rattle.client_saved.specs.declared.state.ClientState.{ClientState}
 use Rattle.client_saved.specs.declared.state.Outstanding.{Outstanding}
-use Rattle.ofx_world.specs.Customer.{CustomerView, Saves}
+use Rattle.ofx_world.specs.Customer.{CustomerView, IsSavedAs}
 use Rattle.ofx_world.specs.Laws.{Laws}
 use Rattle.ofx_world.specs.Sound.{IsEarlier, IsLast, IsSoundCustomer, IsTheKeptOne, HasKeptReply, IsAnswered, HasAnswer, IsSoundWorld}
 use Rattle.ofx_world.specs.World.{WorldView, with_customer}
@@ -122,7 +122,7 @@ module _ (laws : Laws) (world : WorldView) (sound : IsSoundWorld world) (index :
 -- A client that accepts one of the replies that were given, and saves what it knows then, leaves the world sound.
 pub accepted_keeps : Laws → (world : WorldView) (index number : ℕ) (old new : CustomerView) (bytes : List ℕ) (reply : ReplyFile) (taken : Accepted)
     → slice_get world.customers index ≡ Some old → slice_get world.replies number ≡ Some bytes → SpellsReply bytes reply
-    → accepted old.client reply ≡ Ok taken → Saves taken.after new → IsSoundWorld world → IsSoundWorld (with_customer world index new)
+    → accepted old.client reply ≡ Ok taken → IsSavedAs taken.after new → IsSoundWorld world → IsSoundWorld (with_customer world index new)
 unfolding accepted
 accepted_keeps laws world index number old new bytes reply taken was there spelled is saves sound = go old.client.outstanding refl is
   where

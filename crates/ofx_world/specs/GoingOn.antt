@@ -10,7 +10,7 @@ use Rattle.bank_model.specs.declared.setup.Setup.{Setup}
 use Rattle.bank_signon.specs.Signon.{IsSignedOn}
 use Rattle.client_core.specs.ClientForm.{discarded}
 use Rattle.client_saved.specs.declared.state.ClientState.{ClientState}
-use Rattle.ofx_world.specs.Customer.{CustomerView, Saves}
+use Rattle.ofx_world.specs.Customer.{CustomerView, IsSavedAs}
 use Rattle.ofx_world.specs.Kept.{AreNew, HasLawfulClock, IsRecorded}
 use Rattle.ofx_world.specs.Server.{committed, reply_to, settled, with_fault}
 use Rattle.ofx_world.specs.Sound.{IsSentFor, MayHappen, IsSoundWorld}
@@ -29,7 +29,7 @@ pub record StepsKeepWorlds : Type 0 where
   pub step : (before after : WorldView) (step : Step) → HasLawfulClock step → IsRecorded before step → IsStep before step after
       → IsSoundWorld before → IsSoundWorld after
   pub discards : (world : WorldView) (index : ℕ) (customer new : CustomerView) → slice_get world.customers index ≡ Some customer
-      → Saves (discarded customer.client) new → IsSoundWorld world → IsSoundWorld (with_customer world index new)
+      → IsSavedAs (discarded customer.client) new → IsSoundWorld world → IsSoundWorld (with_customer world index new)
 
 -- So does a bank that settles what is pending, whose next append will fail, or that commits any event that may happen, with the
 -- reply to a file. A request that was sent is a client's file, for the user who signs on in it.

@@ -5,7 +5,7 @@ use Rattle.bank_model.specs.LegalLog.{ends}
 use Rattle.bank_model.specs.Rules.{opening_state}
 use Rattle.bank_model.specs.declared.log.LogItem.{LogItem}
 use Rattle.bank_model.specs.declared.setup.Setup.{Setup}
-use Rattle.ofx_world.specs.Customer.{CustomerView, Makes}
+use Rattle.ofx_world.specs.Customer.{CustomerView, MakesFile}
 use Rattle.ofx_world.specs.GoingOn.{SoundWorlds, StepsKeepWorlds, BanksKeepWorlds}
 use Rattle.ofx_world.specs.Server.{ServerView, settled}
 use Rattle.ofx_world.specs.Sound.{IsSoundWorld}
@@ -54,7 +54,7 @@ acts_done acts = record {
   makes = λ setup clients index customer new wish file there made. (
     tt,
     λ server own. acts.makes (world_of server clients) index customer new wish file there
-        (subst (λ (s : Setup). Makes s customer wish clients.clock new file) (sym own) made),
+        (subst (λ (s : Setup). MakesFile s customer wish clients.clock new file) (sym own) made),
   );
   takes = λ setup clients index number customer new bytes there here accepts. (
     tt,

@@ -11,7 +11,7 @@ use Rattle.bank_model.specs.declared.log.LogItem.TheVariants.{Effect, Answer, Ad
 use Rattle.bank_model.specs.declared.setup.Setup.{Setup}
 use Rattle.bank_signon.specs.Signon.{IsSignedOn}
 use Rattle.client_core.specs.ClientForm.{discarded}
-use Rattle.ofx_world.specs.Customer.{CustomerView, Saves}
+use Rattle.ofx_world.specs.Customer.{CustomerView, IsSavedAs}
 use Rattle.ofx_world.specs.Server.{ServerView}
 use Rattle.ofx_world.specs.Sound.{IsStrangers}
 use Rattle.ofx_world.specs.World.{WorldView, IsStep}
@@ -126,7 +126,7 @@ IsOfClients steps.RestartServer = ⊥
 -- What names no client does nothing.
 abbrev pub GivesUp : ClientsView → ℕ → Option CustomerView → ClientsView → Type 0
 GivesUp before index None after = after ≡ before
-GivesUp before index (Some customer) after = (new : CustomerView) × Saves (discarded customer.client) new × (after ≡ with_client before index new)
+GivesUp before index (Some customer) after = (new : CustomerView) × IsSavedAs (discarded customer.client) new × (after ≡ with_client before index new)
 
 -- ---- one after another
 

@@ -14,7 +14,7 @@ use Rattle.bank_engine.specs.Views.{JournalView}
 use Rattle.client_core.specs.ClientForm.{discarded}
 use Rattle.client_core.specs.declared.wish.Wish.{Wish}
 use Rattle.client_saved.specs.declared.state.ClientState.{ClientState}
-use Rattle.ofx_world.specs.Customer.{CustomerView, Makes, Accepts, Saves}
+use Rattle.ofx_world.specs.Customer.{CustomerView, MakesFile, TakesIn, IsSavedAs}
 use Rattle.ofx_world.specs.Kept.{AreNew}
 use Rattle.ofx_world.specs.Server.{ServerView, settled}
 use Rattle.ofx_world.specs.Sound.{IsSoundWorld}
@@ -66,11 +66,11 @@ NextRunsKeepClients = (server : ServerView) (clients : ClientsView) → server.f
 -- Each act of a client is such a doing, where files are made at the clock's moment and a reply that is taken in was given.
 pub record ActsAreDone : Type 0 where
   pub makes : (setup : Setup) (clients : ClientsView) (index : ℕ) (customer new : CustomerView) (wish : Wish) (file : List ℕ)
-      → slice_get clients.customers index ≡ Some customer → Makes setup customer wish clients.clock new file
+      → slice_get clients.customers index ≡ Some customer → MakesFile setup customer wish clients.clock new file
       → IsDone setup clients (acting (steps.Make index wish)) (with_request (with_client clients index new) file)
   pub takes : (setup : Setup) (clients : ClientsView) (index number : ℕ) (customer new : CustomerView) (bytes : List ℕ)
-      → slice_get clients.customers index ≡ Some customer → slice_get clients.replies number ≡ Some bytes → Accepts customer bytes new
+      → slice_get clients.customers index ≡ Some customer → slice_get clients.replies number ≡ Some bytes → TakesIn customer bytes new
       → IsDone setup clients (acting (steps.DeliverReply index number)) (with_client clients index new)
   pub discards : (setup : Setup) (clients : ClientsView) (index : ℕ) (customer new : CustomerView)
-      → slice_get clients.customers index ≡ Some customer → Saves (discarded customer.client) new
+      → slice_get clients.customers index ≡ Some customer → IsSavedAs (discarded customer.client) new
       → IsDone setup clients (giving_up index) (with_client clients index new)
