@@ -1,10 +1,11 @@
 -- A client that makes a file and sends it leaves a world sound.
-use Rattle.std.proofs.Common.{◌≡◌, inl, inr, ℕ, ◌+◌, List, slice_get, Option, None, Some, Result, Ok, Err, refl, sym, ap, subst, ◌∙◌, arith}
+use Rattle.std.proofs.Common.{◌≡◌, ◌⊎◌, inl, inr, ℕ, ◌+◌, List, slice_get, Option, None, Some, Result, Ok, Err, refl, sym, ap, subst, ◌∙◌, arith}
 use Rattle.std.specs.Option.{IfSome}
 use Rattle.std.proofs.lemmas.List.Elements.{recursion_from_All}
 use Rattle.ofx_types.specs.declared.number.Moment.{Moment}
 use Rattle.ofx_types.specs.declared.number.UserId.{UserId}
 use Rattle.ofx_types.specs.declared.request.RequestFile.{RequestFile}
+use Rattle.bank_model.specs.SetupLookups.{user_of}
 use Rattle.bank_model.specs.declared.setup.Setup.{Setup}
 use Rattle.client_core.specs.Making.{file_name, file_of, with_file, made_for, made}
 use Rattle.client_core.specs.Wishes.{content_of}
@@ -17,7 +18,7 @@ use Rattle.client_saved.specs.declared.state.ClientState.{ClientState}
 use Rattle.client_saved.specs.declared.state.Outstanding.{Outstanding}
 use Rattle.ofx_world.specs.Customer.{CustomerView, MakesFile, sent}
 use Rattle.ofx_world.specs.Laws.{Laws}
-use Rattle.ofx_world.specs.Sound.{IsKnownName, IsEarlier, IsOf, IsLast, IsSoundCustomer, IsSoundKept, IsSoundWorld}
+use Rattle.ofx_world.specs.Sound.{IsGiven, IsStrange, IsEarlier, IsOf, IsLast, IsSoundCustomer, IsSoundKept, IsSoundWorld}
 use Rattle.ofx_world.specs.Truths.{HasRightStores}
 use Rattle.ofx_world.specs.World.{WorldView, with_customer, with_request}
 use Rattle.ofx_world.proofs.Changed.{seen, Becomes, changed_keeps}
@@ -54,10 +55,13 @@ module _ (laws : Laws) (world : WorldView) (sound : IsSoundWorld world) (index :
   customer : IsSoundCustomer setup old
   customer = at_all (IsSoundCustomer setup) world.customers index old sound.customers was
 
-  -- The name of the file is new to all.
-  new_to_all : IsKnownName world.customers own → ⊥
-  new_to_all (inl given) = new_name setup world.customers index given.index old given.customer given.number sound.customers sound.names was given.there given.numbered
-  new_to_all (inr strange) = strange index old.client.next old was refl
+  -- No client has given the name of the file, and it is no stranger's to this client's user.
+  new_to_all : IsGiven world.customers own → ⊥
+  new_to_all given = new_name setup world.customers index given.index old given.customer given.number sound.customers sound.names was given.there given.numbered
+
+  new_to_kept : (owner : UserId) → user_of setup old.client.user ≡ Some owner → IsGiven world.customers own ⊎ IsStrange setup world.customers owner own → ⊥
+  new_to_kept owner is_owner (inl given) = new_to_all given
+  new_to_kept owner is_owner (inr strange) = strange index old.client.next old was is_owner refl
 
   last : IsLast client outstanding
   last = record {
@@ -96,11 +100,14 @@ module _ (laws : Laws) (world : WorldView) (sound : IsSoundWorld world) (index :
     is_sound = record { saved = is_saved; user = customer.user; done = earlier_on old.client old.client.done customer.done; outstanding = last };
     files = file_stays;
     kept = λ kept name owner holds named is_owner k d below bears.
-        absurd (new_to_all (subst (IsKnownName world.customers) (named_so kept name holds named) ((sound.named k d below).known name bears)));
+        absurd (new_to_all (subst (IsGiven world.customers) (named_so kept name holds named) ((sound.named k d below).given name bears)));
     answered = λ kept name owner holds named is_owner reply found.
-        let there = found_kept (IsSoundKept world.customers) owner name reply world.server.state.kept
-        (recursion_from_All (IsSoundKept world.customers) world.server.state.kept sound.recorded) found in
-        absurd (new_to_all (subst (IsKnownName world.customers) (there.file ∙ named_so kept name holds named) there.holds.known));
+        let there = found_kept (IsSoundKept setup world.customers) owner name reply world.server.state.kept
+        (recursion_from_All (IsSoundKept setup world.customers) world.server.state.kept sound.recorded) found in
+        let own_name : there.reply.file ≡ own = there.file ∙ named_so kept name holds named in
+        absurd (new_to_kept owner is_owner
+        (subst (λ (n : List ℕ). IsGiven world.customers n ⊎ IsStrange setup world.customers owner n) own_name
+        (subst (λ (u : UserId). IsGiven world.customers there.reply.file ⊎ IsStrange setup world.customers u there.reply.file) there.user_is there.holds.known)));
     stores = λ owner is_owner.
         (rightly owner (at_all (HasRightStores setup world.server.state.entries) world.customers index old sound.stores was owner is_owner)).1;
   }

@@ -53,14 +53,15 @@ module _ (laws : Laws) where
       go None = happened_keeps laws world sound at event may
       go (Some landed) = put_off_keeps world at event landed may sound
 
-  -- A file that is committed, with the reply that it gets where its append doesn't fail.
-  replied_keeps : (world : WorldView) (at : Moment) (user : UserId) (file : RequestFile) → MayHappen world.server.setup world.server.state world.customers at (File user file)
+  -- A client's file that is committed, with the reply that it gets where its append doesn't fail.
+  pub replied_keeps : (world : WorldView) (at : Moment) (user : UserId) (file : RequestFile) → MayHappen world.server.setup world.server.state world.customers at (File user file)
+      → IsSentFor world.server.setup world.customers user file
       → IsSoundWorld world → IsSoundWorld (with_reply (with_server world (committed world.server at (File user file))) (reply_to world.server at (File user file)))
   unfolding committed reply_to
-  replied_keeps world at user file may sound = go world.server.fault
+  replied_keeps world at user file may sent sound = go world.server.fault
     where
       go : (fault : Option Bool) → IsSoundWorld (with_reply (with_server world (happened_unless world.server at (File user file) fault)) (reply_unless world.server at (File user file) fault))
-      go None = answered_keeps laws world sound at user file may
+      go None = answered_keeps laws world sound at user file may sent
       go (Some landed) = put_off_keeps world at (File user file) landed may sound
 
   -- ---- a request arrives
@@ -119,9 +120,12 @@ module _ (laws : Laws) where
   pub delivered_keeps : (world : WorldView) (number : ℕ) (bytes : List ℕ) (user : UserId) (file : RequestFile) → slice_get world.requests number ≡ Some bytes
       → IsSignedOn world.server.setup bytes file user → IsSoundWorld world → IsSoundWorld (answered world user file)
   delivered_keeps world number bytes user file there signed sound =
+      let own = sym (settled_setup world.server) in
       replied_keeps (with_server world (settled world.server)) world.clock user file
-      (subst (λ (setup : Setup). MayHappen setup (settled world.server).state world.customers world.clock (File user file)) (sym (settled_setup world.server))
+      (subst (λ (setup : Setup). MayHappen setup (settled world.server).state world.customers world.clock (File user file)) own
       (file_may world number bytes user file (settled world.server).state sound there signed))
+      (subst (λ (setup : Setup). IsSentFor setup world.customers user file) own
+      (sent_for world bytes user file sound (at_all (IsSentBy world.server.setup world.customers) world.requests number bytes sound.requests there) signed))
       (settled_keeps world sound)
 
   -- ---- what the bank does by itself

@@ -51,14 +51,10 @@ pub record IsGiven (customers : List CustomerView) (name : List ℕ) : Type 0 wh
   pub number : ℕ
   pub numbered : IsNumbered customer.client number name
 
--- No client has given the name, or will.
-abbrev pub IsStrange : List CustomerView → List ℕ → Type 0
-IsStrange customers name = (index number : ℕ) (customer : CustomerView) → slice_get customers index ≡ Some customer
-    → name ≡ file_name customer.client.name number → ⊥
-
--- A name is one that a client has given, or a stranger's.
-abbrev pub IsKnownName : List CustomerView → List ℕ → Type 0
-IsKnownName customers name = IsGiven customers name ⊎ IsStrange customers name
+-- No client who acts for the user has given the name, or will.
+abbrev pub IsStrange : Setup → List CustomerView → UserId → List ℕ → Type 0
+IsStrange setup customers user name = (index number : ℕ) (customer : CustomerView) → slice_get customers index ≡ Some customer
+    → user_of setup customer.client.user ≡ Some user → name ≡ file_name customer.client.name number → ⊥
 
 -- ---- files
 
@@ -93,15 +89,15 @@ pub record IsSentFor (setup : Setup) (customers : List CustomerView) (user : Use
   pub is_of : IsOf setup customer.client file
   pub acts : user_of setup customer.client.user ≡ Some user
 
--- A stranger's file neither has the name of a client's file nor names one as answered. Whoever its user is, this is all that is
--- said of it.
-pub record IsStrangers (customers : List CustomerView) (file : RequestFile) : Type 0 where
-  pub newer : IfSome file.newer (IsStrange customers)
-  pub older : IfSome file.older (IsStrange customers)
+-- A user's file is a stranger's where it neither has the name of a file of the user's clients nor names one as answered. This is
+-- all that is said of it.
+pub record IsStrangers (setup : Setup) (customers : List CustomerView) (user : UserId) (file : RequestFile) : Type 0 where
+  pub newer : IfSome file.newer (IsStrange setup customers user)
+  pub older : IfSome file.older (IsStrange setup customers user)
 
 -- A user's file is one that a client has sent, or a stranger's. What the bank does by itself nobody has sent.
 abbrev pub IsSentEvent : Setup → List CustomerView → Event → Type 0
-IsSentEvent setup customers (events.File user file) = IsSentFor setup customers user file ⊎ IsStrangers customers file
+IsSentEvent setup customers (events.File user file) = IsSentFor setup customers user file ⊎ IsStrangers setup customers user file
 IsSentEvent setup customers (events.Post id) = Unit {0}
 IsSentEvent setup customers (events.Spawn model index) = Unit {0}
 IsSentEvent setup customers (events.Letter user subject body) = Unit {0}
@@ -136,15 +132,15 @@ pub record IsSoundCustomer (setup : Setup) (customer : CustomerView) : Type 0 wh
 
 -- ---- replies
 
--- The bytes that are kept for a file are a reply that bears its name, which a client has given or a stranger.
-pub record IsSoundKept (customers : List CustomerView) (kept : KeptReply) : Type 0 where
+-- The bytes that are kept for a user's file are a reply that bears its name, which a client has given, or none of this user's.
+pub record IsSoundKept (setup : Setup) (customers : List CustomerView) (kept : KeptReply) : Type 0 where
   pub bears : Bears kept.file kept.reply
-  pub known : IsKnownName customers kept.file
+  pub known : IsGiven customers kept.file ⊎ IsStrange setup customers kept.user kept.file
 
--- A reply spells one, and whatever name it bears, a client has given it or a stranger.
+-- A reply spells one, and whatever name it bears, one of the clients has given it.
 pub record IsKnownReply (customers : List CustomerView) (reply : List ℕ) : Type 0 where
   pub is_reply : IsReply reply
-  pub known : (name : List ℕ) → Bears name reply → IsKnownName customers name
+  pub given : (name : List ℕ) → Bears name reply → IsGiven customers name
 
 -- Whatever is said of a client's outstanding file, by its name and its user.
 abbrev pub OfOutstanding : Setup → CustomerView → (Outstanding → List ℕ → UserId → Type 0) → Type 0
@@ -186,7 +182,7 @@ pub record IsSoundWorld (world : WorldView) : Type 0 where
   pub pending : MayBePending world.server.setup world.server.state world.customers world.server.pending
   pub reported : All (IsAtItsIndex world.server.setup world.server.records) world.replies
   pub named : All (IsKnownReply world.customers) world.replies
-  pub recorded : All (IsSoundKept world.customers) world.server.state.kept
+  pub recorded : All (IsSoundKept world.server.setup world.customers) world.server.state.kept
   pub kept : All (HasKeptReply world.server.setup world.server.state world.replies) world.customers
   pub answered : All (HasAnswer world.server.setup world.server.state) world.customers
   pub stores : All (HasRightStores world.server.setup world.server.state.entries) world.customers

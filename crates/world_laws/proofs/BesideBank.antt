@@ -12,12 +12,12 @@ use Rattle.ofx_world.specs.Customer.{CustomerView}
 use Rattle.ofx_world.specs.GoingOn.{StepsKeepWorlds, BanksKeepWorlds}
 use Rattle.ofx_world.specs.Kept.{HasLawfulClock, IsRecorded}
 use Rattle.ofx_world.specs.Server.{PendingView, ServerView, happened, happened_unless, committed, reply_to, given_up, settled_as, settled, with_fault}
-use Rattle.ofx_world.specs.Sound.{IsSentEvent, MayHappen, IsSoundWorld}
+use Rattle.ofx_world.specs.Sound.{IsSentFor, IsSentEvent, MayHappen, IsSoundWorld}
 use Rattle.ofx_world.specs.World as of_world
 use Rattle.ofx_world.specs.World.{WorldView, IsStep}
 use Rattle.ofx_world.specs.declared.step.Step.{Step}
 use Rattle.ofx_world.specs.declared.step.Step.TheVariants as steps
-use Rattle.world_laws.specs.Beside.{ClientsView, Doing, ending, acting, giving_up, world_of, endings_of, with_answer, IsFrom, Ends, IsOfClients, GivesUp, AreDone}
+use Rattle.world_laws.specs.Beside.{ClientsView, Doing, ending, acting, giving_up, world_of, with_reply, endings_of, IsFrom, IsReplied, Ends, IsOfClients, GivesUp, AreDone}
 use Rattle.world_laws.specs.ServedBank.{at_rest, MayCommit, IsAnswered, EndsAs, GoesAlong}
 
 -- ---- the setup stays
@@ -114,21 +114,32 @@ module _ (clients_keep : StepsKeepWorlds) (banks_keep : BanksKeepWorlds) where
       sent = is_sent quiet before event quiet_sound (subst (λ (setup : Setup). IsFrom setup before event) (sym (settled_setup server)) from);
     }
 
-    answer_keeps : (event : Event) (at : Moment) (reply : List ℕ) → MayHappen quiet.setup quiet.state before.customers at event
-        → reply_to quiet at event ≡ Some reply → IsSoundWorld (world_of (committed quiet at event) (with_answer before event reply))
-    answer_keeps (events.File user file) at reply may is =
-        subst (λ (found : Option (List ℕ)). IsSoundWorld (of_world.with_reply (world_of (committed quiet at (events.File user file)) before) found)) is
-        (banks_keep.replied (world_of quiet before) at user file may quiet_sound)
-    answer_keeps (events.Post id) at reply may is = banks_keep.committed (world_of quiet before) at (events.Post id) may quiet_sound
-    answer_keeps (events.Spawn model offset) at reply may is = banks_keep.committed (world_of quiet before) at (events.Spawn model offset) may quiet_sound
-    answer_keeps (events.Letter user subject body) at reply may is = banks_keep.committed (world_of quiet before) at (events.Letter user subject body) may quiet_sound
+    -- Where nobody gets its reply from here it is committed.
+    alone_keeps : (event : Event) (at : Moment) (then : ClientsView) → MayCommit quiet.setup quiet.state at event → IsSentEvent quiet.setup before.customers event
+        → then ≡ before → IsSoundWorld (world_of (committed quiet at event) then)
+    alone_keeps event at then may sent is =
+        moved (committed quiet at event) (committed quiet at event) before then refl is
+        (banks_keep.committed (world_of quiet before) at event (record { legal = may.legal; codes = may.codes; sent = sent }) quiet_sound)
+
+    answer_keeps : (event : Event) (at : Moment) (reply : List ℕ) (then : ClientsView) → MayCommit quiet.setup quiet.state at event
+        → reply_to quiet at event ≡ Some reply → IsReplied quiet.setup before event reply then → IsSoundWorld (world_of (committed quiet at event) then)
+    answer_keeps (events.File user file) at reply then may is (inl (requested, then_is)) =
+        let sent : IsSentFor quiet.setup before.customers user file =
+        banks_keep.sent (world_of quiet before) requested.bytes user file quiet_sound requested.is_sent requested.signed_on in
+        moved (committed quiet at (events.File user file)) (committed quiet at (events.File user file)) (with_reply before reply) then refl then_is
+        (subst (λ (found : Option (List ℕ)). IsSoundWorld (of_world.with_reply (world_of (committed quiet at (events.File user file)) before) found)) is
+        (banks_keep.replied (world_of quiet before) at user file (record { legal = may.legal; codes = may.codes; sent = inl sent }) sent quiet_sound))
+    answer_keeps (events.File user file) at reply then may is (inr (strangers, then_is)) = alone_keeps (events.File user file) at then may (inr strangers) then_is
+    answer_keeps (events.Post id) at reply then may is then_is = alone_keeps (events.Post id) at then may tt then_is
+    answer_keeps (events.Spawn model offset) at reply then may is then_is = alone_keeps (events.Spawn model offset) at then may tt then_is
+    answer_keeps (events.Letter user subject body) at reply then may is then_is = alone_keeps (events.Letter user subject body) at then may tt then_is
 
     ending_keeps : (after : ServerView) (then : ClientsView) (item : LogItem) → EndsAs server item after → Ends server.setup before item then
         → IsSoundWorld (world_of after then)
     ending_keeps after then (Effect entry) ends done = absurd ends
-    ending_keeps after then (Answer event at reply) ends (from, is) =
-        moved (committed quiet at event) after (with_answer before event reply) then ends.after_is is
-        (answer_keeps event at reply (may_happen at event ends.may from) ends.reply_is)
+    ending_keeps after then (Answer event at reply) ends replied =
+        moved (committed quiet at event) after then then ends.after_is refl
+        (answer_keeps event at reply then ends.may ends.reply_is (subst (λ (setup : Setup). IsReplied setup before event reply then) (sym (settled_setup server)) replied))
     ending_keeps after then (Adopted fault event at) ends is = moved quiet after before then ends.after_is is quiet_sound
     ending_keeps after then (Fault count None) ends is = moved server after before then ends is sound
     ending_keeps after then (Fault count (Some pending)) (inl put) (from, is) =

@@ -85,24 +85,27 @@ pub record IsRequested (setup : Setup) (requests : List (List ℕ)) (user : User
   pub is_sent : Contains requests bytes
   pub signed_on : IsSignedOn setup bytes file user
 
--- Whoever else sends a file leaves the names of the clients' files alone. What the bank does by itself nobody sends.
+-- Or it is a stranger's, which leaves the names of the files of this user's clients alone. What the bank does by itself nobody
+-- sends.
 abbrev pub IsFrom : Setup → ClientsView → Event → Type 0
-IsFrom setup clients (events.File user file) = IsRequested setup clients.requests user file ⊎ IsStrangers clients.customers file
+IsFrom setup clients (events.File user file) = IsRequested setup clients.requests user file ⊎ IsStrangers setup clients.customers user file
 IsFrom setup clients (events.Post id) = Unit {0}
 IsFrom setup clients (events.Spawn model offset) = Unit {0}
 IsFrom setup clients (events.Letter user subject body) = Unit {0}
 
--- The reply to a file is on its way.
-abbrev pub with_answer : ClientsView → Event → List ℕ → ClientsView
-with_answer clients (events.File user file) reply = with_reply clients reply
-with_answer clients (events.Post id) reply = clients
-with_answer clients (events.Spawn model offset) reply = clients
-with_answer clients (events.Letter user subject body) reply = clients
+-- The reply to a client's file is on its way. That to a stranger's file goes to the stranger.
+abbrev pub IsReplied : Setup → ClientsView → Event → List ℕ → ClientsView → Type 0
+IsReplied setup before (events.File user file) reply after =
+    (IsRequested setup before.requests user file × (after ≡ with_reply before reply))
+    ⊎ (IsStrangers setup before.customers user file × (after ≡ before))
+IsReplied setup before (events.Post id) reply after = after ≡ before
+IsReplied setup before (events.Spawn model offset) reply after = after ≡ before
+IsReplied setup before (events.Letter user subject body) reply after = after ≡ before
 
 -- Only an answer gives a reply. An event whose append failed gets none, though it may be adopted.
 abbrev pub Ends : Setup → ClientsView → LogItem → ClientsView → Type 0
 Ends setup before (Effect entry) after = ⊥
-Ends setup before (Answer event at reply) after = IsFrom setup before event × (after ≡ with_answer before event reply)
+Ends setup before (Answer event at reply) after = IsReplied setup before event reply after
 Ends setup before (Adopted fault event at) after = after ≡ before
 Ends setup before (Fault count None) after = after ≡ before
 Ends setup before (Fault count (Some pending)) after = IsFrom setup before pending.0 × (after ≡ before)

@@ -9,7 +9,8 @@ use ofx_world::sound_worlds_go_on;
 /// Whatever comes to its end in the log of a served bank, and whatever its clients do meanwhile, the world of both stays right:
 /// each store of each client holds its object's entries folded up to its token, or is marked lost.
 ///
-/// The log's files are requests of these clients, or strangers' that leave the names of the clients' files alone.
+/// The log's files are requests of these clients, or strangers': any user's, which leave the names of the files of that user's
+/// clients alone.
 pub fn clients_stay_right()
     ensures new { NewClientsAreRight }
     ensures along { ClientsGoAlong }
