@@ -63,13 +63,13 @@ module _ (setup : Setup) (user : UserId) (at : Moment) (within : IsWithinLimits 
           → IsRight setup user (store_after setup T user at ask store) (bank_after setup T user at ask).entries
       by_mark true is (Some object) known =
           let all : kind_asked store ≡ Refresh = rw is refl in
-          taken_by_refresh setup T user at ask object store within (order_after T ask order) sound known same (kind ∙ all)
+          taken_by_refresh setup T user at ask object store within order (order_after T ask order) sound known same (kind ∙ all)
       by_mark true is None unknown =
           let all : kind_asked store ≡ Refresh = rw is refl in
           lost_is_right T ask store (stranger_refresh setup T user at ask store unknown (kind ∙ all))
       by_mark false is (Some object) known =
           let from : kind_asked store ≡ After (decimal store.token) = rw is refl in
-          taken_by_token setup T user at ask object store (decimal store.token) within (order_after T ask order) sound known same (kind ∙ from)
+          taken_by_token setup T user at ask object store (decimal store.token) within order (order_after T ask order) sound known same (kind ∙ from)
           (text_of_right setup T user store within order is right) is right
       by_mark false is None unknown =
           let from : kind_asked store ≡ After (decimal store.token) = rw is refl in

@@ -34,15 +34,15 @@ pub record StepsKeepWorlds : Type 0 where
 -- So does a bank that settles what is pending, whose next append will fail, or that commits any event that may happen. The reply
 -- to a client's file may be on its way. A request that was sent is a client's file, for the user who signs on in it.
 pub record BanksKeepWorlds : Type 0 where
-  pub settled : (world : WorldView) → IsSoundWorld world → IsSoundWorld (with_server world (settled world.server))
-  pub fault : (world : WorldView) (landed : Bool) → IsSoundWorld world → IsSoundWorld (with_server world (with_fault world.server landed))
-  pub committed : (world : WorldView) (at : Moment) (event : Event)
+  pub settles : (world : WorldView) → IsSoundWorld world → IsSoundWorld (with_server world (settled world.server))
+  pub fails : (world : WorldView) (landed : Bool) → IsSoundWorld world → IsSoundWorld (with_server world (with_fault world.server landed))
+  pub commits : (world : WorldView) (at : Moment) (event : Event)
       → MayHappen world.server.setup world.server.state world.customers at event → IsSoundWorld world
       → IsSoundWorld (with_server world (committed world.server at event))
-  pub replied : (world : WorldView) (at : Moment) (user : UserId) (file : RequestFile)
+  pub replies : (world : WorldView) (at : Moment) (user : UserId) (file : RequestFile)
       → MayHappen world.server.setup world.server.state world.customers at (File user file)
       → IsSentFor world.server.setup world.customers user file → IsSoundWorld world
       → IsSoundWorld (with_reply (with_server world (committed world.server at (File user file))) (reply_to world.server at (File user file)))
-  pub sent : (world : WorldView) (bytes : List ℕ) (user : UserId) (file : RequestFile) → IsSoundWorld world
+  pub is_sent : (world : WorldView) (bytes : List ℕ) (user : UserId) (file : RequestFile) → IsSoundWorld world
       → Contains world.requests bytes → IsSignedOn world.server.setup bytes file user
       → IsSentFor world.server.setup world.customers user file

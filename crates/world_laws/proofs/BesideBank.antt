@@ -92,7 +92,7 @@ module _ (clients_keep : StepsKeepWorlds) (banks_keep : BanksKeepWorlds) where
   is_sent : (server : ServerView) (clients : ClientsView) (event : Event) → IsSoundWorld (world_of server clients) → IsFrom server.setup clients event
       → IsSentEvent server.setup clients.customers event
   is_sent server clients (events.File user file) sound (inl requested) =
-      inl (banks_keep.sent (world_of server clients) requested.bytes user file sound requested.is_sent requested.signed_on)
+      inl (banks_keep.is_sent (world_of server clients) requested.bytes user file sound requested.is_sent requested.signed_on)
   is_sent server clients (events.File user file) sound (inr strangers) = inr strangers
   is_sent server clients (events.Post id) sound from = tt
   is_sent server clients (events.Spawn model offset) sound from = tt
@@ -103,7 +103,7 @@ module _ (clients_keep : StepsKeepWorlds) (banks_keep : BanksKeepWorlds) where
     quiet = settled server
 
     quiet_sound : IsSoundWorld (world_of quiet before)
-    quiet_sound = banks_keep.settled (world_of server before) sound
+    quiet_sound = banks_keep.settles (world_of server before) sound
 
     -- An event that may be committed once nothing is pending may happen in this world.
     may_happen : (at : Moment) (event : Event) → MayCommit quiet.setup quiet.state at event → IsFrom server.setup before event
@@ -119,16 +119,16 @@ module _ (clients_keep : StepsKeepWorlds) (banks_keep : BanksKeepWorlds) where
         → then ≡ before → IsSoundWorld (world_of (committed quiet at event) then)
     alone_keeps event at then may sent is =
         moved (committed quiet at event) (committed quiet at event) before then refl is
-        (banks_keep.committed (world_of quiet before) at event (record { legal = may.legal; codes = may.codes; sent = sent }) quiet_sound)
+        (banks_keep.commits (world_of quiet before) at event (record { legal = may.legal; codes = may.codes; sent = sent }) quiet_sound)
 
     answer_keeps : (event : Event) (at : Moment) (reply : List ℕ) (then : ClientsView) → MayCommit quiet.setup quiet.state at event
         → reply_to quiet at event ≡ Some reply → IsReplied quiet.setup before event reply then → IsSoundWorld (world_of (committed quiet at event) then)
     answer_keeps (events.File user file) at reply then may is (inl (requested, then_is)) =
         let sent : IsSentFor quiet.setup before.customers user file =
-        banks_keep.sent (world_of quiet before) requested.bytes user file quiet_sound requested.is_sent requested.signed_on in
+        banks_keep.is_sent (world_of quiet before) requested.bytes user file quiet_sound requested.is_sent requested.signed_on in
         moved (committed quiet at (events.File user file)) (committed quiet at (events.File user file)) (with_reply before reply) then refl then_is
         (subst (λ (found : Option (List ℕ)). IsSoundWorld (of_world.with_reply (world_of (committed quiet at (events.File user file)) before) found)) is
-        (banks_keep.replied (world_of quiet before) at user file (record { legal = may.legal; codes = may.codes; sent = inl sent }) sent quiet_sound))
+        (banks_keep.replies (world_of quiet before) at user file (record { legal = may.legal; codes = may.codes; sent = inl sent }) sent quiet_sound))
     answer_keeps (events.File user file) at reply then may is (inr (strangers, then_is)) = alone_keeps (events.File user file) at then may (inr strangers) then_is
     answer_keeps (events.Post id) at reply then may is then_is = alone_keeps (events.Post id) at then may tt then_is
     answer_keeps (events.Spawn model offset) at reply then may is then_is = alone_keeps (events.Spawn model offset) at then may tt then_is
@@ -144,8 +144,8 @@ module _ (clients_keep : StepsKeepWorlds) (banks_keep : BanksKeepWorlds) where
     ending_keeps after then (Fault count None) ends is = moved server after before then ends is sound
     ending_keeps after then (Fault count (Some pending)) (inl put) (from, is) =
         moved (committed (with_fault quiet put.landed) pending.1 pending.0) after before then put.after_is is
-        (banks_keep.committed (world_of (with_fault quiet put.landed) before) pending.1 pending.0 (may_happen pending.1 pending.0 put.may from)
-        (banks_keep.fault (world_of quiet before) put.landed quiet_sound))
+        (banks_keep.commits (world_of (with_fault quiet put.landed) before) pending.1 pending.0 (may_happen pending.1 pending.0 put.may from)
+        (banks_keep.fails (world_of quiet before) put.landed quiet_sound))
     ending_keeps after then (Fault count (Some pending)) (inr lost) (from, is) = moved quiet after before then lost is quiet_sound
 
     acting_keeps : (then : ClientsView) (step : Step) → IsOfClients step → IsStep (world_of server before) step (world_of server then)

@@ -47,7 +47,7 @@ journals_keep go journals setup opening first journal before after doings is tri
 pub next_runs : SoundWorlds → BanksKeepWorlds → NextRunsKeepClients
 next_runs worlds banks_keep server clients quiet sound =
     stays worlds _ clients
-    (subst (λ (s : ServerView). IsSoundWorld (world_of s clients)) (settled_at_rest server quiet) (banks_keep.settled (world_of server clients) sound))
+    (subst (λ (s : ServerView). IsSoundWorld (world_of s clients)) (settled_at_rest server quiet) (banks_keep.settles (world_of server clients) sound))
 
 pub acts_done : ActsAreSteps → ActsAreDone
 acts_done acts = record {

@@ -22,10 +22,10 @@ returns-clause-steps c = record {
 
 pub returns-clause-banks : goal.returns-clause-banks
 returns-clause-banks c = record {
-  settled = settled_keeps c.laws_below.ensures;
-  fault = fault_keeps;
-  committed = committed_keeps c.laws_below.ensures;
-  replied = replied_keeps c.laws_below.ensures;
-  sent = λ world bytes user file sound there signed. sent_for c.laws_below.ensures world bytes user file sound
+  settles = settled_keeps c.laws_below.ensures;
+  fails = fault_keeps;
+  commits = committed_keeps c.laws_below.ensures;
+  replies = replied_keeps c.laws_below.ensures;
+  is_sent = λ world bytes user file sound there signed. sent_for c.laws_below.ensures world bytes user file sound
       (All-contains (IsSentBy world.server.setup world.customers) world.requests bytes sound.requests there) signed;
 }
