@@ -79,7 +79,13 @@ as_before : (order : Order) (store store' : StoreView) (client client' : ClientS
 as_before order store store' client client' client_is store_is keeps =
     subst (λ (c : ClientState). Keeps order store' c) (sym client_is) (subst (λ (s : StoreView). Keeps order s client) (sym store_is) keeps)
 
-become : (old new : Option (List ℕ)) (before text : List ℕ) → old ≡ Some before → Becomes old new text → new ≡ Some text
+-- A text that is known stays known, as it is or as what it becomes.
+pub stay : (old new : Option (List ℕ)) (text : List ℕ) → old ≡ Some text → Stays old new → new ≡ Some text
+stay None new text e stays = absurd cc
+stay (Some old) None text e stays = absurd stays
+stay (Some old) (Some new) text e stays = let same : old ≡ text = cc in ap (λ (t : List ℕ). Some t) (stays ∙ same)
+
+pub become : (old new : Option (List ℕ)) (before text : List ℕ) → old ≡ Some before → Becomes old new text → new ≡ Some text
 become None new before text e becomes = absurd cc
 become (Some old) None before text e becomes = absurd becomes
 become (Some old) (Some new) before text e becomes = ap (λ (t : List ℕ). Some t) becomes
@@ -164,11 +170,6 @@ works_on order pass (wishes.Stop id) client before after end acts saved keeps = 
 works_on order pass (wishes.Mail subject body) client before after end acts saved keeps = acts_on order pass (wishes.Mail subject body) client before after end acts saved keeps
 
 -- ---- the run
-
-stay : (old new : Option (List ℕ)) (text : List ℕ) → old ≡ Some text → Stays old new → new ≡ Some text
-stay None new text e stays = absurd cc
-stay (Some old) None text e stays = absurd stays
-stay (Some old) (Some new) text e stays = let same : old ≡ text = cc in ap (λ (t : List ℕ). Some t) (stays ∙ same)
 
 run_on : (order : Order) (before between after : PortsView) (end : Result (Unit {0}) ClientStop) (found : Result ClientState StoreOpenFault) (works : WorksIf order found between after end) (text : List ℕ) (client : ClientState)
     → before.store.text ≡ Some text → Stays before.store.text between.store.text → Finds order before.store between.store found

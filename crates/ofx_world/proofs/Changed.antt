@@ -1,5 +1,5 @@
 -- A world one of whose clients changes stays sound, where what the client knows then fits the rest.
-use Rattle.std.proofs.Common.{◌≡◌, inl, inr, ℕ, ◌≤◌, List, set, slice_get, Option, None, Some, sym, ap, subst, ◌∙◌, arith}
+use Rattle.std.proofs.Common.{◌≡◌, ◌⊎◌, inl, inr, ℕ, ◌≤◌, List, set, slice_get, Option, None, Some, sym, ap, subst, ◌∙◌, arith}
 use Rattle.std.proofs.lemmas.List.Elements.{All-push, All-set, All-weaker}
 use Rattle.ofx_types.specs.declared.number.UserId.{UserId}
 use Rattle.ofx_types.specs.declared.request.RequestFile.{RequestFile}
@@ -12,10 +12,10 @@ use Rattle.client_saved.specs.declared.state.ClientState.{ClientState}
 use Rattle.ofx_world.specs.Customer.{CustomerView, Restarts}
 use Rattle.ofx_world.specs.Laws.{Laws}
 use Rattle.ofx_world.specs.Server.{PendingView}
-use Rattle.ofx_world.specs.Sound.{HaveOwnNames, IsGiven, IsNumbered, IsOf, IsSentBy, IsSentFor, IsSentEvent, MayBePending, IsSoundCustomer, IsSoundKept, IsKnownReply, HasKeptReply, HasAnswer, IsSoundWorld}
+use Rattle.ofx_world.specs.Sound.{HaveOwnNames, IsGiven, IsNumbered, IsStrange, IsOf, IsSentBy, IsSentFor, IsSentEvent, MayBePending, IsSoundCustomer, IsSoundKept, IsKnownReply, HasKeptReply, HasAnswer, IsSoundWorld}
 use Rattle.ofx_world.specs.Truths.{HasRightStores}
 use Rattle.ofx_world.specs.World.{WorldView, with_customer, with_request}
-use Rattle.ofx_world.proofs.Lists.{same_some, at_all, got, got_new, stays_there, set_same}
+use Rattle.ofx_world.proofs.Lists.{same_some, at_all, some_weaker, got, got_new, stays_there, set_same}
 
 -- What a client has become fits a world in which it was another: it has the same name and user, has given the same numbers and
 -- perhaps more, and whatever was its file still is.
@@ -57,6 +57,20 @@ module _ (world : WorldView) (index : ℕ) (old new : CustomerView) (was : slice
         numbered = numbered_on given.number name (subst (λ (c : CustomerView). IsNumbered c.client given.number name) same given.numbered);
       })
 
+  -- A client keeps its name and its user, so what no client of a user gives none gives later.
+  strange_on : (user : UserId) (name : List ℕ) → IsStrange world.server.setup world.customers user name → IsStrange world.server.setup changed user name
+  strange_on user name strange k number customer there acts same = elim (got world.customers index k new customer there) as (λ w. ⊥) [
+    | inl here ↦ strange index number old was
+        (ap (user_of world.server.setup) (sym becomes.user ∙ ap (λ (c : CustomerView). c.client.user) here.1) ∙ acts)
+        (same ∙ ap (λ (n : List ℕ). file_name n number) (sym (ap (λ (c : CustomerView). c.client.name) here.1) ∙ becomes.name))
+    | inr there_too ↦ strange k number customer there_too acts same
+  ]
+
+  known_on : (user : UserId) (name : List ℕ) → IsGiven world.customers name ⊎ IsStrange world.server.setup world.customers user name
+      → IsGiven changed name ⊎ IsStrange world.server.setup changed user name
+  known_on user name (inl given) = inl (given_on name given)
+  known_on user name (inr strange) = inr (strange_on user name strange)
+
   sent_by : (bytes : List ℕ) → IsSentBy world.server.setup world.customers bytes → IsSentBy world.server.setup changed bytes
   sent_by bytes sent = holds (IsSentBy world.server.setup changed bytes) sent.index sent.customer sent.there
       (λ there. record { index = sent.index; customer = sent.customer; there = there; request = sent.request; is_of = sent.is_of })
@@ -80,7 +94,11 @@ module _ (world : WorldView) (index : ℕ) (old new : CustomerView) (was : slice
       })
 
   sent_event : (event : Event) → IsSentEvent world.server.setup world.customers event → IsSentEvent world.server.setup changed event
-  sent_event (File user file) sent = sent_for user file sent
+  sent_event (File user file) (inl sent) = inl (sent_for user file sent)
+  sent_event (File user file) (inr strangers) = inr (record {
+    newer = some_weaker (IsStrange world.server.setup world.customers user) (IsStrange world.server.setup changed user) file.newer (strange_on user) strangers.newer;
+    older = some_weaker (IsStrange world.server.setup world.customers user) (IsStrange world.server.setup changed user) file.older (strange_on user) strangers.older;
+  })
   sent_event (Post id) sent = tt
   sent_event (Spawn model at) sent = tt
   sent_event (Letter user subject body) sent = tt
@@ -116,8 +134,8 @@ module _ (world : WorldView) (index : ℕ) (old new : CustomerView) (was : slice
     reported = sound.reported;
     named = All-weaker (IsKnownReply world.customers) (IsKnownReply changed)
         (λ reply known. record { is_reply = known.is_reply; given = λ name has. given_on name (known.given name has) }) world.replies sound.named;
-    recorded = All-weaker (IsSoundKept world.customers) (IsSoundKept changed)
-        (λ (kept : KeptReply) is. record { bears = is.bears; given = given_on kept.file is.given }) world.server.state.kept sound.recorded;
+    recorded = All-weaker (IsSoundKept world.server.setup world.customers) (IsSoundKept world.server.setup changed)
+        (λ (kept : KeptReply) is. record { bears = is.bears; known = known_on kept.user kept.file is.known }) world.server.state.kept sound.recorded;
     kept = All-set (HasKeptReply world.server.setup world.server.state world.replies) world.customers index new becomes.kept sound.kept;
     answered = All-set (HasAnswer world.server.setup world.server.state) world.customers index new becomes.answered sound.answered;
     stores = All-set (HasRightStores world.server.setup world.server.state.entries) world.customers index new becomes.stores sound.stores;

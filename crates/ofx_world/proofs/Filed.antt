@@ -10,7 +10,7 @@ use Rattle.client_core.specs.declared.fault.ClientFault.{ClientFault}
 use Rattle.client_core.specs.declared.wish.Wish.{Wish}
 use Rattle.client_saved.specs.declared.state.ClientState.{ClientState}
 use Rattle.client_saved.specs.declared.state.Outstanding.{Outstanding}
-use Rattle.ofx_world.specs.Customer.{CustomerView, Makes, MayMake, Saves, sent}
+use Rattle.ofx_world.specs.Customer.{CustomerView, MakesFile, MayMake, IsSavedAs, sent}
 use Rattle.ofx_world.specs.Kept.{IsUser}
 use Rattle.ofx_world.proofs.Lists.{same_some}
 use Rattle.ofx_world.proofs.Made.{made_at, none_made, same_made}
@@ -39,7 +39,7 @@ not_unsent setup (Some other) kept is none = cc
 
 -- a client before and after it made the file of a wish, and the customer who saved that
 module _ (setup : Setup) (before : ClientState) (wish : Wish) (at : Moment) (client : ClientState) (is : made before wish at ≡ Ok client) (after : CustomerView)
-    (saves : Saves client after) where
+    (saves : IsSavedAs client after) where
   abbrev kept_file : Outstanding
   kept_file = made_at at (file_of before (made_filed before wish at client is).content)
 
@@ -58,7 +58,7 @@ module _ (setup : Setup) (before : ClientState) (wish : Wish) (at : Moment) (cli
   never_unsent none = not_unsent setup after.client.outstanding kept_file is_outstanding none
 
   pub makes_it : (customer : CustomerView) (file : List ℕ) → before ≡ customer.client → MayMake customer.client wish
-      → Some file ≡ option_map (sent setup) after.client.outstanding → Makes setup customer wish at after file
+      → Some file ≡ option_map (sent setup) after.client.outstanding → MakesFile setup customer wish at after file
   makes_it customer file loaded may some = record {
     may = may;
     client = client;

@@ -1,9 +1,9 @@
--- An event that happens leaves a world sound, and so does the reply that it gives.
-use Rattle.std.proofs.Common.{◌≡◌, not, ℕ, ◌+◌, ◌<◌, Bool, true, false, eqb, List, [], ◌∷◌, ◌++◌, slice_get, Option, None, Some, refl, sym, ap, subst, ◌∙◌, arith}
+-- An event that happens leaves a world sound, whoever sent it, and so does the reply that it gives.
+use Rattle.std.proofs.Common.{◌≡◌, not, ℕ, ◌⊎◌, inl, inr, ◌+◌, ◌<◌, Bool, true, false, eqb, List, [], ◌∷◌, ◌++◌, slice_get, Option, None, Some, refl, sym, ap, subst, ◌∙◌, arith}
 use Rattle.std.specs.List.{All}
 use Rattle.std.specs.Option.{IfSome}
 use Rattle.std.specs.Str.{bytes_eq}
-use Rattle.std.proofs.lemmas.Bool.{and_parts}
+use Rattle.std.proofs.lemmas.Bool.{and_parts, eqb-true}
 use Rattle.std.proofs.lemmas.List.{append-nil}
 use Rattle.std.proofs.lemmas.List.Elements.{All-push, All-weaker, All-filter, recursion_from_All}
 use Rattle.ofx_types.specs.FileForm.{SpellsReply}
@@ -31,12 +31,12 @@ use Rattle.event_codec.specs.Coding.{coded}
 use Rattle.ofx_world.specs.Customer.{CustomerView, with_pass}
 use Rattle.ofx_world.specs.Laws.{Laws}
 use Rattle.ofx_world.specs.Server.{happened}
-use Rattle.ofx_world.specs.Sound.{IsGiven, IsNumbered, IsEarlier, MayHappen, IsLast, IsSoundCustomer, IsSoundKept, IsKnownReply, IsTheKeptOne, HasKeptReply, IsAnswered, HasAnswer, IsSoundWorld}
+use Rattle.ofx_world.specs.Sound.{IsGiven, IsNumbered, IsStrange, IsEarlier, IsSentFor, IsStrangers, MayHappen, IsLast, IsSoundCustomer, IsSoundKept, IsKnownReply, IsTheKeptOne, HasKeptReply, IsAnswered, HasAnswer, IsSoundWorld}
 use Rattle.ofx_world.specs.Truths.{IsAtItsIndex, Bears, HasRightStores}
 use Rattle.ofx_world.specs.World.{WorldView, with_server, with_reply}
 use Rattle.ofx_world.proofs.Keeping.{position_stays}
-use Rattle.ofx_world.proofs.KeptReplies.{kept_anew, entries_anew, release_other, keep_other, keep_after, found_kept}
-use Rattle.ofx_world.proofs.Lists.{at_all, all_on, same_some}
+use Rattle.ofx_world.proofs.KeptReplies.{user_at, kept_anew, entries_anew, release_other, keep_other, keep_after, found_kept}
+use Rattle.ofx_world.proofs.Lists.{at_all, all_on, same_some, some_weaker}
 use Rattle.ofx_world.proofs.Names.{one_client}
 
 -- an option that is there or isn't
@@ -44,7 +44,7 @@ either_way : {X P : Type 0} (found : Option X) → ((x : X) → found ≡ Some x
 either_way None there none = none refl
 either_way (Some x) there none = there x refl
 
--- What a file of a client brings about, in a sound world.
+-- What a file brings about, in a sound world.
 module _ (laws : Laws) (world : WorldView) (sound : IsSoundWorld world) (at : Moment) (user : UserId) (file : RequestFile) (may : MayHappen world.server.setup world.server.state world.customers at (File user file)) where
   abbrev setup : Setup
   setup = world.server.setup
@@ -58,22 +58,31 @@ module _ (laws : Laws) (world : WorldView) (sound : IsSoundWorld world) (at : Mo
   abbrev answer : List ℕ
   answer = answer_to setup S at (File user file)
 
-  abbrev name : List ℕ
-  name = may.sent.is_of.name
-
   present : IsSoundState setup S
   present =
       let run = laws.records.runs setup world.server.records S sound.reopened in
       subst (IsSoundState setup) (sym run.leaves) (laws.records.sound setup run.run sound.within run.legal).sound
 
-  given : IsGiven world.customers name
-  given = record {
-    index = may.sent.index;
-    customer = may.sent.customer;
-    there = may.sent.there;
-    number = may.sent.is_of.number;
-    numbered = may.sent.is_of.numbered;
+  -- what may be the name of a file of this user
+  abbrev IsKnown : List ℕ → Type 0
+  IsKnown name = IsGiven world.customers name ⊎ IsStrange setup world.customers user name
+
+  given : (sent : IsSentFor setup world.customers user file) → IsGiven world.customers sent.is_of.name
+  given sent = record {
+    index = sent.index;
+    customer = sent.customer;
+    there = sent.there;
+    number = sent.is_of.number;
+    numbered = sent.is_of.numbered;
   }
+
+  -- Whoever has sent the file, its name is known.
+  known : IfSome file.newer IsKnown
+  known = by_sender may.sent
+    where
+      by_sender : IsSentFor setup world.customers user file ⊎ IsStrangers setup world.customers user file → IfSome file.newer IsKnown
+      by_sender (inl sent) = subst (λ (newer : Option (List ℕ)). IfSome newer IsKnown) (sym sent.is_of.newer) (inl (given sent))
+      by_sender (inr strange) = some_weaker (IsStrange setup world.customers user) IsKnown file.newer (λ name is. inr is) strange.newer
 
   -- ---- the answer
 
@@ -83,36 +92,56 @@ module _ (laws : Laws) (world : WorldView) (sound : IsSoundWorld world) (at : Mo
       (sym (laws.replies.new setup S user at file (kept_for-raised S user at file.newer ∙ none)))
       (laws.replies.reads_back setup S user at file sound.within present sound.reportable may.codes.moment may.legal.0 may.legal.1)
 
-  bears_anew : kept_for S user file.newer ≡ None → Bears name answer
+  -- The answer spells a reply that bears the file's name, where it has one.
+  abbrev pub IsSpelled : Type 0
+  IsSpelled = (reply : ReplyFile) × SpellsReply answer reply × (reply.newer ≡ file.newer)
+
+  anew_is : kept_for S user file.newer ≡ None → IsSpelled
   unfolding reply_file
-  bears_anew none = (bank_reply setup S user at file, answered_anew none, may.sent.is_of.newer)
+  anew_is none = (bank_reply setup S user at file, answered_anew none, refl)
 
-  kept_by_name : (bytes : List ℕ) → kept_for S user file.newer ≡ Some bytes → reply_kept user name S.kept ≡ Some bytes
-  kept_by_name bytes kept = sym (ap (kept_for S user) may.sent.is_of.newer) ∙ kept
+  again_is : (name bytes : List ℕ) → file.newer ≡ Some name → reply_kept user name S.kept ≡ Some bytes → IsSpelled
+  again_is name bytes named kept =
+      let found = found_kept (IsSoundKept setup world.customers) user name bytes S.kept (recursion_from_All (IsSoundKept setup world.customers) S.kept sound.recorded) kept in
+      let bears : Bears name bytes = subst (Bears name) found.bytes_are (subst (λ (n : List ℕ). Bears n found.reply.reply) found.file found.holds.bears) in
+      let same : answer ≡ bytes = laws.replies.again setup S user at file bytes (ap (kept_for S user) named ∙ kept) in
+      (bears.0, subst (λ (b : List ℕ). SpellsReply b bears.0) (sym same) bears.1, bears.2 ∙ sym named)
 
-  pub answer_bears : Bears name answer
-  answer_bears = either_way (kept_for S user file.newer)
-      (λ bytes kept.
-      let found = found_kept (IsSoundKept world.customers) user name bytes S.kept (recursion_from_All (IsSoundKept world.customers) S.kept sound.recorded) (kept_by_name bytes kept) in
-      subst (λ (b : List ℕ). Bears name b) (found.bytes_are ∙ sym (laws.replies.again setup S user at file bytes kept))
-      (subst (λ (n : List ℕ). Bears n found.reply.reply) found.file found.holds.bears))
-      bears_anew
+  pub answer_is : IsSpelled
+  answer_is = by_name file.newer refl
+    where
+      by_name : (newer : Option (List ℕ)) → file.newer ≡ newer → IsSpelled
+      by_name None is = anew_is (ap (kept_for S user) is)
+      by_name (Some name) is = either_way (reply_kept user name S.kept) (λ bytes kept. again_is name bytes is kept) (λ none. anew_is (ap (kept_for S user) is ∙ none))
+
+  -- Whatever name it bears is the file's.
+  pub bears_own : (name : List ℕ) → Bears name answer → file.newer ≡ Some name
+  bears_own name bears =
+      sym answer_is.2 ∙ ap (λ (r : ReplyFile). r.newer) (laws.replies.one_reply answer answer_is.0 bears.0 answer_is.1 bears.1) ∙ bears.2
+
+  pub known_answer : IsSentFor setup world.customers user file → IsKnownReply world.customers answer
+  known_answer sent = record {
+    is_reply = (answer_is.0, answer_is.1);
+    given = λ name bears. subst (IsGiven world.customers) (same_some sent.is_of.name name (sym sent.is_of.newer ∙ bears_own name bears)) (given sent);
+  }
 
   -- ---- what is kept
 
-  pub recorded_after : All (IsSoundKept world.customers) after.kept
+  pub recorded_after : All (IsSoundKept setup world.customers) after.kept
   recorded_after = either_way (kept_for S user file.newer)
-      (λ bytes kept. subst (λ (T : State). All (IsSoundKept world.customers) T.kept) (sym (laws.replies.again_leaves setup S user at file bytes kept)) sound.recorded)
-      (λ none. subst (All (IsSoundKept world.customers)) (sym (kept_anew setup S user at file none)) (recorded_anew none file.older file.newer may.sent.is_of.newer))
+      (λ bytes kept. subst (λ (T : State). All (IsSoundKept setup world.customers) T.kept) (sym (laws.replies.again_leaves setup S user at file bytes kept)) sound.recorded)
+      (λ none. subst (All (IsSoundKept setup world.customers)) (sym (kept_anew setup S user at file none)) (recorded_anew file.older file.newer refl known))
     where
-      rest_of : (older : Option (List ℕ)) → All (IsSoundKept world.customers) (release user older S.kept)
+      rest_of : (older : Option (List ℕ)) → All (IsSoundKept setup world.customers) (release user older S.kept)
       rest_of None = sound.recorded
-      rest_of (Some older) = All-filter (λ (reply : KeptReply). not (is_named user older reply)) (IsSoundKept world.customers) S.kept sound.recorded
+      rest_of (Some older) = All-filter (λ (reply : KeptReply). not (is_named user older reply)) (IsSoundKept setup world.customers) S.kept sound.recorded
 
-      recorded_anew : kept_for S user file.newer ≡ None → (older newer : Option (List ℕ)) → newer ≡ Some name → All (IsSoundKept world.customers) (keep user newer answer (release user older S.kept))
-      recorded_anew none older newer is =
-          subst (λ (n : Option (List ℕ)). All (IsSoundKept world.customers) (keep user n answer (release user older S.kept))) (sym is)
-          (All-push (IsSoundKept world.customers) (release user older S.kept) (record { user = user; file = name; reply = answer }) (rest_of older) (record { bears = bears_anew none; given = given }))
+      recorded_anew : (older newer : Option (List ℕ)) → file.newer ≡ newer → IfSome newer IsKnown
+          → All (IsSoundKept setup world.customers) (keep user newer answer (release user older S.kept))
+      recorded_anew older None is is_known = rest_of older
+      recorded_anew older (Some name) is is_known =
+          All-push (IsSoundKept setup world.customers) (release user older S.kept) (record { user = user; file = name; reply = answer }) (rest_of older)
+          (record { bears = (answer_is.0, answer_is.1, answer_is.2 ∙ is); known = is_known })
 
   -- ---- what is kept for a client's outstanding file
 
@@ -126,21 +155,32 @@ module _ (laws : Laws) (world : WorldView) (sound : IsSoundWorld world) (at : Mo
     own_number : IsNumbered customer.client last.number own
     own_number = let next = last.last in (omega (arith, next), own_is)
 
-    -- No file releases it: whatever a file names as answered is earlier.
-    unreleased : (older : Option (List ℕ)) → IfSome older (IsEarlier may.sent.customer.client may.sent.is_of.number) → IfSome older (λ (o : List ℕ). o ≡ own → ⊥)
-    unreleased None earlier = tt
-    unreleased (Some older) earlier = λ same.
-        let below = may.sent.is_of.numbered.0 in
-        let number : IsNumbered may.sent.customer.client earlier.0 own = (omega (arith, below, earlier.1), sym same ∙ earlier.2) in
-        let one = one_client setup world.customers index may.sent.index customer may.sent.customer last.number earlier.0 own sound.customers sound.names there may.sent.there own_number number in
-        let most : may.sent.is_of.number < customer.client.next = subst (λ (c : CustomerView). may.sent.is_of.number < c.client.next) (sym one.1) below in
+    own_known : user ≡ owner → IsStrange setup world.customers user own → ⊥
+    own_known same strange = strange index last.number customer there (is_owner ∙ ap (λ (u : UserId). Some u) (sym same)) own_is
+
+    -- No file of the user releases it: whatever a client's file names as answered is earlier,
+    unreleased : (sent : IsSentFor setup world.customers user file) (older : Option (List ℕ)) → IfSome older (IsEarlier sent.customer.client sent.is_of.number)
+        → IfSome older (λ (o : List ℕ). o ≡ own → user ≡ owner → ⊥)
+    unreleased sent None earlier = tt
+    unreleased sent (Some older) earlier = λ same of_owner.
+        let below = sent.is_of.numbered.0 in
+        let number : IsNumbered sent.customer.client earlier.0 own = (omega (arith, below, earlier.1), sym same ∙ earlier.2) in
+        let one = one_client setup world.customers index sent.index customer sent.customer last.number earlier.0 own sound.customers sound.names there sent.there own_number number in
+        let most : sent.is_of.number < customer.client.next = subst (λ (c : CustomerView). sent.is_of.number < c.client.next) (sym one.1) below in
         let next = last.last in
         let same_number = one.2 in
         let before = earlier.1 in
         absurd (omega (arith, most, next, same_number, before))
 
-    apart : IfSome file.older (λ (o : List ℕ). o ≡ own → ⊥)
-    apart = unreleased file.older may.sent.is_of.older
+    -- and a stranger's names none of a client's.
+    apart : IfSome file.older (λ (o : List ℕ). o ≡ own → user ≡ owner → ⊥)
+    apart = by_sender may.sent
+      where
+        by_sender : IsSentFor setup world.customers user file ⊎ IsStrangers setup world.customers user file
+            → IfSome file.older (λ (o : List ℕ). o ≡ own → user ≡ owner → ⊥)
+        by_sender (inl sent) = unreleased sent file.older sent.is_of.older
+        by_sender (inr strange) = some_weaker (IsStrange setup world.customers user) (λ (o : List ℕ). o ≡ own → user ≡ owner → ⊥) file.older
+            (λ name is same of_owner. own_known of_owner (subst (IsStrange setup world.customers user) same is)) strange.older
 
     pub stays_kept : (reply : List ℕ) → reply_kept owner own S.kept ≡ Some reply → reply_kept owner own after.kept ≡ Some reply
     stays_kept reply found = either_way (kept_for S user file.newer)
@@ -148,34 +188,46 @@ module _ (laws : Laws) (world : WorldView) (sound : IsSoundWorld world) (at : Mo
         (λ none. ap (reply_kept owner own) (kept_anew setup S user at file none)
         ∙ keep_after owner user own file.newer answer reply (release user file.older S.kept) (release_other owner user own file.older S.kept apart ∙ found))
 
-    -- The file is this one, where it has its name.
-    same_file : name ≡ own → (file ≡ with_pass setup kept.file) × (user ≡ owner)
-    same_file same =
-        let number : IsNumbered may.sent.customer.client may.sent.is_of.number own = (may.sent.is_of.numbered.0, sym same ∙ may.sent.is_of.numbered.1) in
-        let one = one_client setup world.customers index may.sent.index customer may.sent.customer last.number may.sent.is_of.number own sound.customers sound.names there may.sent.there own_number number in (
-          may.sent.is_of.same kept (ap (λ (c : CustomerView). c.client.outstanding) (sym one.1) ∙ outstanding) (is_own ∙ ap (λ (n : List ℕ). Some n) (sym same)),
-          same_some user owner (sym may.sent.acts ∙ ap (λ (c : CustomerView). user_of setup c.client.user) (sym one.1) ∙ is_owner),
+    -- A client's file of this name is this one, of this user.
+    same_sent : (sent : IsSentFor setup world.customers user file) → file.newer ≡ Some own → (file ≡ with_pass setup kept.file) × (user ≡ owner)
+    same_sent sent named =
+        let same : sent.is_of.name ≡ own = same_some sent.is_of.name own (sym sent.is_of.newer ∙ named) in
+        let number : IsNumbered sent.customer.client sent.is_of.number own = (sent.is_of.numbered.0, sym same ∙ sent.is_of.numbered.1) in
+        let one = one_client setup world.customers index sent.index customer sent.customer last.number sent.is_of.number own sound.customers sound.names there sent.there own_number number in (
+          sent.is_of.same kept (ap (λ (c : CustomerView). c.client.outstanding) (sym one.1) ∙ outstanding) (is_own ∙ ap (λ (n : List ℕ). Some n) (sym same)),
+          same_some user owner (sym sent.acts ∙ ap (λ (c : CustomerView). user_of setup c.client.user) (sym one.1) ∙ is_owner),
         )
 
+    same_file : file.newer ≡ Some own → user ≡ owner → file ≡ with_pass setup kept.file
+    same_file named of_owner = by_sender may.sent
+      where
+        by_sender : IsSentFor setup world.customers user file ⊎ IsStrangers setup world.customers user file → file ≡ with_pass setup kept.file
+        by_sender (inl sent) = (same_sent sent named).0
+        by_sender (inr strange) = absurd (own_known of_owner (subst (λ (newer : Option (List ℕ)). IfSome newer (IsStrange setup world.customers user)) named strange.newer))
+
+    -- What is kept for it then is the answer.
+    kept_now : file.newer ≡ Some own → user ≡ owner → reply_kept owner own after.kept ≡ Some answer
+    kept_now named of_owner = sym (ap (λ (u : UserId). reply_kept u own after.kept) of_owner) ∙ laws.replies.kept setup S user at file own named
+
     -- It is answered in this state.
-    answered_now : kept_for S user file.newer ≡ None → name ≡ own → (reply : List ℕ) → reply_kept owner own after.kept ≡ Some reply → IsAnswered setup after customer kept owner reply
+    answered_now : kept_for S user file.newer ≡ None → file.newer ≡ Some own → user ≡ owner → (reply : List ℕ) → reply_kept owner own after.kept ≡ Some reply → IsAnswered setup after customer kept owner reply
     unfolding reply_file
-    answered_now none same reply found =
-        let is = same_file same in
-        let bytes : reply ≡ answer = same_some reply answer (sym found ∙ sym (ap (λ (u : UserId). reply_kept u own after.kept) is.1) ∙ sym (ap (λ (n : List ℕ). reply_kept user n after.kept) same) ∙ laws.replies.kept setup S user at file name may.sent.is_of.newer) in
+    answered_now none named of_owner reply found =
+        let is = same_file named of_owner in
+        let bytes : reply ≡ answer = same_some reply answer (sym found ∙ kept_now named of_owner) in
         record {
           before = S;
           at = at;
           order = sound.reportable.order;
           stores = at_all (HasRightStores setup S.entries) world.customers index customer sound.stores there;
           spells = subst (λ (b : List ℕ). SpellsReply b (bank_reply setup S owner at kept.file)) (sym bytes)
-              (subst (λ (f : RequestFile). SpellsReply answer (bank_reply setup S owner at f)) is.0
-              (subst (λ (u : UserId). SpellsReply answer (bank_reply setup S u at file)) is.1 (answered_anew none)));
+              (subst (λ (f : RequestFile). SpellsReply answer (bank_reply setup S owner at f)) is
+              (subst (λ (u : UserId). SpellsReply answer (bank_reply setup S u at file)) of_owner (answered_anew none)));
           later = (
             [],
             entries_anew setup S user at file none
-                ∙ ap (λ (u : UserId). (ask_answers setup (raised S at) u at file.asks).after.entries) is.1
-                ∙ ap (λ (f : RequestFile). (ask_answers setup (raised S at) owner at f.asks).after.entries) is.0
+                ∙ ap (λ (u : UserId). (ask_answers setup (raised S at) u at file.asks).after.entries) of_owner
+                ∙ ap (λ (f : RequestFile). (ask_answers setup (raised S at) owner at f.asks).after.entries) is
                 ∙ sym (append-nil _),
           );
         }
@@ -196,21 +248,30 @@ module _ (laws : Laws) (world : WorldView) (sound : IsSoundWorld world) (at : Mo
     answered_after reply found = either_way (kept_for S user file.newer)
         (λ bytes again. answered_on after (laws.histories.event_grows setup S at (File user file)) reply
         (sym (ap (λ (T : State). reply_kept owner own T.kept) (laws.replies.again_leaves setup S user at file bytes again)) ∙ found))
-        (λ none. by_name none (is_named owner own (record { user = user; file = name; reply = answer })) refl)
+        (λ none. by_name none file.newer refl (sym (ap (reply_kept owner own) (kept_anew setup S user at file none)) ∙ found))
       where
-        by_name : kept_for S user file.newer ≡ None → (b : Bool) → is_named owner own (record { user = user; file = name; reply = answer }) ≡ b → IsAnswered setup after customer kept owner reply
-        by_name none true here = answered_now none (bytes_eq_is name own (and_parts (eqb user.0 owner.0) (bytes_eq name own) here).1) reply found
-        by_name none false other = answered_on after (laws.histories.event_grows setup S at (File user file)) reply
-            (sym (release_other owner user own file.older S.kept apart) ∙ sym (keep_other owner user own name answer (release user file.older S.kept) other)
-            ∙ sym (ap (λ (n : Option (List ℕ)). reply_kept owner own (keep user n answer (release user file.older S.kept))) may.sent.is_of.newer)
-            ∙ sym (ap (reply_kept owner own) (kept_anew setup S user at file none)) ∙ found)
+        -- what is kept for another file is as it was
+        other_kept : (newer : Option (List ℕ)) → reply_kept owner own (keep user newer answer (release user file.older S.kept)) ≡ reply_kept owner own (release user file.older S.kept)
+            → reply_kept owner own (keep user newer answer (release user file.older S.kept)) ≡ Some reply → IsAnswered setup after customer kept owner reply
+        other_kept newer same found_there = answered_on after (laws.histories.event_grows setup S at (File user file)) reply
+            (sym (release_other owner user own file.older S.kept apart) ∙ sym same ∙ found_there)
+
+        by_test : (name : List ℕ) → kept_for S user file.newer ≡ None → file.newer ≡ Some name
+            → reply_kept owner own (keep user (Some name) answer (release user file.older S.kept)) ≡ Some reply
+            → (b : Bool) → is_named owner own (record { user = user; file = name; reply = answer }) ≡ b → IsAnswered setup after customer kept owner reply
+        by_test name none is found_there true here =
+            let named = and_parts (eqb user.0 owner.0) (bytes_eq name own) here in
+            answered_now none (is ∙ ap (λ (n : List ℕ). Some n) (bytes_eq_is name own named.1)) (ap user_at (eqb-true user.0 owner.0 named.0)) reply found
+        by_test name none is found_there false other = other_kept (Some name) (keep_other owner user own name answer (release user file.older S.kept) other) found_there
+
+        by_name : kept_for S user file.newer ≡ None → (newer : Option (List ℕ)) → file.newer ≡ newer
+            → reply_kept owner own (keep user newer answer (release user file.older S.kept)) ≡ Some reply → IsAnswered setup after customer kept owner reply
+        by_name none None is found_there = other_kept None refl found_there
+        by_name none (Some name) is found_there = by_test name none is found_there (is_named owner own (record { user = user; file = name; reply = answer })) refl
 
     -- The reply that is given to it is the kept one.
-    pub given_is_kept : Bears own answer → reply_kept owner own after.kept ≡ Some answer
-    given_is_kept bears =
-        let same : name ≡ own = same_some name own (sym answer_bears.2 ∙ ap (λ (r : ReplyFile). r.newer) (laws.replies.one_reply answer answer_bears.0 bears.0 answer_bears.1 bears.1) ∙ bears.2) in
-        ap (λ (u : UserId). reply_kept u own after.kept) (sym (same_file same).1) ∙ ap (λ (n : List ℕ). reply_kept user n after.kept) (sym same)
-        ∙ laws.replies.kept setup S user at file name may.sent.is_of.newer
+    pub given_is_kept : IsSentFor setup world.customers user file → Bears own answer → reply_kept owner own after.kept ≡ Some answer
+    given_is_kept sent bears = let named = bears_own own bears in kept_now named (same_sent sent named).1
 
 -- ---- any event
 
@@ -218,7 +279,7 @@ module _ (laws : Laws) (world : WorldView) (sound : IsSoundWorld world) (at : Mo
   abbrev then_state : Event → State
   then_state event = state_after world.server.setup world.server.state at event
 
-  recorded_then : (event : Event) → MayHappen world.server.setup world.server.state world.customers at event → All (IsSoundKept world.customers) (then_state event).kept
+  recorded_then : (event : Event) → MayHappen world.server.setup world.server.state world.customers at event → All (IsSoundKept world.server.setup world.customers) (then_state event).kept
   recorded_then (File user file) may = recorded_after laws world sound at user file may
   recorded_then (Post id) may = sound.recorded
   recorded_then (Spawn model index) may = sound.recorded
@@ -271,17 +332,17 @@ module _ (laws : Laws) (world : WorldView) (sound : IsSoundWorld world) (at : Mo
     kept = kept_then event may;
     answered = answered_then event may;
     stores = All-weaker (HasRightStores world.server.setup world.server.state.entries) (HasRightStores world.server.setup (then_state event).entries)
-        (λ customer right user is_user k d below. laws.stores.later world.server.setup world.server.state (then_state event) user _ sound.reportable.order
-        (laws.histories.event world.server.setup world.server.state at event sound.reportable.order may.legal) (laws.histories.event_grows world.server.setup world.server.state at event) (right user is_user k d below)) world.customers sound.stores;
+        (λ customer right user is_user. laws.stores.later world.server.setup world.server.state (then_state event) user customer.client sound.reportable.order
+        (laws.histories.event world.server.setup world.server.state at event sound.reportable.order may.legal) (laws.histories.event_grows world.server.setup world.server.state at event) (right user is_user)) world.customers sound.stores;
   }
 
-  -- So does a file, together with the reply that it gets.
+  -- So does a client's file, together with the reply that it gets.
   pub answered_keeps : (user : UserId) (file : RequestFile) → MayHappen world.server.setup world.server.state world.customers at (File user file)
+      → IsSentFor world.server.setup world.customers user file
       → IsSoundWorld (with_reply (with_server world (happened world.server at (File user file))) (Some (answer_to world.server.setup world.server.state at (File user file))))
-  answered_keeps user file may =
+  answered_keeps user file may sent =
       let then_sound = happened_keeps (File user file) may in
       let reply : List ℕ = answer_to world.server.setup world.server.state at (File user file) in
-      let bears = answer_bears laws world sound at user file may in
       record {
         within = then_sound.within;
         clock = then_sound.clock;
@@ -304,17 +365,12 @@ module _ (laws : Laws) (world : WorldView) (sound : IsSoundWorld world) (at : Mo
           codes = may.codes;
           is_answer = refl;
         });
-        named = All-push (IsKnownReply world.customers) world.replies reply sound.named (record {
-          is_reply = (bears.0, bears.1);
-          given = λ name has.
-              subst (IsGiven world.customers) (same_some _ name (sym bears.2 ∙ ap (λ (r : ReplyFile). r.newer) (laws.replies.one_reply reply bears.0 has.0 bears.1 has.1) ∙ has.2))
-              (given laws world sound at user file may);
-        });
+        named = All-push (IsKnownReply world.customers) world.replies reply sound.named (known_answer laws world sound at user file may sent);
         recorded = then_sound.recorded;
         kept = all_on (HasKeptReply world.server.setup (then_state (File user file)) world.replies) (HasKeptReply world.server.setup (then_state (File user file)) (world.replies ++ reply ∷ [])) world.customers
             (λ k customer there has kept own owner outstanding is_own is_owner.
             All-push (IsTheKeptOne (then_state (File user file)) owner own) world.replies reply (has kept own owner outstanding is_own is_owner)
-            (given_is_kept laws world sound at user file may k customer there kept own owner outstanding is_own is_owner)) then_sound.kept;
+            (given_is_kept laws world sound at user file may k customer there kept own owner outstanding is_own is_owner sent)) then_sound.kept;
         answered = then_sound.answered;
         stores = then_sound.stores;
       }

@@ -3,7 +3,7 @@ use Rattle.std.proofs.Common.{◌≡◌, ℕ, Bool, true, false, cond, not, eqb,
 use Rattle.std.specs.List.{AllByRecursion, find}
 use Rattle.std.specs.Option.{IfSome, option_map, option_or}
 use Rattle.std.specs.Str.{bytes_eq}
-use Rattle.std.proofs.lemmas.Bool.{and_parts}
+use Rattle.std.proofs.lemmas.Bool.{and_parts, eqb-true}
 use Rattle.std.proofs.lemmas.List.Folds.{find-append}
 use Rattle.ofx_types.specs.ReplyForm.{reply_text}
 use Rattle.ofx_types.specs.declared.number.Moment.{Moment}
@@ -41,20 +41,26 @@ module _ (setup : Setup) (S : State) (user : UserId) (at : Moment) (file : Reque
 
 -- ---- what is kept for another file
 
+abbrev pub user_at : ℕ → UserId
+user_at index = record { 0 = index }
+
 abbrev bytes_of : KeptReply → List ℕ
 bytes_of reply = reply.reply
 
 module _ (user other : UserId) (name : List ℕ) where
-  not_released : (older : List ℕ) → (older ≡ name → ⊥) → (reply : KeptReply) → is_named user name reply ≡ true → not (is_named other older reply) ≡ true
+  not_released : (older : List ℕ) → (older ≡ name → other ≡ user → ⊥) → (reply : KeptReply) → is_named user name reply ≡ true → not (is_named other older reply) ≡ true
   not_released older apart reply here = by_test (is_named other older reply) refl
     where
       by_test : (b : Bool) → is_named other older reply ≡ b → not b ≡ true
       by_test false there = refl
-      by_test true there = absurd (apart (sym (bytes_eq_is reply.file older (and_parts (eqb reply.user.0 other.0) (bytes_eq reply.file older) there).1)
-          ∙ bytes_eq_is reply.file name (and_parts (eqb reply.user.0 user.0) (bytes_eq reply.file name) here).1))
+      by_test true there =
+          let released = and_parts (eqb reply.user.0 other.0) (bytes_eq reply.file older) there in
+          let named = and_parts (eqb reply.user.0 user.0) (bytes_eq reply.file name) here in
+          absurd (apart (sym (bytes_eq_is reply.file older released.1) ∙ bytes_eq_is reply.file name named.1)
+          (ap user_at (sym (eqb-true reply.user.0 other.0 released.0) ∙ eqb-true reply.user.0 user.0 named.0)))
 
-  -- Whoever releases another name leaves what is kept for this one.
-  pub release_other : (older : Option (List ℕ)) (kept : List KeptReply) → IfSome older (λ (o : List ℕ). o ≡ name → ⊥)
+  -- Whoever releases another name, or another user's, leaves what is kept for this one.
+  pub release_other : (older : Option (List ℕ)) (kept : List KeptReply) → IfSome older (λ (o : List ℕ). o ≡ name → other ≡ user → ⊥)
       → reply_kept user name (release other older kept) ≡ reply_kept user name kept
   release_other None kept apart = refl
   release_other (Some older) kept apart =
@@ -87,22 +93,26 @@ module _ (user other : UserId) (name : List ℕ) where
 -- ---- which reply is found
 
 -- the kept reply that is found, with what holds of all
-pub record IsFound (P : KeptReply → Type 0) (name bytes : List ℕ) : Type 0 where
+pub record IsFound (P : KeptReply → Type 0) (user : UserId) (name bytes : List ℕ) : Type 0 where
   pub reply : KeptReply
   pub holds : P reply
+  pub user_is : reply.user ≡ user
   pub file : reply.file ≡ name
   pub bytes_are : reply.reply ≡ bytes
 
 pub found_kept : (P : KeptReply → Type 0) (user : UserId) (name bytes : List ℕ) (kept : List KeptReply) → AllByRecursion P kept
-    → reply_kept user name kept ≡ Some bytes → IsFound P name bytes
+    → reply_kept user name kept ≡ Some bytes → IsFound P user name bytes
 found_kept P user name bytes [] all found = absurd (none_some bytes found)
 found_kept P user name bytes (reply ∷ more) all found =
-    (elim (is_named user name reply) as (λ b. is_named user name reply ≡ b → option_map bytes_of (cond b (Some reply) (find (is_named user name) more)) ≡ Some bytes → IsFound P name bytes) [
-      | true ↦ (λ here is. record {
-        reply = reply;
-        holds = all.0;
-        file = bytes_eq_is reply.file name (and_parts (eqb reply.user.0 user.0) (bytes_eq reply.file name) here).1;
-        bytes_are = same_some reply.reply bytes is;
-      })
+    (elim (is_named user name reply) as (λ b. is_named user name reply ≡ b → option_map bytes_of (cond b (Some reply) (find (is_named user name) more)) ≡ Some bytes → IsFound P user name bytes) [
+      | true ↦ (λ here is.
+          let named = and_parts (eqb reply.user.0 user.0) (bytes_eq reply.file name) here in
+          record {
+            reply = reply;
+            holds = all.0;
+            user_is = ap user_at (eqb-true reply.user.0 user.0 named.0);
+            file = bytes_eq_is reply.file name named.1;
+            bytes_are = same_some reply.reply bytes is;
+          })
       | false ↦ (λ here is. found_kept P user name bytes more all.1 is)
     ]) refl found

@@ -1,16 +1,14 @@
-mod Accepted
-mod AsksMade
 mod Begun
 mod Changed
 mod Drawing
 mod Filed
+mod GivenUp
 mod Happened
 mod Keeping
 mod KeptReplies
 mod Lists
 mod Made
 mod Names
-mod Objects
 mod PartCalls
 mod PartSteps
 mod Rehearsed

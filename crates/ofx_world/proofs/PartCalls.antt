@@ -1,7 +1,7 @@
 -- What the calls of the world's parts ask for, as a sound world has it, and the steps that they are.
 use Rattle.std.proofs.Common.{◌≡◌, inl, inr, ℕ, List, [], ◌∷◌, ◌++◌, slice_get, Option, Some, refl, sym, ap, subst, ◌∙◌}
 use Rattle.client_core.specs.declared.wish.Wish.{Wish}
-use Rattle.ofx_world.specs.Customer.{CustomerView, Makes, MakesNone, Accepts}
+use Rattle.ofx_world.specs.Customer.{CustomerView, MakesFile, MakesNone, TakesIn}
 use Rattle.ofx_world.specs.Kept.{IsReply, IsRequest}
 use Rattle.ofx_world.specs.Sound.{IsKnownReply, IsSentBy, IsSoundWorld}
 use Rattle.ofx_world.specs.World.{WorldView, DeliverReplyStep, MakeStep, with_customer}
@@ -38,7 +38,7 @@ module _ (inside old : WorldView) (same : inside ≡ old) (number : ℕ) (custom
       subst (λ (w : WorldView). says w (slice_get w.customers number)) same (subst (says inside) (sym there) holds)
 
   pub file_is_made : (wish : Wish) (new : CustomerView) (file : List ℕ) (requests : List (List ℕ)) → requests ≡ inside.requests ++ file ∷ []
-      → Makes inside.server.setup customer wish inside.clock new file
+      → MakesFile inside.server.setup customer wish inside.clock new file
       → MakeStep old number wish (slice_get old.customers number) (with_requests (with_customer inside number new) requests)
   file_is_made wish new file requests are makes =
       of_client (λ (w : WorldView) found. MakeStep w number wish found (with_requests (with_customer inside number new) requests))
@@ -51,13 +51,13 @@ module _ (inside old : WorldView) (same : inside ≡ old) (number : ℕ) (custom
       (inr (none, ap (λ (files : List (List ℕ)). with_requests inside files) are))
 
   module _ (index : ℕ) (bytes : List ℕ) (here : slice_get inside.replies index ≡ Some bytes) where
-    pub reply_is_taken : (new : CustomerView) → Accepts customer bytes new
+    pub reply_is_taken : (new : CustomerView) → TakesIn customer bytes new
         → DeliverReplyStep old number (slice_get old.customers number) (slice_get old.replies index) (with_customer inside number new)
     reply_is_taken new takes =
         of_client (λ (w : WorldView) found. DeliverReplyStep w number found (slice_get w.replies index) (with_customer inside number new))
         (subst (λ (file : Option (List ℕ)). DeliverReplyStep inside number (Some customer) file (with_customer inside number new)) (sym here) (new, takes, refl))
 
-    pub reply_is_refused : Accepts customer bytes customer → DeliverReplyStep old number (slice_get old.customers number) (slice_get old.replies index) old
+    pub reply_is_refused : TakesIn customer bytes customer → DeliverReplyStep old number (slice_get old.customers number) (slice_get old.replies index) old
     reply_is_refused takes =
         of_client (λ (w : WorldView) found. DeliverReplyStep w number found (slice_get w.replies index) old)
         (subst (λ (file : Option (List ℕ)). DeliverReplyStep inside number (Some customer) file old) (sym here) (

@@ -1,28 +1,26 @@
 -- A client that accepts a reply leaves a world sound.
 use Rattle.std.proofs.Common.{◌≡◌, ℕ, Bool, true, false, List, slice_get, Option, None, Some, Result, Ok, Err, refl, sym, ap, subst, ◌∙◌, arith}
-use Rattle.std.specs.List.{All}
 use Rattle.std.specs.Option.{IfSome}
 use Rattle.ofx_types.specs.FileForm.{SpellsReply}
 use Rattle.ofx_types.specs.declared.number.UserId.{UserId}
 use Rattle.ofx_types.specs.declared.reply.ReplyFile.{ReplyFile}
 use Rattle.ofx_types.specs.declared.request.RequestFile.{RequestFile}
 use Rattle.ofx_types.proofs.Bytes.{bytes_eq_is}
-use Rattle.bank_model.specs.Stores.{Store, IsRight}
+use Rattle.bank_model.specs.Stores.{Store}
 use Rattle.bank_model.specs.declared.setup.Setup.{Setup}
 use Rattle.client_core.specs.Accepting.{Accepted, same_name, accepted_for, accepted_to, accepted, with_reply, with_replies, stores_after}
 use Rattle.client_core.specs.Making.{file_name}
 use Rattle.client_core.specs.declared.fault.ClientFault.{ClientFault}
 use Rattle.client_core.specs.declared.fault.ClientFault.TheVariants.{NotMine}
 use Rattle.client_laws.specs.Answers.{bank_reply}
+use Rattle.client_laws.specs.ClientStores.{AreRight, IsAsked}
 use Rattle.client_saved.specs.SavedText.{IsSavedText}
-use Rattle.client_saved.specs.Bounds.{IsSoundOutstanding}
 use Rattle.client_saved.specs.declared.state.ClientState.{ClientState}
 use Rattle.client_saved.specs.declared.state.Outstanding.{Outstanding}
-use Rattle.ofx_world.specs.Customer.{CustomerView, Saves}
+use Rattle.ofx_world.specs.Customer.{CustomerView, IsSavedAs}
 use Rattle.ofx_world.specs.Laws.{Laws}
 use Rattle.ofx_world.specs.Sound.{IsEarlier, IsLast, IsSoundCustomer, IsTheKeptOne, HasKeptReply, IsAnswered, HasAnswer, IsSoundWorld}
 use Rattle.ofx_world.specs.World.{WorldView, with_customer}
-use Rattle.ofx_world.proofs.Accepted.{replies_right}
 use Rattle.ofx_world.proofs.Changed.{seen, Becomes, changed_keeps}
 use Rattle.ofx_world.proofs.Lists.{same_some, none_some, at_all}
 
@@ -65,9 +63,6 @@ module _ (laws : Laws) (world : WorldView) (sound : IsSoundWorld world) (index :
   abbrev own : List ℕ
   own = file_name old.client.name last.number
 
-  of_client : IsSoundOutstanding old.client.user kept
-  of_client = subst (λ (o : Option Outstanding). IfSome o (IsSoundOutstanding old.client.user)) outstanding customer.saved.sound.outstanding
-
   -- The reply is the one that the bank has made to the file.
   is_answered : (number : ℕ) (bytes : List ℕ) (reply : ReplyFile) → slice_get world.replies number ≡ Some bytes → SpellsReply bytes reply
       → reply.newer ≡ Some own → IsAnswered setup world.server.state old kept user bytes
@@ -83,9 +78,12 @@ module _ (laws : Laws) (world : WorldView) (sound : IsSoundWorld world) (index :
     abbrev client : ClientState
     client = with_reply old.client kept.file.newer stores
 
-    stores_right : All (λ (store : Store). IsRight setup user store world.server.state.entries) stores
-    stores_right = replies_right laws setup user answered.at sound.within answered.before world.server.state kept.file old.client.stores answered.order
-        sound.reportable.order answered.later of_client.file.asks last.asks last.apart (answered.stores user customer.user.1)
+    stores_right : AreRight setup user world.server.state client
+    stores_right = (laws.stores.accepts setup answered.before world.server.state user answered.at old.client kept
+        (with_replies old.client kept.file (bank_reply setup answered.before user answered.at kept.file).replies) sound.within answered.order
+        sound.reportable.order answered.later outstanding customer.saved.sound (subst (λ (o : Option Outstanding). IfSome o (IsAsked old.client)) (sym outstanding) last.asked)
+        (answered.stores user customer.user.1)
+        (laws.stores.accepted setup answered.before user answered.at old.client kept sound.within answered.order outstanding)).1
 
     done_numbered : IfSome kept.file.newer (IsEarlier client client.next)
     done_numbered = subst (λ (o : Option (List ℕ)). IfSome o (IsEarlier old.client old.client.next)) (sym last.name)
@@ -110,7 +108,7 @@ module _ (laws : Laws) (world : WorldView) (sound : IsSoundWorld world) (index :
       kept = λ other name owner none. absurd (none_some other none);
       answered = λ other name owner none. absurd (none_some other none);
       stores = λ owner is_owner.
-          subst (λ (u : UserId). All (λ (store : Store). IsRight setup u store world.server.state.entries) stores)
+          subst (λ (u : UserId). AreRight setup u world.server.state client)
           (same_some user owner (sym customer.user.1 ∙ is_owner)) stores_right;
     }
 
@@ -124,7 +122,7 @@ module _ (laws : Laws) (world : WorldView) (sound : IsSoundWorld world) (index :
 -- A client that accepts one of the replies that were given, and saves what it knows then, leaves the world sound.
 pub accepted_keeps : Laws → (world : WorldView) (index number : ℕ) (old new : CustomerView) (bytes : List ℕ) (reply : ReplyFile) (taken : Accepted)
     → slice_get world.customers index ≡ Some old → slice_get world.replies number ≡ Some bytes → SpellsReply bytes reply
-    → accepted old.client reply ≡ Ok taken → Saves taken.after new → IsSoundWorld world → IsSoundWorld (with_customer world index new)
+    → accepted old.client reply ≡ Ok taken → IsSavedAs taken.after new → IsSoundWorld world → IsSoundWorld (with_customer world index new)
 unfolding accepted
 accepted_keeps laws world index number old new bytes reply taken was there spelled is saves sound = go old.client.outstanding refl is
   where

@@ -28,12 +28,10 @@ use Rattle.ofx_world.specs.Laws.{Laws}
 use Rattle.ofx_world.specs.Sound.{IsOf, IsSentBy, IsLast, IsSoundCustomer, IsSoundWorld}
 use Rattle.ofx_world.specs.World.{WorldView, with_request}
 use Rattle.ofx_world.proofs.Changed.{request_keeps}
+use Rattle.ofx_world.proofs.KeptReplies.{user_at}
 use Rattle.ofx_world.proofs.Lists.{same_some, none_some, at_all}
 
 -- ---- the user who signs on
-
-abbrev user_at : ℕ → UserId
-user_at index = record { 0 = index }
 
 -- where a name is among users
 place_of : (user : UserId) (found : Option ℕ) → option_map user_at found ≡ Some user → found ≡ Some user.0

@@ -1,6 +1,6 @@
 -- What the bank does leaves a world sound: it settles what is pending, answers a request, does due work, writes a letter, or
 -- starts anew.
-use Rattle.std.proofs.Common.{◌≡◌, ℕ, ◌<◌, ◌^◌, Bool, true, false, cond, List, length, slice_get, Option, None, Some, refl, sym, ap, subst, ◌∙◌, arith}
+use Rattle.std.proofs.Common.{◌≡◌, inl, ℕ, ◌<◌, ◌^◌, Bool, true, false, cond, List, length, slice_get, Option, None, Some, refl, sym, ap, subst, ◌∙◌, arith}
 use Rattle.std.specs.Option.{option_map}
 use Rattle.ofx_types.specs.Calendar.{IsMoment}
 use Rattle.ofx_types.specs.declared.number.Moment.{Moment}
@@ -20,8 +20,8 @@ use Rattle.event_codec.specs.Records.{Codes, Reopens}
 use Rattle.ofx_world.specs.Customer.{CustomerView}
 use Rattle.ofx_world.specs.Laws.{Laws}
 use Rattle.ofx_world.specs.Server.{ServerView, PendingView, Restarts, happened_unless, committed, reply_unless, reply_to, settled_as, settled, done_if, due_done, happened, given_up}
-use Rattle.ofx_world.specs.Kept.{IsUser}
-use Rattle.ofx_world.specs.Sound.{IsSentBy, IsSentEvent, MayHappen, MayBePending, IsSoundCustomer, IsSoundWorld}
+use Rattle.ofx_world.specs.Kept.{IsRequest, IsUser}
+use Rattle.ofx_world.specs.Sound.{IsSentBy, IsSentFor, IsSentEvent, MayHappen, MayBePending, IsSoundCustomer, IsSoundWorld}
 use Rattle.ofx_world.specs.World.{WorldView, with_server, with_reply, answered}
 use Rattle.ofx_world.proofs.Happened.{happened_keeps, answered_keeps}
 use Rattle.ofx_world.proofs.Keeping.{given_up_keeps, put_off_keeps, restart_keeps}
@@ -53,14 +53,15 @@ module _ (laws : Laws) where
       go None = happened_keeps laws world sound at event may
       go (Some landed) = put_off_keeps world at event landed may sound
 
-  -- A file that is committed, with the reply that it gets where its append doesn't fail.
-  replied_keeps : (world : WorldView) (at : Moment) (user : UserId) (file : RequestFile) → MayHappen world.server.setup world.server.state world.customers at (File user file)
+  -- A client's file that is committed, with the reply that it gets where its append doesn't fail.
+  pub replied_keeps : (world : WorldView) (at : Moment) (user : UserId) (file : RequestFile) → MayHappen world.server.setup world.server.state world.customers at (File user file)
+      → IsSentFor world.server.setup world.customers user file
       → IsSoundWorld world → IsSoundWorld (with_reply (with_server world (committed world.server at (File user file))) (reply_to world.server at (File user file)))
   unfolding committed reply_to
-  replied_keeps world at user file may sound = go world.server.fault
+  replied_keeps world at user file may sent sound = go world.server.fault
     where
       go : (fault : Option Bool) → IsSoundWorld (with_reply (with_server world (happened_unless world.server at (File user file) fault)) (reply_unless world.server at (File user file) fault))
-      go None = answered_keeps laws world sound at user file may
+      go None = answered_keeps laws world sound at user file may sent
       go (Some landed) = put_off_keeps world at (File user file) landed may sound
 
   -- ---- a request arrives
@@ -68,16 +69,44 @@ module _ (laws : Laws) where
   short_user : (setup : Setup) (user : UserId) → IsWithinLimits setup → user.0 < length setup.users → user.0 < 2 ^ 32
   short_user setup user within known = let few = within.lines.users_high in omega (arith, known, few)
 
+  -- Bytes are one user's file.
+  one_request : (setup : Setup) (bytes : List ℕ) (request : IsRequest setup bytes) (user : UserId) (file : RequestFile) → IsSignedOn setup bytes file user
+      → (request.file ≡ file) × (request.user ≡ user)
+  one_request setup bytes request user file signed =
+      let same : request.file ≡ file = laws.replies.one_file bytes request.file file request.of_user.signed_on.spelled signed.spelled in (
+        same,
+        same_some request.user user
+            (sym request.of_user.signed_on.signed ∙ ap (λ (f : RequestFile). signed_on setup f.user f.pass) same ∙ signed.signed),
+      )
+
+  -- A request that was sent is a client's file, for the user who signs on in it.
+  pub sent_for : (world : WorldView) (bytes : List ℕ) (user : UserId) (file : RequestFile) → IsSoundWorld world
+      → IsSentBy world.server.setup world.customers bytes → IsSignedOn world.server.setup bytes file user
+      → IsSentFor world.server.setup world.customers user file
+  sent_for world bytes user file sound sent signed =
+      let one = one_request world.server.setup bytes sent.request user file signed in
+      subst (λ (f : RequestFile). IsSentFor world.server.setup world.customers user f) one.0
+      (subst (λ (u : UserId). IsSentFor world.server.setup world.customers u sent.request.file) one.1 (record {
+        index = sent.index;
+        customer = sent.customer;
+        there = sent.there;
+        is_of = sent.is_of;
+        acts = user_is sent.request.user sent.customer.client.user sent.request.file.pass
+            (ap (λ (name : List ℕ). signed_on world.server.setup name sent.request.file.pass) (sym sent.is_of.user) ∙ sent.request.of_user.signed_on.signed)
+            (at_all (IsSoundCustomer world.server.setup) world.customers sent.index sent.customer sound.customers sent.there).user;
+      }))
+    where
+      user_is : (user : UserId) (name pass : List ℕ) → signed_on world.server.setup name pass ≡ Some user → IsUser world.server.setup name → user_of world.server.setup name ≡ Some user
+      user_is user name pass signed is = is.1 ∙ ap (λ (u : UserId). Some u) (signed_user world.server.setup name pass is.0 user sound.within is.1 signed)
+
   file_may : (world : WorldView) (number : ℕ) (bytes : List ℕ) (user : UserId) (file : RequestFile) (state : State) → IsSoundWorld world
       → slice_get world.requests number ≡ Some bytes → IsSignedOn world.server.setup bytes file user
       → MayHappen world.server.setup state world.customers world.clock (File user file)
   file_may world number bytes user file state sound there signed =
       let sent = at_all (IsSentBy world.server.setup world.customers) world.requests number bytes sound.requests there in
-      let same : sent.request.file ≡ file = laws.replies.one_file bytes sent.request.file file sent.request.of_user.signed_on.spelled signed.spelled in
-      let same_user : sent.request.user ≡ user = same_some sent.request.user user
-      (sym sent.request.of_user.signed_on.signed ∙ ap (λ (f : RequestFile). signed_on world.server.setup f.user f.pass) same ∙ signed.signed) in
-      subst (λ (f : RequestFile). MayHappen world.server.setup state world.customers world.clock (File user f)) same
-      (subst (λ (u : UserId). MayHappen world.server.setup state world.customers world.clock (File u sent.request.file)) same_user (record {
+      let one = one_request world.server.setup bytes sent.request user file signed in
+      subst (λ (f : RequestFile). MayHappen world.server.setup state world.customers world.clock (File user f)) one.0
+      (subst (λ (u : UserId). MayHappen world.server.setup state world.customers world.clock (File u sent.request.file)) one.1 (record {
         legal = (sent.request.of_user.known, sent.request.of_user.sound, sent.request.no_poll);
         codes = record {
           moment = sound.clock;
@@ -85,26 +114,18 @@ module _ (laws : Laws) where
           typed = short_user world.server.setup sent.request.user sound.within sent.request.of_user.known;
           spelled = refl;
         };
-        sent = record {
-          index = sent.index;
-          customer = sent.customer;
-          there = sent.there;
-          is_of = sent.is_of;
-          acts = user_is sent.request.user sent.customer.client.user sent.request.file.pass
-              (ap (λ (name : List ℕ). signed_on world.server.setup name sent.request.file.pass) (sym sent.is_of.user) ∙ sent.request.of_user.signed_on.signed)
-              (at_all (IsSoundCustomer world.server.setup) world.customers sent.index sent.customer sound.customers sent.there).user;
-        };
+        sent = inl (sent_for world bytes sent.request.user sent.request.file sound sent sent.request.of_user.signed_on);
       }))
-    where
-      user_is : (user : UserId) (name pass : List ℕ) → signed_on world.server.setup name pass ≡ Some user → IsUser world.server.setup name → user_of world.server.setup name ≡ Some user
-      user_is user name pass signed is = is.1 ∙ ap (λ (u : UserId). Some u) (signed_user world.server.setup name pass is.0 user sound.within is.1 signed)
 
   pub delivered_keeps : (world : WorldView) (number : ℕ) (bytes : List ℕ) (user : UserId) (file : RequestFile) → slice_get world.requests number ≡ Some bytes
       → IsSignedOn world.server.setup bytes file user → IsSoundWorld world → IsSoundWorld (answered world user file)
   delivered_keeps world number bytes user file there signed sound =
+      let own = sym (settled_setup world.server) in
       replied_keeps (with_server world (settled world.server)) world.clock user file
-      (subst (λ (setup : Setup). MayHappen setup (settled world.server).state world.customers world.clock (File user file)) (sym (settled_setup world.server))
+      (subst (λ (setup : Setup). MayHappen setup (settled world.server).state world.customers world.clock (File user file)) own
       (file_may world number bytes user file (settled world.server).state sound there signed))
+      (subst (λ (setup : Setup). IsSentFor setup world.customers user file) own
+      (sent_for world bytes user file sound (at_all (IsSentBy world.server.setup world.customers) world.requests number bytes sound.requests there) signed))
       (settled_keeps world sound)
 
   -- ---- what the bank does by itself

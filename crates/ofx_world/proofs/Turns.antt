@@ -1,7 +1,7 @@
 -- The turns of a rehearsal, one after another.
 use Rattle.std.proofs.Common.{◌≡◌, ℕ, suc, ◌+◌, ◌-◌, ◌<◌, List, [], ◌∷◌, ◌++◌, refl, sym, subst, arith}
 use Rattle.client_saved.specs.declared.state.ClientState.{ClientState}
-use Rattle.ofx_world.specs.Customer.{CustomerView, Saves}
+use Rattle.ofx_world.specs.Customer.{CustomerView, IsSavedAs}
 use Rattle.ofx_world.specs.Rehearsal.{AreTurns, hour_of, turn_drawn, turn_steps}
 use Rattle.ofx_world.specs.World.{WorldView, AreSteps, HaveSaved}
 
@@ -28,7 +28,7 @@ no_turn turn state world last = subst (λ (t : ℕ). AreTurns (2000 - t) t state
 
 -- ---- clients that have saved what they know
 
-pub have_saved_then : (clients : List ClientState) (customers : List CustomerView) (client : ClientState) (customer : CustomerView) → HaveSaved clients customers → Saves client customer → HaveSaved (clients ++ client ∷ []) (customers ++ customer ∷ [])
+pub have_saved_then : (clients : List ClientState) (customers : List CustomerView) (client : ClientState) (customer : CustomerView) → HaveSaved clients customers → IsSavedAs client customer → HaveSaved (clients ++ client ∷ []) (customers ++ customer ∷ [])
 have_saved_then [] [] client customer all saved = (saved, tt)
 have_saved_then [] (c ∷ customers) client customer all saved = absurd all
 have_saved_then (c ∷ clients) [] client customer all saved = absurd all

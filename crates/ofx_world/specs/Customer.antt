@@ -25,8 +25,8 @@ pub record CustomerView : Type 0 where
   pub saved : List ℕ
 
 -- Whoever saves has a text of just what the client knows.
-abbrev pub Saves : ClientState → CustomerView → Type 0
-Saves client after = (after.client ≡ client) × IsSavedText after.saved client
+abbrev pub IsSavedAs : ClientState → CustomerView → Type 0
+IsSavedAs client after = (after.client ≡ client) × IsSavedText after.saved client
 
 -- ---- files as they are sent
 
@@ -63,11 +63,11 @@ pub record MayMake (client : ClientState) (wish : Wish) : Type 0 where
   pub wish_is : IsSoundWish wish
 
 -- The client makes the file of a wish and saves that, and this is the file as it is sent.
-pub record Makes (setup : Setup) (before : CustomerView) (wish : Wish) (at : Moment) (after : CustomerView) (file : List ℕ) : Type 0 where
+pub record MakesFile (setup : Setup) (before : CustomerView) (wish : Wish) (at : Moment) (after : CustomerView) (file : List ℕ) : Type 0 where
   pub may : MayMake before.client wish
   pub client : ClientState
   pub makes : made before.client wish at ≡ Ok client
-  pub saves : Saves client after
+  pub saves : IsSavedAs client after
   pub kept : Outstanding
   pub outstanding : client.outstanding ≡ Some kept
   pub is_sent : file ≡ sent setup kept
@@ -80,12 +80,12 @@ MakesNone before wish at = (MayMake before.client wish → ⊥) ⊎ ((fault : Cl
 
 -- A client that accepts a reply saves that. One that refuses it stays as it is.
 abbrev pub Goes : CustomerView → Result Accepted ClientFault → CustomerView → Type 0
-Goes before (Ok taken) after = Saves taken.after after
+Goes before (Ok taken) after = IsSavedAs taken.after after
 Goes before (Err fault) after = after ≡ before
 
 -- The client takes in the reply that the bytes spell.
-abbrev pub Accepts : CustomerView → List ℕ → CustomerView → Type 0
-Accepts before bytes after =
+abbrev pub TakesIn : CustomerView → List ℕ → CustomerView → Type 0
+TakesIn before bytes after =
     (reply : ReplyFile) × SpellsReply bytes reply × Goes before (accepted before.client reply) after
 
 -- ---- starting anew

@@ -1,29 +1,17 @@
 -- The laws of banks, clients, files and records on which the laws of the world stand.
-use Rattle.std.specs.Prelude.{◌≡◌, ℕ, ◌<◌, ◌↔◌, true, false, List, ◌++◌, length, None, Some, Ok}
-use Rattle.std.specs.Fmt.{decimal}
+use Rattle.std.specs.Prelude.{◌≡◌, ℕ, ◌<◌, ◌↔◌, List, ◌++◌, length, None, Some, Ok}
 use Rattle.ofx_types.specs.Calendar.{IsMoment}
 use Rattle.ofx_types.specs.FileForm.{SpellsFile, OneFile, OneReply}
 use Rattle.ofx_types.specs.PrintedFile.{file_text}
 use Rattle.ofx_types.specs.ReplyForm.{reply_text}
 use Rattle.ofx_types.specs.declared.number.Moment.{Moment}
-use Rattle.ofx_types.specs.declared.number.ObjectId.{ObjectId}
 use Rattle.ofx_types.specs.declared.number.UserId.{UserId}
-use Rattle.ofx_types.specs.declared.request.Ask.{Ask}
 use Rattle.ofx_types.specs.declared.request.RequestFile.{RequestFile}
-use Rattle.ofx_types.specs.declared.sync.ObjectName.{ObjectName}
-use Rattle.ofx_types.specs.declared.sync.SyncAsk.{SyncAsk}
-use Rattle.ofx_types.specs.declared.sync.SyncKind.{SyncKind}
-use Rattle.ofx_types.specs.declared.sync.SyncKind.TheVariants.{After, Refresh}
-use Rattle.ofx_types.specs.declared.sync.SyncReply.{SyncReply}
 use Rattle.sync_laws.specs.Histories.{IsInOrder, IsLater}
-use Rattle.sync_laws.specs.SyncRound.{store_after, bank_after}
-use Rattle.bank_model.specs.Objects.{object_named}
 use Rattle.bank_model.specs.Once.{reply_kept}
-use Rattle.bank_model.specs.Rules.{IsLegal, opening_state, raised, ask_answer, ask_answers, kept_for, state_after, answer_to, due}
+use Rattle.bank_model.specs.Rules.{IsLegal, opening_state, raised, kept_for, state_after, answer_to, due}
 use Rattle.bank_model.specs.SetupForm.{IsWithinLimits}
-use Rattle.bank_model.specs.Sound.{IsSound, IsSoundSync}
-use Rattle.bank_model.specs.Stores.{Store, IsRight, empty_store, marked_lost, taken}
-use Rattle.bank_model.specs.Sync.{token_of}
+use Rattle.bank_model.specs.Sound.{IsSound}
 use Rattle.bank_model.specs.declared.event.Event.{Event}
 use Rattle.bank_model.specs.declared.event.Event.TheVariants.{File}
 use Rattle.bank_model.specs.declared.event.State.{State}
@@ -36,7 +24,7 @@ use Rattle.bank_invariants.specs.Runs.{Happening, after_all, AreLegal}
 use Rattle.bank_invariants.specs.SoundStates.{IsSoundState}
 use Rattle.client_core.specs.Accepting.{accepted, with_replies}
 use Rattle.client_laws.specs.Answers.{bank_reply}
-use Rattle.client_saved.specs.Bounds.{same_object}
+use Rattle.client_laws.specs.ClientStores.{MadeFilesAskRightly, AcceptedRepliesKeepStores, DiscardedFilesKeepStores, StoresStayRight}
 use Rattle.client_saved.specs.SavedText.{IsSavedText}
 use Rattle.client_saved.specs.declared.state.ClientState.{ClientState}
 use Rattle.client_saved.specs.declared.state.Outstanding.{Outstanding}
@@ -47,40 +35,14 @@ use Rattle.msg_mail.specs.SignonsAsDocuments.{IsSoundSignon}
 pub record HistoryLaws : Type 0 where
   pub event : (setup : Setup) (S : State) (at : Moment) (event : Event) → IsInOrder setup S → IsLegal setup S at event
       → IsInOrder setup (state_after setup S at event)
-  pub day : (setup : Setup) (S : State) (at : Moment) → IsInOrder setup S → IsInOrder setup (raised S at)
-  pub ask : (setup : Setup) (S : State) (user : UserId) (at : Moment) (ask : Ask) → IsInOrder setup S
-      → IsInOrder setup (ask_answer setup S user at ask).after
-  pub asks : (setup : Setup) (S : State) (user : UserId) (at : Moment) (asks : List Ask) → IsInOrder setup S
-      → IsInOrder setup (ask_answers setup S user at asks).after
   pub event_grows : (setup : Setup) (S : State) (at : Moment) (event : Event) → IsLater S (state_after setup S at event)
-  pub ask_grows : (setup : Setup) (S : State) (user : UserId) (at : Moment) (ask : Ask)
-      → IsLater S (ask_answer setup S user at ask).after
 
--- A client's stores are right, and stay so.
+-- All stores of a client are right, and stay so, and it accepts the bank's reply to its file.
 pub record StoreLaws : Type 0 where
-  pub empty : (setup : Setup) (S : State) (user : UserId) (name : ObjectName) → IsInOrder setup S
-      → IsRight setup user (empty_store name) S.entries
-  pub later : (setup : Setup) (S T : State) (user : UserId) (store : Store) → IsInOrder setup S → IsInOrder setup T
-      → IsLater S T → IsRight setup user store S.entries → IsRight setup user store T.entries
-  pub text : (setup : Setup) (S : State) (user : UserId) (store : Store) → IsWithinLimits setup → IsInOrder setup S
-      → store.is_lost ≡ false → IsRight setup user store S.entries → token_of (decimal store.token) ≡ Some store.token
-  pub by_token : (setup : Setup) (S : State) (user : UserId) (at : Moment) (ask : SyncAsk) (object : ObjectId)
-      (store : Store) (text : List ℕ) → IsWithinLimits setup → IsInOrder setup S → IsSoundSync ask
-      → object_named setup user ask.object ≡ Some object → store.name ≡ ask.object → ask.kind ≡ After text
-      → token_of text ≡ Some store.token → store.is_lost ≡ false → IsRight setup user store S.entries
-      → IsRight setup user (store_after setup S user at ask store) (bank_after setup S user at ask).entries
-  pub by_refresh : (setup : Setup) (S : State) (user : UserId) (at : Moment) (ask : SyncAsk) (object : ObjectId)
-      (store : Store) → IsWithinLimits setup → IsInOrder setup S → IsSoundSync ask
-      → object_named setup user ask.object ≡ Some object → store.name ≡ ask.object → ask.kind ≡ Refresh
-      → IsRight setup user (store_after setup S user at ask store) (bank_after setup S user at ask).entries
-  pub unknown_after : (setup : Setup) (S : State) (user : UserId) (at : Moment) (ask : SyncAsk) (store : Store) (text : List ℕ)
-      → object_named setup user ask.object ≡ None → ask.kind ≡ After text
-      → store_after setup S user at ask store ≡ marked_lost store
-  pub unknown_refresh : (setup : Setup) (S : State) (user : UserId) (at : Moment) (ask : SyncAsk) (store : Store)
-      → object_named setup user ask.object ≡ None → ask.kind ≡ Refresh
-      → store_after setup S user at ask store ≡ marked_lost store
-  pub name : (store : Store) (kind : SyncKind) (reply : SyncReply) → (taken store kind reply).name ≡ store.name
-  pub objects : (object other : ObjectName) → same_object object other ≡ true ↔ object ≡ other
+  pub makes : MadeFilesAskRightly
+  pub accepts : AcceptedRepliesKeepStores
+  pub discards : DiscardedFilesKeepStores
+  pub later : StoresStayRight
   pub accepted : (setup : Setup) (S : State) (user : UserId) (at : Moment) (client : ClientState) (kept : Outstanding)
       → IsWithinLimits setup → IsInOrder setup S → client.outstanding ≡ Some kept
       → accepted client (bank_reply setup S user at kept.file)

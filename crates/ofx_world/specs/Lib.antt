@@ -8,3 +8,4 @@ pub mod Sound
 pub mod Truths
 pub mod Views
 pub mod World
+pub mod GoingOn

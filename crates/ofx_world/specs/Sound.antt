@@ -1,30 +1,26 @@
 -- What is true of a world at any time, from which its truths follow.
-use Rattle.std.specs.Prelude.{◌≡◌, ℕ, ◌+◌, ◌<◌, Bool, true, false, List, [], ◌∷◌, slice_get, Option, None, Some}
+use Rattle.std.specs.Prelude.{◌≡◌, ◌⊎◌, ℕ, ◌+◌, ◌<◌, List, slice_get, Option, None, Some}
 use Rattle.std.specs.Option.{IfSome}
-use Rattle.std.specs.List.{All, AllByRecursion}
+use Rattle.std.specs.List.{All}
 use Rattle.ofx_types.specs.Calendar.{IsMoment}
 use Rattle.ofx_types.specs.FileForm.{SpellsReply}
 use Rattle.ofx_types.specs.declared.number.Moment.{Moment}
 use Rattle.ofx_types.specs.declared.number.UserId.{UserId}
 use Rattle.ofx_types.specs.declared.request.RequestFile.{RequestFile}
-use Rattle.ofx_types.specs.declared.request.Ask.{Ask}
-use Rattle.ofx_types.specs.declared.request.Ask.TheVariants as asks
-use Rattle.ofx_types.specs.declared.sync.ObjectName.{ObjectName}
 use Rattle.sync_laws.specs.Histories.{IsInOrder, IsLater}
 use Rattle.bank_model.specs.Once.{reply_kept}
 use Rattle.bank_model.specs.Rules.{IsLegal, opening_state, raised, ask_answers}
 use Rattle.bank_model.specs.SetupForm.{IsWithinLimits}
 use Rattle.bank_model.specs.SetupLookups.{user_of}
-use Rattle.bank_model.specs.Stores.{Store}
 use Rattle.bank_model.specs.declared.event.Event.{Event}
 use Rattle.bank_model.specs.declared.event.Event.TheVariants as events
 use Rattle.bank_model.specs.declared.event.State.{State}
 use Rattle.bank_model.specs.declared.once.KeptReply.{KeptReply}
 use Rattle.bank_model.specs.declared.setup.Setup.{Setup}
 use Rattle.reply_laws.specs.Reportable.{IsReportable}
-use Rattle.client_core.specs.Making.{file_name, kind_asked}
+use Rattle.client_core.specs.Making.{file_name}
 use Rattle.client_laws.specs.Answers.{bank_reply}
-use Rattle.client_saved.specs.Bounds.{same_object, has_store}
+use Rattle.client_laws.specs.ClientStores.{IsAsked}
 use Rattle.client_saved.specs.SavedText.{IsSavedText}
 use Rattle.client_saved.specs.declared.state.ClientState.{ClientState}
 use Rattle.client_saved.specs.declared.state.Outstanding.{Outstanding}
@@ -54,6 +50,11 @@ pub record IsGiven (customers : List CustomerView) (name : List ℕ) : Type 0 wh
   pub there : slice_get customers index ≡ Some customer
   pub number : ℕ
   pub numbered : IsNumbered customer.client number name
+
+-- No client who acts for the user has given the name, or will.
+abbrev pub IsStrange : Setup → List CustomerView → UserId → List ℕ → Type 0
+IsStrange setup customers user name = (index number : ℕ) (customer : CustomerView) → slice_get customers index ≡ Some customer
+    → user_of setup customer.client.user ≡ Some user → name ≡ file_name customer.client.name number → ⊥
 
 -- ---- files
 
@@ -88,14 +89,20 @@ pub record IsSentFor (setup : Setup) (customers : List CustomerView) (user : Use
   pub is_of : IsOf setup customer.client file
   pub acts : user_of setup customer.client.user ≡ Some user
 
--- What the bank does by itself nobody has sent.
+-- A user's file is a stranger's where it neither has the name of a file of the user's clients nor names one as answered. This is
+-- all that is said of it.
+pub record IsStrangers (setup : Setup) (customers : List CustomerView) (user : UserId) (file : RequestFile) : Type 0 where
+  pub newer : IfSome file.newer (IsStrange setup customers user)
+  pub older : IfSome file.older (IsStrange setup customers user)
+
+-- A user's file is one that a client has sent, or a stranger's. What the bank does by itself nobody has sent.
 abbrev pub IsSentEvent : Setup → List CustomerView → Event → Type 0
-IsSentEvent setup customers (events.File user file) = IsSentFor setup customers user file
+IsSentEvent setup customers (events.File user file) = IsSentFor setup customers user file ⊎ IsStrangers setup customers user file
 IsSentEvent setup customers (events.Post id) = Unit {0}
 IsSentEvent setup customers (events.Spawn model index) = Unit {0}
 IsSentEvent setup customers (events.Letter user subject body) = Unit {0}
 
--- An event may happen in a state, and its record codes it. Where it is a file, one of the clients has sent it.
+-- An event may happen in a state, and its record codes it. Where it is a file, a client or a stranger has sent it.
 pub record MayHappen (setup : Setup) (state : State) (customers : List CustomerView) (at : Moment) (event : Event) : Type 0 where
   pub legal : IsLegal setup state at event
   pub codes : Codes (coded at event) at event
@@ -108,34 +115,12 @@ MayBePending setup state customers (Some pending) = MayHappen setup state custom
 
 -- ---- clients
 
--- An ask is about an object that it synchronises.
-abbrev pub is_about : ObjectName → Ask → Bool
-is_about object (asks.Statement trnuid account period) = false
-is_about object (asks.One trnuid deed) = false
-is_about object (asks.Sync ask) = same_object object ask.object
-
--- No object is asked about twice.
-abbrev pub AreApart : List Ask → Type 0
-AreApart [] = Unit {0}
-AreApart (asks.Statement trnuid account period ∷ more) = AreApart more
-AreApart (asks.One trnuid deed ∷ more) = AreApart more
-AreApart (asks.Sync ask ∷ more) = AllByRecursion (λ (later : Ask). is_about ask.object later ≡ false) more × AreApart more
-
--- Each object is asked about by what is known of it.
-abbrev pub AsksAsKnown : List Store → Ask → Type 0
-AsksAsKnown stores (asks.Statement trnuid account period) = Unit {0}
-AsksAsKnown stores (asks.One trnuid deed) = ⊥
-AsksAsKnown stores (asks.Sync ask) =
-    (has_store ask.object stores ≡ true)
-    × AllByRecursion (λ (store : Store). same_object store.name ask.object ≡ true → ask.kind ≡ kind_asked store) stores
-
 -- The outstanding file is the last that was made.
 pub record IsLast (client : ClientState) (kept : Outstanding) : Type 0 where
   pub number : ℕ
   pub last : client.next ≡ number + 1
   pub name : kept.file.newer ≡ Some (file_name client.name number)
-  pub asks : AllByRecursion (AsksAsKnown client.stores) kept.file.asks
-  pub apart : AreApart kept.file.asks
+  pub asked : IsAsked client kept
   pub older : IfSome kept.file.older (IsEarlier client number)
 
 -- A client has saved what it knows, and acts for a user of the setup. The last file that was answered is one that it has made.
@@ -147,10 +132,10 @@ pub record IsSoundCustomer (setup : Setup) (customer : CustomerView) : Type 0 wh
 
 -- ---- replies
 
--- The bytes that are kept for a file are a reply that bears its name, which one of the clients has given.
-pub record IsSoundKept (customers : List CustomerView) (kept : KeptReply) : Type 0 where
+-- The bytes that are kept for a user's file are a reply that bears its name, which a client has given, or none of this user's.
+pub record IsSoundKept (setup : Setup) (customers : List CustomerView) (kept : KeptReply) : Type 0 where
   pub bears : Bears kept.file kept.reply
-  pub given : IsGiven customers kept.file
+  pub known : IsGiven customers kept.file ⊎ IsStrange setup customers kept.user kept.file
 
 -- A reply spells one, and whatever name it bears, one of the clients has given it.
 pub record IsKnownReply (customers : List CustomerView) (reply : List ℕ) : Type 0 where
@@ -197,7 +182,7 @@ pub record IsSoundWorld (world : WorldView) : Type 0 where
   pub pending : MayBePending world.server.setup world.server.state world.customers world.server.pending
   pub reported : All (IsAtItsIndex world.server.setup world.server.records) world.replies
   pub named : All (IsKnownReply world.customers) world.replies
-  pub recorded : All (IsSoundKept world.customers) world.server.state.kept
+  pub recorded : All (IsSoundKept world.server.setup world.customers) world.server.state.kept
   pub kept : All (HasKeptReply world.server.setup world.server.state world.replies) world.customers
   pub answered : All (HasAnswer world.server.setup world.server.state) world.customers
   pub stores : All (HasRightStores world.server.setup world.server.state.entries) world.customers

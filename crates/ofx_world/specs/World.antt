@@ -10,7 +10,7 @@ use Rattle.client_saved.specs.declared.state.ClientState.{ClientState}
 use Rattle.client_saved.specs.declared.state.Outstanding.{Outstanding}
 use Rattle.client_core.specs.declared.wish.Wish.{Wish}
 use Rattle.ofx_world.specs.Customer as of_client
-use Rattle.ofx_world.specs.Customer.{CustomerView, Makes, MakesNone, Accepts, Saves, sent}
+use Rattle.ofx_world.specs.Customer.{CustomerView, MakesFile, MakesNone, TakesIn, IsSavedAs, sent}
 use Rattle.ofx_world.specs.Server as of_bank
 use Rattle.ofx_world.specs.Server.{ServerView, committed, reply_to, settled, due_done, with_fault, WritesLetter}
 use Rattle.ofx_world.specs.declared.step.Step.{Step}
@@ -34,7 +34,7 @@ beginning = record { 0 = pos 1704067200 }
 -- Each client has saved what it knows.
 abbrev pub HaveSaved : List ClientState → List CustomerView → Type 0
 HaveSaved [] [] = Unit {0}
-HaveSaved (client ∷ clients) (customer ∷ customers) = Saves client customer × HaveSaved clients customers
+HaveSaved (client ∷ clients) (customer ∷ customers) = IsSavedAs client customer × HaveSaved clients customers
 HaveSaved clients customers = ⊥
 
 -- A world begins with a fresh bank, empty bags and these clients, each with its saved text.
@@ -99,7 +99,7 @@ with_clock world at = record {
 abbrev pub MakeStep : WorldView → ℕ → Wish → Option CustomerView → WorldView → Type 0
 MakeStep before number wish None after = after ≡ before
 MakeStep before number wish (Some customer) after =
-    ((new : CustomerView) × (file : List ℕ) × Makes before.server.setup customer wish before.clock new file
+    ((new : CustomerView) × (file : List ℕ) × MakesFile before.server.setup customer wish before.clock new file
     × (after ≡ with_request (with_customer before number new) file))
     ⊎ (MakesNone customer wish before.clock × (after ≡ before))
 
@@ -135,7 +135,7 @@ abbrev pub DeliverReplyStep : WorldView → ℕ → Option CustomerView → Opti
 DeliverReplyStep before number None bytes after = after ≡ before
 DeliverReplyStep before number (Some customer) None after = after ≡ before
 DeliverReplyStep before number (Some customer) (Some bytes) after =
-    (new : CustomerView) × Accepts customer bytes new × (after ≡ with_customer before number new)
+    (new : CustomerView) × TakesIn customer bytes new × (after ≡ with_customer before number new)
 
 -- The bank writes a letter.
 abbrev pub LetterStep : WorldView → UserId → List ℕ → List ℕ → WorldView → Type 0

@@ -8,7 +8,7 @@ ghost use Rattle.bank_model.specs.SetupForm.{IsWithinLimits};
 ghost use Rattle.bank_model.specs.SetupLookups.{user_of};
 ghost use Rattle.ofx_file.specs.Printable.{IsPrintableFile};
 ghost use Rattle.ofx_world.specs.Customer as rules;
-ghost use Rattle.ofx_world.specs.Customer.{MayMake, Makes, MakesNone, Saves, Accepts, Restarts, with_pass, pass_at};
+ghost use Rattle.ofx_world.specs.Customer.{MayMake, MakesFile, MakesNone, IsSavedAs, TakesIn, Restarts, with_pass, pass_at};
 ghost use Rattle.ofx_world.specs.Kept.{IsReply, IsUser};
 
 use crate::fault::want_of_memory;
@@ -56,7 +56,7 @@ impl Drop for Customer {
 impl Customer {
     /// A client that saves what it knows.
     pub(crate) fn new(client: Client) -> Result<Customer, OutOfMemory>
-        ensures { IfOk result (λ customer. Saves client customer) }
+        ensures { IfOk result (λ customer. IsSavedAs client customer) }
     {
         let saved = Sequence::from_vec(client.save_text()?);
         Ok(Customer { client, saved })
@@ -110,7 +110,7 @@ impl Customer {
         requires within { IsWithinLimits setup.now }
         requires user { IsUser setup.now self.now.client.user }
         ensures { IfOk result (λ done. MatchOption done (MakesNone self.now wish.now at)
-            (λ pair. Makes setup.now self.now wish.now at pair.0 pair.1.items)) }
+            (λ pair. MakesFile setup.now self.now wish.now at pair.0 pair.1.items)) }
     {
         if !self.may_make(wish) {
             return Ok(None);
@@ -154,8 +154,8 @@ impl Customer {
         bytes: &[u8],
     ) -> Result<Option<Customer>, OutOfMemory>
         requires { IsReply bytes.now }
-        ensures { IfOk result (λ done. MatchOption done (Accepts self.now bytes.now self.now)
-            (λ customer. Accepts self.now bytes.now customer)) }
+        ensures { IfOk result (λ done. MatchOption done (TakesIn self.now bytes.now self.now)
+            (λ customer. TakesIn self.now bytes.now customer)) }
     {
         // For the proof alone: what bytes spell may be taken in.
         spelled_replies_are_sound();

@@ -1,21 +1,28 @@
-//! The laws of the crates below on which those of the world stand. Nothing here runs.
+//! The laws of sound worlds, and those of the crates below on which they stand. Nothing here runs.
 
+ghost use Rattle.ofx_world.specs.GoingOn.{BanksKeepWorlds, SoundWorlds, StepsKeepWorlds};
 ghost use Rattle.ofx_world.specs.Laws.{HistoryLaws, Laws, RecordLaws, ReplyLaws, StoreLaws};
 
 use bank_invariants::laws::due::due_work_is_legal;
 use bank_invariants::laws::files::{kept_files_change_nothing, names_stay_kept};
 use bank_invariants::laws::states::every_state_is_sound;
 use bank_replay::laws::{reopened_books_are_right, reopenings_are_runs};
-use client_laws::bank_replies_answer;
-use client_saved::laws::{one_state, same_objects_are_equal};
+use client_laws::{all_stores_hold, bank_replies_answer};
+use client_saved::laws::one_state;
 use event_codec::laws::{one_reopening, reopening_goes_on};
 use ofx_file::laws::{one_file, one_reply};
 use reply_laws::{new_replies_read_back, reported_states_last, requests_read_back};
-use sync_laws::{
-    empty_stores_are_right, histories_are_in_order, histories_grow,
-    stores_are_lost_where_the_reply_says_so, stores_are_right_by_refresh,
-    stores_are_right_by_token, stores_stay_right, strangers_stores_are_lost,
-};
+use sync_laws::{histories_are_in_order, histories_grow};
+
+/// A world that begins is sound, whatever its clients and its bank do leaves it sound, and what is said of every world is true of
+/// a sound one. The bank may commit any legal event, for a client, for a stranger or by itself.
+pub fn sound_worlds_go_on()
+    ensures worlds { SoundWorlds }
+    ensures steps { StepsKeepWorlds }
+    ensures banks { BanksKeepWorlds }
+{
+    laws_below();
+}
 
 /// What holds of banks, clients, files and records.
 pub(crate) fn laws_below()
@@ -37,13 +44,7 @@ fn laws_of_histories()
 fn laws_of_stores()
     ensures { StoreLaws }
 {
-    empty_stores_are_right();
-    stores_stay_right();
-    stores_are_right_by_token();
-    stores_are_right_by_refresh();
-    strangers_stores_are_lost();
-    stores_are_lost_where_the_reply_says_so();
-    same_objects_are_equal();
+    all_stores_hold();
     bank_replies_answer();
 }
 
@@ -58,7 +59,8 @@ fn laws_of_replies()
     one_file();
 }
 
-fn laws_of_records()
+/// A bank comes by its records to one state, which is sound and may be reported.
+pub fn laws_of_records()
     ensures { RecordLaws }
 {
     reopening_goes_on();

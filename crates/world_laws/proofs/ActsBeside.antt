@@ -12,10 +12,10 @@ use Rattle.client_core.specs.declared.fault.ClientFault.{ClientFault}
 use Rattle.client_laws.specs.Answers.{bank_reply}
 use Rattle.client_saved.specs.Bounds.{IsSoundState}
 use Rattle.client_saved.specs.declared.state.ClientState.{ClientState}
-use Rattle.ofx_world.specs.Customer.{CustomerView, Goes, Saves}
+use Rattle.ofx_world.specs.Customer.{CustomerView, Goes, IsSavedAs}
 use Rattle.ofx_world.specs.World.{MakeStep, RestartStep, DeliverReplyStep, with_customer, with_request}
 use Rattle.world_laws.specs.ClientActs.{Act, making, taking, discarding, IsAct, ActsAreSteps, IsBeside, AreBeside, ActsKeepStores}
-use Rattle.world_laws.specs.ClientStores.{AreRight, AsksRightly, MadeFilesAskRightly, AcceptedRepliesKeepStores, DiscardedFilesKeepStores, StoresStayRight}
+use Rattle.client_laws.specs.ClientStores.{AreRight, AsksRightly, MadeFilesAskRightly, AcceptedRepliesKeepStores, DiscardedFilesKeepStores, StoresStayRight}
 
 -- ---- steps
 
@@ -41,7 +41,7 @@ record Holds (setup : Setup) (user : UserId) (S : State) (client : ClientState) 
 
 module _ (make : MadeFilesAskRightly) (accept : AcceptedRepliesKeepStores) (discard : DiscardedFilesKeepStores) (stay : StoresStayRight) (one_reply : OneReply) (setup : Setup) (user : UserId) (within : IsWithinLimits setup) where
   -- what was saved, with stores that are right, and as they stay
-  saved_holds : (R : State) (client : ClientState) (after : CustomerView) → Saves client after → AsksRightly client × AreRight setup user R client
+  saved_holds : (R : State) (client : ClientState) (after : CustomerView) → IsSavedAs client after → AsksRightly client × AreRight setup user R client
       → Holds setup user R after.client
   saved_holds R client after saves both =
       subst (Holds setup user R) (sym saves.0) (record { sound = saves.1.sound; asks = both.0; right = both.1 })

@@ -23,8 +23,8 @@ use Rattle.bank_engine.specs.Truth.{Awaits, IsTrue}
 use Rattle.bank_engine.specs.Views as engines
 use Rattle.bank_engine.specs.Views.{JournalView}
 use Rattle.ofx_world.specs.Server.{ServerView, fresh}
-use Rattle.world_laws.specs.BankLaws.{FreshServersAreSound, SoundServersGoOn, IsReported, HasReply, IsRun, IsAt, LogsAreRuns, IsTried, landed_record, IsPendingAs, IsSeenAs, JournalsAreRuns}
-use Rattle.world_laws.specs.ServedBank.{MayCommit}
+use Rattle.world_laws.specs.BankLaws.{FreshServersAreSound, SoundServersGoOn, IsReported, HasReply, IsRun, LogsAreRuns, IsTried, landed_record, IsPendingAs, IsSeenAs, JournalsAreRuns}
+use Rattle.world_laws.specs.ServedBank.{at_rest, MayCommit}
 use Rattle.world_laws.proofs.LogRuns.{bank, waiting, pending_waits, seen, MayStay, goes_to_end, comes_by}
 
 -- ---- replies
@@ -72,13 +72,12 @@ module _ (fresh_sound : FreshServersAreSound) (go_on : SoundServersGoOn) (reopen
   -- The bank goes along the log to its end, with this known of what waits then.
   run_to : (final : Option Bool) (opening : State) (first written : List (List ℕ)) (log : List LogItem) → Reopens setup opening_state first opening
       → IsWholeLog setup opening log → CodeEndings (endings log) written → MayStay setup (ends setup opening log) final (endings log)
-      → IsRun setup first log (bank setup (ends setup opening log) (first ++ written) (seen final (waiting (endings log))))
+      → IsRun setup opening first log (bank setup (ends setup opening log) (first ++ written) (seen final (waiting (endings log))))
   run_to final opening first written log reopens whole code may =
       let opens = comes_by setup opening_state opening [] first reopens in
       let goes = goes_to_end setup final opening first (endings log) written whole.may_end code may in
       let leads = reopen setup opening first written log reopens whole code in
       record {
-        opened = bank setup opening first None;
         opens = opens;
         goes = goes;
         sound = go_on.log _ _ (endings log) goes (go_on.records (fresh setup) (bank setup opening first None) first opens (fresh_sound setup within));
@@ -87,18 +86,15 @@ module _ (fresh_sound : FreshServersAreSound) (go_on : SoundServersGoOn) (reopen
 
   pub log_run : (opening : State) (first written : List (List ℕ)) (log : List LogItem) → Reopens setup opening_state first opening
       → IsWholeLog setup opening log → CodeEndings (endings log) written
-      → (server : ServerView) × IsRun setup first log server × IsAt setup (ends setup opening log) (first ++ written) server
-  log_run opening first written log reopens whole code = (
-    bank setup (ends setup opening log) (first ++ written) None,
-    run_to None opening first written log reopens whole code (λ landed event at is found. absurd (none-some landed is)),
-    record { setup_is = refl; state_is = refl; records_are = refl; pending = refl; fault = refl },
-  )
+      → IsRun setup opening first log (at_rest setup (ends setup opening log) (first ++ written))
+  log_run opening first written log reopens whole code =
+      run_to None opening first written log reopens whole code (λ landed event at is found. absurd (none-some landed is))
 
   -- ---- a journal
 
   module _ (opening : State) (first : List (List ℕ)) (journal : JournalView) (is : IsTrue setup opening (Some first) journal) where
     abbrev Runs : Type 0
-    Runs = (server : ServerView) × IsRun setup first journal.log server × IsSeenAs journal server
+    Runs = (server : ServerView) × IsRun setup opening first journal.log server × IsSeenAs journal server
 
     -- nothing is pending
     idle : (records : List (List ℕ)) → journal.records ≡ Some records → (kept : AreKept setup opening first journal.log journal.landed journal.pending records)

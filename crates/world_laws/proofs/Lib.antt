@@ -1,10 +1,7 @@
-mod Accepted
 mod ActsBeside
-mod AsksMade
-mod LawsBelow
+mod BesideBank
+mod ClientsBeside
 mod JournalRuns
 mod LogRuns
-mod Objects
 mod ProgramActs
 mod SoundServers
-mod StoresHold

@@ -2,7 +2,6 @@
 use Rattle.std.proofs.Common.{◌≡◌, ℕ, ◌<◌, Bool, true, false, List, [], ◌∷◌, ◌++◌, Option, None, Some, Result, Ok, Err, refl, sym, ap, subst, ◌∙◌}
 use Rattle.std.specs.Option.{IfSome}
 use Rattle.ofx_ports.specs.Known.{Stays}
-use Rattle.ofx_ports.specs.Saved.{Becomes}
 use Rattle.ofx_ports.specs.declared.fault.PutFault.{PutFault}
 use Rattle.ofx_types.specs.FileForm.{SpellsReply}
 use Rattle.ofx_types.specs.declared.number.Moment.{Moment}
@@ -23,6 +22,7 @@ use Rattle.client_core.specs.declared.wish.Wish.{Wish}
 use Rattle.client_core.specs.declared.wish.Wish.TheVariants as wishes
 use Rattle.client_arguments.specs.Reading.{IsInBounds}
 use Rattle.client_arguments.specs.declared.order.Order.{Order}
+use Rattle.client_run.proofs.GoingOn.{become, stay}
 use Rattle.client_run.specs.Commands.{Resumes, KeepsMade, SendsIf, MakesIf, Acts, Works}
 use Rattle.client_run.specs.Commands as commands
 use Rattle.client_run.specs.GoingOn.{sent_to, made_to, acted_to, worked_to, left_if, IsSaved}
@@ -43,16 +43,6 @@ use Rattle.world_laws.specs.ProgramRuns.{customer_of, IsActedOut, RunsAreActs}
 
 ok_is_err : (done : Unit {0}) (stop : ClientStop) → ◌≡◌ {A = Result (Unit {0}) ClientStop} (Ok done) (Err stop) → ⊥
 ok_is_err done stop same = cc
-
-become : (old new : Option (List ℕ)) (before text : List ℕ) → old ≡ Some before → Becomes old new text → new ≡ Some text
-become None new before text is becomes = absurd cc
-become (Some old) None before text is becomes = absurd becomes
-become (Some old) (Some new) before text is becomes = ap (λ (t : List ℕ). Some t) becomes
-
-stay : (old new : Option (List ℕ)) (text : List ℕ) → old ≡ Some text → Stays old new → new ≡ Some text
-stay None new text is stays = absurd cc
-stay (Some old) None text is stays = absurd stays
-stay (Some old) (Some new) text is stays = let same : old ≡ text = cc in ap (λ (t : List ℕ). Some t) (stays ∙ same)
 
 -- No file is outstanding, and the number of the next one is as it was.
 record IsFree (client next : ClientState) : Type 0 where

@@ -26,7 +26,7 @@ use Rattle.ofx_world.specs.Server.{PendingView, ServerView, fresh, settled, with
 use Rattle.ofx_world.specs.Sound.{IsSoundWorld}
 use Rattle.ofx_world.specs.Truths.{IsAtItsIndex}
 use Rattle.ofx_world.specs.World.{WorldView}
-use Rattle.world_laws.specs.ServedBank.{MayCommit, EndsAs, GoesAlong, ComesBy}
+use Rattle.world_laws.specs.ServedBank.{at_rest, MayCommit, EndsAs, GoesAlong, ComesBy}
 
 -- ---- what the world says of its bank
 
@@ -71,28 +71,20 @@ HasReply setup records (Answer event at reply) = IsReported setup records event 
 HasReply setup records (Adopted fault event at) = Unit {0}
 HasReply setup records (Fault count pending) = Unit {0}
 
--- A fresh bank of the world comes by the records from which a served bank opened, and then goes along its log. It is sound
--- then, and each reply in the log is the one-thread bank's at its place among its records.
-pub record IsRun (setup : Setup) (first : List (List ℕ)) (log : List LogItem) (after : ServerView) : Type 0 where
-  pub opened : ServerView
-  pub opens : ComesBy (fresh setup) first opened
-  pub goes : GoesAlong opened (endings log) after
+-- A fresh bank of the world comes by the records from which a served bank opened to the state in which it opened, and then goes
+-- along its log. It is sound then, and each reply in the log is the one-thread bank's at its place among its records.
+pub record IsRun (setup : Setup) (opening : State) (first : List (List ℕ)) (log : List LogItem) (after : ServerView) : Type 0 where
+  pub opens : ComesBy (fresh setup) first (at_rest setup opening first)
+  pub goes : GoesAlong (at_rest setup opening first) (endings log) after
   pub sound : IsSoundServer after
   pub replies : All (HasReply setup after.records) (endings log)
 
--- The setup and the state are these, the records are the first ones and then the log's, and nothing is pending.
-pub record IsAt (setup : Setup) (state : State) (records : List (List ℕ)) (server : ServerView) : Type 0 where
-  pub setup_is : server.setup ≡ setup
-  pub state_is : server.state ≡ state
-  pub records_are : server.records ≡ records
-  pub pending : server.pending ≡ None
-  pub fault : server.fault ≡ None
-
--- Each whole log of a served bank, with records that code it, is such a run, which ends in the log's state with the log's records.
+-- Each whole log of a served bank, with records that code it, is such a run. It ends in the log's state, with the log's records
+-- after the first ones, and nothing is pending.
 abbrev pub LogsAreRuns : Type 0
 LogsAreRuns = (setup : Setup) (opening : State) (first coded : List (List ℕ)) (log : List LogItem) → IsWithinLimits setup
     → Reopens setup opening_state first opening → IsWholeLog setup opening log → CodeEndings (endings log) coded
-    → (server : ServerView) × IsRun setup first log server × IsAt setup (ends setup opening log) (first ++ coded) server
+    → IsRun setup opening first log (at_rest setup (ends setup opening log) (first ++ coded))
 
 -- ---- journals
 
@@ -131,4 +123,4 @@ pub record IsSeenAs (journal : JournalView) (server : ServerView) : Type 0 where
 abbrev pub JournalsAreRuns : Type 0
 JournalsAreRuns = (setup : Setup) (opening : State) (first : List (List ℕ)) (journal : JournalView) → IsWithinLimits setup
     → IsTrue setup opening (Some first) journal → IsTried journal
-    → (server : ServerView) × IsRun setup first journal.log server × IsSeenAs journal server
+    → (server : ServerView) × IsRun setup opening first journal.log server × IsSeenAs journal server

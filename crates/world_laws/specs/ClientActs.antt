@@ -11,13 +11,13 @@ use Rattle.bank_model.specs.declared.setup.Setup.{Setup}
 use Rattle.client_core.specs.ClientForm.{discarded}
 use Rattle.client_core.specs.declared.wish.Wish.{Wish}
 use Rattle.client_laws.specs.Answers.{bank_reply}
+use Rattle.client_laws.specs.ClientStores.{AreRight, AsksRightly}
 use Rattle.client_saved.specs.Bounds.{IsSoundState}
 use Rattle.client_saved.specs.declared.state.Outstanding.{Outstanding}
 use Rattle.ofx_world.specs.Customer as of_client
-use Rattle.ofx_world.specs.Customer.{CustomerView, Makes, Accepts, Saves}
+use Rattle.ofx_world.specs.Customer.{CustomerView, MakesFile, TakesIn, IsSavedAs}
 use Rattle.ofx_world.specs.World.{WorldView, IsStep, with_customer, with_request}
 use Rattle.ofx_world.specs.declared.step.Step.TheVariants as steps
-use Rattle.world_laws.specs.ClientStores.{AreRight, AsksRightly}
 
 -- A client makes the file of a wish at a moment, takes in the reply that these bytes spell, or gives its file up.
 pub data Act : Type 0 where
@@ -28,9 +28,9 @@ pub data Act : Type 0 where
 -- Each is saved. Making and taking in are as in the world. A file is given up where the bank can't read it; the world has no
 -- such reply.
 abbrev pub IsAct : Setup → CustomerView → Act → CustomerView → Type 0
-IsAct setup before (making wish at) after = (file : List ℕ) × Makes setup before wish at after file
-IsAct setup before (taking bytes) after = Accepts before bytes after
-IsAct setup before discarding after = Saves (discarded before.client) after
+IsAct setup before (making wish at) after = (file : List ℕ) × MakesFile setup before wish at after file
+IsAct setup before (taking bytes) after = TakesIn before bytes after
+IsAct setup before discarding after = IsSavedAs (discarded before.client) after
 
 -- just these acts, in their order
 abbrev pub AreActs : Setup → CustomerView → List Act → CustomerView → Type 0
@@ -43,10 +43,10 @@ AreActs setup before (act ∷ more) after = (between : CustomerView) × IsAct se
 -- start from the saved text.
 pub record ActsAreSteps : Type 0 where
   pub makes : (world : WorldView) (index : ℕ) (customer new : CustomerView) (wish : Wish) (file : List ℕ)
-      → slice_get world.customers index ≡ Some customer → Makes world.server.setup customer wish world.clock new file
+      → slice_get world.customers index ≡ Some customer → MakesFile world.server.setup customer wish world.clock new file
       → IsStep world (steps.Make index wish) (with_request (with_customer world index new) file)
   pub takes : (world : WorldView) (index number : ℕ) (customer new : CustomerView) (bytes : List ℕ)
-      → slice_get world.customers index ≡ Some customer → slice_get world.replies number ≡ Some bytes → Accepts customer bytes new
+      → slice_get world.customers index ≡ Some customer → slice_get world.replies number ≡ Some bytes → TakesIn customer bytes new
       → IsStep world (steps.DeliverReply index number) (with_customer world index new)
   pub starts : (world : WorldView) (index : ℕ) (customer new : CustomerView) → slice_get world.customers index ≡ Some customer
       → of_client.Restarts customer new → IsStep world (steps.RestartClient index) (with_customer world index new)

@@ -1,5 +1,6 @@
 pub mod ServedBank
 pub mod BankLaws
-pub mod ClientStores
 pub mod ClientActs
 pub mod ProgramRuns
+pub mod Beside
+pub mod BesideLaws

@@ -11,6 +11,10 @@ use Rattle.event_codec.specs.Coding.{coded}
 use Rattle.event_codec.specs.Records.{Codes}
 use Rattle.ofx_world.specs.Server.{ServerView, committed, reply_to, settled, with_fault}
 
+-- A bank with nothing pending, whose next append doesn't fail.
+abbrev pub at_rest : Setup → State → List (List ℕ) → ServerView
+at_rest setup state records = record { setup = setup; state = state; records = records; pending = None; fault = None }
+
 -- An event may be committed in a state at a moment: it is legal there, and its record codes it.
 pub record MayCommit (setup : Setup) (state : State) (at : Moment) (event : Event) : Type 0 where
   pub legal : IsLegal setup state at event

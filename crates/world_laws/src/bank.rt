@@ -2,8 +2,8 @@
 
 ghost use Rattle.world_laws.specs.BankLaws.{WorldsHaveSoundServers, FreshServersAreSound, SoundServersGoOn, LogsAreRuns, TrialsGoOn, JournalsAreRuns};
 
-use crate::below::laws_of_records;
 use bank_engine::laws::logs_reopen;
+use ofx_world::laws_of_records;
 
 /// What the world's invariant says of its bank alone holds of a fresh bank, and each step of a served bank keeps it.
 pub fn sound_servers_go_on()

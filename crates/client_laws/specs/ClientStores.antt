@@ -1,28 +1,53 @@
 -- What all stores of a client hold of the bank's history, whatever its files ask and whatever the bank has done since.
-use Rattle.std.specs.Prelude.{◌≡◌, All, Some, Ok}
+use Rattle.std.specs.Prelude.{◌≡◌, Bool, true, false, List, [], ◌∷◌, All, Some, Ok}
 use Rattle.std.specs.List.{AllByRecursion}
 use Rattle.std.specs.Option.{IfSome}
 use Rattle.ofx_types.specs.declared.number.Moment.{Moment}
 use Rattle.ofx_types.specs.declared.number.UserId.{UserId}
+use Rattle.ofx_types.specs.declared.request.Ask.{Ask}
+use Rattle.ofx_types.specs.declared.request.Ask.TheVariants as asks
+use Rattle.ofx_types.specs.declared.sync.ObjectName.{ObjectName}
 use Rattle.sync_laws.specs.Histories.{IsInOrder, IsLater}
 use Rattle.bank_model.specs.Rules.{raised, ask_answers}
 use Rattle.bank_model.specs.SetupForm.{IsWithinLimits}
 use Rattle.bank_model.specs.Stores.{Store, IsRight}
 use Rattle.bank_model.specs.declared.event.State.{State}
 use Rattle.bank_model.specs.declared.setup.Setup.{Setup}
-use Rattle.client_saved.specs.Bounds.{IsSoundState}
+use Rattle.client_saved.specs.Bounds.{IsSoundState, same_object, has_store}
 use Rattle.client_saved.specs.declared.state.ClientState.{ClientState}
 use Rattle.client_saved.specs.declared.state.Outstanding.{Outstanding}
 use Rattle.client_core.specs.Accepting.{Accepted, accepted}
 use Rattle.client_core.specs.ClientForm.{discarded}
-use Rattle.client_core.specs.Making.{made}
+use Rattle.client_core.specs.Making.{kind_asked, made}
 use Rattle.client_core.specs.declared.wish.Wish.{Wish}
 use Rattle.client_laws.specs.Answers.{bank_reply}
-use Rattle.ofx_world.specs.Sound.{AreApart, AsksAsKnown}
 
 -- Each of a client's stores holds its object's entries, folded up to its token, or is marked lost.
 abbrev pub AreRight : Setup → UserId → State → ClientState → Type 0
 AreRight setup user S client = All (λ (store : Store). IsRight setup user store S.entries) client.stores
+
+-- ---- what a file asks
+
+-- An ask is about an object that it synchronises.
+abbrev pub is_about : ObjectName → Ask → Bool
+is_about object (asks.Statement trnuid account period) = false
+is_about object (asks.One trnuid deed) = false
+is_about object (asks.Sync ask) = same_object object ask.object
+
+-- No object is asked about twice.
+abbrev pub AreApart : List Ask → Type 0
+AreApart [] = Unit {0}
+AreApart (asks.Statement trnuid account period ∷ more) = AreApart more
+AreApart (asks.One trnuid deed ∷ more) = AreApart more
+AreApart (asks.Sync ask ∷ more) = AllByRecursion (λ (later : Ask). is_about ask.object later ≡ false) more × AreApart more
+
+-- Each object is asked about by what is known of it.
+abbrev pub AsksAsKnown : List Store → Ask → Type 0
+AsksAsKnown stores (asks.Statement trnuid account period) = Unit {0}
+AsksAsKnown stores (asks.One trnuid deed) = ⊥
+AsksAsKnown stores (asks.Sync ask) =
+    (has_store ask.object stores ≡ true)
+    × AllByRecursion (λ (store : Store). same_object store.name ask.object ≡ true → ask.kind ≡ kind_asked store) stores
 
 -- A file asks about each object by what the client knows of it, and about none twice.
 pub record IsAsked (client : ClientState) (kept : Outstanding) : Type 0 where
@@ -32,6 +57,8 @@ pub record IsAsked (client : ClientState) (kept : Outstanding) : Type 0 where
 -- So does the file that a client has outstanding.
 abbrev pub AsksRightly : ClientState → Type 0
 AsksRightly client = IfSome client.outstanding (IsAsked client)
+
+-- ---- laws
 
 -- Whoever makes a file asks rightly, and its stores are as right as they were.
 abbrev pub MadeFilesAskRightly : Type 0
