@@ -1,0 +1,9 @@
+mod SpelledLines
+mod HeadLines
+mod BytesRead
+mod FrameLaws
+mod Bodies
+mod TurnLaws
+mod Ends
+mod Tallying
+mod BadFiles
