@@ -25,9 +25,9 @@ opened left saved held reads stores writes lines finds = record { text = finds.0
 pub unopened : (left held saved saved' : Option (List ℕ)) (reads stores stores' writes : ℕ) (stop : Stop) → Finds saved (Err stop) → Stays saved saved'
     → (stop ≡ stops.StoreFailed → Rose stores stores') → EndsSo (ports_view left reads saved stores held writes) (ports_view left reads saved' stores' held writes) (Err stop)
 unopened left held saved saved' reads stores stores' writes (stops.BadStore offset) finds stays rose =
-    record { text = finds.0; text_is = finds.1; fault = finds.2; stays = stays; printed = Keeps-refl held }
-unopened left held saved saved' reads stores stores' writes stops.StoreFailed finds stays rose = (inl (record { stays = stays; printed = Keeps-refl held }), rose refl)
-unopened left held saved saved' reads stores stores' writes stops.NoMemory finds stays rose = inl (record { stays = stays; printed = Keeps-refl held })
+    record { text = finds.0; text_is = finds.1; fault = finds.2; read = Keeps-refl left; stays = stays; printed = Keeps-refl held }
+unopened left held saved saved' reads stores stores' writes stops.StoreFailed finds stays rose = (inl (record { read = Keeps-refl left; stays = stays; printed = Keeps-refl held }), rose refl)
+unopened left held saved saved' reads stores stores' writes stops.NoMemory finds stays rose = inl (record { read = Keeps-refl left; stays = stays; printed = Keeps-refl held })
 unopened left held saved saved' reads stores stores' writes (stops.Frame offset) finds stays rose = absurd finds
 unopened left held saved saved' reads stores stores' writes stops.ReadFailed finds stays rose = absurd finds
 unopened left held saved saved' reads stores stores' writes stops.WriteFailed finds stays rose = absurd finds

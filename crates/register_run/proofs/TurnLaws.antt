@@ -9,7 +9,7 @@ use Rattle.file_register.specs.declared.line.Line.{Line}
 use Rattle.register_run.specs.Frames.{Fits}
 use Rattle.register_run.specs.NextFrame.{IsNoFrame}
 use Rattle.register_run.specs.Answers.{AnswersFile, AnswersFiles}
-use Rattle.register_run.specs.Turns.{AnswersWhole, AnswersInPart, TakesFrame, IsIdle, RunsTurn, Taken, Finishes, StopsAtFrame, StopsBetween, StopsInLine, AnswersAll, EndsInput}
+use Rattle.register_run.specs.Turns.{AnswersWhole, TakesFrame, TakesInPart, IsIdle, RunsTurn, Taken, Finishes, StopsAtFrame, StopsBetween, StopsInLine, AnswersAll, EndsInput}
 use Rattle.register_run.specs.declared.stop.Stop.{Stop}
 use Rattle.register_run.specs.declared.stop.Stop.TheVariants as stops
 
@@ -127,17 +127,16 @@ stopped_between lines left held count offset now left' held' held'' present few 
   taken = taken_of lines left held count offset now left' held' present few left' held'' (Keeps-refl left') printed;
 }
 
-stopped_in_line : (lines : List Line) (left held : Option (List ℕ)) (count offset : ℕ) (now : List Line) (left' held' held'' : Option (List ℕ)) (file : List ℕ)
-    → Current lines left held count offset now left' held' → count ≤ 1000000 → Fits file → AnswersInPart now file held' held'' → StopsInLine lines left held held''
-stopped_in_line lines left held count offset now left' held' held'' file present few fits part = record {
+stopped_in_line : (lines : List Line) (left held : Option (List ℕ)) (count offset : ℕ) (now : List Line) (left' held' left'' held'' : Option (List ℕ))
+    → Current lines left held count offset now left' held' → count ≤ 1000000 → TakesInPart now left' held' left'' held'' → StopsInLine lines left held held''
+stopped_in_line lines left held count offset now left' held' left'' held'' present few next = record {
   files = present.files;
   lines' = now;
   rest = left';
   between = held';
   taken = taken_of lines left held count offset now left' held' present few left' held' (Keeps-refl left') (Keeps-refl held');
-  file = file;
-  fits = fits;
-  part = part;
+  after = left'';
+  next = next;
 }
 
 -- a turn that stops ends the run
@@ -145,7 +144,7 @@ pub stopped_in_turn : (lines : List Line) (left held : Option (List ℕ)) (count
     → Current lines left held count offset now left' held' → count ≤ 1000000 → RunsTurn now left' held' after left'' held'' (Err stop) → AnswersAll lines left held after left'' held'' (Err stop)
 stopped_in_turn lines left held count offset now after left' held' left'' held'' stops.ReadFailed present few turn = stopped_between lines left held count offset now left' held' held'' present few turn
 stopped_in_turn lines left held count offset now after left' held' left'' held'' stops.NoMemory present few turn = stopped_between lines left held count offset now left' held' held'' present few turn
-stopped_in_turn lines left held count offset now after left' held' left'' held'' stops.WriteFailed present few turn = stopped_in_line lines left held count offset now left' held' held'' turn.0 present few turn.1 turn.2
+stopped_in_turn lines left held count offset now after left' held' left'' held'' stops.WriteFailed present few turn = stopped_in_line lines left held count offset now left' held' left'' held'' present few turn
 stopped_in_turn lines left held count offset now after left' held' left'' held'' stops.StoreFailed present few turn = turn
 stopped_in_turn lines left held count offset now after left' held' left'' held'' (stops.BadStore at) present few turn = turn
 stopped_in_turn lines left held count offset now after left' held' left'' held'' (stops.Frame at) present few turn = absurd turn

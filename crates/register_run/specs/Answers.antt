@@ -10,11 +10,11 @@ use Rattle.file_register.specs.declared.import.Imported.{Imported}
 use Rattle.file_register.specs.declared.import.ImportFault.{ImportFault}
 use Rattle.register_run.specs.Lines.{bad_line, IsLineOf}
 
--- Bytes that spell no reply file have a fault at this place.
+-- Bytes that spell no reply file have a fault at this offset.
 abbrev pub IsNoReplyAt : List ℕ → ℕ → Type 0
 IsNoReplyAt bytes at = IsReplyFaultOf bytes (Header at) ⊎ (IsReplyFaultOf bytes (Syntax at) ⊎ IsReplyFaultOf bytes (Form at))
 
--- Their place is printed, and nothing is changed.
+-- The offset is printed, and nothing is changed.
 pub record IsBadFile (lines : List Line) (file line : List ℕ) (after : List Line) : Type 0 where
   pub offset : ℕ
   pub fault : IsNoReplyAt file offset

@@ -21,7 +21,7 @@ FindsIn text (Err (stops.Frame offset)) = ⊥
 FindsIn text (Err stops.ReadFailed) = ⊥
 FindsIn text (Err stops.WriteFailed) = ⊥
 
--- The text is the one that stands, where that is reported.
+-- The text is the one that is kept, where that is known.
 abbrev pub IsKept : Option (List ℕ) → List ℕ → Type 0
 IsKept saved text = IfSome saved (λ reported. text ≡ reported)
 
@@ -44,8 +44,7 @@ Prints bytes before after (Err (stops.BadStore offset)) = ⊥
 Prints bytes before after (Err (stops.Frame offset)) = ⊥
 Prints bytes before after (Err stops.ReadFailed) = ⊥
 
--- The text of the register stands; or what stood before or it does where the save failed; or what stood before does where memory
--- was refused.
+-- The text of the register is kept; or that text or the old one where the save failed; or the old one where memory was refused.
 abbrev pub Saves : List Line → Option (List ℕ) → Option (List ℕ) → Result (Unit {0}) Stop → Type 0
 Saves lines before after (Ok done) = (text : List ℕ) × IsSavedText text lines × Becomes before after text
 Saves lines before after (Err stops.StoreFailed) = (text : List ℕ) × IsSavedText text lines × (Stays before after ⊎ Becomes before after text)
@@ -65,7 +64,7 @@ PrintsAccounts lines before after (Err (stops.BadStore offset)) = ⊥
 PrintsAccounts lines before after (Err (stops.Frame offset)) = ⊥
 PrintsAccounts lines before after (Err stops.ReadFailed) = ⊥
 
--- The text of the register stands.
+-- The text of the register is kept.
 abbrev pub Holds : List Line → Option (List ℕ) → Option (List ℕ) → Type 0
 Holds lines before after = (text : List ℕ) × IsSavedText text lines × Becomes before after text
 

@@ -11,7 +11,7 @@ use Rattle.file_register.specs.declared.import.ImportFault.{ImportFault}
 use Rattle.file_register.specs.declared.import.ImportFault.TheVariants as faults
 use Rattle.register_run.specs.declared.tallies.Tally.{Tally}
 
--- `BAD`, a space and the place of a fault
+-- `BAD`, a space and the offset of a fault
 abbrev pub bad_line : ℕ → List ℕ
 bad_line = frames.bad_line
 

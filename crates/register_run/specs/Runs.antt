@@ -30,16 +30,18 @@ pub record Opens (before : PortsView) (lines : List Line) : Type 0 where
   pub text_is : IsKept before.saved text
   pub is_text : IsTextOf text lines
 
--- The text that is there has no form, and its first fault is at this place. Nothing was read or printed.
+-- The text that is there has no form, and its first fault is at this offset. Nothing was read, printed or saved.
 pub record IsFaulty (before after : PortsView) (offset : ℕ) : Type 0 where
   pub text : List ℕ
   pub text_is : IsKept before.saved text
   pub fault : IsFirstFault text offset
+  pub read : Keeps before.left after.left
   pub stays : Stays before.saved after.saved
   pub printed : Keeps before.held after.held
 
 -- No register was opened. Nothing was read, printed or saved.
 pub record IsUnopened (before after : PortsView) : Type 0 where
+  pub read : Keeps before.left after.left
   pub stays : Stays before.saved after.saved
   pub printed : Keeps before.held after.held
 
@@ -74,7 +76,7 @@ pub record CompletesInPart (before after : PortsView) : Type 0 where
   pub saved : Holds lines before.saved after.saved
   pub part : AppendsPart held after.held (accounts_text lines)
 
--- The save failed: what stood before stands, or the text of the register. No account is printed.
+-- The save failed: the text that was kept is kept still, or that of the register is. No account is printed.
 pub record SavesNot (before after : PortsView) : Type 0 where
   pub held : Option (List ℕ)
   pub lines : List Line
@@ -84,7 +86,7 @@ pub record SavesNot (before after : PortsView) : Type 0 where
   pub saved : Stays before.saved after.saved ⊎ Becomes before.saved after.saved text
   pub printed : Keeps held after.held
 
--- Memory was refused for the text, and what stood before stands; or for the lines of the accounts, and the text stands.
+-- Memory was refused for the text, and the one that was kept is kept still; or for the lines of the accounts, after the save.
 pub record EndsShort (before after : PortsView) : Type 0 where
   pub held : Option (List ℕ)
   pub lines : List Line
@@ -104,7 +106,7 @@ EndsSo before after (Err stops.WriteFailed) = (StopsSo StopsInLine before after 
 EndsSo before after (Err stops.StoreFailed) = (IsUnopened before after ⊎ SavesNot before after) × Rose before.store_faults after.store_faults
 EndsSo before after (Err stops.NoMemory) = IsUnopened before after ⊎ (StopsSo StopsBetween before after ⊎ EndsShort before after)
 
--- Words without the form run nothing.
+-- Arguments without the form run nothing.
 pub record IsUnordered (arguments : List (List ℕ)) (before after : PortsView) (what : Told) : Type 0 where
   pub usage : AreArguments arguments → ⊥
   pub reported_is : what ≡ reported 2 Plain

@@ -46,6 +46,13 @@ pub record TakesFrame (lines : List Line) (left held : Option (List ℕ)) (lines
   pub read : Consumes left left' (frame file)
   pub answers : AnswersWhole lines file held lines' held'
 
+-- The input began with the frame of a file, and lost it. A write failed, and a prefix of the file's line is printed.
+pub record TakesInPart (lines : List Line) (left held left' held' : Option (List ℕ)) : Type 0 where
+  pub file : List ℕ
+  pub fits : Fits file
+  pub read : Consumes left left' (frame file)
+  pub answers : AnswersInPart lines file held held'
+
 -- Nothing is printed, and the register stays.
 pub record IsIdle (lines : List Line) (held : Option (List ℕ)) (lines' : List Line) (held' : Option (List ℕ)) : Type 0 where
   pub stays : lines' ≡ lines
@@ -55,7 +62,7 @@ abbrev pub RunsTurn : List Line → Option (List ℕ) → Option (List ℕ) → 
 RunsTurn lines left held lines' left' held' (Ok (turns.Answered size)) = TakesFrame lines left held lines' left' held' size
 RunsTurn lines left held lines' left' held' (Ok turns.AtEnd) = IsIdle lines held lines' held' × Keeps left left' × IsAtEnd left'
 RunsTurn lines left held lines' left' held' (Ok turns.NoFrame) = IsIdle lines held lines' held' × IfSome left IsNoFrame
-RunsTurn lines left held lines' left' held' (Err stops.WriteFailed) = (file : List ℕ) × Fits file × AnswersInPart lines file held held'
+RunsTurn lines left held lines' left' held' (Err stops.WriteFailed) = TakesInPart lines left held left' held'
 RunsTurn lines left held lines' left' held' (Err stops.NoMemory) = Keeps held held'
 RunsTurn lines left held lines' left' held' (Err stops.ReadFailed) = Keeps held held'
 RunsTurn lines left held lines' left' held' (Err stops.StoreFailed) = ⊥
@@ -102,9 +109,8 @@ pub record StopsInLine (lines : List Line) (left held held' : Option (List ℕ))
   pub rest : Option (List ℕ)
   pub between : Option (List ℕ)
   pub taken : Taken lines left held files lines' rest between
-  pub file : List ℕ
-  pub fits : Fits file
-  pub part : AnswersInPart lines' file between held'
+  pub after : Option (List ℕ)
+  pub next : TakesInPart lines' rest between after held'
 
 abbrev pub AnswersAll : List Line → Option (List ℕ) → Option (List ℕ) → List Line → Option (List ℕ) → Option (List ℕ) → Result (Unit {0}) Stop → Type 0
 AnswersAll lines left held lines' left' held' (Ok done) = Finishes lines left held lines' left' held'
@@ -115,7 +121,7 @@ AnswersAll lines left held lines' left' held' (Err stops.WriteFailed) = StopsInL
 AnswersAll lines left held lines' left' held' (Err stops.StoreFailed) = ⊥
 AnswersAll lines left held lines' left' held' (Err (stops.BadStore offset)) = ⊥
 
--- After the most frames that a run answers, the input is at its end, or goes on at this place.
+-- After the most frames that a run answers, the input is at its end, or goes on at this offset.
 abbrev pub EndsInput : ℕ → Option (List ℕ) → Option (List ℕ) → Result (Unit {0}) Stop → Type 0
 EndsInput offset left left' (Ok done) = Keeps left left' × IsAtEnd left'
 EndsInput offset left left' (Err (stops.Frame at)) = (at ≡ offset) × IfSome left (λ rest. rest ≢ [])

@@ -10,8 +10,8 @@ use std::process::Abort;
 /// The room of an output.
 const ROOM: usize = 10_000;
 
-/// The words of a run.
-const WORDS: [&str; 2] = ["import", "-"];
+/// The arguments of a run.
+const ARGUMENTS: [&str; 2] = ["import", "-"];
 
 /// Runs whose inputs are files with these lines, and what they print.
 const ORDERS: [(&[&str], &str); 4] = [
@@ -51,8 +51,8 @@ fn reported_over(
 ) -> (Told, String) {
     let mut source = MemSource::new(alloc, input.as_bytes()).expect(rt, "a source");
     let mut out = MemSink::new(alloc, ROOM).expect(rt, "a sink");
-    let words = texts(rt, alloc, &WORDS);
-    let reported = register_told(alloc, &words, &mut source, store, &mut out);
+    let arguments = texts(rt, alloc, &ARGUMENTS);
+    let reported = register_told(alloc, &arguments, &mut source, store, &mut out);
     let printed = str::from_utf8(out.held()).expect(rt, "a text");
     (
         reported,
@@ -114,12 +114,12 @@ fn inputs_without_frames(rt: HostRuntime) {
 }
 
 #[test]
-fn other_words(rt: HostRuntime) {
+fn other_arguments(rt: HostRuntime) {
     let alloc = rt.alloc();
     let mut store = MemStore::new(alloc);
     let mut source = MemSource::new(alloc, b"").expect(&rt, "a source");
     let mut out = MemSink::new(alloc, ROOM).expect(&rt, "a sink");
-    let words = texts(&rt, alloc, &["import"]);
-    let status = register_run(alloc, &words, &mut source, &mut store, &mut out);
+    let arguments = texts(&rt, alloc, &["import"]);
+    let status = register_run(alloc, &arguments, &mut source, &mut store, &mut out);
     assert_eq!(rt; status, Status(2));
 }

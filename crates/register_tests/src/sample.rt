@@ -1,4 +1,4 @@
-//! Reply files, frames and words that tests use.
+//! Reply files, frames and arguments that tests use.
 
 use ofx_types::Text;
 use std::alloc::Global;
@@ -33,7 +33,7 @@ pub const OTHER: &str =
 
 /// A reply file with a signon of this code and these lines of 1001 CHECKING.
 pub fn reply(rt: &impl Abort, alloc: Global, code: &str, lines: &str) -> String {
-    format!(in alloc; "{HEADER}{SIGNON}{code}{STATEMENT}{lines}{BEHIND}").expect(rt, "a reply")
+    format!(in alloc; "{HEADER}{SIGNON}{code}{STATEMENT}{lines}{AFTER}").expect(rt, "a reply")
 }
 
 /// Appends a file in its frame.
@@ -53,11 +53,11 @@ pub fn frames(rt: &impl Abort, alloc: Global, files: &[&str]) -> String {
     input
 }
 
-/// Words as texts.
-pub fn texts(rt: &impl Abort, alloc: Global, words: &[&str]) -> Vec<Text> {
+/// Arguments as texts.
+pub fn texts(rt: &impl Abort, alloc: Global, arguments: &[&str]) -> Vec<Text> {
     let mut texts = Vec::new(alloc);
-    for word in words {
-        let text = Text::new(alloc, word.as_bytes(), 10_000).expect(rt, "a word");
+    for argument in arguments {
+        let text = Text::new(alloc, argument.as_bytes(), 10_000).expect(rt, "an argument");
         texts.push(text).expect(rt, "room");
     }
     texts
