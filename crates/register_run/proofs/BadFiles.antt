@@ -5,9 +5,8 @@ use Rattle.ofx_types.specs.declared.fault.FileFault.TheVariants.{Form}
 use Rattle.file_register.specs.declared.line.Line.{Line}
 use Rattle.register_run.specs.Lines.{bad_line}
 use Rattle.register_run.specs.Answers.{AnswersFile}
-use Rattle.register_run.specs.declared.stop.Stop.{Stop}
 
-pub bad_form : (lines : List Line) (bytes : List ℕ) (at : ℕ) (r : Result (Vec ℕ Global) Stop) → IsReplyFaultOf bytes (Form at) → IfOk r (λ line. line.items ≡ bad_line at)
+pub bad_form : (lines : List Line) (bytes : List ℕ) (at : ℕ) {E : Type 0} (r : Result (Vec ℕ Global) E) → IsReplyFaultOf bytes (Form at) → IfOk r (λ line. line.items ≡ bad_line at)
     → IfOk r (λ line. AnswersFile lines bytes line.items lines)
 bad_form lines bytes at (Ok line) fault is = inl (record { offset = at; fault = inr (inr fault); line_is = is; stays = refl })
-bad_form lines bytes at (Err stop) fault is = tt
+bad_form lines bytes at (Err refused) fault is = tt

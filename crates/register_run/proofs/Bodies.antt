@@ -3,7 +3,7 @@ use Rattle.std.proofs.Common.{◌≡◌, ◌≢◌, ℕ, ◌<◌, ◌≤◌, ◌
 use Rattle.std.specs.Io.KnownBytes.{Keeps, Consumes, IsAtEnd, prepend_known}
 use Rattle.bank_frames.specs.Reads.{ReadsMore}
 use Rattle.register_run.specs.NextFrame.{ReadsBody}
-use Rattle.register_run.specs.declared.stop.Stop.{Stop}
+use Rattle.ofx_ports.specs.declared.fault.FetchFault.{FetchFault}
 use Rattle.register_run.proofs.BytesRead.{keeps_more, keeps_nothing}
 
 -- these bytes were read after those before
@@ -36,6 +36,6 @@ read_cut old whole before new newer middle after count so_far short more none =
     still : (xs ys : List ℕ) → length ys ≡ 0 → length (xs ++ ys) ≡ length xs
     still xs ys e = omega (arith, e, length-append xs ys)
 
-pub read_short : (old : List ℕ) (whole : ℕ) (before : Option (List ℕ)) (new : List ℕ) (after : Option (List ℕ)) (stop : Stop) → Grows old before new after
-    → ReadsBody old whole before new after (Err stop)
-read_short old whole before new after stop so_far = record { bytes = so_far.bytes; grown = so_far.grown; kept = so_far.kept; full = tt }
+pub read_short : (old : List ℕ) (whole : ℕ) (before : Option (List ℕ)) (new : List ℕ) (after : Option (List ℕ)) (fault : FetchFault) → Grows old before new after
+    → ReadsBody old whole before new after (Err fault)
+read_short old whole before new after fault so_far = record { bytes = so_far.bytes; grown = so_far.grown; kept = so_far.kept; full = tt }

@@ -13,11 +13,6 @@ use Rattle.register_run.specs.Views.{ports_view}
 use Rattle.register_run.specs.declared.stop.Stop.{Stop}
 use Rattle.register_run.specs.declared.stop.Stop.TheVariants as stops
 
--- what rose later rose from the start
-pub rose_from : (a b c : ℕ) → a ≤ b → Rose b c → Rose a c
-rose_from a b c le (inl lt) = inl (omega arith)
-rose_from a b c le (inr top) = inr top
-
 opened : (left saved held : Option (List ℕ)) (reads stores writes : ℕ) (lines : List Line) → Finds saved (Ok lines) → Opens (ports_view left reads saved stores held writes) lines
 opened left saved held reads stores writes lines finds = record { text = finds.0; text_is = finds.1; is_text = finds.2 }
 

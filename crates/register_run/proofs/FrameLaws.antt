@@ -4,8 +4,10 @@ use Rattle.std.specs.Io.KnownBytes.{Keeps, Consumes, IsAtEnd, prepend_known}
 use Rattle.bank_frames.specs.Frames.{frame_head, frame}
 use Rattle.register_run.specs.Frames.{BeginsNoFrame}
 use Rattle.register_run.specs.Heads.{HasNoLineEnd, IsLine, IsHead, IsNoHead}
-use Rattle.register_run.specs.NextFrame.{IsFrame, IsNoFrame, ReadsBody}
-use Rattle.register_run.specs.declared.stop.Stop.{Stop}
+use Rattle.register_run.specs.NextFrame.{IsFrame, IsNoFrame, IsNext, EndsAs, ReadsBody}
+use Rattle.register_run.specs.declared.frames.Next.{Next}
+use Rattle.register_run.specs.declared.frames.Next.TheVariants as nexts
+use Rattle.ofx_ports.specs.declared.fault.FetchFault.{FetchFault}
 use Rattle.register_run.proofs.HeadLines.{no_frame_without_end, no_frame_later, no_frame_after, no_frame_cut, is_frame}
 
 prefix_empty : (prefix rest : List ℕ) → prefix ++ rest ≡ [] → prefix ≡ []
@@ -28,8 +30,14 @@ pub no_end : (bytes : List ℕ) (left : Option (List ℕ)) → HasNoLineEnd byte
 no_end bytes left clean long =
     any_rest bytes left (λ empty. let none : length bytes ≡ 0 = ap length empty in omega (arith, none, long)) (no_frame_later bytes clean long)
 
-pub cut_line : (bytes : List ℕ) (left : Option (List ℕ)) → HasNoLineEnd bytes → IsAtEnd left → bytes ≢ [] → IfSome (prepend_known bytes left) IsNoFrame
+cut_line : (bytes : List ℕ) (left : Option (List ℕ)) → HasNoLineEnd bytes → IsAtEnd left → bytes ≢ [] → IfSome (prepend_known bytes left) IsNoFrame
 cut_line bytes left clean ends some = last_rest bytes left ends some (no_frame_without_end bytes clean)
+
+-- the end of the input ends the line
+pub line_ends_input : (bytes : List ℕ) (left : Option (List ℕ)) (next : Next) → HasNoLineEnd bytes → IsAtEnd left → EndsAs bytes next → IsNext bytes left next
+line_ends_input bytes left (nexts.Frame head) clean ends last = absurd last
+line_ends_input bytes left nexts.End clean ends last = (last, ends)
+line_ends_input bytes left nexts.NoFrame clean ends last = cut_line bytes left clean ends last
 
 line_there : (bytes : List ℕ) → IsLine bytes → bytes ≢ []
 line_there bytes is empty = let none : length bytes ≡ 0 = ap length empty in absurd (omega (arith, none, ap length is.ended, length-append is.line (10 ∷ [])))
@@ -56,7 +64,7 @@ cut_file head size before new after is body =
     last_rest new after body.full.1 (λ empty. head_there head size is (prefix_empty head body.bytes (sym body.grown ∙ empty))) none
 
 -- the bytes of the line and those of the file after it
-pub kept_body : (head : List ℕ) (whole : ℕ) (before : Option (List ℕ)) (new : List ℕ) (after : Option (List ℕ)) (result : Result Bool Stop)
+pub kept_body : (head : List ℕ) (whole : ℕ) (before : Option (List ℕ)) (new : List ℕ) (after : Option (List ℕ)) (result : Result Bool FetchFault)
     → ReadsBody head whole before new after result → Keeps (prepend_known head before) (prepend_known new after)
 kept_body head whole before new after result body = subst (λ (l : List ℕ). Keeps (prepend_known head before) (prepend_known l after)) (sym body.grown) (both before after body.kept)
   where

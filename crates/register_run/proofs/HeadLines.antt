@@ -56,6 +56,10 @@ clean_line n small k h = no_line_feed n k small h
 line_is_short : (n : ℕ) → IsLength n → length (length_line n) < 14
 line_is_short n small = omega (arith, length-decimal-le 8 n (omega arith) (omega arith) (omega arith))
 
+pub head_is_short : (n : ℕ) → IsLength n → length (frame_head n) ≤ 14
+unfolding frame_head
+head_is_short n small = omega (arith, line_is_short n small, length-append (length_line n) (10 ∷ []))
+
 -- lists that are parted at their first LF are parted alike
 one_end : (line other rest more : List ℕ) → HasNoLineEnd line → HasNoLineEnd other → line ++ 10 ∷ rest ≡ other ++ 10 ∷ more → (line ≡ other) × (rest ≡ more)
 one_end [] [] rest more p q e = (refl, cc)

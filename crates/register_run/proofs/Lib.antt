@@ -7,3 +7,4 @@ mod TurnLaws
 mod Ends
 mod Tallying
 mod BadFiles
+mod Faults

@@ -1,17 +1,64 @@
 -- How the frames of a run join.
-use Rattle.std.proofs.Common.{◌≡◌, ◌≢◌, ℕ, ◌<◌, ◌≤◌, ◌+◌, ◌*◌, inl, inr, List, [], ◌∷◌, ◌++◌, length, Option, None, Some, IfSome, Result, Ok, Err, ◌⊎◌, arith, refl, sym, ap, subst, ◌∙◌, append_assoc, append-nil, length-append}
+use Rattle.std.proofs.Common.{◌≡◌, ◌≢◌, ℕ, ◌<◌, ◌≤◌, ◌+◌, ◌*◌, inl, inr, List, [], ◌∷◌, ◌++◌, length, drop, Option, None, Some, IfSome, Result, Ok, Err, ◌⊎◌, arith, refl, sym, ap, subst, ◌∙◌, append_assoc, append-nil, length-append}
 use Rattle.std.specs.List.{flat_map, AllByRecursion}
-use Rattle.std.specs.Io.KnownBytes.{Keeps, Consumes, Appends, IsAtEnd}
+use Rattle.std.specs.Io.KnownBytes.{Keeps, Consumes, Appends, IsAtEnd, prepend_known}
 use Rattle.std.proofs.KnownBytes.{Consumes-nil, Appends-nil, Appends-trans, Consumes-trans, Consumes-kept, Appends-kept, Keeps-refl}
 use Rattle.std.proofs.lemmas.List.{flat_map_more}
-use Rattle.bank_frames.specs.Frames.{frame}
+use Rattle.bank_frames.specs.Frames.{frame, frame_head}
 use Rattle.file_register.specs.declared.line.Line.{Line}
 use Rattle.register_run.specs.Frames.{Fits}
-use Rattle.register_run.specs.NextFrame.{IsNoFrame}
+use Rattle.register_run.specs.NextFrame.{IsFrame, IsNoFrame}
 use Rattle.register_run.specs.Answers.{AnswersFile, AnswersFiles}
-use Rattle.register_run.specs.Turns.{AnswersWhole, TakesFrame, TakesInPart, IsIdle, RunsTurn, Taken, Finishes, StopsAtFrame, StopsBetween, StopsInLine, AnswersAll, EndsInput}
+use Rattle.register_run.specs.Turns.{AnswersWhole, AnswersOne, TakesFrame, TakesInPart, IsIdle, RunsTurn, Taken, Finishes, StopsAtFrame, StopsBetween, StopsInLine, AnswersAll, EndsInput}
+use Rattle.register_run.specs.Keeping.{Prints}
 use Rattle.register_run.specs.declared.stop.Stop.{Stop}
 use Rattle.register_run.specs.declared.stop.Stop.TheVariants as stops
+use Rattle.register_run.proofs.FrameLaws.{frame_read}
+use Rattle.register_run.proofs.HeadLines.{head_is_short}
+
+-- ---- one frame
+
+pub line_printed : (lines after : List Line) (file line : List ℕ) (held held' : Option (List ℕ)) (result : Result (Unit {0}) Stop) → AnswersFile lines file line after → Prints line held held' result
+    → AnswersOne lines file held after held' result
+line_printed lines after file line held held' (Ok done) answers prints = record { line = line; answers = answers; printed = prints }
+line_printed lines after file line held held' (Err stops.WriteFailed) answers prints = record { line = line; after = after; answers = answers; part = prints }
+line_printed lines after file line held held' (Err stops.NoMemory) answers prints = absurd prints
+line_printed lines after file line held held' (Err stops.ReadFailed) answers prints = prints
+line_printed lines after file line held held' (Err stops.StoreFailed) answers prints = prints
+line_printed lines after file line held held' (Err (stops.BadStore at)) answers prints = prints
+line_printed lines after file line held held' (Err (stops.Frame at)) answers prints = prints
+
+pub turn_made : (lines after : List Line) (left left' held held' : Option (List ℕ)) (bytes : List ℕ) (head : ℕ) → Keeps left (prepend_known bytes left') → IsFrame bytes head
+    → AnswersWhole lines (drop head bytes) held after held' → TakesFrame lines left held after left' held' (length bytes)
+turn_made lines after left left' held held' bytes head kept is answers = record {
+  file = drop head bytes;
+  fits = is.fits;
+  size_is = ap length is.whole;
+  read = frame_read left left' bytes head kept is;
+  answers = answers;
+}
+
+pub turn_undone : (lines after : List Line) (left left' held held' : Option (List ℕ)) (bytes : List ℕ) (head : ℕ) (stop : Stop) → Keeps left (prepend_known bytes left') → IsFrame bytes head
+    → AnswersOne lines (drop head bytes) held after held' (Err stop) → RunsTurn lines left held after left' held' (Err stop)
+turn_undone lines after left left' held held' bytes head stops.WriteFailed kept is answers =
+    record { file = drop head bytes; fits = is.fits; read = frame_read left left' bytes head kept is; answers = answers }
+turn_undone lines after left left' held held' bytes head stops.NoMemory kept is answers = answers
+turn_undone lines after left left' held held' bytes head stops.ReadFailed kept is answers = absurd answers
+turn_undone lines after left left' held held' bytes head stops.StoreFailed kept is answers = answers
+turn_undone lines after left left' held held' bytes head (stops.BadStore at) kept is answers = answers
+turn_undone lines after left left' held held' bytes head (stops.Frame at) kept is answers = answers
+
+-- an answer reads nothing
+pub never_reads : (lines after : List Line) (file : List ℕ) (held held' : Option (List ℕ)) (stop : Stop) → AnswersOne lines file held after held' (Err stop) → stop ≡ stops.ReadFailed → ⊥
+never_reads lines after file held held' stop answers same = subst (λ (s : Stop). AnswersOne lines file held after held' (Err s)) same answers
+
+-- a frame has at most 67,108,878 bytes
+pub frame_is_small : (lines after : List Line) (left left' held held' : Option (List ℕ)) (size : ℕ) → TakesFrame lines left held after left' held' size → size ≤ 67108878
+frame_is_small lines after left left' held held' size made =
+    let small : length made.file ≤ 67108864 = made.fits in
+    omega (arith, made.size_is, small, head_is_short (length made.file) small, length-append (frame_head (length made.file)) made.file)
+
+-- ---- all frames
 
 -- the frames so far
 pub record Current (lines : List Line) (left held : Option (List ℕ)) (count offset : ℕ) (now : List Line) (left' held' : Option (List ℕ)) : Type 0 where
@@ -148,10 +195,6 @@ stopped_in_turn lines left held count offset now after left' held' left'' held''
 stopped_in_turn lines left held count offset now after left' held' left'' held'' stops.StoreFailed present few turn = turn
 stopped_in_turn lines left held count offset now after left' held' left'' held'' (stops.BadStore at) present few turn = turn
 stopped_in_turn lines left held count offset now after left' held' left'' held'' (stops.Frame at) present few turn = absurd turn
-
--- memory was refused before the first turn
-pub stopped_at_once : (lines : List Line) (left held left' : Option (List ℕ)) → StopsBetween lines left held held
-stopped_at_once lines left held left' = stopped_between lines left held 0 0 lines left held held (holds_first lines left held) (omega arith) (Keeps-refl held)
 
 -- after the most frames the input is at its end, or goes on
 pub ended_after : (lines : List Line) (left held : Option (List ℕ)) (count offset : ℕ) (now : List Line) (left' held' left'' : Option (List ℕ)) (result : Result (Unit {0}) Stop)

@@ -7,7 +7,7 @@ use Rattle.bank_frames.specs.Frames.{frame}
 use Rattle.register_run.specs.Frames.{Fits, BeginsNoFrame}
 use Rattle.register_run.specs.declared.frames.Next.{Next}
 use Rattle.register_run.specs.declared.frames.Next.TheVariants as nexts
-use Rattle.register_run.specs.declared.stop.Stop.{Stop}
+use Rattle.ofx_ports.specs.declared.fault.FetchFault.{FetchFault}
 
 -- The bytes are the frame of the file that is after its first line.
 pub record IsFrame (bytes : List ℕ) (head : ℕ) : Type 0 where
@@ -25,8 +25,14 @@ IsNext bytes left (nexts.Frame head) = IsFrame bytes head
 IsNext bytes left nexts.End = (bytes ≡ []) × IsAtEnd left
 IsNext bytes left nexts.NoFrame = IfSome (prepend_known bytes left) IsNoFrame
 
+-- The bytes of a line with which an input ends are none, or begin no frame.
+abbrev pub EndsAs : List ℕ → Next → Type 0
+EndsAs bytes (nexts.Frame head) = ⊥
+EndsAs bytes nexts.End = bytes ≡ []
+EndsAs bytes nexts.NoFrame = bytes ≢ []
+
 -- Bytes were read up to this number, or to the end of the input.
-pub record ReadsBody (old : List ℕ) (whole : ℕ) (before : Option (List ℕ)) (new : List ℕ) (after : Option (List ℕ)) (result : Result Bool Stop) : Type 0 where
+pub record ReadsBody (old : List ℕ) (whole : ℕ) (before : Option (List ℕ)) (new : List ℕ) (after : Option (List ℕ)) (result : Result Bool FetchFault) : Type 0 where
   pub bytes : List ℕ
   pub grown : new ≡ old ++ bytes
   pub kept : Keeps before (prepend_known bytes after)

@@ -11,9 +11,8 @@ ghost use Rattle.register_run.specs.Frames.{IsLength};
 ghost use Rattle.register_run.specs.Heads.{EndsSo, IsHead, IsLine, IsNoHead};
 
 use crate::reading::read_more;
-use crate::stop::Stop;
 use itoa::Buffer;
-use ofx_ports::Source;
+use ofx_ports::{FetchFault, Source};
 
 /// The most bytes of a reply file.
 pub(crate) const MAX_FILE: usize = 67_108_864;
@@ -25,7 +24,7 @@ const MAX_HEAD: usize = 14;
 const MAX_DIGITS: usize = 8;
 
 /// How a line ends.
-#[derive(Clone, Copy, Debug, PartialEq, Eq)]
+#[derive(Clone, Copy)]
 pub(crate) enum LineEnd {
     /// With its LF.
     LineFeed,
@@ -50,11 +49,11 @@ pub(crate) fn read_line<A: Source>(
     source: &mut A,
     byte: &mut [u8; 1],
     bytes: &mut Vec<u8>,
-) -> Result<LineEnd, Stop>
+) -> Result<LineEnd, FetchFault>
     requires { bytes.old.items ≡ [] }
     ensures kept { Keeps (A.left source.old) (prepend_known bytes.new.items (A.left source.new)) }
     ensures ends { IfOk result (EndsSo bytes.new.items (A.left source.new)) }
-    ensures faults { CountsFaults (A.faults source.old) (A.faults source.new) (IsErrOf result Stop.ReadFailed) }
+    ensures faults { CountsFaults (A.faults source.old) (A.faults source.new) (IsErrOf result FetchFault.Failed) }
 {
     while bytes.len() < MAX_HEAD {
         if read_more(source, byte, bytes)? == 0 {

@@ -1,6 +1,6 @@
 //! One file of the input: it is read and imported, and the line is made that reports it.
 
-ghost use Rattle.std.specs.Prelude.{◌≡◌, ◌<◌, ◌^◌, length, IsTrue, IfOk, IfErr};
+ghost use Rattle.std.specs.Prelude.{◌≡◌, ◌<◌, ◌^◌, length, IsTrue, IfOk};
 ghost use Rattle.std.specs.List.{AllByRecursion};
 ghost use Rattle.file_register.specs.Lines as replies;
 ghost use Rattle.file_register.specs.Lines.{IsSoundLine, lines_of};
@@ -9,11 +9,10 @@ ghost use Rattle.register_run.specs.Frames.{Fits};
 ghost use Rattle.register_run.specs.Answers.{AnswersFile, ImportsReply};
 
 use crate::lines::outcome_line;
-use crate::stop::Stop;
 use bank_frames::bad_file_line;
 use file_register::Register;
 use ofx_file::read_reply;
-use ofx_types::{AskReply, FileFault, ReplyFile, StatementBody};
+use ofx_types::{AskReply, FileFault, OutOfMemory, ReplyFile, StatementBody};
 use std::alloc::Global;
 
 /// How many lines a statement has.
@@ -63,16 +62,19 @@ fn are_counted(reply: &ReplyFile) -> bool
 
 /// Hands a reply file to the register, and makes the line that reports it. No memory holds so many lines that their number
 /// doesn't fit.
-fn import_reply(alloc: Global, register: &mut Register, reply: &ReplyFile) -> Result<Vec<u8>, Stop>
+fn import_reply(
+    alloc: Global,
+    register: &mut Register,
+    reply: &ReplyFile,
+) -> Result<Vec<u8>, OutOfMemory>
     requires { AllByRecursion IsSoundLine (lines_of reply.now) }
-    ensures line { IfOk result (λ line. ImportsReply register.old reply.now line.items register.new) }
-    ensures refused { IfErr result (λ stop. stop ≡ Stop.NoMemory) }
+    ensures { IfOk result (λ line. ImportsReply register.old reply.now line.items register.new) }
 {
     if !are_counted(reply) {
-        return Err(Stop::NoMemory);
+        return Err(OutOfMemory);
     }
     let outcome = register.import(reply);
-    Ok(outcome_line(alloc, &outcome)?)
+    outcome_line(alloc, &outcome)
 }
 
 /// Takes in the bytes of a file, and makes the line that reports it.
@@ -80,24 +82,22 @@ pub(crate) fn import_file(
     alloc: Global,
     register: &mut Register,
     bytes: &[u8],
-) -> Result<Vec<u8>, Stop>
+) -> Result<Vec<u8>, OutOfMemory>
     requires { Fits bytes.now }
-    ensures line { IfOk result (λ line. AnswersFile register.old bytes.now line.items register.new) }
-    ensures refused { IfErr result (λ stop. stop ≡ Stop.NoMemory) }
+    ensures { IfOk result (λ line. AnswersFile register.old bytes.now line.items register.new) }
 {
     match read_reply(alloc, bytes) {
         Ok(reply) => import_reply(alloc, register, &reply),
         Err(FileFault::Header(at)) => bad_line(alloc, at),
         Err(FileFault::Syntax(at)) => bad_line(alloc, at),
         Err(FileFault::Form(at)) => bad_line(alloc, at),
-        Err(FileFault::OutOfMemory) => Err(Stop::NoMemory),
+        Err(FileFault::OutOfMemory) => Err(OutOfMemory),
     }
 }
 
 /// The line of a file that spells no reply.
-fn bad_line(alloc: Global, at: u64) -> Result<Vec<u8>, Stop>
-    ensures line { IfOk result (λ line. line.items ≡ rules.bad_line at) }
-    ensures refused { IfErr result (λ stop. stop ≡ Stop.NoMemory) }
+fn bad_line(alloc: Global, at: u64) -> Result<Vec<u8>, OutOfMemory>
+    ensures { IfOk result (λ line. line.items ≡ rules.bad_line at) }
 {
-    Ok(bad_file_line(alloc, at)?)
+    bad_file_line(alloc, at)
 }

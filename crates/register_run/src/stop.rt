@@ -3,7 +3,7 @@
 use ofx_types::OutOfMemory;
 
 /// Why a run ended before all was done.
-#[derive(Clone, Copy, Debug, PartialEq, Eq)]
+#[derive(Clone, Copy)]
 pub enum Stop {
     /// The text that is kept has no form: its first fault is at this byte.
     BadStore(u64),

@@ -60,7 +60,7 @@ fn damaged(rt: &impl Abort, alloc: Global, at: usize) -> Told {
     text[at] = !text[at];
     let mut store = MemStore::failing(alloc, &text, &[], &[]).expect(rt, "a store");
     let mut out = output(rt, alloc);
-    let reported = told_by(rt, alloc, &mut input(rt, alloc, ""), &mut store, &mut out);
+    let reported = reported_by(rt, alloc, &mut input(rt, alloc, ""), &mut store, &mut out);
     if reported.status == Status(15) {
         assert_eq!(rt; store.text(), text.as_slice());
     }

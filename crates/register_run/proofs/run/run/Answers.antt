@@ -1,6 +1,7 @@
 use Rattle.std.proofs.Common.{Err, ap}
 use Rattle.std.proofs.lemmas.Result.{err_from_is_err_and}
-use Rattle.register_run.proofs.Ends.{rose_from, unopened, unanswered, closed}
+use Rattle.register_run.proofs.Ends.{unopened, unanswered, closed}
+use Rattle.register_run.proofs.Faults.{rose_from}
 use Rattle.register_run.proofs.run.run.Goals as goal
 
 pub returns-in_err-register : goal.returns-in_err-register
