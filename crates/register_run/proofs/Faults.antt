@@ -1,5 +1,5 @@
 -- Counts of faults over two calls, one after the other.
-use Rattle.std.proofs.Common.{◌≡◌, ℕ, ◌<◌, ◌≤◌, inl, inr, Result, Err, ap, arith}
+use Rattle.std.proofs.Common.{◌≡◌, ℕ, ◌<◌, ◌≤◌, inl, inr, Result, Err, ap, ◌∙◌, arith}
 use Rattle.ofx_ports.specs.Faults.{Rose, CountsFaults}
 
 -- what rose later rose from the start
@@ -18,9 +18,9 @@ pub counts_never : (a b : ℕ) {first second : Type 0} → CountsFaults a b firs
 counts_never a b one never = record { later = one.later; cause = λ failed. absurd (never failed) }
 
 -- a call that fails as the last one within it did
-pub counts_later : (a b c : ℕ) {T U E : Type 0} (fault wanted : E) (result : Result U E) → result ≡ Err fault → a ≤ b → CountsFaults b c (Err {T = T} fault ≡ Err wanted)
+pub counts_later : (a b c : ℕ) {T U E : Type 0} (fault wanted : E) (call : Result T E) (result : Result U E) → call ≡ Err fault → result ≡ Err fault → CountsFaults b c (call ≡ Err wanted) → a ≤ b
     → CountsFaults a c (result ≡ Err wanted)
-counts_later a b c fault wanted result is le one = record {
+counts_later a b c fault wanted call result was is one le = record {
   later = omega (arith, one.later);
-  cause = λ failed. let same : fault ≡ wanted = cc in rose_from a b c le (one.cause (ap Err same));
+  cause = λ failed. let same : fault ≡ wanted = cc in rose_from a b c le (one.cause (was ∙ ap Err same));
 }

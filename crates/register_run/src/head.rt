@@ -47,10 +47,11 @@ fn ends_in_line_feed(bytes: &[u8]) -> bool
 /// Reads the first line of a frame, byte by byte.
 pub(crate) fn read_line<A: Source>(
     source: &mut A,
-    byte: &mut [u8; 1],
+    byte: &mut [u8],
     bytes: &mut Vec<u8>,
 ) -> Result<LineEnd, FetchFault>
-    requires { bytes.old.items ≡ [] }
+    requires byte { length byte.old ≡ 1 }
+    requires fresh { bytes.old.items ≡ [] }
     ensures kept { Keeps (A.left source.old) (prepend_known bytes.new.items (A.left source.new)) }
     ensures ends { IfOk result (EndsSo bytes.new.items (A.left source.new)) }
     ensures faults { CountsFaults (A.faults source.old) (A.faults source.new) (IsErrOf result FetchFault.Failed) }

@@ -22,12 +22,12 @@ returns-in_err-size-clause-answers g c =
 pub returns-in_err-size-clause-reads : goal.returns-in_err-size-clause-reads
 returns-in_err-size-clause-reads g c =
     let p = err_from_is_err_and c.from_residual.result c.from_residual.ensures.1 in
-    rw (p.1, p.2) (counts_later _ _ _ c.in_err-size.field-0.0 stops.ReadFailed _ refl c.loop-turns.invariant.reads c.in_err-size.ensures.reads)
+    rw (p.1, p.2) (counts_later _ _ _ c.in_err-size.field-0.0 stops.ReadFailed _ _ refl refl c.in_err-size.ensures.reads c.loop-turns.invariant.reads)
 
 pub returns-in_err-size-clause-writes : goal.returns-in_err-size-clause-writes
 returns-in_err-size-clause-writes g c =
     let p = err_from_is_err_and c.from_residual.result c.from_residual.ensures.1 in
-    rw (p.1, p.2) (counts_later _ _ _ c.in_err-size.field-0.0 stops.WriteFailed _ refl c.loop-turns.invariant.writes c.in_err-size.ensures.writes)
+    rw (p.1, p.2) (counts_later _ _ _ c.in_err-size.field-0.0 stops.WriteFailed _ _ refl refl c.in_err-size.ensures.writes c.loop-turns.invariant.writes)
 
 pub overflow_add-offset : goal.overflow_add-offset
 overflow_add-offset g c =

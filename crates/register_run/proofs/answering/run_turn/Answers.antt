@@ -25,7 +25,7 @@ returns-in_err-answer-in-Ok-Frame-clause-reads g c =
 pub returns-in_err-answer-in-Ok-Frame-clause-writes : goal.returns-in_err-answer-in-Ok-Frame-clause-writes
 returns-in_err-answer-in-Ok-Frame-clause-writes g c =
     let p = err_from_is_err_and c.from_residual.result c.from_residual.ensures.1 in
-    rw (p.1, p.2) (counts_later _ _ _ c.in_err-answer-in-Ok-Frame.field-0.0 stops.WriteFailed _ refl (omega arith) c.in_err-answer-in-Ok-Frame.ensures.faults)
+    rw (p.1, p.2) (counts_later _ _ _ c.in_err-answer-in-Ok-Frame.field-0.0 stops.WriteFailed _ _ refl refl c.in_err-answer-in-Ok-Frame.ensures.faults (omega arith))
 
 pub returns-in_ok-answer-in-Ok-Frame-clause-turn : goal.returns-in_ok-answer-in-Ok-Frame-clause-turn
 returns-in_ok-answer-in-Ok-Frame-clause-turn g c =

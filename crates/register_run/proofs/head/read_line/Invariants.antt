@@ -1,4 +1,4 @@
-use Rattle.std.proofs.Common.{◌≤◌, ◌-◌, length, vec_len}
+use Rattle.std.proofs.Common.{◌≡◌, ◌≤◌, ◌-◌, length, vec_len}
 use Rattle.std.specs.Io.KnownBytes.{Keeps, prepend_known}
 use Rattle.register_run.specs.Heads.{HasNoLineEnd}
 use Rattle.register_run.proofs.head.read_line.Given as goal
@@ -9,6 +9,7 @@ invariant-loop-source g l = record {
   kept : Keeps (g.A.Source.left l.fn.source) (prepend_known l.bytes.items (g.A.Source.left l.source));
   clean : HasNoLineEnd l.bytes.items;
   short : length l.bytes.items ≤ 14;
+  room : length l.byte ≡ 1;
   faults : g.A.Source.faults l.fn.source ≤ g.A.Source.faults l.source;
 }
 
