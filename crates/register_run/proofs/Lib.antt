@@ -8,3 +8,4 @@ mod Ends
 mod Tallying
 mod BadFiles
 mod Faults
+mod ArgumentLaws

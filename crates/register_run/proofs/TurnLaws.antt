@@ -9,7 +9,7 @@ use Rattle.file_register.specs.declared.line.Line.{Line}
 use Rattle.register_run.specs.Frames.{Fits}
 use Rattle.register_run.specs.NextFrame.{IsFrame, IsNoFrame}
 use Rattle.register_run.specs.Answers.{AnswersFile, AnswersFiles}
-use Rattle.register_run.specs.Turns.{AnswersWhole, AnswersOne, TakesFrame, TakesInPart, IsIdle, RunsTurn, Taken, Finishes, StopsAtFrame, StopsBetween, StopsInLine, AnswersAll, EndsInput}
+use Rattle.register_run.specs.Turns.{AnswersWhole, AnswersInPart, AnswersOne, TakesFrame, TakesInPart, IsIdle, RunsTurn, Taken, Finishes, StopsAtFrame, StopsBetween, StopsInLine, AnswersAll, EndsInput}
 use Rattle.register_run.specs.Keeping.{Prints}
 use Rattle.register_run.specs.declared.stop.Stop.{Stop}
 use Rattle.register_run.specs.declared.stop.Stop.TheVariants as stops
@@ -28,25 +28,29 @@ line_printed lines after file line held held' (Err stops.StoreFailed) answers pr
 line_printed lines after file line held held' (Err (stops.BadStore at)) answers prints = prints
 line_printed lines after file line held held' (Err (stops.Frame at)) answers prints = prints
 
-pub turn_made : (lines after : List Line) (left left' held held' : Option (List ℕ)) (bytes : List ℕ) (head : ℕ) → Keeps left (prepend_known bytes left') → IsFrame bytes head
-    → AnswersWhole lines (drop head bytes) held after held' → TakesFrame lines left held after left' held' (length bytes)
-turn_made lines after left left' held held' bytes head kept is answers = record {
+pub turn_made : (lines after : List Line) (left left' held held' : Option (List ℕ)) (bytes seen : List ℕ) (head : ℕ) → Keeps left (prepend_known bytes left') → IsFrame bytes head → seen ≡ bytes
+    → AnswersWhole lines (drop head seen) held after held' → TakesFrame lines left held after left' held' (length bytes)
+turn_made lines after left left' held held' bytes seen head kept is same answers = record {
   file = drop head bytes;
   fits = is.fits;
   size_is = ap length is.whole;
   read = frame_read left left' bytes head kept is;
-  answers = answers;
+  answers = subst (λ (l : List ℕ). AnswersWhole lines (drop head l) held after held') same answers;
 }
 
-pub turn_undone : (lines after : List Line) (left left' held held' : Option (List ℕ)) (bytes : List ℕ) (head : ℕ) (stop : Stop) → Keeps left (prepend_known bytes left') → IsFrame bytes head
-    → AnswersOne lines (drop head bytes) held after held' (Err stop) → RunsTurn lines left held after left' held' (Err stop)
-turn_undone lines after left left' held held' bytes head stops.WriteFailed kept is answers =
-    record { file = drop head bytes; fits = is.fits; read = frame_read left left' bytes head kept is; answers = answers }
-turn_undone lines after left left' held held' bytes head stops.NoMemory kept is answers = answers
-turn_undone lines after left left' held held' bytes head stops.ReadFailed kept is answers = absurd answers
-turn_undone lines after left left' held held' bytes head stops.StoreFailed kept is answers = answers
-turn_undone lines after left left' held held' bytes head (stops.BadStore at) kept is answers = answers
-turn_undone lines after left left' held held' bytes head (stops.Frame at) kept is answers = answers
+pub turn_undone : (lines after : List Line) (left left' held held' : Option (List ℕ)) (bytes seen : List ℕ) (head : ℕ) (stop : Stop) → Keeps left (prepend_known bytes left') → IsFrame bytes head → seen ≡ bytes
+    → AnswersOne lines (drop head seen) held after held' (Err stop) → RunsTurn lines left held after left' held' (Err stop)
+turn_undone lines after left left' held held' bytes seen head stops.WriteFailed kept is same answers = record {
+  file = drop head bytes;
+  fits = is.fits;
+  read = frame_read left left' bytes head kept is;
+  answers = subst (λ (l : List ℕ). AnswersInPart lines (drop head l) held held') same answers;
+}
+turn_undone lines after left left' held held' bytes seen head stops.NoMemory kept is same answers = answers
+turn_undone lines after left left' held held' bytes seen head stops.ReadFailed kept is same answers = absurd answers
+turn_undone lines after left left' held held' bytes seen head stops.StoreFailed kept is same answers = answers
+turn_undone lines after left left' held held' bytes seen head (stops.BadStore at) kept is same answers = answers
+turn_undone lines after left left' held held' bytes seen head (stops.Frame at) kept is same answers = answers
 
 -- an answer reads nothing
 pub never_reads : (lines after : List Line) (file : List ℕ) (held held' : Option (List ℕ)) (stop : Stop) → AnswersOne lines file held after held' (Err stop) → stop ≡ stops.ReadFailed → ⊥

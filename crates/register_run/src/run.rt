@@ -1,6 +1,6 @@
 //! Whole runs of the command `import`.
 
-ghost use Rattle.std.specs.Prelude.{◌≡◌, ◌↔◌, IsTrue};
+ghost use Rattle.std.specs.Prelude.{◌≡◌, ◌↔◌, IsTrue, codes};
 ghost use Rattle.ofx_types.specs.declared.told.Told.{Told as WhatIsReported};
 ghost use Rattle.register_run.specs.Views.{ports_view};
 ghost use Rattle.register_run.specs.Runs.{AreArguments, EndsSo, IsRegisterRun};
@@ -13,12 +13,19 @@ use ofx_ports::{Sink, Source, StoreKeeper};
 use ofx_types::{Status, Text, Told};
 use std::alloc::Global;
 
+/// Whether a word is `import`.
+fn is_import(word: &[u8]) -> bool
+    ensures { IsTrue result ↔ (word.now ≡ codes "import") }
+{
+    word == b"import".as_slice()
+}
+
 /// Whether the arguments are `import` and where the store is.
 fn are_arguments(arguments: &[Text]) -> bool
     ensures { IsTrue result ↔ AreArguments arguments.now }
 {
     match arguments {
-        [command, _] => command.as_bytes() == b"import".as_slice(),
+        [command, _] => is_import(command.as_bytes()),
         _ => false,
     }
 }

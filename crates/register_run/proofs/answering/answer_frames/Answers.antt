@@ -17,7 +17,8 @@ loop-turns-init g c = record {
 pub returns-in_err-size-clause-answers : goal.returns-in_err-size-clause-answers
 returns-in_err-size-clause-answers g c =
     let p = err_from_is_err_and c.from_residual.result c.from_residual.ensures.1 in
-    rw (p.1, p.2) (stopped_in_turn c.args.register.now _ _ c.loop-turns.turns c.loop-turns.offset c.loop-turns.register _ _ _ _ _ c.in_err-size.field-0.0 c.loop-turns.invariant.current c.loop-turns.invariant.few c.in_err-size.ensures.turn)
+    rw (p.1, p.2) (stopped_in_turn c.args.register.now (g.A.Source.left c.args.input.now) (g.W.Sink.held c.args.out.now) c.loop-turns.turns c.loop-turns.offset c.loop-turns.register c.run_turn.new.register
+    (g.A.Source.left c.loop-turns.input) (g.W.Sink.held c.loop-turns.out) (g.A.Source.left c.run_turn.new.input) (g.W.Sink.held c.run_turn.new.out) c.in_err-size.field-0.0 c.loop-turns.invariant.current c.loop-turns.invariant.few c.in_err-size.ensures.turn)
 
 pub returns-in_err-size-clause-reads : goal.returns-in_err-size-clause-reads
 returns-in_err-size-clause-reads g c =

@@ -1,4 +1,4 @@
-use Rattle.std.proofs.Common.{◌≡◌, length, refl, rules}
+use Rattle.std.proofs.Common.{◌≡◌, length, drop, refl, arith, rules}
 use Rattle.std.proofs.KnownBytes.{Keeps-refl}
 use Rattle.std.proofs.lemmas.Result.{err_from_is_err_and}
 use Rattle.register_run.specs.declared.stop.Stop.TheVariants as stops
@@ -13,25 +13,28 @@ answer-requires g c = rw c.deref.ensures.value (rw c.in-Ok-Frame.field-0-is at c
 pub returns-in_err-answer-in-Ok-Frame-clause-turn : goal.returns-in_err-answer-in-Ok-Frame-clause-turn
 returns-in_err-answer-in-Ok-Frame-clause-turn g c =
     let p = err_from_is_err_and c.from_residual.result c.from_residual.ensures.1 in
-    rw (p.1, p.2) (turn_undone c.args.register.now _ _ _ _ _ c.next_frame.new.bytes.items c.in-Ok-Frame.head c.in_err-answer-in-Ok-Frame.field-0.0 c.in-Ok-Frame.ensures.kept
-    (rw c.in-Ok-Frame.field-0-is at c.in-Ok-Frame.ensures.next) (rw c.deref.ensures.value at c.in_err-answer-in-Ok-Frame.ensures.answers))
+    rw (p.1, p.2) (turn_undone c.args.register.now c.answer.new.register (g.A.Source.left c.args.input.now) (g.A.Source.left c.next_frame.new.source) (g.W.Sink.held c.args.out.now) (g.W.Sink.held c.answer.new.out)
+    c.next_frame.new.bytes.items c.deref.result.now c.in-Ok-Frame.head c.in_err-answer-in-Ok-Frame.field-0.0 c.in-Ok-Frame.ensures.kept
+    (rw c.in-Ok-Frame.field-0-is at c.in-Ok-Frame.ensures.next) c.deref.ensures.value c.in_err-answer-in-Ok-Frame.ensures.answers)
 
 pub returns-in_err-answer-in-Ok-Frame-clause-reads : goal.returns-in_err-answer-in-Ok-Frame-clause-reads
 returns-in_err-answer-in-Ok-Frame-clause-reads g c =
     let p = err_from_is_err_and c.from_residual.result c.from_residual.ensures.1 in
     rw (p.1, p.2) (counts_never _ _ c.in-Ok-Frame.ensures.faults
-    (λ failed. never_reads _ _ _ _ _ c.in_err-answer-in-Ok-Frame.field-0.0 c.in_err-answer-in-Ok-Frame.ensures.answers (cc)))
+    (λ failed. never_reads c.args.register.now c.answer.new.register (drop c.in-Ok-Frame.head c.deref.result.now) (g.W.Sink.held c.args.out.now) (g.W.Sink.held c.answer.new.out)
+    c.in_err-answer-in-Ok-Frame.field-0.0 c.in_err-answer-in-Ok-Frame.ensures.answers (cc)))
 
 pub returns-in_err-answer-in-Ok-Frame-clause-writes : goal.returns-in_err-answer-in-Ok-Frame-clause-writes
 returns-in_err-answer-in-Ok-Frame-clause-writes g c =
     let p = err_from_is_err_and c.from_residual.result c.from_residual.ensures.1 in
     rw (p.1, p.2) (counts_later _ _ _ c.in_err-answer-in-Ok-Frame.field-0.0 stops.WriteFailed _ _ refl refl c.in_err-answer-in-Ok-Frame.ensures.faults (omega arith))
 
-pub returns-in_ok-answer-in-Ok-Frame-clause-turn : goal.returns-in_ok-answer-in-Ok-Frame-clause-turn
-returns-in_ok-answer-in-Ok-Frame-clause-turn g c =
+pub returns-in-Ok-Frame-clause-turn : goal.returns-in-Ok-Frame-clause-turn
+returns-in-Ok-Frame-clause-turn g c =
     let size : c.len.result ≡ length c.next_frame.new.bytes.items = search rules in
-    rw size (turn_made c.args.register.now _ _ _ _ _ c.next_frame.new.bytes.items c.in-Ok-Frame.head c.in-Ok-Frame.ensures.kept
-    (rw c.in-Ok-Frame.field-0-is at c.in-Ok-Frame.ensures.next) (rw c.deref.ensures.value at c.in_ok-answer-in-Ok-Frame.ensures.answers))
+    rw size (turn_made c.args.register.now c.answer.new.register (g.A.Source.left c.args.input.now) (g.A.Source.left c.next_frame.new.source) (g.W.Sink.held c.args.out.now) (g.W.Sink.held c.answer.new.out)
+    c.next_frame.new.bytes.items c.deref.result.now c.in-Ok-Frame.head c.in-Ok-Frame.ensures.kept (rw c.in-Ok-Frame.field-0-is at c.in-Ok-Frame.ensures.next) c.deref.ensures.value
+    c.in_ok-answer-in-Ok-Frame.ensures.answers)
 
 pub returns-in-Ok-End-clause-turn : goal.returns-in-Ok-End-clause-turn
 returns-in-Ok-End-clause-turn g c =

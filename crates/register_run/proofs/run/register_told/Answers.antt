@@ -8,8 +8,8 @@ returns-then-not-are_arguments g c = inl (record {
   unchanged = refl;
 })
 
-pub returns-else-not-are_arguments : goal.returns-else-not-are_arguments
-returns-else-not-are_arguments g c = inr (record {
+pub returns : goal.returns
+returns g c = inr (record {
   are_arguments = c.are_arguments.ensures.0 c.if-not-are_arguments.false;
   end = c.run.result;
   ends = c.run.ensures;
