@@ -1,9 +1,9 @@
 -- How the frames of a run join.
-use Rattle.std.proofs.Common.{◌≡◌, ◌≢◌, ℕ, ◌<◌, ◌≤◌, ◌+◌, ◌*◌, inl, inr, List, [], ◌∷◌, ◌++◌, length, drop, Option, None, Some, IfSome, Result, Ok, Err, ◌⊎◌, arith, refl, sym, ap, subst, ◌∙◌, append_assoc, append-nil, length-append}
+use Rattle.std.proofs.Common.{◌≡◌, ◌≢◌, ℕ, ◌<◌, ◌≤◌, ◌+◌, ◌-◌, ◌*◌, inl, inr, List, [], ◌∷◌, ◌++◌, length, take, drop, Option, None, Some, IfSome, Result, Ok, Err, ◌⊎◌, arith, refl, sym, ap, subst, ◌∙◌, append_assoc, append-nil, length-append, length-drop}
 use Rattle.std.specs.List.{flat_map, AllByRecursion}
 use Rattle.std.specs.Io.KnownBytes.{Keeps, Consumes, Appends, IsAtEnd, prepend_known}
 use Rattle.std.proofs.KnownBytes.{Consumes-nil, Appends-nil, Appends-trans, Consumes-trans, Consumes-kept, Appends-kept, Keeps-refl}
-use Rattle.std.proofs.lemmas.List.{flat_map_more}
+use Rattle.std.proofs.lemmas.List.{flat_map_more, take_all}
 use Rattle.bank_frames.specs.Frames.{frame, frame_head}
 use Rattle.file_register.specs.declared.line.Line.{Line}
 use Rattle.register_run.specs.Frames.{Fits}
@@ -17,6 +17,10 @@ use Rattle.register_run.proofs.FrameLaws.{frame_read}
 use Rattle.register_run.proofs.HeadLines.{head_is_short}
 
 -- ---- one frame
+
+-- the file is all that follows the first line
+pub whole_rest : (bytes : List ℕ) (head : ℕ) → take (length bytes - head) (drop head bytes) ≡ drop head bytes
+whole_rest bytes head = take_all (length bytes - head) (drop head bytes) (omega (arith, length-drop head bytes))
 
 pub line_printed : (lines after : List Line) (file line : List ℕ) (held held' : Option (List ℕ)) (result : Result (Unit {0}) Stop) → AnswersFile lines file line after → Prints line held held' result
     → AnswersOne lines file held after held' result
