@@ -8,7 +8,7 @@ mod parties;
 mod usage;
 
 use crate::command_line::{Request, read_arguments};
-use crate::messages::{VERSION, plain, report, report_more, report_usage, tell_import_place};
+use crate::messages::{VERSION, plain, report, report_import, report_more, report_usage};
 use crate::parties::{COMMAND, STORE, link_for, named};
 use crate::usage::help_text;
 use client_arguments::{ArgumentsFault, Order, order_of};
@@ -53,17 +53,17 @@ fn ordered(rt: HostRuntime, arguments: &[Text]) -> ExitCode {
     ExitCode::from(end.status.0)
 }
 
-/// Takes downloaded files into a register. It has no link, and a store is opened only where a word names one.
+/// Imports downloaded files into a register. There is no link, and a store is opened only where an argument names one.
 fn imported(rt: HostRuntime, arguments: &[Text]) -> ExitCode {
     let end = ended(&rt, taken_in(rt, arguments));
-    tell_import_place(&rt, end, named(arguments, STORE));
+    report_import(&rt, end, named(arguments, STORE));
     if end.status.0 == 2 {
         report_usage(&rt);
     }
     ExitCode::from(end.status.0)
 }
 
-/// The end of taking files into the register in the store that the second word names.
+/// The end of an import into the register that the second argument names.
 fn taken_in(rt: HostRuntime, arguments: &[Text]) -> Told {
     match named(arguments, STORE) {
         Some("-") => import_over(rt, arguments, &mut MemStore::new(rt.alloc())),
@@ -75,7 +75,7 @@ fn taken_in(rt: HostRuntime, arguments: &[Text]) -> Told {
     }
 }
 
-/// The end of taking the files of the standard input into the register in a store.
+/// The end of an import of the files of the standard input into the register of a store.
 fn import_over<S: StoreKeeper>(rt: HostRuntime, arguments: &[Text], store: &mut S) -> Told {
     let mut input = ReaderSource::new(rt.stdin());
     let mut out = WriterSink::new(io::writer(&rt));

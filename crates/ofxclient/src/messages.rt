@@ -85,12 +85,12 @@ fn report_offset(rt: &impl Eprint, status: u8, port: u16, store: &str) -> io::Re
     }
 }
 
-/// Tells on a second line where it was and what to do, for a run that took files into the register in the store of that word.
-pub fn tell_import_place(rt: &impl Eprint, end: Told, store: Option<&str>) {
-    let _ = tell_register(rt, end.status.0, store.unwrap_or("?"));
+/// Reports on a second line where it was and what to do, after an import into the register of this name.
+pub fn report_import(rt: &impl Eprint, end: Told, store: Option<&str>) {
+    let _ = report_register(rt, end.status.0, store.unwrap_or("?"));
 }
 
-fn tell_register(rt: &impl Eprint, status: u8, store: &str) -> io::Result<()> {
+fn report_register(rt: &impl Eprint, status: u8, store: &str) -> io::Result<()> {
     match status {
         4 => eprintln!(rt;
             "of the input begins no frame: write FILE, a space, the number of bytes and a line feed before each reply file; {store} is as before"

@@ -8,7 +8,7 @@ use std::io;
 use std::net::TcpStream;
 use std::time::Duration;
 
-/// The place of the word that may be `import`.
+/// The place of the argument that may be `import`.
 pub const COMMAND: usize = 0;
 
 /// The place of the word that names the store.
