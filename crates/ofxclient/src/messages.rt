@@ -31,6 +31,7 @@ pub fn report_usage(rt: &HostRuntime) {
 fn report_cause(rt: &impl Eprint, end: Told) -> io::Result<()> {
     match (end.status.0, end.note) {
         (2, _) => rt.eprintln("usage"),
+        (4, Note::Place(at)) => eprintln!(rt; "frame at {at}"),
         (5, _) => rt.eprintln("read failed"),
         (6, _) => rt.eprintln("write failed"),
         (7, _) => rt.eprintln("no memory"),
@@ -80,6 +81,32 @@ fn report_offset(rt: &impl Eprint, status: u8, port: u16, store: &str) -> io::Re
             "{store} is no store of this program, or was damaged: put it back as it was, or name another"
         ),
         18 => eprintln!(rt; "in {store}: show prints the rows that it has"),
+        _ => Ok(()),
+    }
+}
+
+/// Reports on a second line where it was and what to do, after an import into the register of this name.
+pub fn report_import(rt: &impl Eprint, end: Told, store: Option<&str>) {
+    let _ = report_register(rt, end.status.0, store.unwrap_or("?"));
+}
+
+fn report_register(rt: &impl Eprint, status: u8, store: &str) -> io::Result<()> {
+    match status {
+        4 => eprintln!(rt;
+            "of the input begins no frame: write FILE, a space, the number of bytes and a line feed before each reply file; {store} is as before"
+        ),
+        5 => eprintln!(rt;
+            "while the input was read: see to it, and run again; {store} is as before"
+        ),
+        6 => eprintln!(rt;
+            "to the standard output: see to it, and run again; files that are in {store} already change nothing"
+        ),
+        8 => eprintln!(rt;
+            "{store} can't be read or written: see that it is a file of yours, with room on its disk"
+        ),
+        15 => eprintln!(rt;
+            "{store} is no register of this program, or was damaged: put it back as it was, or name another"
+        ),
         _ => Ok(()),
     }
 }

@@ -61,6 +61,12 @@ const COMMANDS: [(&str, &str); 9] = [
 
 /// What follows all else.
 const AFTER: &str = "\
+Another use, without PORT and the words after STORE:
+  ofxclient import STORE < FRAMES   takes downloaded statement files into the
+           register in the file STORE: before each stands a line FILE and the
+           number of its bytes; prints what came of each, and the sum of each
+           account
+
 Words:
   NUMBER   an account's number (ACCTID)
   KIND     CHECKING, SAVINGS, MONEYMRKT or CREDITLINE
@@ -71,10 +77,10 @@ Words:
   COUNT    how many transfers, 1 to 999, or 0 without end
   ID       of a row that show prints
 
-Status: 0 all done, 2 usage or another client's store, 5 read failed, 6 write
-failed, 7 no memory, 8 store failed, 11 HTTP code, 12 bad reply, 13 a reply to
-another file, 14 signon refused, 15 the store has no form, 16 bad reply head,
-17 the reply was cut, 18 no such row";
+Status: 0 all done, 2 usage or another client's store, 4 the input has no frame,
+5 read failed, 6 write failed, 7 no memory, 8 store failed, 11 HTTP code, 12 bad
+reply, 13 a reply to another file, 14 signon refused, 15 the store has no form,
+16 bad reply head, 17 the reply was cut, 18 no such row";
 
 /// What is printed for `--help`, and after the line `usage`.
 pub fn help_text(alloc: Global) -> Result<String, AllocError> {
