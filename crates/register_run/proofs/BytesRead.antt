@@ -1,22 +1,11 @@
 -- Bytes that are read after those before, and how the first line of a frame ends.
-use Rattle.std.proofs.Common.{◌≡◌, ◌≢◌, ℕ, zero, suc, ◌<◌, ◌≤◌, ◌+◌, ◌-◌, inl, inr, List, [], ◌∷◌, ◌++◌, length, take, get_or, slice_get, Option, None, Some, arith, refl, sym, ap, subst, ◌∙◌, append_assoc, append-nil, length-append}
-use Rattle.std.specs.Io.KnownBytes.{Keeps, Consumes, IsAtEnd, prepend_known}
+use Rattle.std.proofs.Common.{◌≡◌, ◌≢◌, ℕ, ◌≤◌, ◌+◌, ◌-◌, inl, inr, List, [], ◌∷◌, ◌++◌, length, slice_get, Option, None, Some, arith, refl, sym, ap, subst, ◌∙◌, append_assoc, length-append}
+use Rattle.std.specs.Io.KnownBytes.{Keeps, Consumes, prepend_known}
 use Rattle.std.proofs.lemmas.Bool.{cases_lt}
-use Rattle.std.proofs.lemmas.List.{get_or_at, get_or_append_left, length-take-le}
+use Rattle.std.proofs.lemmas.List.{get_or_at, get_or_append_left}
 use Rattle.std.proofs.lemmas.Option.{slice_get-get_or}
 use Rattle.bank_frames.specs.Reads.{ReadsMore}
 use Rattle.register_run.specs.Heads.{HasNoLineEnd, IsLine}
-
--- what one read gives
-pub reads_more : (old new chunk : List ℕ) (count : ℕ) (before after : Option (List ℕ)) → count ≤ length chunk → 0 < length chunk → new ≡ old ++ take count chunk
-    → Consumes before after (take count chunk) → (count ≡ 0 → 0 < length chunk → IsAtEnd after) → ReadsMore old new before after count
-reads_more old new chunk count before after within room grown consumed at_end = record {
-  bytes = take count chunk;
-  counted = length-take-le count chunk within;
-  ahead = grown;
-  consumed = consumed;
-  at_end = λ none. at_end none room;
-}
 
 -- no byte is lost
 pub keeps_more : (a b c : Option (List ℕ)) (old bytes : List ℕ) → Keeps a (prepend_known old b) → Consumes b c bytes → Keeps a (prepend_known (old ++ bytes) c)
@@ -27,10 +16,6 @@ keeps_more (Some xs) (Some ys) (Some zs) old bytes h k = append_assoc old bytes 
 
 pub keeps_read : (a b c : Option (List ℕ)) (old new : List ℕ) (count : ℕ) → Keeps a (prepend_known old b) → ReadsMore old new b c count → Keeps a (prepend_known new c)
 keeps_read a b c old new count h more = subst (λ (l : List ℕ). Keeps a (prepend_known l c)) (sym more.ahead) (keeps_more a b c old more.bytes h more.consumed)
-
-pub keeps_nothing : (a : Option (List ℕ)) → Keeps a (prepend_known [] a)
-keeps_nothing None = tt
-keeps_nothing (Some xs) = refl
 
 -- ---- one byte
 
@@ -51,12 +36,6 @@ last_is : (prefix : List ℕ) (b : ℕ) → slice_get (prefix ++ b ∷ []) (leng
 last_is prefix b =
     let offset : length (prefix ++ b ∷ []) - 1 ≡ length prefix = omega (arith, length-append prefix (b ∷ [])) in
     rw offset (slice_get-get_or (prefix ++ b ∷ []) (length prefix) 0 (omega (arith, length-append prefix (b ∷ []))) ∙ ap Some (get_or_at prefix b [] 0 (length prefix) refl))
-
--- the input ends before the line does
-pub line_at_end : (old new : List ℕ) (b c : Option (List ℕ)) (count : ℕ) → ReadsMore old new b c count → count ≡ 0 → HasNoLineEnd old → HasNoLineEnd new × IsAtEnd c
-line_at_end old new b c count more none clean =
-    let same : new ≡ old = more.ahead ∙ (ap (λ (l : List ℕ). old ++ l) (no_bytes more.bytes (more.counted ∙ none)) ∙ append-nil old) in
-    (subst HasNoLineEnd (sym same) clean, more.at_end none)
 
 grown : (old new : List ℕ) (b c : Option (List ℕ)) (count : ℕ) (more : ReadsMore old new b c count) (one : IsOne more.bytes) → new ≡ old ++ one.byte ∷ []
 grown old new b c count more one = more.ahead ∙ ap (λ (l : List ℕ). old ++ l) one.is

@@ -1,5 +1,5 @@
 -- What comes next in an input, from what was read of it.
-use Rattle.std.proofs.Common.{◌≡◌, ◌≢◌, ℕ, ◌<◌, ◌≤◌, ◌+◌, Bool, true, false, List, [], ◌∷◌, ◌++◌, length, drop, Option, None, Some, IfSome, Result, Ok, arith, refl, sym, ap, subst, ◌∙◌, append_assoc, append-nil, length-append}
+use Rattle.std.proofs.Common.{◌≡◌, ◌≢◌, ℕ, ◌<◌, ◌+◌, true, false, List, [], ◌∷◌, ◌++◌, length, drop, Option, None, Some, IfSome, Ok, arith, refl, sym, ap, subst, ◌∙◌, append-nil, length-append}
 use Rattle.std.specs.Io.KnownBytes.{Keeps, Consumes, IsAtEnd, prepend_known}
 use Rattle.bank_frames.specs.Frames.{frame_head, frame}
 use Rattle.register_run.specs.Frames.{BeginsNoFrame}
@@ -7,7 +7,6 @@ use Rattle.register_run.specs.Heads.{HasNoLineEnd, IsLine, IsHead, IsNoHead}
 use Rattle.register_run.specs.NextFrame.{IsFrame, IsNoFrame, IsNext, EndsAs, ReadsBody}
 use Rattle.register_run.specs.declared.frames.Next.{Next}
 use Rattle.register_run.specs.declared.frames.Next.TheVariants as nexts
-use Rattle.ofx_ports.specs.declared.fault.FetchFault.{FetchFault}
 use Rattle.register_run.proofs.HeadLines.{no_frame_without_end, no_frame_later, no_frame_after, no_frame_cut, is_frame}
 
 prefix_empty : (prefix rest : List ℕ) → prefix ++ rest ≡ [] → prefix ≡ []
@@ -62,16 +61,6 @@ cut_file head size before new after is body =
     let short : length body.bytes < size = omega (arith, body.full.0, ap length body.grown, length-append head body.bytes) in
     let none : BeginsNoFrame new = subst BeginsNoFrame (sym body.grown) (no_frame_cut head size body.bytes is short) in
     last_rest new after body.full.1 (λ empty. head_there head size is (prefix_empty head body.bytes (sym body.grown ∙ empty))) none
-
--- the bytes of the line and those of the file after it
-pub kept_body : (head : List ℕ) (whole : ℕ) (before : Option (List ℕ)) (new : List ℕ) (after : Option (List ℕ)) (result : Result Bool FetchFault)
-    → ReadsBody head whole before new after result → Keeps (prepend_known head before) (prepend_known new after)
-kept_body head whole before new after result body = subst (λ (l : List ℕ). Keeps (prepend_known head before) (prepend_known l after)) (sym body.grown) (both before after body.kept)
-  where
-    both : (a b : Option (List ℕ)) → Keeps a (prepend_known body.bytes b) → Keeps (prepend_known head a) (prepend_known (head ++ body.bytes) b)
-    both None b h = tt
-    both (Some xs) None h = absurd h
-    both (Some xs) (Some ys) h = append_assoc head body.bytes ys ∙ ap (λ (l : List ℕ). head ++ l) h
 
 -- ---- what a frame or its lack says of the input
 

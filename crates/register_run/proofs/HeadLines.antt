@@ -1,5 +1,5 @@
 -- The first line of a frame ends once, and says how long its file is.
-use Rattle.std.proofs.Common.{◌≡◌, ◌≢◌, ℕ, zero, suc, ◌<◌, ◌≤◌, ◌+◌, ◌-◌, Bool, true, false, cond, List, [], ◌∷◌, ◌++◌, length, take, drop, get_or, codes, Option, None, Some, IfSome, IfNone, arith, rules, refl, sym, ap, subst, ◌∙◌, append_assoc, length-append}
+use Rattle.std.proofs.Common.{◌≡◌, ◌≢◌, ℕ, zero, suc, ◌<◌, ◌≤◌, ◌+◌, ◌-◌, Bool, true, false, cond, List, [], ◌∷◌, ◌++◌, length, take, drop, get_or, Option, None, Some, IfSome, IfNone, arith, rules, refl, sym, ap, subst, ◌∙◌, append_assoc, length-append}
 use Rattle.std.specs.Str.{all_ascii_digits}
 use Rattle.std.specs.Fmt.{decimal}
 use Rattle.std.proofs.lemmas.List.{get_or_at, get_or_append_left}
@@ -131,10 +131,6 @@ is_frame head size body is full = record {
 }
 
 -- ---- the size that a line announces
-
--- a line without its LF, and with it
-pub line_front : (bytes : List ℕ) (is : IsLine bytes) → is.line ++ 10 ∷ [] ≡ bytes
-line_front bytes is = sym is.ended
 
 pub head_is : (bytes line : List ℕ) (n : ℕ) → bytes ≡ line ++ 10 ∷ [] → IsLength n → line ≡ length_line n → IsHead bytes n
 unfolding frame_head

@@ -5,7 +5,7 @@ mod FrameLaws
 mod Bodies
 mod TurnLaws
 mod Ends
-mod Tallying
+mod KeepingLaws
 mod BadFiles
 mod Faults
 mod ArgumentLaws

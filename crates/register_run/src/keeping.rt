@@ -23,6 +23,7 @@ fn register_in(alloc: Global, text: &[u8]) -> Result<Register, Stop>
 }
 
 /// The register that is kept.
+#[tactic(auto, using(crate::proofs::KeepingLaws::finds_kept, crate::proofs::KeepingLaws::never_fetches))]
 pub(crate) fn open_register<S: StoreKeeper>(alloc: Global, store: &mut S) -> Result<Register, Stop>
     ensures finds { Finds (S.saved store.old) result }
     ensures stays { Stays (S.saved store.old) (S.saved store.new) }
@@ -61,6 +62,7 @@ fn save<S: StoreKeeper>(register: &Register, store: &mut S) -> Result<(), Stop>
 }
 
 /// Prints a line of each account.
+#[tactic(auto, using(crate::proofs::KeepingLaws::accounts_printed))]
 fn print_accounts<W: Sink>(alloc: Global, register: &Register, out: &mut W) -> Result<(), Stop>
     ensures prints { PrintsAccounts register.now (W.held out.old) (W.held out.new) result }
     ensures faults { CountsFaults (W.faults out.old) (W.faults out.new) (IsErrOf result Stop.WriteFailed) }
@@ -70,6 +72,7 @@ fn print_accounts<W: Sink>(alloc: Global, register: &Register, out: &mut W) -> R
 }
 
 /// Saves the register, and then prints a line of each account.
+#[tactic(auto, using(crate::proofs::KeepingLaws::unsaved, crate::proofs::KeepingLaws::saved_and_printed, crate::proofs::KeepingLaws::never_writes, crate::proofs::KeepingLaws::never_saves))]
 pub(crate) fn close_register<S: StoreKeeper, W: Sink>(
     alloc: Global,
     register: &Register,

@@ -68,6 +68,26 @@ fn run<A: Source, S: StoreKeeper, W: Sink>(
 /// | 15 | an offset | the store's text has no form |
 ///
 /// With 2, 4, 5 and 15 nothing is saved.
+///
+/// ```rust
+/// use ofx_ports::{MemSink, MemSource, MemStore};
+/// use ofx_types::{Status, Text};
+/// use register_run::register_told;
+///
+/// let alloc = rt.alloc();
+/// let mut arguments = Vec::new(alloc);
+/// for word in "import alice.register".split(' ') {
+///     let word = Text::new(alloc, word.as_bytes(), 64).expect(&rt, "a word");
+///     arguments.push(word).expect(&rt, "room");
+/// }
+/// // One frame, whose file is no reply file from its first byte on. A new register is saved, and has no accounts.
+/// let mut input = MemSource::new(alloc, b"FILE 5\nhello").expect(&rt, "a source");
+/// let mut store = MemStore::new(alloc);
+/// let mut out = MemSink::new(alloc, 1024).expect(&rt, "a sink");
+/// let told = register_told(alloc, &arguments, &mut input, &mut store, &mut out);
+/// assert!(rt; told.status == Status(0) && !store.text().is_empty());
+/// assert!(rt; out.held() == b"BAD 0\n".as_slice());
+/// ```
 pub fn register_told<A: Source, S: StoreKeeper, W: Sink>(
     alloc: Global,
     arguments: &[Text],
