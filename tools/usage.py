@@ -21,7 +21,8 @@ def version(program):
 
 def paragraphs(text):
     """The lines with the forms of commands, and then each paragraph's lines. The first may stand right behind the forms."""
-    first, *rest = [part.split("\n") for part in text.strip("\n").split("\n\n")]
+    parts = [part.split("\n") for part in text.strip("\n").split("\n\n")]
+    first, *rest = sorted(parts, key=lambda lines: not lines[0].startswith("Usage:"))
     forms = [line for line in first if FORM.match(line)]
     behind = [line for line in first if not FORM.match(line)]
     return [forms, *([behind] if behind else []), *rest]

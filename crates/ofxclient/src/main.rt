@@ -3,19 +3,20 @@
 #![tactic(auto)]
 
 mod command_line;
+mod importing;
 mod messages;
 mod parties;
 mod usage;
 
 use crate::command_line::{Request, read_arguments};
-use crate::messages::{VERSION, plain, report, report_import, report_more, report_usage};
+use crate::importing::import;
+use crate::messages::{VERSION, plain, report, report_more, report_usage};
 use crate::parties::{COMMAND, STORE, link_for, named};
 use crate::usage::help_text;
 use client_arguments::{ArgumentsFault, Order, order_of};
 use client_run::client_told;
-use ofx_ports::{FileStore, MemStore, ReaderSource, StoreKeeper, SystemClock, WriterSink};
+use ofx_ports::{FileStore, MemStore, StoreKeeper, SystemClock, WriterSink};
 use ofx_types::{OutOfMemory, Text, Told};
-use register_run::register_told;
 use std::io;
 use std::process::ExitCode;
 
@@ -27,7 +28,7 @@ fn main(rt: HostRuntime) -> ExitCode {
         },
         Request::Version => ended(&rt, printed(&rt, VERSION)),
         Request::Run(arguments) => match named(&arguments, COMMAND) {
-            Some("import") => return imported(rt, &arguments),
+            Some("import") => import(rt, &arguments),
             _ => return ordered(rt, &arguments),
         },
         Request::Usage => unordered(&rt),
@@ -51,35 +52,6 @@ fn ordered(rt: HostRuntime, arguments: &[Text]) -> ExitCode {
         Err(ArgumentsFault::OutOfMemory) => ended(&rt, plain(7)),
     };
     ExitCode::from(end.status.0)
-}
-
-/// Imports downloaded files into a register. There is no link, and a store is opened only where an argument names one.
-fn imported(rt: HostRuntime, arguments: &[Text]) -> ExitCode {
-    let end = ended(&rt, taken_in(rt, arguments));
-    report_import(&rt, end, named(arguments, STORE));
-    if end.status.0 == 2 {
-        report_usage(&rt);
-    }
-    ExitCode::from(end.status.0)
-}
-
-/// The end of an import into the register that the second argument names.
-fn taken_in(rt: HostRuntime, arguments: &[Text]) -> Told {
-    match named(arguments, STORE) {
-        Some("-") => import_over(rt, arguments, &mut MemStore::new(rt.alloc())),
-        Some(path) => match FileStore::at(rt.alloc(), rt, path) {
-            Ok(mut store) => import_over(rt, arguments, &mut store),
-            Err(OutOfMemory) => plain(7),
-        },
-        None => plain(2),
-    }
-}
-
-/// The end of an import of the files of the standard input into the register of a store.
-fn import_over<S: StoreKeeper>(rt: HostRuntime, arguments: &[Text], store: &mut S) -> Told {
-    let mut input = ReaderSource::new(rt.stdin());
-    let mut out = WriterSink::new(io::writer(&rt));
-    register_told(rt.alloc(), arguments, &mut input, store, &mut out)
 }
 
 /// An end, which is told in a line.

@@ -84,29 +84,3 @@ fn report_offset(rt: &impl Eprint, status: u8, port: u16, store: &str) -> io::Re
         _ => Ok(()),
     }
 }
-
-/// Reports on a second line where it was and what to do, after an import into the register of this name.
-pub fn report_import(rt: &impl Eprint, end: Told, store: Option<&str>) {
-    let _ = report_register(rt, end.status.0, store.unwrap_or("?"));
-}
-
-fn report_register(rt: &impl Eprint, status: u8, store: &str) -> io::Result<()> {
-    match status {
-        4 => eprintln!(rt;
-            "of the input begins no frame: write FILE, a space, the number of bytes and a line feed before each reply file; {store} is as before"
-        ),
-        5 => eprintln!(rt;
-            "while the input was read: see to it, and run again; {store} is as before"
-        ),
-        6 => eprintln!(rt;
-            "to the standard output: see to it, and run again; files that are in {store} already change nothing"
-        ),
-        8 => eprintln!(rt;
-            "{store} can't be read or written: see that it is a file of yours, with room on its disk"
-        ),
-        15 => eprintln!(rt;
-            "{store} is no register of this program, or was damaged: put it back as it was, or name another"
-        ),
-        _ => Ok(()),
-    }
-}

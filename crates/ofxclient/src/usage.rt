@@ -59,13 +59,17 @@ const COMMANDS: [(&str, &str); 9] = [
     ("show", "what the store has; the bank isn't asked"),
 ];
 
+/// The forms of the program's commands.
+const FORMS: &str = "\
+ofxclient <PORT> <STORE> <CLIENT> <USER> <PASS> <BANK> <COMMAND>
+       ofxclient import <STORE> < FRAMES";
+
 /// What follows all else.
 const AFTER: &str = "\
-Another use, without PORT and the words after STORE:
-  ofxclient import STORE < FRAMES   takes downloaded statement files into the
-           register in the file STORE: before each stands a line FILE and the
-           number of its bytes; prints what came of each, and the sum of each
-           account
+import adds downloaded statement files to the register in the file STORE, and
+asks no bank. It reads them from the standard input, each after a line with
+FILE and the number of its bytes. It prints a line for each file, and then each
+account with its sum.
 
 Words:
   NUMBER   an account's number (ACCTID)
@@ -87,6 +91,7 @@ pub fn help_text(alloc: Global) -> Result<String, AllocError> {
     let mut command = Command::new(alloc, "ofxclient")
         .version(VERSION)
         .about(ABOUT)
+        .override_usage(FORMS)
         .after_help(AFTER)
         .disable_help_subcommand(true)
         .subcommand_required(true)

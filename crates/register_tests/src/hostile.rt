@@ -1,7 +1,7 @@
 //! Files out of form, stores that are damaged, and ports that fail.
 
 use crate::registers::SAVED;
-use crate::sample::{FIRST, OTHER, frames, push_frame, reply, texts};
+use crate::sample::{FIRST, OTHER, frames, push_frame, reply, request, texts};
 use ofx_ports::{MemSink, MemSource, MemStore};
 use ofx_types::{Note, Status, Told};
 use register_run::register_told;
@@ -94,11 +94,12 @@ fn files_out_of_form(rt: HostRuntime) {
         .as_str()
         .find("<FITID>20a")
         .expect(&rt, "the FITID");
-    let wanted = format!(in alloc; "CLASH 1001 CHECKING 2\nBAD {offset}\nBAD 3\n").expect(
+    let wanted = format!(in alloc; "CLASH 1001 CHECKING 2\nBAD {offset}\nBAD 143\nBAD 3\n").expect(
         &rt, "text",
     );
     let mut files = frames(&rt, alloc, &[&twice]);
     push_frame(&rt, alloc, &lettered, &mut files);
+    push_frame(&rt, alloc, &request(&rt, alloc), &mut files);
     push_frame(&rt, alloc, "OFX", &mut files);
     let mut store = MemStore::new(alloc);
     let mut out = output(&rt, alloc);

@@ -4,7 +4,7 @@ use ofx_types::Text;
 use std::alloc::Global;
 use std::process::Abort;
 
-/// The header of a reply file.
+/// The header of a file. Its body begins at the offset 143.
 const HEADER: &str =
     "OFXHEADER:100\r\nDATA:OFXSGML\r\nVERSION:160\r\nSECURITY:NONE\r\nENCODING:USASCII\r\nCHARSET:1252\r\nCOMPRESSION:NONE\r\nOLDFILEUID:NONE\r\nNEWFILEUID:NONE\r\n\r\n";
 
@@ -18,6 +18,10 @@ const STATEMENT: &str =
 /// What follows the lines.
 const AFTER: &str =
     "</BANKTRANLIST><LEDGERBAL><BALAMT>0.00<DTASOF>20240131</LEDGERBAL><AVAILBAL><BALAMT>0.00<DTASOF>20240131</AVAILBAL></STMTRS></STMTTRNRS></BANKMSGSRSV1></OFX>";
+
+/// The body of a request file.
+const REQUEST: &str =
+    "<OFX><SIGNONMSGSRQV1><SONRQ><DTCLIENT>20240131120000<USERID>alice<USERPASS>secret<LANGUAGE>ENG<APPID>OFXC<APPVER>0100</SONRQ></SIGNONMSGSRQV1></OFX>";
 
 /// The lines with the FITIDs 1 and 2.
 pub const FIRST: &str =
@@ -34,6 +38,11 @@ pub const OTHER: &str =
 /// A reply file with a signon of this code and these lines of 1001 CHECKING.
 pub fn reply(rt: &impl Abort, alloc: Global, code: &str, lines: &str) -> String {
     format!(in alloc; "{HEADER}{SIGNON}{code}{STATEMENT}{lines}{AFTER}").expect(rt, "a reply")
+}
+
+/// A request file.
+pub fn request(rt: &impl Abort, alloc: Global) -> String {
+    format!(in alloc; "{HEADER}{REQUEST}").expect(rt, "a request")
 }
 
 /// Appends a file in its frame.
