@@ -15,16 +15,17 @@ def said(program, *words):
 
 
 def version(program):
-    """Name and version, as `ofxbank VERSION`."""
+    """Name and version, as `ofxbank 0.1.0`."""
     return said(program, "--version").strip()
 
 
 def paragraphs(text):
-    """The lines with the forms of commands, and then each paragraph's lines. The first may come right after the forms."""
-    first, *rest = [part.split("\n") for part in text.strip("\n").split("\n\n")]
+    """The lines with the forms of commands, and then each paragraph's lines. The first may stand right after the forms."""
+    parts = [part.split("\n") for part in text.strip("\n").split("\n\n")]
+    first, *rest = sorted(parts, key=lambda lines: not lines[0].startswith("Usage:"))
     forms = [line for line in first if FORM.match(line)]
-    following = [line for line in first if not FORM.match(line)]
-    return [forms, *([following] if following else []), *rest]
+    after = [line for line in first if not FORM.match(line)]
+    return [forms, *([after] if after else []), *rest]
 
 
 class Help:

@@ -3,13 +3,15 @@
 #![tactic(auto)]
 
 mod command_line;
+mod importing;
 mod messages;
 mod parties;
 mod usage;
 
 use crate::command_line::{Request, read_arguments};
+use crate::importing::import;
 use crate::messages::{VERSION, plain, report, report_more, report_usage};
-use crate::parties::{STORE, link_for, named};
+use crate::parties::{COMMAND, STORE, link_for, named};
 use crate::usage::help_text;
 use client_arguments::{ArgumentsFault, Order, order_of};
 use client_run::client_told;
@@ -25,7 +27,10 @@ fn main(rt: HostRuntime) -> ExitCode {
             Err(_) => ended(&rt, plain(7)),
         },
         Request::Version => ended(&rt, printed(&rt, VERSION)),
-        Request::Run(arguments) => return ordered(rt, &arguments),
+        Request::Run(arguments) => match named(&arguments, COMMAND) {
+            Some("import") => import(rt, &arguments),
+            _ => return ordered(rt, &arguments),
+        },
         Request::Usage => unordered(&rt),
         Request::NoMemory => ended(&rt, plain(7)),
     };

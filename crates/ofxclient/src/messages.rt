@@ -31,6 +31,7 @@ pub fn report_usage(rt: &HostRuntime) {
 fn report_cause(rt: &impl Eprint, end: Told) -> io::Result<()> {
     match (end.status.0, end.note) {
         (2, _) => rt.eprintln("usage"),
+        (4, Note::Place(at)) => eprintln!(rt; "frame at {at}"),
         (5, _) => rt.eprintln("read failed"),
         (6, _) => rt.eprintln("write failed"),
         (7, _) => rt.eprintln("no memory"),

@@ -8,6 +8,9 @@ use std::io;
 use std::net::TcpStream;
 use std::time::Duration;
 
+/// The place of the argument that may be `import`.
+pub const COMMAND: usize = 0;
+
 /// The place of the word that names the store.
 pub const STORE: usize = 1;
 

@@ -59,8 +59,18 @@ const COMMANDS: [(&str, &str); 9] = [
     ("show", "what the store has; the bank isn't asked"),
 ];
 
+/// The forms of the program's commands.
+const FORMS: &str = "\
+ofxclient <PORT> <STORE> <CLIENT> <USER> <PASS> <BANK> <COMMAND>
+       ofxclient import <STORE> < FRAMES";
+
 /// What follows all else.
 const AFTER: &str = "\
+import adds downloaded statement files to the register in the file STORE, and
+asks no bank. It reads them from the standard input, each after a line with
+FILE and the number of its bytes. It prints a line for each file, and then each
+account with its sum.
+
 Words:
   NUMBER   an account's number (ACCTID)
   KIND     CHECKING, SAVINGS, MONEYMRKT or CREDITLINE
@@ -71,16 +81,17 @@ Words:
   COUNT    how many transfers, 1 to 999, or 0 without end
   ID       of a row that show prints
 
-Status: 0 all done, 2 usage or another client's store, 5 read failed, 6 write
-failed, 7 no memory, 8 store failed, 11 HTTP code, 12 bad reply, 13 a reply to
-another file, 14 signon refused, 15 the store has no form, 16 bad reply head,
-17 the reply was cut, 18 no such row";
+Status: 0 all done, 2 usage or another client's store, 4 the input has no frame,
+5 read failed, 6 write failed, 7 no memory, 8 store failed, 11 HTTP code, 12 bad
+reply, 13 a reply to another file, 14 signon refused, 15 the store has no form,
+16 bad reply head, 17 the reply was cut, 18 no such row";
 
 /// What is printed for `--help`, and after the line `usage`.
 pub fn help_text(alloc: Global) -> Result<String, AllocError> {
     let mut command = Command::new(alloc, "ofxclient")
         .version(VERSION)
         .about(ABOUT)
+        .override_usage(FORMS)
         .after_help(AFTER)
         .disable_help_subcommand(true)
         .subcommand_required(true)

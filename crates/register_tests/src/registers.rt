@@ -6,7 +6,7 @@ use std::alloc::Global;
 use std::process::Abort;
 
 /// The saved text of two lines of 1001 CHECKING: the FITIDs 1 and 2 with -1.00 and -2.00.
-const SAVED: [u8; 89] = [
+pub const SAVED: [u8; 89] = [
     1, 0, 0, 0, 2, 0, 9, 49, 50, 49, 48, 57, 57, 57, 57, 57, 0, 4, 49, 48, 48, 49, 0, 0, 0, 0, 0,
     0, 0, 0, 1, 0, 0, 0, 0, 101, 186, 54, 124, 255, 255, 255, 255, 255, 255, 255, 156, 0, 9, 49,
     50, 49, 48, 57, 57, 57, 57, 57, 0, 4, 49, 48, 48, 49, 0, 0, 0, 0, 0, 0, 0, 0, 2, 0, 0, 0, 0,
@@ -19,7 +19,7 @@ fn loaded(rt: &impl Abort, alloc: Global, text: &[u8]) -> Register {
 }
 
 /// An account of the sample's bank.
-fn account(rt: &impl Abort, alloc: Global, number: &[u8]) -> AcctName {
+pub fn account(rt: &impl Abort, alloc: Global, number: &[u8]) -> AcctName {
     AcctName {
         bank: Text::new(alloc, b"121099999", 32).expect(rt, "a text"),
         number: Text::new(alloc, number, 32).expect(rt, "a text"),

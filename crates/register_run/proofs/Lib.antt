@@ -1,0 +1,11 @@
+mod SpelledLines
+mod HeadLines
+mod BytesRead
+mod FrameLaws
+mod Bodies
+mod TurnLaws
+mod Ends
+mod KeepingLaws
+mod BadFiles
+mod Faults
+mod ArgumentLaws

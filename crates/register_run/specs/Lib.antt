@@ -1,0 +1,11 @@
+pub mod Frames
+pub mod Heads
+pub mod NextFrame
+pub mod Lines
+pub mod Accounts
+pub mod Answers
+pub mod Turns
+pub mod Keeping
+pub mod Views
+pub mod Stopping
+pub mod Runs
