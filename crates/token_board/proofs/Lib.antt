@@ -5,3 +5,5 @@ pub mod Views
 pub mod Words
 pub mod Keeping
 pub mod Holding
+pub mod Following
+pub mod Publishing

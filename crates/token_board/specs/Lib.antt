@@ -3,3 +3,5 @@ pub mod Views
 pub mod Rule
 pub mod Steps
 pub mod Holders
+pub mod Following
+pub mod Publishing
