@@ -4,13 +4,10 @@
 //! thread of its own. A worker does what is due and serves one connection after another, each by `serve_connection` of `bank_offices`.
 #![tactic(auto)]
 
-mod numbers;
 mod open;
-mod plan;
 mod worker;
 mod workers;
 
-pub use open::serve_open;
-pub use plan::{Plan, plan_of};
+pub use open::{open_shared, serve_open};
 pub use worker::{WorkerEnd, serve_worker};
 pub use workers::{AllEnd, Worked, serve_all};
