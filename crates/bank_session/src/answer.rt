@@ -252,7 +252,9 @@ pub fn session_told<A: Source, B: Source, W: Sink, K: Keeper, C: Clock>(
             keeper,
             clock,
         )),
-        Command::Check | Command::Rehearse(_) | Command::Serve(_) => plain(2),
+        Command::Check => plain(2),
+        Command::Rehearse(_) => plain(2),
+        Command::Serve(_) => plain(2),
     }
 }
 

@@ -1,0 +1,37 @@
+use Rattle.std.proofs.Common.{Ok, refl}
+use Rattle.bank_arguments.specs.declared.command.Command.TheVariants.{Answer, Due, Mail}
+use Rattle.bank_session.proofs.CommandArguments.{other_usage, usage_other, same_command}
+use Rattle.bank_session.proofs.answer.answer_told.Goals as goal
+
+pub returns-in-Ok-clause-usage : goal.returns-in-Ok-clause-usage
+returns-in-Ok-clause-usage g c = (
+  λ two. other_usage c.args.arguments.now (Ok c.in-Ok.command) c.in-Ok.ensures.answer c.in-Ok.ensures.due c.in-Ok.ensures.letter (c.session_told.ensures.usage.0 two),
+  λ usage. c.session_told.ensures.usage.1 (usage_other c.args.arguments.now c.in-Ok.command c.in-Ok.ensures.asks usage),
+)
+
+pub returns-in-Ok-clause-unread : goal.returns-in-Ok-clause-unread
+returns-in-Ok-clause-unread g c usage = c.session_told.ensures.unread (usage_other c.args.arguments.now c.in-Ok.command c.in-Ok.ensures.asks usage)
+
+pub returns-in-Ok-clause-run : goal.returns-in-Ok-clause-run
+returns-in-Ok-clause-run g c at are =
+    let found = c.in-Ok.ensures.answer at are in
+    rw (← found.2) (c.session_told.ensures.run found.0 (same_command c.in-Ok.command (Answer found.0) found.1))
+
+pub returns-in-Ok-clause-due : goal.returns-in-Ok-clause-due
+returns-in-Ok-clause-due g c are = c.session_told.ensures.due (same_command c.in-Ok.command Due (c.in-Ok.ensures.due are))
+
+pub returns-in-Ok-clause-mail : goal.returns-in-Ok-clause-mail
+returns-in-Ok-clause-mail g c name subject are =
+    let found = c.in-Ok.ensures.letter name subject are in
+    rw (← found.2.0, ← found.2.1) (c.session_told.ensures.mail found.0 (same_command c.in-Ok.command (Mail found.0) found.1))
+
+pub returns-in-Ok-clause-clock : goal.returns-in-Ok-clause-clock
+returns-in-Ok-clause-clock g c at are =
+    let found = c.in-Ok.ensures.answer _ are in
+    c.session_told.ensures.clock found.0 at (same_command c.in-Ok.command (Answer found.0) found.1) found.2
+
+pub returns-in-Err-clause-usage : goal.returns-in-Err-clause-usage
+returns-in-Err-clause-usage g c = (
+  λ two. other_usage c.args.arguments.now _ c.in-Err.ensures.answer c.in-Err.ensures.due c.in-Err.ensures.letter tt,
+  λ usage. refl,
+)
