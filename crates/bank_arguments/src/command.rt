@@ -1,7 +1,9 @@
 //! The commands, and what the arguments of each say.
 
+ghost use Rattle.std.specs.Prelude.{IfSome};
+ghost use Rattle.std.proofs.Props.{props};
 ghost use Rattle.bank_model.specs.Sound.{IsTextWithin};
-ghost use Rattle.bank_arguments.specs.Bounds.{IsLawful};
+ghost use Rattle.ofx_types.specs.Calendar.{IsMoment};
 
 use ofx_types::{Moment, Text};
 
@@ -10,7 +12,7 @@ use ofx_types::{Moment, Text};
 pub struct AnswerArguments {
     /// The moment of every frame. None where each frame has the moment that the clock shows.
     pub at: Option<Moment>,
-    ghost lawful: { IsLawful at },
+    ghost lawful: { IfSome at (λ moment. IsMoment moment.0) } by { Prim.hlevel props },
 }
 
 /// What the arguments of `mail` say.

@@ -1,9 +1,5 @@
 //! What the arguments of a command line order.
 
-ghost use Rattle.bank_model.specs.Sound.{IsTextWithin};
-ghost use Rattle.client_saved.specs.Bounds.{IsName};
-ghost use Rattle.client_arguments.specs.Reading.{IsInBounds};
-
 use client_core::Wish;
 use ofx_types::Text;
 
@@ -20,7 +16,4 @@ pub struct Order {
     pub pass: Text,
     /// What the user wishes.
     pub wish: Wish,
-    ghost named: { IsName name },
-    ghost acts: { IsTextWithin 32 user },
-    ghost bounded: { IsInBounds wish },
 }

@@ -4,7 +4,8 @@ ghost use Rattle.std.specs.Prelude.{◌↔◌, IsTrue, IfOk};
 ghost use Rattle.bank_model.specs.Sound.{IsTextWithin};
 ghost use Rattle.client_saved.specs.Bounds.{IsName};
 ghost use Rattle.client_arguments.specs.Arguments.{AreArguments, IsOrdered};
-ghost use Rattle.client_arguments.specs.Reading.{Reads, IsInBounds};
+ghost use Rattle.client_arguments.specs.Ordered.{IsSoundOrder};
+ghost use Rattle.client_arguments.specs.Reading.{Reads};
 
 use crate::account::is_within;
 use crate::command::wish_of;
@@ -21,9 +22,10 @@ pub(crate) const MAX_NAME: usize = 32;
 pub(crate) const MAX_PASS: usize = 64;
 
 /// What the arguments say: PORT, STORE, CLIENT, USER, PASS, BANK and a command. `Usage` where they have another form.
+#[tactic(auto, using(crate::proofs::Bounds::read_in))]
 pub fn order_of(arguments: &[Text]) -> Result<Order, ArgumentsFault>
     ensures form { Reads (AreArguments arguments.now) result }
-    ensures sound { IfOk result (λ order. IsInBounds order.wish) }
+    ensures sound { IfOk result IsSoundOrder }
 {
     read_order(arguments)
 }
@@ -40,7 +42,6 @@ fn read_order(arguments: &[Text]) -> Result<Order, ArgumentsFault>
 }
 
 /// What the single words order.
-#[tactic(auto, using(crate::proofs::Bounds::wished_in))]
 fn ordered(
     port: &Text,
     name: &Text,

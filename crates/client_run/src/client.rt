@@ -1,6 +1,7 @@
 //! Whole runs of the customer's program.
 
 ghost use Rattle.std.specs.Prelude.{◌≡◌, ◌<◌};
+ghost use Rattle.client_arguments.specs.Ordered.{IsSoundOrder};
 ghost use Rattle.client_arguments.specs.Reading.{IsInBounds};
 ghost use Rattle.client_run.specs.Commands.{Works};
 ghost use Rattle.ofx_types.specs.declared.told.Told.{Told as WhatIsReported};
@@ -52,6 +53,7 @@ fn run<L: Link, S: StoreKeeper, C: Clock, W: Sink>(
     clock: &mut C,
     out: &mut W,
 ) -> Result<(), ClientStop>
+    requires { IsSoundOrder order.now }
     ensures { Runs order.now
         (⟦<(L, S, C, W) as Ports>⟧.seen (link.old, store.old, clock.old, out.old))
         (⟦<(L, S, C, W) as Ports>⟧.seen (link.new, store.new, clock.new, out.new)) result }
@@ -111,7 +113,7 @@ pub fn client_told<L: Link, S: StoreKeeper, C: Clock, W: Sink>(
     }
 }
 
-/// Does what `client_told` does, by what its arguments order.
+/// Does what `client_told` does, by what its arguments order, as `order_of` reads it.
 pub fn order_told<L: Link, S: StoreKeeper, C: Clock, W: Sink>(
     alloc: Global,
     order: &Order,
@@ -120,6 +122,7 @@ pub fn order_told<L: Link, S: StoreKeeper, C: Clock, W: Sink>(
     clock: &mut C,
     out: &mut W,
 ) -> Told
+    requires { IsSoundOrder order.now }
     ensures { IsOrderRun order.now
         (⟦<(L, S, C, W) as Ports>⟧.seen (link.old, store.old, clock.old, out.old))
         (⟦<(L, S, C, W) as Ports>⟧.seen (link.new, store.new, clock.new, out.new)) result }

@@ -23,22 +23,24 @@ use crate::usage::{helped, report_usage, versioned};
 use ofx_types::Text;
 use program_arguments::{Unread, read_words};
 use std::process::ExitCode;
+use std::sync::Wait;
+use std::thread::Threads;
 
 fn main(rt: HostRuntime) -> ExitCode {
     let status = match read_words(&rt, &VERSION_OPTIONS) {
-        Ok(arguments) => done(&rt, &arguments),
+        Ok(arguments) => done(&rt, &rt, &arguments),
         Err(Unread::NoMemory) => report(&rt, plain(7)),
-        Err(unread) => report_usage(&rt, unread),
+        Err(unread) => report_usage(&rt, &unread),
     };
     ExitCode::from(status)
 }
 
-/// Does what the arguments ask, and answers the status.
-fn done(rt: &HostRuntime, arguments: &[Text]) -> u8 {
+/// Does what the arguments ask, and answers the status. The threads of a server are those of `threads`.
+fn done<R: Threads + Wait + Sync>(threads: &R, rt: &HostRuntime, arguments: &[Text]) -> u8 {
     match request_of(arguments) {
         Request::Help(topic) => report(rt, helped(rt, topic)),
         Request::Version => report(rt, versioned(rt)),
-        Request::Run(command) => run(rt, rt, command, Files::of(arguments)),
-        Request::Usage(mistake) => report_usage(rt, mistake),
+        Request::Run(command) => run(threads, rt, command, Files::of(arguments)),
+        Request::Usage(mistake) => report_usage(rt, &mistake),
     }
 }

@@ -7,7 +7,7 @@ use crate::check::checked;
 use crate::files::Files;
 use crate::keepers::{ON_DISK, Unopened};
 use crate::messages::{plain, report};
-use crate::serve::served;
+use crate::serve::{Service, served};
 use crate::setup_file::SetupFile;
 use crate::why::{report_open_files, report_why};
 use bank_arguments::Command;
@@ -53,7 +53,10 @@ fn run_bound<R: Threads + Wait + Sync>(
     };
     let bound = bind_records(rt, files, &setup);
     let end = match (command, &bound) {
-        (Command::Serve(plan), Ok(())) => served(threads, rt, plan, files, &setup),
+        (Command::Serve(plan), Ok(())) => {
+            let setup = &setup;
+            served(threads, rt, Service { plan, files, setup })
+        }
         (Command::Serve(_), Err(unbound)) => unserved(unbound),
         (_, Ok(())) => answered(*rt, command, files, &setup),
         (_, Err(_)) => run_over(*rt, command, &setup, &mut Unopened::new()),

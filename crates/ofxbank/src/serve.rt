@@ -30,27 +30,28 @@ type Door = LoggedDoor<TcpListener, HostRuntime, HostRuntime>;
 /// A worker's doorway and its clock.
 type Worker = (Door, SystemClock<HostRuntime>);
 
-/// The end of serving the bank of this setup over these records: those of a file, or of none with `-`. The threads
-/// are those of `threads`.
+/// What a server is asked: how it serves, and over which files.
+#[derive(Clone, Copy)]
+pub struct Service<'a> {
+    /// Where it listens, and how many workers and connections it has.
+    pub plan: Plan,
+    /// The files of the setup and of the records.
+    pub files: Files<'a>,
+    /// The setup that was read.
+    pub setup: &'a SetupFile,
+}
+
+/// The end of serving a bank over its records: those of a file, or of none with `-`. The threads are those of `threads`.
 pub fn served<R: Threads + Wait + Sync>(
     threads: &R,
     rt: &HostRuntime,
-    plan: Plan,
-    files: Files<'_>,
-    setup: &SetupFile,
+    service: Service<'_>,
 ) -> Told {
-    match files.records {
-        Some("-") => served_over(threads, rt, plan, files, setup, MemKeeper::new(rt.alloc())),
+    match service.files.records {
+        Some("-") => served_over(threads, rt, service, MemKeeper::new(rt.alloc())),
         Some(path) => match path.strip_prefix(ON_DISK) {
-            Some(file) => served_on_disk(threads, rt, plan, files, setup, file),
-            None => served_over(
-                threads,
-                rt,
-                plan,
-                files,
-                setup,
-                SqliteKeeper::open(rt, path),
-            ),
+            Some(file) => served_on_disk(threads, rt, service, file),
+            None => served_over(threads, rt, service, SqliteKeeper::open(rt, path)),
         },
         None => plain(2),
     }
@@ -60,14 +61,12 @@ pub fn served<R: Threads + Wait + Sync>(
 fn served_on_disk<R: Threads + Wait + Sync>(
     threads: &R,
     rt: &HostRuntime,
-    plan: Plan,
-    files: Files<'_>,
-    setup: &SetupFile,
+    service: Service<'_>,
     path: &str,
 ) -> Told {
     match on_disk(rt, path) {
-        Ok(keeper) => served_over(threads, rt, plan, files, setup, keeper),
-        Err(_) => served_over(threads, rt, plan, files, setup, Unopened::new()),
+        Ok(keeper) => served_over(threads, rt, service, keeper),
+        Err(_) => served_over(threads, rt, service, Unopened::new()),
     }
 }
 
@@ -75,9 +74,7 @@ fn served_on_disk<R: Threads + Wait + Sync>(
 fn served_over<R: Threads + Wait + Sync, K: Keeper + Send>(
     threads: &R,
     rt: &HostRuntime,
-    plan: Plan,
-    files: Files<'_>,
-    setup: &SetupFile,
+    service: Service<'_>,
     keeper: K,
 ) -> Told
     requires { K.unsettled keeper ≡ false }
@@ -85,6 +82,7 @@ fn served_over<R: Threads + Wait + Sync, K: Keeper + Send>(
     let Ok(keys) = RandomState::new(rt) else {
         return plain(5);
     };
+    let Service { plan, files, setup } = service;
     let Ok(mut setup) = setup.source(rt.alloc()) else {
         return plain(7);
     };

@@ -33,7 +33,7 @@ fn printed(done: io::Result<()>) -> Told {
 
 /// Prints on the error stream the program's usage and, in the last line, what is wrong with the arguments. Answers the status. Where
 /// memory is refused for the usage, only its first line is printed.
-pub fn report_usage<M: fmt::Display>(rt: &HostRuntime, mistake: M) -> u8 {
+pub fn report_usage<M: fmt::Display>(rt: &HostRuntime, mistake: &M) -> u8 {
     let status = report(rt, plain(2));
     if let Ok(text) = program_help(rt.alloc()) {
         let _ = report_mistake(rt, &text, mistake);
@@ -41,6 +41,6 @@ pub fn report_usage<M: fmt::Display>(rt: &HostRuntime, mistake: M) -> u8 {
     status
 }
 
-fn report_mistake<M: fmt::Display>(rt: &HostRuntime, text: &str, mistake: M) -> io::Result<()> {
+fn report_mistake<M: fmt::Display>(rt: &HostRuntime, text: &str, mistake: &M) -> io::Result<()> {
     eprintln!(rt; "{text}\n{mistake}")
 }

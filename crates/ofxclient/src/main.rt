@@ -2,6 +2,8 @@
 //! run, and tells people on the error stream why the run ended.
 #![tactic(auto)]
 
+ghost use Rattle.client_arguments.specs.Ordered.{IsSoundOrder};
+
 mod messages;
 mod parties;
 mod usage;
@@ -21,7 +23,7 @@ fn main(rt: HostRuntime) -> ExitCode {
     let end = match read_words(&rt, &["--help", "--version"]) {
         Ok(arguments) => asked(rt, &arguments),
         Err(Unread::NoMemory) => ended(&rt, plain(7)),
-        Err(unread) => unordered(&rt, unread),
+        Err(unread) => unordered(&rt, &unread),
     };
     ExitCode::from(end.status.0)
 }
@@ -45,12 +47,12 @@ fn ordered(rt: HostRuntime, arguments: &[Text]) -> Told {
             let store = text_at(arguments, STORE);
             let end = ended(&rt, ran(rt, store, &order));
             if end.status.0 == 2 {
-                report_usage(&rt, RefusedStore(store));
+                report_usage(&rt, &RefusedStore(store));
             }
             report_more(&rt, end, order.port, store);
             end
         }
-        Err(ArgumentsFault::Usage) => unordered(&rt, mistake_in(arguments)),
+        Err(ArgumentsFault::Usage) => unordered(&rt, &mistake_in(arguments)),
         Err(ArgumentsFault::OutOfMemory) => ended(&rt, plain(7)),
     }
 }
@@ -62,14 +64,16 @@ fn ended(rt: &HostRuntime, end: Told) -> Told {
 }
 
 /// The end of arguments without a form, which is told with the usage and, in the last line, what is wrong with them.
-fn unordered<M: fmt::Display>(rt: &HostRuntime, mistake: M) -> Told {
+fn unordered<M: fmt::Display>(rt: &HostRuntime, mistake: &M) -> Told {
     let end = ended(rt, plain(2));
     report_usage(rt, mistake);
     end
 }
 
 /// The end of the run over the store of that name: the text in a file, or none with `-`.
-fn ran(rt: HostRuntime, store: &str, order: &Order) -> Told {
+fn ran(rt: HostRuntime, store: &str, order: &Order) -> Told
+    requires { IsSoundOrder order.now }
+{
     match store {
         "-" => run_over(rt, order, &mut MemStore::new(rt.alloc())),
         path => match FileStore::at(rt.alloc(), rt, path) {
@@ -80,7 +84,9 @@ fn ran(rt: HostRuntime, store: &str, order: &Order) -> Told {
 }
 
 /// The end of the run over a store, a link to the bank, and the standard output.
-fn run_over<S: StoreKeeper>(rt: HostRuntime, order: &Order, store: &mut S) -> Told {
+fn run_over<S: StoreKeeper>(rt: HostRuntime, order: &Order, store: &mut S) -> Told
+    requires { IsSoundOrder order.now }
+{
     let alloc = rt.alloc();
     let mut link = link_for(&rt, order);
     let mut clock = SystemClock::new(rt);

@@ -21,13 +21,13 @@ pub fn report(rt: &impl Eprint, end: Told) {
 }
 
 /// Says how the program is used and, in the last line, what is wrong. Nothing where memory is refused for it.
-pub fn report_usage<M: fmt::Display>(rt: &HostRuntime, mistake: M) {
+pub fn report_usage<M: fmt::Display>(rt: &HostRuntime, mistake: &M) {
     if let Ok(text) = help_text(rt.alloc()) {
         let _ = report_mistake(rt, &text, mistake);
     }
 }
 
-fn report_mistake<M: fmt::Display>(rt: &HostRuntime, text: &str, mistake: M) -> io::Result<()> {
+fn report_mistake<M: fmt::Display>(rt: &HostRuntime, text: &str, mistake: &M) -> io::Result<()> {
     eprintln!(rt; "{text}\n{mistake}")
 }
 
