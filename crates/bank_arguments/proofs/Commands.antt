@@ -83,13 +83,16 @@ one_number : (least most : ℕ) (argument word : List ℕ) (n m : ℕ) → most 
 one_number least most argument word n m small one other same =
     decimal_injective n m (omega (arith, one.to, small)) (omega (arith, other.to, small)) (sym one.spelled ∙ same ∙ other.spelled)
 
+abbrev plan_with : ℕ → ℕ → ℕ → Plan
+plan_with port workers most = record { port = port; workers = workers; most = most }
+
 one_plan : (arguments : List (List ℕ)) (one other : Plan) → AreServeArguments arguments one → AreServeArguments arguments other → one ≡ other
 one_plan arguments one other is are =
     let same = sym is.spelled ∙ are.spelled in
     let port : one.port ≡ other.port = one_number 1 65535 is.port are.port one.port other.port (omega arith) is.port_is are.port_is (ap (λ (a : List (List ℕ)). get_or a 3 []) same) in
     let workers : one.workers ≡ other.workers = one_number 1 64 is.workers are.workers one.workers other.workers (omega arith) is.workers_are are.workers_are (ap (λ (a : List (List ℕ)). get_or a 4 []) same) in
     let most : one.most ≡ other.most = one_number 0 4294967295 is.most are.most one.most other.most (omega arith) is.most_is are.most_is (ap (λ (a : List (List ℕ)). get_or a 5 []) same) in
-    cc
+    ap (λ (n : ℕ). plan_with n one.workers one.most) port ∙ (ap (λ (n : ℕ). plan_with other.port n one.most) workers ∙ ap (λ (n : ℕ). plan_with other.port other.workers n) most)
 
 pub plan_read : (arguments : List (List ℕ)) (command : Command) (plan : Plan) → ReadsCommand arguments (Some command) → AreServeArguments arguments plan → command ≡ Serve plan
 plan_read arguments (Answer found) plan read are = let e : 97 ≡ 115 = meant arguments (Answer found) 115 read (ap (λ (a : List (List ℕ)). first_byte a) are.spelled) in absurd (omega (arith, e))

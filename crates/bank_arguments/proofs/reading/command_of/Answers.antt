@@ -28,10 +28,10 @@ pub returns-in-None-clause-due : goal.returns-in-None-clause-due
 returns-in-None-clause-due c are = absurd (c.in-None.ensures.1.0 are)
 
 pub returns-in-None-clause-letter : goal.returns-in-None-clause-letter
-returns-in-None-clause-letter c name subject are = absurd (c.in-None.ensures.1.1.0 (name, subject, are))
+returns-in-None-clause-letter c name subject are = absurd (c.in-None.ensures.1.1 (name, subject, are))
 
 pub returns-in-None-clause-seed : goal.returns-in-None-clause-seed
-returns-in-None-clause-seed c seed are = absurd (c.in-None.ensures.1.1.1.0 seed are)
+returns-in-None-clause-seed c seed are = absurd (c.in-None.ensures.1.2 seed are)
 
 pub returns-in-None-clause-plan : goal.returns-in-None-clause-plan
-returns-in-None-clause-plan c plan are = absurd (c.in-None.ensures.1.1.1.1 plan are)
+returns-in-None-clause-plan c plan are = absurd (c.in-None.ensures.1.3 plan are)
