@@ -22,12 +22,13 @@ def judge_advice(words, status, told):
     has_form = order_of(words) is not None
     if status == 2 and not any(line.startswith(USAGE) for line in lines):
         raise Wrong("the usage isn't told of %.200r" % (words,))
-    if status == 2 and (len(lines) < 3 or lines[-3] != "" or not lines[-2] or lines[-1] != ""):
-        raise Wrong("behind the usage %r is told, wanted a line" % lines[-3:])
+    last = told.decode("utf-8", "replace").rpartition("\n\n")[2]  # a word that is told may hold a line's end
+    if status == 2 and not (last.strip() and last.endswith("\n")):
+        raise Wrong("behind the usage %r is told, wanted a line" % last)
     if status in SECOND and (status != 2 or has_form):
         named, said = SECOND[status]
         named %= trimmed(words[0 if named == PORT else 1]).decode("utf-8", "replace")
-        line = lines[-2] if status == 2 else lines[0]
+        line = last if status == 2 else lines[0]
         if named not in line or said not in line or status != 2 and lines[1:] != [""]:
             raise Wrong("with status %d %r is told behind the first line, wanted a line with %r and %r" % (
                 status, lines, named, said))
