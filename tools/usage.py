@@ -3,7 +3,7 @@ import re
 import subprocess
 
 MOST_SECONDS = 20
-FORM = re.compile(r"^(?:[Uu]sage:)?\s+(\S+ .*)$")
+FORM = re.compile(r"^(?:Usage:)?\s+(\S+ .*)$")
 
 
 def said(program, *words):
@@ -20,22 +20,20 @@ def version(program):
 
 
 def paragraphs(text):
-    """The lines with the forms of commands, and then each paragraph's lines. The first may stand right behind the forms."""
-    first, *rest = [part.split("\n") for part in text.strip("\n").split("\n\n")]
-    forms = [line for line in first if FORM.match(line)]
-    behind = [line for line in first if not FORM.match(line)]
-    return [forms, *([behind] if behind else []), *rest]
+    """Each paragraph's lines, that of the forms of commands first."""
+    parts = [part.split("\n") for part in text.strip("\n").split("\n\n")]
+    return sorted(parts, key=lambda lines: not lines[0].startswith("Usage:"))
 
 
 class Help:
-    """The program's help: `forms` of its commands, and the paragraphs behind them."""
+    """The program's help: `forms` of its commands, and the paragraphs around them."""
 
     def __init__(self, program, name):
         usage, *self.paragraphs = paragraphs(said(program, "--help"))
         forms = [FORM.match(line) for line in usage]
         self.forms = [form[1] for form in forms if form and form[1].startswith(name + " ")]
         if not self.forms:
-            raise SystemExit("the help of %s begins with no form of a command" % name)
+            raise SystemExit("the help of %s has no form of a command" % name)
         # A command's name is in lower case; what is asked in its place, as --version, is none.
         names = [form.split()[1] for form in self.forms]
         self.commands = [one for one in names if re.fullmatch("[a-z]+", one)]

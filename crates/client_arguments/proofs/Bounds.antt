@@ -13,6 +13,7 @@ use Rattle.bank_model.specs.Sound.{IsTextWithin, IsSoundAccount, IsSoundInfo, Is
 use Rattle.client_core.specs.declared.wish.Wish.{Wish}
 use Rattle.client_arguments.specs.Arguments.{IsAccount, IsMaybeDay, IsFirstDay, IsCount, IsPayment, IsIdWord, IsWishedBy, AreArguments}
 use Rattle.client_arguments.specs.Reading.{Reads, IsInBounds}
+use Rattle.client_arguments.specs.Ordered.{IsSoundOrder}
 use Rattle.client_arguments.specs.declared.fault.ArgumentsFault.{ArgumentsFault}
 use Rattle.client_arguments.specs.declared.order.Order.{Order}
 use Rattle.client_arguments.specs.declared.verb.Verb.{Verb}
@@ -76,10 +77,15 @@ wish_in bank verbs.Mail arguments wish fits (subject, body, e, is) = rw e (is.su
 wish_in bank verbs.Check arguments wish fits (account, e, is) = rw e (account_in bank is.number is.kind account fits is.account_is)
 wish_in bank verbs.Show arguments wish fits (e, none) = rw e tt
 
-order_in : (arguments : List (List ℕ)) (order : Order) → AreArguments arguments order → IsInBounds order.wish
+order_in : (arguments : List (List ℕ)) (order : Order) → AreArguments arguments order → IsSoundOrder order
 order_in arguments order is =
-    let reported = is.ordered in wish_in is.bank reported.wish_is.verb reported.wish_is.rest order.wish reported.bank_fits reported.wish_is.wish_is
+    let ordered = is.ordered in
+    record {
+      named = rw ordered.name_is ordered.name_fits;
+      acts = rw ordered.user_is ordered.user_fits;
+      bounded = wish_in is.bank ordered.wish_is.verb ordered.wish_is.rest order.wish ordered.bank_fits ordered.wish_is.wish_is;
+    }
 
-pub read_in : (arguments : List (List ℕ)) (result : Result Order ArgumentsFault) → Reads (AreArguments arguments) result → IfOk result (λ order. IsInBounds order.wish)
+pub read_in : (arguments : List (List ℕ)) (result : Result Order ArgumentsFault) → Reads (AreArguments arguments) result → IfOk result IsSoundOrder
 read_in arguments (Ok order) is = order_in arguments order is
 read_in arguments (Err fault) is = tt
