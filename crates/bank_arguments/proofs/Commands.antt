@@ -3,7 +3,7 @@ use Rattle.std.proofs.Common.{◌≡◌, ℕ, ◌<◌, ◌^◌, List, [], get_or
 use Rattle.std.proofs.lemmas.Fmt.{decimal_injective}
 use Rattle.ofx_types.specs.declared.number.Moment.{Moment}
 use Rattle.program_arguments.specs.Numbers.{IsNumber}
-use Rattle.bank_arguments.specs.Arguments.{AreArguments, AreDueArguments, AreMailArguments, AreSeedArguments}
+use Rattle.bank_arguments.specs.Arguments.{AreArguments, AreCheckArguments, AreDueArguments, AreMailArguments, AreSeedArguments}
 use Rattle.bank_arguments.specs.Plans.{AreServeArguments}
 use Rattle.bank_arguments.specs.Reading.{Asks, ReadsCommand, IsAnswer, IsLetter}
 use Rattle.bank_arguments.specs.declared.command.Command.{Command}
@@ -50,6 +50,14 @@ answer_read arguments Due at read are = let e : 100 ≡ 97 = meant arguments Due
 answer_read arguments (Mail letter) at read are = let e : 109 ≡ 97 = meant arguments (Mail letter) 97 read (ap (λ (a : List (List ℕ)). first_byte a) are.spelled) in absurd (omega (arith, e))
 answer_read arguments (Rehearse other) at read are = let e : 114 ≡ 97 = meant arguments (Rehearse other) 97 read (ap (λ (a : List (List ℕ)). first_byte a) are.spelled) in absurd (omega (arith, e))
 answer_read arguments (Serve other) at read are = let e : 115 ≡ 97 = meant arguments (Serve other) 97 read (ap (λ (a : List (List ℕ)). first_byte a) are.spelled) in absurd (omega (arith, e))
+
+pub check_read : (arguments : List (List ℕ)) (command : Command) → ReadsCommand arguments (Some command) → AreCheckArguments arguments → command ≡ Check
+check_read arguments (Answer found) read are = let e : 97 ≡ 99 = meant arguments (Answer found) 99 read (ap (λ (a : List (List ℕ)). first_byte a) are.spelled) in absurd (omega (arith, e))
+check_read arguments Check read are = refl
+check_read arguments Due read are = let e : 100 ≡ 99 = meant arguments Due 99 read (ap (λ (a : List (List ℕ)). first_byte a) are.spelled) in absurd (omega (arith, e))
+check_read arguments (Mail letter) read are = let e : 109 ≡ 99 = meant arguments (Mail letter) 99 read (ap (λ (a : List (List ℕ)). first_byte a) are.spelled) in absurd (omega (arith, e))
+check_read arguments (Rehearse other) read are = let e : 114 ≡ 99 = meant arguments (Rehearse other) 99 read (ap (λ (a : List (List ℕ)). first_byte a) are.spelled) in absurd (omega (arith, e))
+check_read arguments (Serve other) read are = let e : 115 ≡ 99 = meant arguments (Serve other) 99 read (ap (λ (a : List (List ℕ)). first_byte a) are.spelled) in absurd (omega (arith, e))
 
 pub due_read : (arguments : List (List ℕ)) (command : Command) → ReadsCommand arguments (Some command) → AreDueArguments arguments → command ≡ Due
 due_read arguments (Answer found) read are = let e : 97 ≡ 100 = meant arguments (Answer found) 100 read (ap (λ (a : List (List ℕ)). first_byte a) are.spelled) in absurd (omega (arith, e))

@@ -53,7 +53,7 @@ ReadsNumbered arguments (Some (Mail letter)) = ⊥
 -- Arguments are those of one of the commands but `answer`, or of none.
 abbrev pub ReadsOther : List (List ℕ) → Option Command → Type 0
 ReadsOther arguments None =
-    (AreDueArguments arguments → ⊥) × (AskForLetter arguments → ⊥) × ((seed : ℕ) → AreSeedArguments arguments seed → ⊥) × IsServeUsage arguments
+    (AreCheckArguments arguments → ⊥) × (AreDueArguments arguments → ⊥) × (AskForLetter arguments → ⊥) × ((seed : ℕ) → AreSeedArguments arguments seed → ⊥) × IsServeUsage arguments
 ReadsOther arguments (Some (Answer found)) = ⊥
 ReadsOther arguments (Some Check) = AreCheckArguments arguments
 ReadsOther arguments (Some Due) = AreDueArguments arguments

@@ -17,10 +17,29 @@ use ofx_types::Text;
 use program_arguments::is_word;
 
 /// What a command line asks for. Where it has no form, what is wrong with it.
+///
+/// ```rust
+/// use bank_arguments::{Command, Plan, command_of};
+/// use ofx_types::Text;
+///
+/// let mut arguments = Vec::new(rt.alloc());
+/// for word in "serve setup records 8080 4 0".split(' ') {
+///     let word = Text::new(rt.alloc(), word.as_bytes(), 64).expect(&rt, "a word");
+///     arguments.push(word).expect(&rt, "room");
+/// }
+/// let Ok(Command::Serve(plan)) = command_of(&arguments) else {
+///     panic!(rt; "the command serve");
+/// };
+/// assert!(rt; plan == Plan { port: 8080, workers: 4, most: 0 });
+/// let mistake = command_of(&arguments[..5]).err().expect(&rt, "a mistake");
+/// let reported = format!(in rt.alloc(); "{mistake}").expect(&rt, "room");
+/// assert_eq!(rt; reported.as_str(), "CONNECTIONS is missing");
+/// ```
 pub fn command_of(arguments: &[Text]) -> Result<Command<'_>, Mistake<'_>>
     ensures asks { IfOk result (Asks arguments.now) }
     // Arguments of a command ask for it alone.
     ensures answer { (at : Option Moment) → AreArguments arguments.now at → IsAnswer at result }
+    ensures check { AreCheckArguments arguments.now → result ≡ Ok Command.Check }
     ensures due { AreDueArguments arguments.now → result ≡ Ok Command.Due }
     ensures letter { (name subject : List ℕ) → AreMailArguments arguments.now name subject → IsLetter name subject result }
     ensures seed { (seed : ℕ) → AreSeedArguments arguments.now seed → result ≡ Ok (Command.Rehearse seed) }

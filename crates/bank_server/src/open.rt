@@ -74,8 +74,25 @@ fn plan_of(arguments: &[Text]) -> Option<Plan>
     }
 }
 
-/// Does what `serve_open` does with arguments that have their form: reads the setup whole, and opens the bank from the records that the
-/// keeper has.
+/// Does what `serve_open` does with arguments that have their form: reads the setup whole, and opens the bank from the records
+/// that the keeper has.
+///
+/// ```rust
+/// use bank_server::open_shared;
+/// use ofx_file::OfxPrinter;
+/// use ofx_ports::{MemKeeper, MemSource};
+/// use std::hash::RandomState;
+///
+/// let alloc = rt.alloc();
+/// let bytes = b"OFXBANK 1\nBANK 1\nLEAD 5\nWINDOW 3\nENTRIES 99\n\
+///     USER alice secret\nACCT 1001 CHECKING 0 alice\n";
+/// let mut setup = MemSource::new(alloc, bytes).expect(&rt, "a source");
+/// let keys = RandomState::new(&rt).expect(&rt, "keys");
+/// let Ok(opened) = open_shared(alloc, keys, &mut setup, MemKeeper::new(alloc), OfxPrinter) else {
+///     panic!(rt; "a bank without records");
+/// };
+/// drop(opened);
+/// ```
 pub fn open_shared<A: Source, K: Keeper, P: Printer>(
     alloc: Global,
     keys: RandomState,

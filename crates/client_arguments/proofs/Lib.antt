@@ -1,5 +1,6 @@
 pub mod Bounds
 pub mod Days
+pub mod Kept
 pub mod Modified
 pub mod Ordered
 pub mod Rows

@@ -1,5 +1,10 @@
 //! What the arguments of a command line order.
 
+ghost use Rattle.bank_model.specs.Sound.{IsTextWithin};
+ghost use Rattle.client_saved.specs.Bounds.{IsName};
+ghost use Rattle.client_arguments.specs.Reading.{IsInBounds};
+ghost use Rattle.client_arguments.proofs.Kept.{in_bounds_prop};
+
 use client_core::Wish;
 use ofx_types::Text;
 
@@ -14,6 +19,9 @@ pub struct Order {
     pub user: Text,
     /// The user's password, 1 to 64 bytes.
     pub pass: Text,
-    /// What the user wishes.
+    /// What the user wishes: a wish of which a sound file can be made, or one that needs no file.
     pub wish: Wish,
+    pub ghost named: { IsName name },
+    pub ghost acts: { IsTextWithin 32 user },
+    pub ghost bounded: { IsInBounds wish } by { in_bounds_prop wish },
 }

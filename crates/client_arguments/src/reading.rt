@@ -1,10 +1,9 @@
 //! All arguments of a command line, read once.
 
-ghost use Rattle.std.specs.Prelude.{◌↔◌, IsTrue, IfOk};
+ghost use Rattle.std.specs.Prelude.{◌↔◌, IsTrue};
 ghost use Rattle.bank_model.specs.Sound.{IsTextWithin};
 ghost use Rattle.client_saved.specs.Bounds.{IsName};
 ghost use Rattle.client_arguments.specs.Arguments.{AreArguments, IsOrdered};
-ghost use Rattle.client_arguments.specs.Ordered.{IsSoundOrder};
 ghost use Rattle.client_arguments.specs.Reading.{Reads};
 
 use crate::account::is_within;
@@ -41,15 +40,7 @@ pub(crate) const MAX_PASS: usize = 64;
 /// // The first word alone orders nothing.
 /// assert!(rt; order_of(&arguments[..1]).err() == Some(ArgumentsFault::Usage));
 /// ```
-#[tactic(auto, using(crate::proofs::Bounds::read_in))]
 pub fn order_of(arguments: &[Text]) -> Result<Order, ArgumentsFault>
-    ensures form { Reads (AreArguments arguments.now) result }
-    ensures sound { IfOk result IsSoundOrder }
-{
-    read_order(arguments)
-}
-
-fn read_order(arguments: &[Text]) -> Result<Order, ArgumentsFault>
     ensures { Reads (AreArguments arguments.now) result }
 {
     match arguments {
@@ -61,6 +52,7 @@ fn read_order(arguments: &[Text]) -> Result<Order, ArgumentsFault>
 }
 
 /// What the single words order.
+#[tactic(auto, using(crate::proofs::Bounds::wished_in))]
 fn ordered(
     port: &Text,
     name: &Text,

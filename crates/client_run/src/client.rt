@@ -1,8 +1,6 @@
 //! Whole runs of the customer's program.
 
 ghost use Rattle.std.specs.Prelude.{◌≡◌, ◌<◌};
-ghost use Rattle.client_arguments.specs.Ordered.{IsSoundOrder};
-ghost use Rattle.client_arguments.specs.Reading.{IsInBounds};
 ghost use Rattle.client_run.specs.Commands.{Works};
 ghost use Rattle.ofx_types.specs.declared.told.Told.{Told as WhatIsReported};
 ghost use Rattle.client_run.specs.Run.{Runs, IsOrderRun, IsClientRun};
@@ -31,8 +29,7 @@ fn work<L: Link, S: StoreKeeper, C: Clock, W: Sink>(
     clock: &mut C,
     out: &mut W,
 ) -> Result<(), ClientStop>
-    requires number { client.old.next < 9999999999 }
-    requires wish { IsInBounds order.now.wish }
+    requires { client.old.next < 9999999999 }
     ensures { Works order.now.pass order.now.wish client.old
         (⟦<(L, S, C, W) as Ports>⟧.seen (link.old, store.old, clock.old, out.old))
         (⟦<(L, S, C, W) as Ports>⟧.seen (link.new, store.new, clock.new, out.new)) result }
@@ -53,7 +50,6 @@ fn run<L: Link, S: StoreKeeper, C: Clock, W: Sink>(
     clock: &mut C,
     out: &mut W,
 ) -> Result<(), ClientStop>
-    requires { IsSoundOrder order.now }
     ensures { Runs order.now
         (⟦<(L, S, C, W) as Ports>⟧.seen (link.old, store.old, clock.old, out.old))
         (⟦<(L, S, C, W) as Ports>⟧.seen (link.new, store.new, clock.new, out.new)) result }
@@ -136,7 +132,7 @@ pub fn client_told<L: Link, S: StoreKeeper, C: Clock, W: Sink>(
     }
 }
 
-/// Does what `client_told` does, by what its arguments order, as `order_of` reads it.
+/// Does what `client_told` does, by what its arguments order.
 pub fn order_told<L: Link, S: StoreKeeper, C: Clock, W: Sink>(
     alloc: Global,
     order: &Order,
@@ -145,7 +141,6 @@ pub fn order_told<L: Link, S: StoreKeeper, C: Clock, W: Sink>(
     clock: &mut C,
     out: &mut W,
 ) -> Told
-    requires { IsSoundOrder order.now }
     ensures { IsOrderRun order.now
         (⟦<(L, S, C, W) as Ports>⟧.seen (link.old, store.old, clock.old, out.old))
         (⟦<(L, S, C, W) as Ports>⟧.seen (link.new, store.new, clock.new, out.new)) result }

@@ -6,6 +6,13 @@ use clap::{Arg, Command};
 use std::alloc::{AllocError, Global};
 
 /// What is printed for `--help`, and after the line `usage`.
+///
+/// ```rust
+/// use command_help::program_help;
+///
+/// let help = program_help(rt.alloc()).expect(&rt, "room");
+/// assert!(rt; help.as_str().contains("Usage: ofxbank answer SETUP RECORDS [--at DATE]"));
+/// ```
 pub fn program_help(alloc: Global) -> Result<String, AllocError> {
     let mut program = Command::new(alloc, "ofxbank")
         .version(texts::VERSION)

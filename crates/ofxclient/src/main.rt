@@ -2,8 +2,6 @@
 //! run, and tells people on the error stream why the run ended.
 #![tactic(auto)]
 
-ghost use Rattle.client_arguments.specs.Ordered.{IsSoundOrder};
-
 mod messages;
 mod parties;
 mod usage;
@@ -71,9 +69,7 @@ fn unordered<M: fmt::Display>(rt: &HostRuntime, mistake: &M) -> Told {
 }
 
 /// The end of the run over the store of that name: the text in a file, or none with `-`.
-fn ran(rt: HostRuntime, store: &str, order: &Order) -> Told
-    requires { IsSoundOrder order.now }
-{
+fn ran(rt: HostRuntime, store: &str, order: &Order) -> Told {
     match store {
         "-" => run_over(rt, order, &mut MemStore::new(rt.alloc())),
         path => match FileStore::at(rt.alloc(), rt, path) {
@@ -84,9 +80,7 @@ fn ran(rt: HostRuntime, store: &str, order: &Order) -> Told
 }
 
 /// The end of the run over a store, a link to the bank, and the standard output.
-fn run_over<S: StoreKeeper>(rt: HostRuntime, order: &Order, store: &mut S) -> Told
-    requires { IsSoundOrder order.now }
-{
+fn run_over<S: StoreKeeper>(rt: HostRuntime, order: &Order, store: &mut S) -> Told {
     let alloc = rt.alloc();
     let mut link = link_for(&rt, order);
     let mut clock = SystemClock::new(rt);

@@ -9,6 +9,17 @@ use itoa::Buffer;
 use ofx_types::Text;
 
 /// The number within these bounds of which a word is the text: decimal digits, without a sign or a leading zero.
+///
+/// ```rust
+/// use ofx_types::Text;
+/// use program_arguments::number_within;
+///
+/// let word = Text::new(rt.alloc(), b"8080", 64).expect(&rt, "a word");
+/// assert!(rt; number_within(&word, 1, 65_535) == Some(8080));
+/// assert!(rt; number_within(&word, 1, 8_079) == None);
+/// let word = Text::new(rt.alloc(), b"08", 64).expect(&rt, "a word");
+/// assert!(rt; number_within(&word, 0, 65_535) == None);
+/// ```
 pub fn number_within(argument: &Text, least: u64, most: u64) -> Option<u64>
     ensures some { IfSome result (IsNumber least most argument.now) }
     ensures none { IfNone result ((n : ℕ) → IsNumber least most argument.now n → ⊥) }

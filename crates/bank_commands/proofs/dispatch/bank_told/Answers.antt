@@ -26,7 +26,7 @@ returns-in-Ok-clause-due g c are = c.command_told.ensures.due (same_command c.in
 pub returns-in-Ok-clause-mail : goal.returns-in-Ok-clause-mail
 returns-in-Ok-clause-mail g c name subject are =
     let found = c.in-Ok.ensures.letter name subject are in
-    rw (← found.2.0, ← found.2.1) (c.command_told.ensures.mail found.0 (same_command c.in-Ok.command (Mail found.0) found.1))
+    rw (← found.2, ← found.3) (c.command_told.ensures.mail found.0 (same_command c.in-Ok.command (Mail found.0) found.1))
 
 pub returns-in-Ok-clause-clock : goal.returns-in-Ok-clause-clock
 returns-in-Ok-clause-clock g c at are =

@@ -2,7 +2,7 @@ use Rattle.std.proofs.Common.{◌-◌, length, take, drop}
 use Rattle.std.proofs.lemmas.List.{take_rest}
 use Rattle.client_arguments.proofs.Ordered.{arguments_read}
 use Rattle.client_arguments.proofs.Rows.{six_and_more}
-use Rattle.client_arguments.proofs.reading.read_order.Goals as goal
+use Rattle.client_arguments.proofs.reading.order_of.Goals as goal
 
 pub returns-in-len6-up : goal.returns-in-len6-up
 returns-in-len6-up c =
