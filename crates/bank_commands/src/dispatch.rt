@@ -113,10 +113,9 @@ pub fn command_told<A: Source, B: Source, W: Sink, K: Keeper, C: Clock>(
     ensures settled { result.status.0 ≢ 8 → K.unsettled keeper.new ≡ false }
     ensures clock { (found : WhatIsAnswered) (at : TheMoment) → command ≡ Command.Answer found → found.at ≡ Some at → clock.new ≡ clock.old }
 {
-    if let Command::Rehearse(seed) = command {
-        rehearsed(alloc, keys, seed, out)
-    } else {
-        session_told(alloc, keys, command, setup, input, out, keeper, clock)
+    match command {
+        Command::Rehearse(seed) => rehearsed(alloc, keys, seed, out),
+        _ => session_told(alloc, keys, command, setup, input, out, keeper, clock),
     }
 }
 
