@@ -47,8 +47,8 @@ impl Topic {
     }
 }
 
-/// The first word at the offset of a path that is none, where a command that opens files is meant. A path doesn't begin with `-`, but for
-/// `-` alone, which names no file.
+/// The first word at the offset of a path that is none, where a command that opens files is meant. A path doesn't begin with
+/// `-`, but for `-` alone, which names no file.
 pub fn path_mistake(arguments: &[Text]) -> Option<Mistake<'_>> {
     if text_at(arguments, 0) == "rehearse" {
         return None;

@@ -1,5 +1,5 @@
-//! The usage of `ofxbank` and the help of its commands, as clap renders them. No argument is read here, and nothing is part of a
-//! promise but that each call ends.
+//! The usage of `ofxbank` and the help of its commands, as clap renders them. No argument is read here, and no promise covers
+//! the texts.
 #![tactic(auto)]
 
 mod texts;

@@ -24,8 +24,8 @@ use std::thread::Threads;
 
 /// Runs a command over these files, and answers the status.
 ///
-/// Files are opened only here, since opening may wait, and may make the file of the records. The threads of a server are those of
-/// `threads`.
+/// Files are opened only here, since opening may wait, and may make the file of the records. The threads of a server are those
+/// of `threads`.
 pub fn run<R: Threads + Wait + Sync>(
     threads: &R,
     rt: &HostRuntime,

@@ -31,8 +31,8 @@ fn printed(done: io::Result<()>) -> Told {
     }
 }
 
-/// Prints on the error stream the program's usage and, in the last line, what is wrong with the arguments. Answers the status. Where
-/// memory is refused for the usage, only its first line is printed.
+/// Prints on the error stream the line `usage`, the program's usage and, in the last line, what is wrong with the arguments.
+/// Where memory is refused for it, the line `usage` is alone. Answers the status.
 pub fn report_usage<M: fmt::Display>(rt: &HostRuntime, mistake: &M) -> u8 {
     let status = report(rt, plain(2));
     if let Ok(text) = program_help(rt.alloc()) {

@@ -38,7 +38,8 @@ fn asked(rt: HostRuntime, arguments: &[Text]) -> Told {
     }
 }
 
-/// Does what the arguments order. A link and a store are opened only where the arguments have their form, since opening may wait.
+/// Does what the arguments order. A link and a store are opened only where the arguments have their form, since opening may
+/// wait.
 fn ordered(rt: HostRuntime, arguments: &[Text]) -> Told {
     match order_of(arguments) {
         Ok(order) => {

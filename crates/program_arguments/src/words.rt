@@ -31,8 +31,8 @@ impl fmt::Display for Unread {
     }
 }
 
-/// The words after the program's name, each without the white space at its ends. A first word that is one of `alone` stands for all: what
-/// follows it isn't looked at.
+/// The words after the program's name, each without the white space at its ends. If the first word is one of `alone`, no other
+/// word is read.
 pub fn read_words<R: Env + AllocGlobal>(rt: &R, alone: &[&str]) -> Result<Vec<Text>, Unread> {
     let raw_arguments = match env::args(rt) {
         Ok(raw_arguments) => raw_arguments,
