@@ -57,7 +57,8 @@ const DAMAGED: [(usize, u64); 7] = [
 /// What a run reports over a saved register of which this byte is turned over, and the register that is saved then.
 fn damaged(rt: &impl Abort, alloc: Global, at: usize) -> Told {
     let mut text = SAVED;
-    text[at] = !text[at];
+    let byte = text.get_mut(at).expect(rt, "a byte of the text");
+    *byte = !*byte;
     let mut store = MemStore::failing(alloc, &text, &[], &[]).expect(rt, "a store");
     let mut out = output(rt, alloc);
     let reported = reported_by(rt, alloc, &mut input(rt, alloc, ""), &mut store, &mut out);

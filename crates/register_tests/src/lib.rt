@@ -5,8 +5,6 @@
 #[cfg(test)]
 mod hostile;
 #[cfg(test)]
-mod imports;
-#[cfg(test)]
 mod registers;
 #[cfg(test)]
 mod runs;
