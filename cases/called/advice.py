@@ -16,15 +16,19 @@ USAGE = "Usage: ofxclient "
 
 
 def judge_advice(words, status, told):
-    """Judges what stands after the first line, for a run with these words. With 2 the usage stands last."""
+    """Judges what stands after the first line, for a run with these words. With 2 that is the usage, and what is wrong stands last."""
     words = [os.fsencode(word) for word in words]
     lines = told.decode("utf-8", "replace").split("\n")[1:]
     has_form = order_of(words) is not None
     if status == 2 and not any(line.startswith(USAGE) for line in lines):
         raise Wrong("the usage isn't told of %.200r" % (words,))
+    last = told.decode("utf-8", "replace").rpartition("\n\n")[2]  # a word that is told may hold a line's end
+    if status == 2 and not (last.strip() and last.endswith("\n")):
+        raise Wrong("after the usage %r is told, wanted a line" % last)
     if status in SECOND and (status != 2 or has_form):
         named, said = SECOND[status]
         named %= trimmed(words[0 if named == PORT else 1]).decode("utf-8", "replace")
-        if named not in lines[0] or said not in lines[0] or status != 2 and lines[1:] != [""]:
+        line = last if status == 2 else lines[0]
+        if named not in line or said not in line or status != 2 and lines[1:] != [""]:
             raise Wrong("with status %d %r is told after the first line, wanted a line with %r and %r" % (
                 status, lines, named, said))

@@ -98,6 +98,30 @@ def no_text(desk):
             usage(desk, c1, words)
 
 
+NAMED = (  # a command, the offset of a word, the word in its place, or None where the words end there, and what is told
+    ("sync", 0, "x", "PORT is 'x'; it is a number from 0 to 65535"), ("sync", 0, "080", "PORT is '080'; it is a number from 0 to 65535"),
+    ("sync", 2, "c-1", "CLIENT is 'c-1'; it is 1 to 12 letters and digits"), ("sync", 4, "p" * 65, "PASS is '%s'; it is 1 to 64 bytes" % ("p" * 65)),
+    ("sync", 0, None, "PORT is missing"), ("sync", 6, None, "COMMAND is missing"), ("sync", 7, None, "NUMBER is missing"),
+    ("sync", 6, "sink", "COMMAND is 'sink'; it is one of the words that are listed above"),
+    ("sync", 8, "checking", "KIND is 'checking'; it is CHECKING, SAVINGS, MONEYMRKT or CREDITLINE"),
+    ("transfer", 11, "1.001", "AMOUNT is '1.001'; it is an amount of dollars, as 10.00"),
+    ("modify", 11, "20240230", "DAY is '20240230'; it is a date, as 20240131"),
+    ("repeat", 13, "DAILY", "FREQ is 'DAILY'; it is one of the words that are listed above"),
+    ("repeat", 14, "1000", "COUNT is '1000'; it is a number from 0 to 999"),
+    ("cancel", 7, "x", "ID is 'x'; it is 1 to 10 digits"), ("mail", 7, "s" * 65, "SUBJECT is '%s'; it is 1 to 64 bytes" % ("s" * 65)))
+
+
+@test
+def the_word_is_named(desk):
+    """the last line names the word that is wrong, or missing, or one too many"""
+    for command, offset, word, told in NAMED:
+        c1, words = words_of(desk, command)
+        words[offset:] = [] if word is None else [word, *words[offset + 1:]]
+        expect(c1.run_words(words).told.decode().split("\n")[-2], told, "the last line of %.200r" % words)
+    c1, words = words_of(desk, "show")
+    expect(c1.run_words(words + ["x"]).told.decode().split("\n")[-2], "'x' is one word too many", "the last line of a word too many")
+
+
 @test
 def at_their_limits(desk):
     """words at their limits are taken, and blanks at their ends are dropped"""

@@ -1,1 +1,1 @@
-mod Seeds
+mod Commands

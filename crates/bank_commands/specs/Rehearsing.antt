@@ -1,5 +1,5 @@
--- The arguments of `rehearse`, the lines that are written for them, and how that ends.
-use Rattle.std.specs.Prelude.{◌≡◌, ℕ, ◌<◌, ◌^◌, ◌⊎◌, List, [], ◌∷◌, ◌++◌, codes, Option}
+-- Rehearsals: the arguments that ask for one, the lines that are written for it, and how that ends.
+use Rattle.std.specs.Prelude.{◌≡◌, ℕ, ◌⊎◌, List, [], ◌∷◌, ◌++◌, codes, Option, ⊤}
 use Rattle.std.specs.Fmt.{decimal}
 use Rattle.std.specs.Io.KnownBytes.{Appends, Keeps}
 use Rattle.ofx_ports.specs.Faults.{Rose}
@@ -7,20 +7,27 @@ use Rattle.ofx_ports.specs.Writes.{AppendsPart}
 use Rattle.ofx_types.specs.AmountForm.{amount_text}
 use Rattle.ofx_types.specs.declared.told.Told.{Told}
 use Rattle.bank_opening.specs.Reports.{reported}
+use Rattle.bank_arguments.specs.Arguments.{AreSeedArguments}
+use Rattle.bank_arguments.specs.declared.command.Command.{Command}
+use Rattle.bank_arguments.specs.declared.command.Command.TheVariants.{Answer, Check, Due, Mail, Rehearse, Serve}
 use Rattle.bank_session.specs.Arguments.{IsUsage}
 use Rattle.ofx_types.specs.declared.told.Note.TheVariants.{Plain}
 use Rattle.ofx_world.specs.Rehearsal.{IsRehearsed}
 use Rattle.ofx_world.specs.declared.rehearsal.summary.Summary.{Summary}
 
--- The arguments `rehearse` and a number of eight bytes, the seed, without a sign or a leading zero.
-pub record AreSeedArguments (arguments : List (List ℕ)) (seed : ℕ) : Type 0 where
-  pub spelled : arguments ≡ codes "rehearse" ∷ decimal seed ∷ []
-  pub fits : seed < 2 ^ 64
-
 -- Arguments of no command have no form.
 pub record HaveNoForm (arguments : List (List ℕ)) : Type 0 where
   pub usage : IsUsage arguments
   pub unrehearsed : (seed : ℕ) → AreSeedArguments arguments seed → ⊥
+
+-- A command that is neither a run over a bank's records nor a rehearsal.
+abbrev pub RunsElsewhere : Command → Type 0
+RunsElsewhere (Answer found) = ⊥
+RunsElsewhere Check = ⊤
+RunsElsewhere Due = ⊥
+RunsElsewhere (Mail letter) = ⊥
+RunsElsewhere (Rehearse seed) = ⊥
+RunsElsewhere (Serve plan) = ⊤
 
 -- ---- lines
 

@@ -3,14 +3,16 @@
 ghost use Rattle.std.specs.Prelude.{◌≡◌, ◌≢◌, ◌↔◌, ◌≤◌, ℕ, false, List, Option, Some, IfOk};
 ghost use Rattle.ofx_types.specs.declared.number.Moment.{Moment as TheMoment};
 ghost use Rattle.bank_session.specs.Statuses.{IsRun, IsDueCommand, IsMailCommand};
-ghost use Rattle.bank_session.specs.Arguments.{AreArguments, AreDueArguments, AreMailArguments};
-ghost use Rattle.bank_commands.specs.Rehearsing.{AreSeedArguments, EndsSo, HaveNoForm, rehearsal_text};
+ghost use Rattle.bank_arguments.specs.Arguments.{AreArguments, AreDueArguments, AreMailArguments, AreSeedArguments};
+ghost use Rattle.bank_arguments.specs.declared.command.AnswerArguments.{AnswerArguments as WhatIsAnswered};
+ghost use Rattle.bank_arguments.specs.declared.command.LetterArguments.{LetterArguments as TheLetter};
+ghost use Rattle.bank_commands.specs.Rehearsing.{EndsSo, HaveNoForm, RunsElsewhere, rehearsal_text};
 ghost use Rattle.ofx_world.specs.Rehearsal.{IsRehearsed};
 ghost use Rattle.ofx_world.specs.declared.rehearsal.summary.Summary.{Summary};
 
 use crate::lines::lines_of;
-use crate::seed::seed_of;
-use bank_session::{Ports, answer_told};
+use bank_arguments::{Command, command_of};
+use bank_session::{Ports, session_told};
 use ofx_ports::{Clock, Failed, Keeper, Sink, Source, write_whole};
 use ofx_types::{Note, OutOfMemory, Status, Text, Told};
 use ofx_world::rehearse;
@@ -42,7 +44,6 @@ use std::hash::RandomState;
 /// // The seed is no number, so that the arguments have no form.
 /// assert!(rt; told.status == Status(2) && out.held().is_empty());
 /// ```
-#[tactic(auto, using(crate::proofs::Seeds::one_seed, crate::proofs::Seeds::seeds_are_no_frames, crate::proofs::Seeds::seeds_are_no_due_work, crate::proofs::Seeds::seeds_are_no_mail, crate::proofs::Seeds::seeds_have_form))]
 pub fn bank_told<A: Source, B: Source, W: Sink, K: Keeper, C: Clock>(
     alloc: Global,
     keys: RandomState,
@@ -76,9 +77,45 @@ pub fn bank_told<A: Source, B: Source, W: Sink, K: Keeper, C: Clock>(
     ensures settled { result.status.0 ≢ 8 → K.unsettled keeper.new ≡ false }
     ensures clock { (at : TheMoment) → AreArguments arguments.now (Some at) → clock.new ≡ clock.old }
 {
-    match seed_of(arguments) {
-        Some(seed) => rehearsed(alloc, keys, seed, out),
-        None => answer_told(alloc, keys, arguments, setup, input, out, keeper, clock),
+    match command_of(arguments) {
+        Ok(command) => command_told(alloc, keys, command, setup, input, out, keeper, clock),
+        Err(_) => plain(2),
+    }
+}
+
+/// Does what `bank_told` does, by the command that its arguments ask for. With `check` and `serve` the status is 2.
+pub fn command_told<A: Source, B: Source, W: Sink, K: Keeper, C: Clock>(
+    alloc: Global,
+    keys: RandomState,
+    command: Command<'_>,
+    setup: &mut A,
+    input: &mut B,
+    out: &mut W,
+    keeper: &mut K,
+    clock: &mut C,
+) -> Told
+    requires settled { K.unsettled keeper.old ≡ false }
+    ensures usage { (result.status.0 ≡ 2) ↔ RunsElsewhere command }
+    ensures plain { result.status.0 ≡ 2 → result.note ≡ Note.Plain }
+    ensures unread { RunsElsewhere command → (setup.new ≡ setup.old) × (input.new ≡ input.old) × (out.new ≡ out.old) × (keeper.new ≡ keeper.old) × (clock.new ≡ clock.old) }
+    ensures rehearse { (seed : ℕ) → command ≡ Command.Rehearse seed
+        → (setup.new ≡ setup.old) × (input.new ≡ input.old) × (keeper.new ≡ keeper.old) × (clock.new ≡ clock.old)
+        × EndsSo seed (W.held out.old) (W.held out.new) (W.faults out.old) (W.faults out.new) result }
+    ensures run { (found : WhatIsAnswered) → command ≡ Command.Answer found → IsRun found.at
+        (⟦<(A, B, W, K, C) as Ports>⟧.seen (setup.old, input.old, out.old, keeper.old, clock.old))
+        (⟦<(A, B, W, K, C) as Ports>⟧.seen (setup.new, input.new, out.new, keeper.new, clock.new)) result }
+    ensures due { command ≡ Command.Due → (input.new ≡ input.old) × IsDueCommand
+        (⟦<(A, B, W, K, C) as Ports>⟧.seen (setup.old, input.old, out.old, keeper.old, clock.old))
+        (⟦<(A, B, W, K, C) as Ports>⟧.seen (setup.new, input.new, out.new, keeper.new, clock.new)) result }
+    ensures mail { (letter : TheLetter) → command ≡ Command.Mail letter → IsMailCommand letter.name.now letter.subject.now
+        (⟦<(A, B, W, K, C) as Ports>⟧.seen (setup.old, input.old, out.old, keeper.old, clock.old))
+        (⟦<(A, B, W, K, C) as Ports>⟧.seen (setup.new, input.new, out.new, keeper.new, clock.new)) result }
+    ensures settled { result.status.0 ≢ 8 → K.unsettled keeper.new ≡ false }
+    ensures clock { (found : WhatIsAnswered) (at : TheMoment) → command ≡ Command.Answer found → found.at ≡ Some at → clock.new ≡ clock.old }
+{
+    match command {
+        Command::Rehearse(seed) => rehearsed(alloc, keys, seed, out),
+        _ => session_told(alloc, keys, command, setup, input, out, keeper, clock),
     }
 }
 

@@ -1,5 +1,3 @@
-mod Lengths
-mod Plans
 mod Opens
 mod Working
 mod Doors

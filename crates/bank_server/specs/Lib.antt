@@ -1,5 +1,3 @@
-pub mod Numerals
-pub mod Arguments
 pub mod Connected
 pub mod Turns
 pub mod AllTurns

@@ -14,7 +14,6 @@ use Rattle.bank_opening.specs.Reports.{reported, reported_of}
 use Rattle.bank_opening.specs.SetupRead.{IsSetupOf, StopsSetup}
 use Rattle.bank_opening.specs.RecordsRead.{StopsOpening}
 use Rattle.bank_opening.specs.declared.stop.Stop.{Stop}
-use Rattle.bank_server.specs.Arguments.{IsServeUsage}
 
 -- What opening finds, and what it leaves: the bytes that the setup's source has left, its count of faults, the keeper's records and
 -- its count of faults.

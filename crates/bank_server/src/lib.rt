@@ -5,15 +5,12 @@
 //! `serve_connection`.
 #![tactic(auto)]
 
-mod numbers;
 mod offices;
 mod open;
-mod plan;
 mod worker;
 mod workers;
 
 pub use offices::{SoloOffice, serve_connection};
-pub use open::serve_open;
-pub use plan::{Plan, plan_of};
+pub use open::{open_shared, serve_open};
 pub use worker::{WorkerEnd, serve_worker};
 pub use workers::{AllEnd, Worked, serve_all};

@@ -1,46 +1,49 @@
--- The arguments of a command line.
-use Rattle.std.proofs.Common.{◌≡◌, ℕ, ◌<◌, ◌≤◌, List, [], ◌∷◌, length, get_or, codes, Option, None, Some, arith, sym, ap, ◌∙◌}
+-- Arguments of the three commands, and commands that are none of them.
+use Rattle.std.proofs.Common.{◌≡◌, ℕ, List, Option, Result, Ok, Err, subst, ⊤}
 use Rattle.ofx_types.specs.declared.number.Moment.{Moment}
-use Rattle.bank_session.specs.Arguments.{IsMomentOption, AreArguments, AreDueArguments, AskForLetter}
-use Rattle.bank_session.specs.ArgumentsRead.{Reads, IsNamedBy}
-use Rattle.bank_session.specs.declared.arguments.AnswerArguments.{AnswerArguments}
+use Rattle.bank_arguments.specs.Arguments.{AreArguments, AreDueArguments, AreMailArguments}
+use Rattle.bank_arguments.specs.Reading.{Asks, IsAnswer, IsLetter}
+use Rattle.bank_arguments.specs.declared.command.AnswerArguments.{AnswerArguments}
+use Rattle.bank_arguments.specs.declared.command.LetterArguments.{LetterArguments}
+use Rattle.bank_arguments.specs.declared.command.Command.{Command}
+use Rattle.bank_arguments.specs.declared.command.Command.TheVariants.{Answer, Check, Due, Mail, Rehearse, Serve}
+use Rattle.bank_arguments.specs.declared.mistake.Mistake.{Mistake}
+use Rattle.bank_session.specs.Arguments.{IsUsage, IsOther}
 
--- two words
-two : (arguments : List (List ℕ)) (a b : List ℕ) → 2 ≤ length arguments → length arguments < 3 → a ≡ get_or arguments 0 a → b ≡ get_or arguments 1 b → arguments ≡ a ∷ b ∷ []
-two [] a b long short ea eb = absurd (omega (arith, long))
-two (v ∷ []) a b long short ea eb = absurd (omega (arith, long))
-two (v ∷ w ∷ []) a b long short ea eb = cc
-two (v ∷ w ∷ x ∷ more) a b long short ea eb = absurd (omega (arith, short))
+-- what was read is none of the three
+abbrev other_in : Result Command Mistake → Type 0
+other_in (Ok command) = IsOther command
+other_in (Err mistake) = ⊤
 
--- the date of an option names its moment
-date_of : (arguments : List (List ℕ)) (a date : List ℕ) (at : Option Moment) → arguments ≡ a ∷ date ∷ [] → IsMomentOption arguments at → IsNamedBy date at
-date_of arguments a date None e form = absurd (let no : [] ≡ a ∷ date ∷ [] = sym form ∙ e in cc)
-date_of arguments a date (Some at) e form =
-    let same : date ≡ form.0 = ap (λ (l : List (List ℕ)). get_or l 1 date) (sym e ∙ form.1) in rw same form.2
+-- Arguments that ask for another command have no form here.
+pub other_usage : (arguments : List (List ℕ)) (result : Result Command Mistake) → ((at : Option Moment) → AreArguments arguments at → IsAnswer at result)
+    → (AreDueArguments arguments → result ≡ Ok Due) → ((name subject : List ℕ) → AreMailArguments arguments name subject → IsLetter name subject result)
+    → other_in result → IsUsage arguments
+other_usage arguments result answer due letter other = record {
+  unanswered = λ at are. subst (λ (r : Result Command Mistake). other_in r) (answer at are).1 other;
+  undue = λ are. subst (λ (r : Result Command Mistake). other_in r) (due are) other;
+  unmailed = λ are. subst (λ (r : Result Command Mistake). other_in r) (letter are.0 are.1 are.2).1 other;
+}
 
-named : (arguments : List (List ℕ)) (date : List ℕ) (at : Option Moment) → arguments ≡ codes "--at" ∷ date ∷ [] → IsNamedBy date at → IsMomentOption arguments at
-named arguments date None e by = absurd by
-named arguments date (Some at) e by = (date, e, by)
+-- A command whose arguments have no form here is none of the three.
+pub usage_other : (arguments : List (List ℕ)) (command : Command) → Asks arguments command → IsUsage arguments → IsOther command
+usage_other arguments (Answer found) asks usage = usage.unanswered found.at asks
+usage_other arguments Check asks usage = tt
+usage_other arguments Due asks usage = usage.undue asks
+usage_other arguments (Mail letter) asks usage = usage.unmailed (letter.name.now, letter.subject.now, asks)
+usage_other arguments (Rehearse seed) asks usage = tt
+usage_other arguments (Serve plan) asks usage = tt
 
-pub option_read : (arguments : List (List ℕ)) (a date : List ℕ) (found : Option AnswerArguments) → 2 ≤ length arguments → length arguments < 3 → a ≡ get_or arguments 0 a → date ≡ get_or arguments 1 date → a ≡ codes "--at" → Reads (IsNamedBy date) found → Reads (IsMomentOption arguments) found
-option_read arguments a date None long short ea ed is_at read = λ at form. read at (date_of arguments a date at (two arguments a date long short ea ed) form)
-option_read arguments a date (Some found) long short ea ed is_at read =
-    let all = two arguments a date long short ea ed in
-    let spelled : arguments ≡ codes "--at" ∷ date ∷ [] = cc in
-    (named arguments date found.at spelled read.0, read.1, λ other form. read.2 other (date_of arguments a date other all form))
+-- ---- what a command is
 
--- the arguments of the commands differ in the first
-first_is : (arguments rest : List (List ℕ)) (argument : List ℕ) → arguments ≡ argument ∷ rest → get_or arguments 0 [] ≡ argument
-first_is arguments rest argument e = ap (λ (l : List (List ℕ)). get_or l 0 []) e
+abbrev the_result : Command → Result Command Mistake
+the_result command = Ok command
 
-pub commands_apart : (arguments : List (List ℕ)) (at : Option Moment) → AreArguments arguments at → AreDueArguments arguments → ⊥
-commands_apart arguments at form due =
-    let size : 6 ≡ 3 = ap length (sym (first_is arguments _ _ form.spelled) ∙ first_is arguments _ _ due.spelled) in absurd (omega (arith, size))
+pub same_command : (one other : Command) → the_result one ≡ the_result other → one ≡ other
+same_command one other e = cc
 
-pub answer_or_mail : (arguments : List (List ℕ)) (at : Option Moment) → AreArguments arguments at → AskForLetter arguments → ⊥
-answer_or_mail arguments at form (name, subject, letter) =
-    let size : 6 ≡ 4 = ap length (sym (first_is arguments _ _ form.spelled) ∙ first_is arguments _ _ letter.spelled) in absurd (omega (arith, size))
+pub same_answer : (command : Command) (one other : AnswerArguments) → command ≡ Answer one → command ≡ Answer other → one ≡ other
+same_answer command one other e f = cc
 
-pub due_or_mail : (arguments : List (List ℕ)) → AreDueArguments arguments → AskForLetter arguments → ⊥
-due_or_mail arguments due (name, subject, letter) =
-    let size : 3 ≡ 4 = ap length (sym (first_is arguments _ _ due.spelled) ∙ first_is arguments _ _ letter.spelled) in absurd (omega (arith, size))
+pub same_letter : (command : Command) (one other : LetterArguments) → command ≡ Mail one → command ≡ Mail other → one ≡ other
+same_letter command one other e f = cc

@@ -1,42 +1,21 @@
--- The arguments of the command lines that have a form.
-use Rattle.std.specs.Prelude.{◌≡◌, ℕ, List, [], ◌∷◌, codes, Option, None, Some}
-use Rattle.ofx_types.specs.DateForm.{IsDate}
+-- The commands that are runs over a bank's records, and what else a command line may ask.
+use Rattle.std.specs.Prelude.{List, ℕ, Option, ⊤}
 use Rattle.ofx_types.specs.declared.number.Moment.{Moment}
-use Rattle.bank_model.specs.Sound.{IsTextWithin}
+use Rattle.bank_arguments.specs.Arguments.{AreArguments, AreDueArguments, AskForLetter}
+use Rattle.bank_arguments.specs.declared.command.Command.{Command}
+use Rattle.bank_arguments.specs.declared.command.Command.TheVariants.{Answer, Check, Due, Mail, Rehearse, Serve}
 
--- `--at` and a date, or nothing: then each frame has the moment that the clock shows.
-abbrev pub IsMomentOption : List (List ℕ) → Option Moment → Type 0
-IsMomentOption arguments None = arguments ≡ []
-IsMomentOption arguments (Some at) = (date : List ℕ) × (arguments ≡ codes "--at" ∷ date ∷ []) × IsDate date at.0
-
--- The arguments `answer`, the path of the setup, where the records are kept, and perhaps a moment.
-pub record AreArguments (arguments : List (List ℕ)) (at : Option Moment) : Type 0 where
-  pub setup : List ℕ
-  pub records : List ℕ
-  pub rest : List (List ℕ)
-  pub spelled : arguments ≡ codes "answer" ∷ setup ∷ records ∷ rest
-  pub moment : IsMomentOption rest at
-
--- The arguments `due`, the path of the setup and where the records are kept, with no moment.
-pub record AreDueArguments (arguments : List (List ℕ)) : Type 0 where
-  pub setup : List ℕ
-  pub records : List ℕ
-  pub spelled : arguments ≡ codes "due" ∷ setup ∷ records ∷ []
-
--- The arguments `mail`, the path of the setup, where the records are kept, any word as the name of a user, and a subject of 1
--- to 64 bytes.
-pub record AreMailArguments (arguments : List (List ℕ)) (name subject : List ℕ) : Type 0 where
-  pub setup : List ℕ
-  pub records : List ℕ
-  pub spelled : arguments ≡ codes "mail" ∷ setup ∷ records ∷ name ∷ subject ∷ []
-  pub subject_fits : IsTextWithin 64 subject
-
--- Arguments that ask for a letter, whoever it is for.
-abbrev pub AskForLetter : List (List ℕ) → Type 0
-AskForLetter arguments = (name : List ℕ) × (subject : List ℕ) × AreMailArguments arguments name subject
-
--- Arguments of no command have no form.
+-- Arguments of none of the three commands have no form.
 pub record IsUsage (arguments : List (List ℕ)) : Type 0 where
   pub unanswered : (at : Option Moment) → AreArguments arguments at → ⊥
   pub undue : AreDueArguments arguments → ⊥
   pub unmailed : AskForLetter arguments → ⊥
+
+-- A command that is none of the three.
+abbrev pub IsOther : Command → Type 0
+IsOther (Answer found) = ⊥
+IsOther Check = ⊤
+IsOther Due = ⊥
+IsOther (Mail letter) = ⊥
+IsOther (Rehearse seed) = ⊤
+IsOther (Serve plan) = ⊤

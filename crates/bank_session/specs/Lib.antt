@@ -1,7 +1,6 @@
 pub mod Stopping
 pub mod Answers
 pub mod Arguments
-pub mod ArgumentsRead
 pub mod Turns
 pub mod TurnResult
 pub mod PortsView

@@ -4,18 +4,22 @@
 ghost use Rattle.std.specs.Prelude.{◌≡◌, ◌≢◌, ◌↔◌, ℕ, false, List, Option, Some, Err, IsSome};
 ghost use Rattle.ofx_types.specs.declared.number.Moment.{Moment as TheMoment};
 ghost use Rattle.ofx_types.specs.declared.told.Told.{Told as WhatIsReported};
-ghost use Rattle.bank_session.specs.Arguments.{AreArguments, AreDueArguments, AreMailArguments, IsUsage};
-ghost use Rattle.bank_session.specs.ArgumentsRead.{IsLawful};
+ghost use Rattle.bank_arguments.specs.Arguments.{AreArguments, AreDueArguments, AreMailArguments};
+ghost use Rattle.bank_arguments.specs.Bounds.{IsLawful};
+ghost use Rattle.bank_arguments.specs.declared.command.AnswerArguments.{AnswerArguments as WhatIsAnswered};
+ghost use Rattle.bank_arguments.specs.declared.command.LetterArguments.{LetterArguments as TheLetter};
+ghost use Rattle.bank_opening.specs.Reports.{reported};
+ghost use Rattle.bank_session.specs.Arguments.{IsOther, IsUsage};
 ghost use Rattle.bank_session.specs.RunEnd.{RunEnds};
 ghost use Rattle.bank_session.specs.Run.{EndsSo};
 ghost use Rattle.bank_session.specs.Statuses.{IsRun, IsDueCommand, IsMailCommand};
 
-use crate::arguments::{Command, command_of};
 use crate::due::do_due_once;
 use crate::mail::send_letter;
 use crate::opening::open_desk;
 use crate::ports::Ports;
 use crate::run::answer_frames as answer_input;
+use bank_arguments::{Command, command_of};
 use bank_model::laws::one_setup;
 use bank_opening::laws::one_bank;
 use bank_opening::{Stop, read_setup, report_of_end};
@@ -154,20 +158,71 @@ pub fn answer_told<A: Source, B: Source, W: Sink, K: Keeper, C: Clock>(
     ensures settled { result.status.0 ≢ 8 → K.unsettled keeper.new ≡ false }
     ensures clock { (at : TheMoment) → AreArguments arguments.now (Some at) → clock.new ≡ clock.old }
 {
+    match command_of(arguments) {
+        Ok(command) => session_told(alloc, keys, command, setup, input, out, keeper, clock),
+        Err(_) => no_run(),
+    }
+}
+
+/// Does what `answer_told` does, by the command that its arguments ask for. With a command that is none of the three the status
+/// is 2.
+pub fn session_told<A: Source, B: Source, W: Sink, K: Keeper, C: Clock>(
+    alloc: Global,
+    keys: RandomState,
+    command: Command<'_>,
+    setup: &mut A,
+    input: &mut B,
+    out: &mut W,
+    keeper: &mut K,
+    clock: &mut C,
+) -> Told
+    requires settled { K.unsettled keeper.old ≡ false }
+    ensures usage { (result.status.0 ≡ 2) ↔ IsOther command }
+    ensures plain { result.status.0 ≡ 2 → result.note ≡ Note.Plain }
+    ensures unread { IsOther command → (setup.new ≡ setup.old) × (input.new ≡ input.old) × (out.new ≡ out.old) × (keeper.new ≡ keeper.old) × (clock.new ≡ clock.old) }
+    ensures run { (found : WhatIsAnswered) → command ≡ Command.Answer found → IsRun found.at
+        (⟦<(A, B, W, K, C) as Ports>⟧.seen (setup.old, input.old, out.old, keeper.old, clock.old))
+        (⟦<(A, B, W, K, C) as Ports>⟧.seen (setup.new, input.new, out.new, keeper.new, clock.new)) result }
+    ensures due { command ≡ Command.Due → (input.new ≡ input.old) × IsDueCommand
+        (⟦<(A, B, W, K, C) as Ports>⟧.seen (setup.old, input.old, out.old, keeper.old, clock.old))
+        (⟦<(A, B, W, K, C) as Ports>⟧.seen (setup.new, input.new, out.new, keeper.new, clock.new)) result }
+    ensures mail { (letter : TheLetter) → command ≡ Command.Mail letter → IsMailCommand letter.name.now letter.subject.now
+        (⟦<(A, B, W, K, C) as Ports>⟧.seen (setup.old, input.old, out.old, keeper.old, clock.old))
+        (⟦<(A, B, W, K, C) as Ports>⟧.seen (setup.new, input.new, out.new, keeper.new, clock.new)) result }
+    ensures settled { result.status.0 ≢ 8 → K.unsettled keeper.new ≡ false }
+    ensures clock { (found : WhatIsAnswered) (at : TheMoment) → command ≡ Command.Answer found → found.at ≡ Some at → clock.new ≡ clock.old }
+{
     one_setup();
     one_bank();
-    match command_of(arguments) {
-        None => Told {
-            status: Status(2),
-            note: Note::Plain,
-        },
-        Some(Command::Answer(found)) => report_of_end(run(
+    match command {
+        Command::Answer(found) => report_of_end(run(
             alloc, keys, found.at, setup, input, out, keeper, clock,
         )),
-        Some(Command::Due) => report_of_end(do_due_once(alloc, keys, setup, out, keeper, clock)),
-        Some(Command::Mail) => {
-            report_of_end(send_letter(alloc, keys, arguments, setup, input, out, keeper, clock))
-        }
+        Command::Due => report_of_end(do_due_once(alloc, keys, setup, out, keeper, clock)),
+        Command::Mail(letter) => report_of_end(send_letter(
+            alloc,
+            keys,
+            letter.name,
+            letter.subject,
+            setup,
+            input,
+            out,
+            keeper,
+            clock,
+        )),
+        Command::Check => no_run(),
+        Command::Rehearse(_) => no_run(),
+        Command::Serve(_) => no_run(),
+    }
+}
+
+/// What is reported where no run is asked for.
+fn no_run() -> Told
+    ensures { result ≡ reported 2 Note.Plain }
+{
+    Told {
+        status: Status(2),
+        note: Note::Plain,
     }
 }
 

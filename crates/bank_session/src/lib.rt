@@ -1,13 +1,12 @@
 //! Whole runs of the bank's server: frames of request files in, replies out; the work that is due; and letters to users.
 //!
-//! A run reads its words and its setup, then answers each frame of its input in turn, does once what is due, or writes a
-//! letter. The clauses of `answer_told` say what it wrote, for which frames and at which moments, why it ended, and what people
-//! are told of that.
+//! A run takes its command and reads its setup, then answers each frame of its input in turn, does once what is due, or writes
+//! a letter. The clauses of `session_told` say what it wrote, for which frames and at which moments, why it ended, and what
+//! people are told of that. `answer_told` has them over the arguments.
 #![tactic(auto)]
 
 mod addressee;
 mod answer;
-mod arguments;
 mod body;
 mod due;
 pub mod laws;
@@ -21,6 +20,5 @@ mod run;
 mod turn;
 mod undone;
 
-pub use answer::{answer_files, answer_told};
-pub use arguments::{AnswerArguments, Command, command_of};
+pub use answer::{answer_files, answer_told, session_told};
 pub use ports::Ports;

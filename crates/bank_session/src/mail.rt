@@ -3,7 +3,6 @@
 ghost use Rattle.std.specs.Prelude.{◌≡◌, ◌≢◌, ◌≤◌, ℕ, true, false, List, Option, Some, Err};
 ghost use Rattle.bank_model.specs.SetupLookups.{user_of};
 ghost use Rattle.bank_model.specs.Sound.{IsTextWithin};
-ghost use Rattle.bank_session.specs.Arguments.{AreMailArguments, AskForLetter};
 ghost use Rattle.bank_session.specs.PortsView.{ports_view};
 ghost use Rattle.bank_session.specs.Letters.{CanWrite};
 ghost use Rattle.bank_session.specs.MailEnd.{LetterEnds, MailEnds};
@@ -22,36 +21,9 @@ use ofx_types::{Text, UserId};
 use std::alloc::Global;
 use std::hash::RandomState;
 
-/// Reads the setup, opens the bank from its records, reads the body, writes the letter that the arguments ask for, and reports the
-/// number of its entry.
+/// Reads the setup, opens the bank from its records, reads the body, writes the letter to the user of that name with that
+/// subject, and reports the number of its entry.
 pub fn send_letter<A: Source, B: Source, W: Sink, K: Keeper, C: Clock>(
-    alloc: Global,
-    keys: RandomState,
-    arguments: &[Text],
-    setup: &mut A,
-    input: &mut B,
-    out: &mut W,
-    keeper: &mut K,
-    clock: &mut C,
-) -> Result<(), Stop>
-    requires arguments { AskForLetter arguments.now }
-    requires settled { K.unsettled keeper.old ≡ false }
-    ensures ends { (name subject : List ℕ) → AreMailArguments arguments.now name subject → EndsSo (MailEnds name subject)
-        (⟦<(A, B, W, K, C) as Ports>⟧.seen (setup.old, input.old, out.old, keeper.old, clock.old))
-        (⟦<(A, B, W, K, C) as Ports>⟧.seen (setup.new, input.new, out.new, keeper.new, clock.new)) result }
-    ensures settled { result ≢ Err Stop.KeeperFailed → K.unsettled keeper.new ≡ false }
-    ensures later { K.faults keeper.old ≤ K.faults keeper.new }
-{
-    match arguments {
-        [_, _, _, name, subject] => {
-            send(alloc, keys, name, subject, setup, input, out, keeper, clock)
-        }
-        _ => Err(Stop::Usage),
-    }
-}
-
-/// The same for a letter to the user of that name, with that subject.
-fn send<A: Source, B: Source, W: Sink, K: Keeper, C: Clock>(
     alloc: Global,
     keys: RandomState,
     name: &Text,

@@ -2,7 +2,7 @@
 
 ghost use Rattle.std.specs.Prelude.{◌≡◌, [], ◌∷◌, IsSome};
 ghost use Rattle.ofx_types.specs.Calendar.{IsMoment};
-ghost use Rattle.bank_session.specs.ArgumentsRead.{IsLawful};
+ghost use Rattle.bank_arguments.specs.Bounds.{IsLawful};
 ghost use Rattle.bank_session.specs.Answers.{AreMoments};
 
 use ofx_ports::Clock;

@@ -6,7 +6,7 @@ ghost use Rattle.ofx_ports.specs.Faults.{CountsFaults};
 ghost use Rattle.ofx_types.specs.Calendar.{IsMoment};
 ghost use Rattle.ofx_types.specs.declared.number.Moment.{Moment};
 ghost use Rattle.bank_frames.specs.NextFrame.{HoldsFrame, content_in, size_of};
-ghost use Rattle.bank_session.specs.ArgumentsRead.{IsLawful};
+ghost use Rattle.bank_arguments.specs.Bounds.{IsLawful};
 ghost use Rattle.bank_session.specs.Turns.{turn_view, AnswersAndKeeps, HasNoLine, FrameResult};
 ghost use Rattle.bank_session.specs.TurnResult.{TurnResult};
 

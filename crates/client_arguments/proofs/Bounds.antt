@@ -1,5 +1,5 @@
 -- What words wish is within the bounds of a sound file.
-use Rattle.std.proofs.Common.{◌≡◌, ℕ, ◌<◌, ◌≤◌, ◌^◌, Bool, true, false, cond, List, Option, None, Some, Result, Ok, Err, IfOk, refl, arith}
+use Rattle.std.proofs.Common.{◌≡◌, ℕ, ◌<◌, ◌≤◌, ◌^◌, Bool, true, false, cond, List, Option, None, Some, refl, arith}
 use Rattle.std.specs.Option.{IfSome}
 use Rattle.std.specs.Str.Parse.{digits_value}
 use Rattle.ofx_types.specs.Calendar.{IsDay}
@@ -11,10 +11,8 @@ use Rattle.ofx_types.specs.declared.transfer.XferInfo.{XferInfo}
 use Rattle.ofx_types.proofs.Numbers.{digits_within, amount_within}
 use Rattle.bank_model.specs.Sound.{IsTextWithin, IsSoundAccount, IsSoundInfo, IsSoundRecur, IsId}
 use Rattle.client_core.specs.declared.wish.Wish.{Wish}
-use Rattle.client_arguments.specs.Arguments.{IsAccount, IsMaybeDay, IsFirstDay, IsCount, IsPayment, IsIdWord, IsWishedBy, AreArguments}
-use Rattle.client_arguments.specs.Reading.{Reads, IsInBounds}
-use Rattle.client_arguments.specs.declared.fault.ArgumentsFault.{ArgumentsFault}
-use Rattle.client_arguments.specs.declared.order.Order.{Order}
+use Rattle.client_arguments.specs.Arguments.{IsAccount, IsMaybeDay, IsFirstDay, IsCount, IsPayment, IsIdWord, IsWished, IsWishedBy}
+use Rattle.client_arguments.specs.Reading.{IsInBounds}
 use Rattle.client_arguments.specs.declared.verb.Verb.{Verb}
 use Rattle.client_arguments.specs.declared.verb.Verb.TheVariants as verbs
 
@@ -76,10 +74,6 @@ wish_in bank verbs.Mail arguments wish fits (subject, body, e, is) = rw e (is.su
 wish_in bank verbs.Check arguments wish fits (account, e, is) = rw e (account_in bank is.number is.kind account fits is.account_is)
 wish_in bank verbs.Show arguments wish fits (e, none) = rw e tt
 
-order_in : (arguments : List (List ℕ)) (order : Order) → AreArguments arguments order → IsInBounds order.wish
-order_in arguments order is =
-    let reported = is.ordered in wish_in is.bank reported.wish_is.verb reported.wish_is.rest order.wish reported.bank_fits reported.wish_is.wish_is
-
-pub read_in : (arguments : List (List ℕ)) (result : Result Order ArgumentsFault) → Reads (AreArguments arguments) result → IfOk result (λ order. IsInBounds order.wish)
-read_in arguments (Ok order) is = order_in arguments order is
-read_in arguments (Err fault) is = tt
+-- A wish that a command has, at a bank whose id fits, is within bounds.
+pub wished_in : (bank : List ℕ) (command : List (List ℕ)) (wish : Wish) → IsTextWithin 32 bank → IsWished bank command wish → IsInBounds wish
+wished_in bank command wish fits is = wish_in bank is.verb is.rest wish fits is.wish_is

@@ -1,7 +1,6 @@
 pub mod Bounds
 pub mod Days
 pub mod Modified
-pub mod Numbers
 pub mod Ordered
 pub mod Rows
 pub mod Unread

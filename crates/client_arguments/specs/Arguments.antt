@@ -1,6 +1,5 @@
 -- The arguments of the customer's program: `PORT STORE CLIENT USER PASS BANK` and a command.
-use Rattle.std.specs.Prelude.{◌≡◌, ℕ, ◌<◌, ◌≤◌, ◌⊎◌, List, [], ◌∷◌, codes, Option, None, Some}
-use Rattle.std.specs.Fmt.{decimal}
+use Rattle.std.specs.Prelude.{◌≡◌, ℕ, ◌<◌, List, [], ◌∷◌, codes, Option, None, Some}
 use Rattle.ofx_types.specs.AccountForm.{kind_word}
 use Rattle.ofx_types.specs.AmountForm.{IsAmount}
 use Rattle.ofx_types.specs.Calendar.{IsDay, civil_of}
@@ -12,6 +11,7 @@ use Rattle.ofx_types.specs.declared.number.Cents.{Cents}
 use Rattle.ofx_types.specs.declared.number.Day.{Day}
 use Rattle.ofx_types.specs.declared.recurring.Recur.{Recur}
 use Rattle.ofx_types.specs.declared.transfer.XferInfo.{XferInfo}
+use Rattle.program_arguments.specs.Numbers.{IsNumber}
 use Rattle.bank_model.specs.Sound.{IsTextWithin}
 use Rattle.client_saved.specs.Bounds.{IsName}
 use Rattle.client_core.specs.declared.wish.Wish.{Wish}
@@ -21,11 +21,6 @@ use Rattle.client_arguments.specs.declared.verb.Verb.{Verb}
 use Rattle.client_arguments.specs.declared.verb.Verb.TheVariants as verbs
 
 -- ---- single words
-
--- A number up to a limit, in decimal digits without a leading zero.
-pub record IsNumber (most : ℕ) (argument : List ℕ) (n : ℕ) : Type 0 where
-  pub to : n ≤ most
-  pub spelled : argument ≡ decimal n
 
 -- An id has 1 to 10 digits.
 abbrev pub IsIdWord : List ℕ → ℕ → Type 0
@@ -98,8 +93,8 @@ pub record IsModify (bank : List ℕ) (arguments : List (List ℕ)) (id : ℕ) (
 
 -- COUNT is 0 to 999, where 0 is no end.
 abbrev pub IsCount : List ℕ → Option ℕ → Type 0
-IsCount argument None = IsNumber 999 argument 0
-IsCount argument (Some count) = (0 < count) × IsNumber 999 argument count
+IsCount argument None = IsNumber 0 999 argument 0
+IsCount argument (Some count) = (0 < count) × IsNumber 0 999 argument count
 
 pub record IsRecur (freq count : List ℕ) (recur : Recur) : Type 0 where
   pub freq_is : freq ≡ freq_word recur.freq
@@ -174,7 +169,7 @@ pub record IsOrdered (port name user pass bank : List ℕ) (command : List (List
   pub name_is : order.name ≡ name
   pub user_is : order.user ≡ user
   pub pass_is : order.pass ≡ pass
-  pub port_is : IsNumber 65535 port order.port
+  pub port_is : IsNumber 0 65535 port order.port
   pub name_fits : IsName name
   pub user_fits : IsTextWithin 32 user
   pub pass_fits : IsTextWithin 64 pass

@@ -13,7 +13,7 @@ use crate::fault::ArgumentsFault;
 use ofx_types::{AcctKind, AcctName, Duplicate, Text};
 
 /// The most bytes of the number of an account.
-const MAX_NUMBER: usize = 32;
+pub(crate) const MAX_NUMBER: usize = 32;
 
 /// Whether a word has 1 byte up to the limit.
 pub(crate) fn is_within(argument: &Text, most: usize) -> bool
@@ -41,7 +41,7 @@ fn kind_among<'k>(argument: &Text, kinds: &'k [AcctKind]) -> Option<&'k AcctKind
 }
 
 /// The kind of account that a word names.
-fn kind_of(argument: &Text) -> Result<AcctKind, ArgumentsFault>
+pub(crate) fn kind_of(argument: &Text) -> Result<AcctKind, ArgumentsFault>
     ensures { Reads (λ (kind : AcctKind). argument.now ≡ kind_word kind) result }
 {
     match kind_among(argument, &KINDS) {

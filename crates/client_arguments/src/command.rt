@@ -15,10 +15,10 @@ use client_core::Wish;
 use ofx_types::{AcctName, Duplicate, Text};
 
 /// The most bytes of a mail's subject.
-const MAX_SUBJECT: usize = 64;
+pub(crate) const MAX_SUBJECT: usize = 64;
 
 /// The most bytes of a mail's body.
-const MAX_BODY: usize = 10_000;
+pub(crate) const MAX_BODY: usize = 10_000;
 
 /// The account that is all that a command has.
 fn about(bank: &Text, arguments: &[Text]) -> Result<AcctName, ArgumentsFault>

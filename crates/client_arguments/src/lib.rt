@@ -7,11 +7,15 @@ mod account;
 mod command;
 mod day;
 mod fault;
+mod mistake;
 mod number;
 mod order;
 mod payment;
+mod reading;
 mod verb;
 
 pub use fault::ArgumentsFault;
-pub use order::{Order, order_of};
+pub use mistake::{Mistake, mistake_in};
+pub use order::Order;
+pub use reading::order_of;
 pub use verb::Verb;

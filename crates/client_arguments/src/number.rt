@@ -1,51 +1,36 @@
 //! Numbers among the arguments.
 
-ghost use Rattle.std.specs.Prelude.{◌≤◌, ◌↔◌, ◌≡◌, IsTrue};
-ghost use Rattle.std.specs.Fmt.{decimal};
-ghost use Rattle.client_arguments.specs.Arguments.{IsNumber, IsIdWord, IsCount};
+ghost use Rattle.client_arguments.specs.Arguments.{IsIdWord, IsCount};
+ghost use Rattle.program_arguments.specs.Numbers.{IsNumber};
 ghost use Rattle.client_arguments.specs.Reading.{Reads};
 
 use crate::fault::ArgumentsFault;
-use itoa::Buffer;
 use ofx_types::Text;
 use ofx_values::read_number;
+use program_arguments::number_within;
 
-/// The most digits of a number.
+/// The most digits of an id.
 const MAX_DIGITS: usize = 10;
 
 /// The most transfers of a series.
-const MAX_COUNT: u64 = 999;
+pub(crate) const MAX_COUNT: u64 = 999;
 
 /// The greatest port.
-const MAX_PORT: u64 = 65_535;
+pub(crate) const MAX_PORT: u64 = 65_535;
 
-/// Whether a word is the text of a number, without a leading zero.
-fn is_text_of(argument: &Text, number: u64) -> bool
-    ensures { IsTrue result ↔ (argument.now ≡ decimal number) }
-{
-    argument.as_bytes() == Buffer::new().format(number).as_bytes()
-}
-
-/// The number up to a limit of at most ten digits of which a word is the text.
+/// The number up to a limit of which a word is the text, without a leading zero.
 fn number_up_to(most: u64, argument: &Text) -> Result<u64, ArgumentsFault>
-    requires { most ≤ 9999999999 }
-    ensures { Reads (IsNumber most argument.now) result }
+    ensures { Reads (IsNumber 0 most argument.now) result }
 {
-    match read_number(argument.as_bytes(), MAX_DIGITS) {
+    match number_within(argument, 0, most) {
+        Some(number) => Ok(number),
         None => Err(ArgumentsFault::Usage),
-        Some(number) => {
-            if number <= most && is_text_of(argument, number) {
-                Ok(number)
-            } else {
-                Err(ArgumentsFault::Usage)
-            }
-        }
     }
 }
 
 /// The port that a word names.
 pub(crate) fn port_of(argument: &Text) -> Result<u16, ArgumentsFault>
-    ensures { Reads (IsNumber 65535 argument.now) result }
+    ensures { Reads (IsNumber 0 65535 argument.now) result }
 {
     let port = number_up_to(MAX_PORT, argument)?;
     Ok(port as u16)

@@ -48,7 +48,7 @@ fn freq_among<'f>(argument: &Text, freqs: &'f [Freq]) -> Option<&'f Freq>
 }
 
 /// How often something recurs, as a word says.
-fn freq_of(argument: &Text) -> Result<Freq, ArgumentsFault>
+pub(crate) fn freq_of(argument: &Text) -> Result<Freq, ArgumentsFault>
     ensures { Reads (λ (freq : Freq). argument.now ≡ freq_word freq) result }
 {
     match freq_among(argument, &FREQS) {

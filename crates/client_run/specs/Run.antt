@@ -28,6 +28,12 @@ pub record Runs (order : Order) (before after : PortsView) (end : Result (Unit {
   pub out_is : between.out ≡ before.out
   pub works : WorksIf order found between after end
 
+-- The run of an order, and what is reported of its end.
+pub record IsOrderRun (order : Order) (before after : PortsView) (what : Told) : Type 0 where
+  pub end : Result (Unit {0}) ClientStop
+  pub runs : Runs order before after end
+  pub reported_is : what ≡ reported_of end
+
 -- the run that words order, and what is reported of its end
 pub record IsRun (arguments : List (List ℕ)) (before after : PortsView) (what : Told) : Type 0 where
   pub order : Order

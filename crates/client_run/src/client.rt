@@ -1,12 +1,9 @@
 //! Whole runs of the customer's program.
 
 ghost use Rattle.std.specs.Prelude.{◌≡◌, ◌<◌};
-ghost use Rattle.bank_model.specs.Sound.{IsTextWithin};
-ghost use Rattle.client_saved.specs.Bounds.{IsName};
-ghost use Rattle.client_arguments.specs.Reading.{IsInBounds};
 ghost use Rattle.client_run.specs.Commands.{Works};
 ghost use Rattle.ofx_types.specs.declared.told.Told.{Told as WhatIsReported};
-ghost use Rattle.client_run.specs.Run.{Runs, IsClientRun};
+ghost use Rattle.client_run.specs.Run.{Runs, IsOrderRun, IsClientRun};
 
 use crate::checking::check;
 use crate::keeping::open_client;
@@ -32,8 +29,7 @@ fn work<L: Link, S: StoreKeeper, C: Clock, W: Sink>(
     clock: &mut C,
     out: &mut W,
 ) -> Result<(), ClientStop>
-    requires number { client.old.next < 9999999999 }
-    requires wish { IsInBounds order.now.wish }
+    requires { client.old.next < 9999999999 }
     ensures { Works order.now.pass order.now.wish client.old
         (⟦<(L, S, C, W) as Ports>⟧.seen (link.old, store.old, clock.old, out.old))
         (⟦<(L, S, C, W) as Ports>⟧.seen (link.new, store.new, clock.new, out.new)) result }
@@ -54,9 +50,6 @@ fn run<L: Link, S: StoreKeeper, C: Clock, W: Sink>(
     clock: &mut C,
     out: &mut W,
 ) -> Result<(), ClientStop>
-    requires name { IsName order.now.name }
-    requires user { IsTextWithin 32 order.now.user }
-    requires wish { IsInBounds order.now.wish }
     ensures { Runs order.now
         (⟦<(L, S, C, W) as Ports>⟧.seen (link.old, store.old, clock.old, out.old))
         (⟦<(L, S, C, W) as Ports>⟧.seen (link.new, store.new, clock.new, out.new)) result }
@@ -133,10 +126,26 @@ pub fn client_told<L: Link, S: StoreKeeper, C: Clock, W: Sink>(
         (⟦<(L, S, C, W) as Ports>⟧.seen (link.new, store.new, clock.new, out.new)) result }
 {
     match order_of(arguments) {
-        Ok(order) => report_of_end(run(alloc, &order, link, store, clock, out)),
+        Ok(order) => order_told(alloc, &order, link, store, clock, out),
         Err(ArgumentsFault::Usage) => plain(2),
         Err(ArgumentsFault::OutOfMemory) => plain(7),
     }
+}
+
+/// Does what `client_told` does, by what its arguments order.
+pub fn order_told<L: Link, S: StoreKeeper, C: Clock, W: Sink>(
+    alloc: Global,
+    order: &Order,
+    link: &mut L,
+    store: &mut S,
+    clock: &mut C,
+    out: &mut W,
+) -> Told
+    ensures { IsOrderRun order.now
+        (⟦<(L, S, C, W) as Ports>⟧.seen (link.old, store.old, clock.old, out.old))
+        (⟦<(L, S, C, W) as Ports>⟧.seen (link.new, store.new, clock.new, out.new)) result }
+{
+    report_of_end(run(alloc, order, link, store, clock, out))
 }
 
 /// Does what `client_told` does, and answers the status alone.

@@ -25,8 +25,6 @@ fn is_ours(order: &Order, client: &Client) -> bool
 
 /// A new client of the name and the user of the arguments.
 fn new_client(alloc: Global, order: &Order) -> Result<Client, StoreOpenFault>
-    requires name { IsName order.now.name }
-    requires user { IsTextWithin 32 order.now.user }
     ensures found { IfOk result (λ client. client ≡ new_client order.now.name order.now.user) }
     ensures refused { IfErr result (λ fault. fault ≡ StoreOpenFault.OutOfMemory) }
 {
@@ -40,8 +38,6 @@ fn new_client(alloc: Global, order: &Order) -> Result<Client, StoreOpenFault>
 /// The client in a text, where it is the one that the arguments name.
 #[tactic(auto, using(crate::proofs::Kept::new_found))]
 fn client_in(alloc: Global, order: &Order, text: &[u8]) -> Result<Client, StoreOpenFault>
-    requires name { IsName order.now.name }
-    requires user { IsTextWithin 32 order.now.user }
     ensures { FindsIn order.now text.now result }
 {
     if text.is_empty() {
@@ -62,8 +58,6 @@ pub(crate) fn open_client<S: StoreKeeper>(
     order: &Order,
     store: &mut S,
 ) -> Result<Client, StoreOpenFault>
-    requires name { IsName order.now.name }
-    requires user { IsTextWithin 32 order.now.user }
     ensures { Opens order.now (record { text = S.saved store.old; faults = S.faults store.old })
         (record { text = S.saved store.new; faults = S.faults store.new }) result }
 {

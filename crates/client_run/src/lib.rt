@@ -18,6 +18,6 @@ mod showing;
 mod status;
 mod stop;
 
-pub use client::{client_run, client_told};
+pub use client::{client_run, client_told, order_told};
 pub use ports::Ports;
 pub use stop::{CallStop, ClientStop, StoreOpenFault};

@@ -2,14 +2,13 @@
 
 ghost use Rattle.std.specs.Prelude.{◌≡◌, false};
 
+use crate::files::Files;
 use crate::keepers::ON_DISK;
-use crate::paths::{RECORDS, named};
 use crate::setup_file::SetupFile;
 use bank_opening::Stop;
 use bank_replay::reopen;
 use ofx_file::OfxPrinter;
 use ofx_ports::Keeper;
-use ofx_types::Text;
 use record_files::{
     Binding, Cause, bind_beside, bind_sqlite, find_beside, find_sqlite, make_on_disk, open_on_disk,
 };
@@ -25,28 +24,24 @@ pub enum Unbound {
     Records(Cause),
 }
 
-/// Binds the records that the third word names to the setup: new ones, and ones that are bound to none and open under it. Under
+/// Binds the records to the setup: new ones, and ones that are bound to none and open under it. Under
 /// a setup that has no form nothing is opened or made.
-pub fn bind_records(
-    rt: &HostRuntime,
-    arguments: &[Text],
-    setup: &SetupFile,
-) -> Result<(), Unbound> {
+pub fn bind_records(rt: &HostRuntime, files: Files<'_>, setup: &SetupFile) -> Result<(), Unbound> {
     if let Err(stop) = setup.setup(rt.alloc()) {
         return Err(Unbound::Setup(stop));
     }
-    match bind_to(rt, arguments, setup) {
+    match bind_to(rt, files, setup) {
         Ok(()) => Ok(()),
         Err(cause) => Err(Unbound::Records(cause)),
     }
 }
 
 /// Binds the records to a setup that has its form.
-fn bind_to(rt: &HostRuntime, arguments: &[Text], setup: &SetupFile) -> Result<(), Cause> {
+fn bind_to(rt: &HostRuntime, files: Files<'_>, setup: &SetupFile) -> Result<(), Cause> {
     let Ok(lines) = setup.lines(rt.alloc()) else {
         return Err(Cause::NoMemory);
     };
-    match named(arguments, RECORDS) {
+    match files.records {
         None | Some("-") => Ok(()),
         Some(path) => match path.strip_prefix(ON_DISK) {
             Some(file) => bind_on_disk(rt, file, setup, lines.as_str()),

@@ -2,17 +2,17 @@
 
 ghost use Rattle.std.specs.Prelude.{◌≡◌, false};
 
+use crate::files::Files;
 use crate::keepers::ON_DISK;
 use crate::messages::{plain, report};
-use crate::paths::{RECORDS, SETUP, named};
 use crate::setup_file::SetupFile;
 use crate::totals::{Totals, amount_text, day_text, totals_of};
 use crate::why::{report_open_files, report_why};
+use bank_arguments::Command;
 use bank_model::Setup;
 use bank_opening::report_of_end;
-use command_help::text_at;
 use ofx_ports::Keeper;
-use ofx_types::{Text, Told};
+use ofx_types::Told;
 use record_files::{
     Binding, Cause, ReadRecords, cause_at, compared, find_beside, is_there, read_disk, read_sqlite,
 };
@@ -23,31 +23,31 @@ use std::io;
 type End = (Told, Option<Cause>);
 
 /// Checks the setup and the records that the arguments name, and answers the status.
-pub fn checked(rt: &HostRuntime, arguments: &[Text]) -> u8 {
-    let Ok(setup) = SetupFile::read(rt, arguments) else {
+pub fn checked(rt: &HostRuntime, files: Files<'_>) -> u8 {
+    let Ok(setup) = SetupFile::read(rt, files.setup) else {
         return report(rt, plain(7));
     };
-    let (end, cause) = checked_setup(rt, arguments, &setup);
+    let (end, cause) = checked_setup(rt, files, &setup);
     let status = report(rt, end);
-    report_why(rt, end, arguments, &setup, cause);
-    report_open_files(rt, arguments, status == 0);
+    report_why(rt, end, Command::Check, files, &setup, cause);
+    report_open_files(rt, files, status == 0);
     status
 }
 
 /// Checks the setup, and then the records, where there are any.
-fn checked_setup(rt: &HostRuntime, arguments: &[Text], file: &SetupFile) -> End {
+fn checked_setup(rt: &HostRuntime, files: Files<'_>, file: &SetupFile) -> End {
     let setup = match file.setup(rt.alloc()) {
         Ok(setup) => setup,
         Err(stop) => return (report_of_end(Err(stop)), None),
     };
-    if report_of_setup(rt, text_at(arguments, SETUP), &setup).is_err() {
+    if report_of_setup(rt, files.setup, &setup).is_err() {
         return (plain(6), None);
     }
     drop(setup);
-    match named(arguments, RECORDS) {
+    match files.records {
         None => (plain(0), None),
         Some("-") => ended(rt.println("records -: a run keeps none")),
-        Some(path) => checked_at(rt, arguments, path, file),
+        Some(path) => checked_at(rt, path, file),
     }
 }
 
@@ -68,7 +68,7 @@ fn ended(printed: io::Result<()>) -> End {
 }
 
 /// Checks the records at a path.
-fn checked_at(rt: &HostRuntime, arguments: &[Text], path: &str, file: &SetupFile) -> End {
+fn checked_at(rt: &HostRuntime, path: &str, file: &SetupFile) -> End {
     let offset = path.strip_prefix(ON_DISK).unwrap_or(path);
     if !is_there(rt, offset) {
         return match cause_at(rt, offset) {

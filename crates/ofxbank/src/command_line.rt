@@ -1,105 +1,66 @@
-//! The arguments of the command line.
+//! What a command line asks of the program.
 
-use bank_commands::seed_of;
-use bank_server::plan_of;
-use bank_session::command_of;
-use command_help::{
-    Mistake, Topic, asks_for_help, has_paths, is_help, is_version, mistake_in, text_at,
-};
-use ofx_types::{Text, TextFault};
-use std::alloc::Global;
-use std::rt::Env;
-use std::{env, io};
+use bank_arguments::{Command, Mistake, Topic, command_of, path_mistake};
+use ofx_types::Text;
+use program_arguments::text_at;
 
-/// The most bytes of a word.
-const MAX_WORD: u32 = 10_000;
+/// The first words that ask for the version.
+pub const VERSION_OPTIONS: [&str; 2] = ["-V", "--version"];
 
 /// What the arguments ask.
-#[derive(Drop)]
-pub enum Request {
-    /// Help about a command, or the program.
-    Help(Topic),
+#[derive(Clone, Copy)]
+pub enum Request<'a> {
+    /// Help about the program, or a command.
+    Help(Option<Topic>),
     /// `--version`
     Version,
-    /// `check`, by its words.
-    Check(Vec<Text>),
-    /// Another command, by the arguments after the program's name.
-    Run(Vec<Text>),
+    /// A command.
+    Run(Command<'a>),
     /// The arguments have no form.
-    Usage(Vec<Text>),
-    /// A word is no text.
-    Unread(Mistake<'static>),
-    /// Memory was refused.
-    NoMemory,
+    Usage(Mistake<'a>),
 }
 
-/// What the program is asked, by the arguments after its name.
-pub fn read_arguments<R: Env + AllocGlobal>(rt: &R) -> Request {
-    let raw_arguments = match env::args(rt) {
-        Ok(raw_arguments) => raw_arguments,
-        Err(error) => return refused(&error),
-    };
-    let mut arguments = Vec::new(rt.alloc());
-    for raw_argument in raw_arguments.skip(1) {
-        if arguments.is_empty() && is_version(raw_argument.as_str()) {
-            return Request::Version;
-        }
-        match Text::new(rt.alloc(), raw_argument.as_bytes(), MAX_WORD) {
-            Ok(argument) => {
-                if arguments.push(argument).is_err() {
-                    return Request::NoMemory;
-                }
-            }
-            Err(TextFault::OutOfMemory) => return Request::NoMemory,
-            Err(_) => return Request::Unread(Mistake::NoText(arguments.len().saturating_add(1))),
-        }
-    }
-    asked(arguments)
-}
-
-/// What words ask that are texts.
-fn asked(arguments: Vec<Text>) -> Request {
-    if is_help(text_at(&arguments, 0)) {
-        return help_of(arguments);
-    }
-    if seed_of(&arguments).is_some() {
-        return Request::Run(arguments);
-    }
-    if has_paths(&arguments) {
-        if is_check(&arguments) {
-            return Request::Check(arguments);
-        }
-        if command_of(&arguments).is_some() || plan_of(&arguments).is_some() {
-            return Request::Run(arguments);
-        }
-    }
-    match Topic::named(text_at(&arguments, 0)) {
-        Some(topic) if asks_for_help(&arguments) => Request::Help(topic),
-        _ => Request::Usage(arguments),
+/// What the arguments ask, which are texts.
+pub fn request_of(arguments: &[Text]) -> Request<'_> {
+    match text_at(arguments, 0) {
+        "-V" | "--version" => Request::Version,
+        "help" | "-h" | "--help" => help_of(arguments),
+        _ => command_or_help(arguments),
     }
 }
 
 /// What is asked by a first word that asks for help: about the program, or the command that the next word names.
-fn help_of(arguments: Vec<Text>) -> Request {
-    if arguments.len() == 1 {
-        return Request::Help(Topic::Program);
-    }
-    match Topic::named(text_at(&arguments, 1)) {
-        Some(topic) => Request::Help(topic),
-        None if text_at(&arguments, 0) == "help" => Request::Usage(arguments),
-        None => Request::Help(Topic::Program),
+fn help_of(arguments: &[Text]) -> Request<'_> {
+    let name = text_at(arguments, 1);
+    match Topic::named(name) {
+        Some(topic) => Request::Help(Some(topic)),
+        None if arguments.len() > 1 && text_at(arguments, 0) == "help" => {
+            Request::Usage(Mistake::Unknown(name))
+        }
+        None => Request::Help(None),
     }
 }
 
-/// Whether the arguments are those of `check`.
-fn is_check(arguments: &[Text]) -> bool {
-    text_at(arguments, 0) == "check" && (arguments.len() == 2 || arguments.len() == 3)
+/// What is asked by a first word that may name a command.
+fn command_or_help(arguments: &[Text]) -> Request<'_> {
+    let mistake = match (command_of(arguments), path_mistake(arguments)) {
+        (Ok(command), None) => return Request::Run(command),
+        (Ok(_), Some(mistake)) => mistake,
+        (Err(mistake), _) => mistake,
+    };
+    match Topic::named(text_at(arguments, 0)) {
+        Some(topic) if asks_for_help(arguments) => Request::Help(Some(topic)),
+        _ => Request::Usage(mistake),
+    }
 }
 
-/// What arguments that couldn't be had come to.
-fn refused(error: &io::Error) -> Request {
-    match error.kind() {
-        io::ErrorKind::OutOfMemory => Request::NoMemory,
-        _ => Request::Unread(Mistake::NoUnicode),
+/// Whether a word after the command asks for help. Arguments that have a form are let be: a letter may be about `--help`.
+fn asks_for_help(arguments: &[Text]) -> bool {
+    for offset in 1..arguments.len() {
+        let argument = text_at(arguments, offset);
+        if argument == "-h" || argument == "--help" {
+            return true;
+        }
     }
+    false
 }

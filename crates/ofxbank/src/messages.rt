@@ -37,15 +37,9 @@ fn report_cause(rt: &impl Eprint, end: Told) -> io::Result<()> {
 
 /// Prints on the error stream that the server listens: where, for which setup, and from how many records the bank opened. The first
 /// line is empty, since the first line of a run that fails says why.
-pub fn report_listening(
-    rt: &impl Eprint,
-    port: u16,
-    setup: Option<&str>,
-    records: Option<&str>,
-    count: u64,
-) {
-    let _ = report_address(rt, port, setup.unwrap_or("?"));
-    let _ = report_records(rt, records.unwrap_or("?"), count);
+pub fn report_listening(rt: &impl Eprint, port: u16, setup: &str, records: &str, count: u64) {
+    let _ = report_address(rt, port, setup);
+    let _ = report_records(rt, records, count);
 }
 
 fn report_address(rt: &impl Eprint, port: u16, setup: &str) -> io::Result<()> {

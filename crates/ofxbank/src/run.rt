@@ -3,17 +3,18 @@
 ghost use Rattle.std.specs.Prelude.{◌≡◌, false};
 
 use crate::binding::{Unbound, bind_records};
+use crate::check::checked;
+use crate::files::Files;
 use crate::keepers::{ON_DISK, Unopened};
 use crate::messages::{plain, report};
-use crate::paths::{RECORDS, named};
-use crate::serve::served;
+use crate::serve::{Service, served};
 use crate::setup_file::SetupFile;
 use crate::why::{report_open_files, report_why};
-use bank_commands::{bank_told, seed_of};
+use bank_arguments::Command;
+use bank_commands::command_told;
 use bank_opening::report_of_end;
-use bank_server::plan_of;
 use ofx_ports::{Keeper, MemKeeper, MemSource, ReaderSource, Source, SystemClock, WriterSink};
-use ofx_types::{Text, Told};
+use ofx_types::Told;
 use record_files::{Cause, on_disk};
 use sqlite_keeper::SqliteKeeper;
 use std::hash::RandomState;
@@ -21,29 +22,51 @@ use std::io;
 use std::sync::Wait;
 use std::thread::Threads;
 
-/// Runs the command of arguments that have a form, and answers the status.
+/// Runs a command over these files, and answers the status.
 ///
-/// Files are opened only here, since opening may wait, and may make the file of the records. The threads of a server are those of
-/// `threads`.
-pub fn run<R: Threads + Wait + Sync>(threads: &R, rt: &HostRuntime, arguments: &[Text]) -> u8 {
-    if seed_of(arguments).is_some() {
-        return report(rt, rehearsed(*rt, arguments));
+/// Files are opened only here, since opening may wait, and may make the file of the records. The threads of a server are those
+/// of `threads`.
+pub fn run<R: Threads + Wait + Sync>(
+    threads: &R,
+    rt: &HostRuntime,
+    command: Command<'_>,
+    files: Files<'_>,
+) -> u8 {
+    match command {
+        Command::Check => checked(rt, files),
+        Command::Rehearse(_) => report(rt, rehearsed(*rt, command)),
+        Command::Answer(_) | Command::Due | Command::Mail(_) | Command::Serve(_) => {
+            run_bound(threads, rt, command, files)
+        }
     }
-    let Ok(setup) = SetupFile::read(rt, arguments) else {
+}
+
+/// Runs a command over records that are bound to the setup first.
+fn run_bound<R: Threads + Wait + Sync>(
+    threads: &R,
+    rt: &HostRuntime,
+    command: Command<'_>,
+    files: Files<'_>,
+) -> u8 {
+    let Ok(setup) = SetupFile::read(rt, files.setup) else {
         return report(rt, plain(7));
     };
-    let bound = bind_records(rt, arguments, &setup);
-    let end = match (plan_of(arguments), &bound) {
-        (Some(_), Ok(())) => served(threads, rt, arguments, &setup),
-        (Some(_), Err(unbound)) => unserved(unbound),
-        (None, Ok(())) => answered(*rt, arguments, &setup),
-        (None, Err(_)) => run_over(*rt, arguments, &setup, &mut Unopened::new()),
+    let bound = bind_records(rt, files, &setup);
+    let end = match (command, &bound) {
+        (Command::Serve(plan), Ok(())) => {
+            let setup = &setup;
+            served(threads, rt, Service { plan, files, setup })
+        }
+        (Command::Serve(_), Err(unbound)) => unserved(unbound),
+        (_, Ok(())) => answered(*rt, command, files, &setup),
+        (_, Err(_)) => run_over(*rt, command, &setup, &mut Unopened::new()),
     };
     let status = report(rt, end);
-    report_why(rt, end, arguments, &setup, cause_of(bound));
-    // A server has said it when it began to listen.
-    if plan_of(arguments).is_none() {
-        report_open_files(rt, arguments, status == 0);
+    report_why(rt, end, command, files, &setup, cause_of(bound));
+    match command {
+        // A server has said it when it began to listen.
+        Command::Serve(_) => {}
+        _ => report_open_files(rt, files, status == 0),
     }
     status
 }
@@ -64,30 +87,30 @@ fn cause_of(bound: Result<(), Unbound>) -> Option<Cause> {
     }
 }
 
-/// The end of a run over the records that the third word names: those of a file, or of none with `-`.
-fn answered(rt: HostRuntime, arguments: &[Text], setup: &SetupFile) -> Told {
-    match named(arguments, RECORDS) {
-        Some("-") => run_over(rt, arguments, setup, &mut MemKeeper::new(rt.alloc())),
+/// The end of a run over its records: those of a file, or of none with `-`.
+fn answered(rt: HostRuntime, command: Command<'_>, files: Files<'_>, setup: &SetupFile) -> Told {
+    match files.records {
+        Some("-") => run_over(rt, command, setup, &mut MemKeeper::new(rt.alloc())),
         Some(path) => match path.strip_prefix(ON_DISK) {
-            Some(file) => over_disk(rt, arguments, setup, file),
-            None => run_over(rt, arguments, setup, &mut SqliteKeeper::open(&rt, path)),
+            Some(file) => over_disk(rt, command, setup, file),
+            None => run_over(rt, command, setup, &mut SqliteKeeper::open(&rt, path)),
         },
         None => plain(2),
     }
 }
 
 /// The end of a run over the records in a file on a disk. Where it can't be opened, each call of the keeper fails.
-fn over_disk(rt: HostRuntime, arguments: &[Text], setup: &SetupFile, path: &str) -> Told {
+fn over_disk(rt: HostRuntime, command: Command<'_>, setup: &SetupFile, path: &str) -> Told {
     match on_disk(&rt, path) {
-        Ok(mut keeper) => run_over(rt, arguments, setup, &mut keeper),
-        Err(_) => run_over(rt, arguments, setup, &mut Unopened::new()),
+        Ok(mut keeper) => run_over(rt, command, setup, &mut keeper),
+        Err(_) => run_over(rt, command, setup, &mut Unopened::new()),
     }
 }
 
 /// The end of a rehearsal, which opens no file.
-fn rehearsed(rt: HostRuntime, arguments: &[Text]) -> Told {
+fn rehearsed(rt: HostRuntime, command: Command<'_>) -> Told {
     match MemSource::new(rt.alloc(), b"") {
-        Ok(mut setup) => reported_over(rt, arguments, &mut setup, &mut MemKeeper::new(rt.alloc())),
+        Ok(mut setup) => reported_over(rt, command, &mut setup, &mut MemKeeper::new(rt.alloc())),
         Err(_) => plain(7),
     }
 }
@@ -95,14 +118,14 @@ fn rehearsed(rt: HostRuntime, arguments: &[Text]) -> Told {
 /// The end of a run over the setup that was read.
 fn run_over<K: Keeper>(
     rt: HostRuntime,
-    arguments: &[Text],
+    command: Command<'_>,
     setup: &SetupFile,
     keeper: &mut K,
 ) -> Told
     requires { K.unsettled keeper.old ≡ false }
 {
     match setup.source(rt.alloc()) {
-        Ok(mut setup) => reported_over(rt, arguments, &mut setup, keeper),
+        Ok(mut setup) => reported_over(rt, command, &mut setup, keeper),
         Err(_) => plain(7),
     }
 }
@@ -111,7 +134,7 @@ fn run_over<K: Keeper>(
 /// bytes; where it has none to read, the run ends as where a read failed.
 fn reported_over<A: Source, K: Keeper>(
     rt: HostRuntime,
-    arguments: &[Text],
+    command: Command<'_>,
     setup: &mut A,
     keeper: &mut K,
 ) -> Told
@@ -124,7 +147,7 @@ fn reported_over<A: Source, K: Keeper>(
     let mut input = ReaderSource::new(rt.stdin());
     let mut out = WriterSink::new(io::writer(&rt));
     let mut clock = SystemClock::new(rt);
-    bank_told(
-        alloc, keys, arguments, setup, &mut input, &mut out, keeper, &mut clock,
+    command_told(
+        alloc, keys, command, setup, &mut input, &mut out, keeper, &mut clock,
     )
 }

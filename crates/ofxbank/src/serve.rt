@@ -2,16 +2,17 @@
 
 ghost use Rattle.std.specs.Prelude.{◌≡◌, false};
 
+use crate::files::Files;
 use crate::keepers::{ON_DISK, Unopened};
 use crate::messages::{plain, report_listening, report_served};
-use crate::paths::{RECORDS, SETUP, named};
 use crate::setup_file::SetupFile;
 use crate::why::report_open_files;
-use bank_server::{AllEnd, Plan, serve_all, serve_open};
+use bank_arguments::Plan;
+use bank_server::{AllEnd, open_shared, serve_all};
 use bank_shared::{BankName, Opened};
 use ofx_file::OfxPrinter;
 use ofx_ports::{Keeper, LINK_SECONDS, MemKeeper, OpenGate, SystemClock, TcpDoor, listen};
-use ofx_types::{OutOfMemory, Text, Told};
+use ofx_types::{OutOfMemory, Told};
 use record_files::on_disk;
 use serve_log::{AccessLog, Level, LoggedDoor, LoggedKeeper};
 use sqlite_keeper::SqliteKeeper;
@@ -29,19 +30,28 @@ type Door = LoggedDoor<TcpListener, HostRuntime, HostRuntime>;
 /// A worker's doorway and its clock.
 type Worker = (Door, SystemClock<HostRuntime>);
 
-/// The end of serving the bank of this setup over the records that the third word names: those of a file, or of none with `-`.
-/// The threads are those of `threads`.
+/// What a server is asked: how it serves, and over which files.
+#[derive(Clone, Copy)]
+pub struct Service<'a> {
+    /// Where it listens, and how many workers and connections it has.
+    pub plan: Plan,
+    /// The files of the setup and of the records.
+    pub files: Files<'a>,
+    /// The setup that was read.
+    pub setup: &'a SetupFile,
+}
+
+/// The end of serving a bank over its records: those of a file, or of none with `-`. The threads are those of `threads`.
 pub fn served<R: Threads + Wait + Sync>(
     threads: &R,
     rt: &HostRuntime,
-    arguments: &[Text],
-    setup: &SetupFile,
+    service: Service<'_>,
 ) -> Told {
-    match named(arguments, RECORDS) {
-        Some("-") => served_over(threads, rt, arguments, setup, MemKeeper::new(rt.alloc())),
+    match service.files.records {
+        Some("-") => served_over(threads, rt, service, MemKeeper::new(rt.alloc())),
         Some(path) => match path.strip_prefix(ON_DISK) {
-            Some(file) => served_on_disk(threads, rt, arguments, setup, file),
-            None => served_over(threads, rt, arguments, setup, SqliteKeeper::open(rt, path)),
+            Some(file) => served_on_disk(threads, rt, service, file),
+            None => served_over(threads, rt, service, SqliteKeeper::open(rt, path)),
         },
         None => plain(2),
     }
@@ -51,13 +61,12 @@ pub fn served<R: Threads + Wait + Sync>(
 fn served_on_disk<R: Threads + Wait + Sync>(
     threads: &R,
     rt: &HostRuntime,
-    arguments: &[Text],
-    setup: &SetupFile,
+    service: Service<'_>,
     path: &str,
 ) -> Told {
     match on_disk(rt, path) {
-        Ok(keeper) => served_over(threads, rt, arguments, setup, keeper),
-        Err(_) => served_over(threads, rt, arguments, setup, Unopened::new()),
+        Ok(keeper) => served_over(threads, rt, service, keeper),
+        Err(_) => served_over(threads, rt, service, Unopened::new()),
     }
 }
 
@@ -65,8 +74,7 @@ fn served_on_disk<R: Threads + Wait + Sync>(
 fn served_over<R: Threads + Wait + Sync, K: Keeper + Send>(
     threads: &R,
     rt: &HostRuntime,
-    arguments: &[Text],
-    setup: &SetupFile,
+    service: Service<'_>,
     keeper: K,
 ) -> Told
     requires { K.unsettled keeper ≡ false }
@@ -74,28 +82,23 @@ fn served_over<R: Threads + Wait + Sync, K: Keeper + Send>(
     let Ok(keys) = RandomState::new(rt) else {
         return plain(5);
     };
+    let Service { plan, files, setup } = service;
     let Ok(mut setup) = setup.source(rt.alloc()) else {
         return plain(7);
     };
     let count = keeper.len();
     let journal = AccessLog::new(*rt, log_level(rt));
     let logged = LoggedKeeper::over(keeper, journal);
-    match serve_open(rt.alloc(), keys, arguments, &mut setup, logged, OfxPrinter) {
-        Ok((plan, opened)) => {
+    match open_shared(rt.alloc(), keys, &mut setup, logged, OfxPrinter) {
+        Ok(opened) => {
             let Ok(room) = Vec::with_capacity(rt.alloc(), plan.workers as usize) else {
                 return plain(7);
             };
             let Ok(workers) = workers_at(rt, journal, plan, room) else {
                 return plain(5);
             };
-            report_listening(
-                rt,
-                plan.port,
-                named(arguments, SETUP),
-                named(arguments, RECORDS),
-                count,
-            );
-            report_open_files(rt, arguments, false);
+            report_listening(rt, plan.port, files.setup, files.records_word(), count);
+            report_open_files(rt, files, false);
             all_served::<Brand, _, _>(threads, rt, opened, workers, plan.most)
         }
         Err((reported, _keeper)) => reported,

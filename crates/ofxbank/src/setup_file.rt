@@ -3,12 +3,12 @@
 ghost use Rattle.std.specs.Prelude.{IfOk};
 ghost use Rattle.bank_model.specs.SetupForm.{IsWithinLimits};
 
-use crate::paths::setup_file;
+use crate::files::setup_file;
 use bank_frames::{Ahead, read_whole};
 use bank_model::Setup;
 use bank_opening::{Stop, read_setup};
 use ofx_ports::{MemSource, ReaderSource};
-use ofx_types::{OutOfMemory, Text};
+use ofx_types::OutOfMemory;
 use record_files::{Cause, bound_text, cause_of};
 use std::alloc::Global;
 use std::fs;
@@ -21,10 +21,10 @@ pub struct SetupFile {
 }
 
 impl SetupFile {
-    /// Reads the file that the second word names.
-    pub fn read(rt: &HostRuntime, arguments: &[Text]) -> Result<SetupFile, OutOfMemory> {
+    /// Reads the file at a path.
+    pub fn read(rt: &HostRuntime, path: &str) -> Result<SetupFile, OutOfMemory> {
         let mut ahead = Ahead::new(rt.alloc())?;
-        let cause = match setup_file(rt, arguments) {
+        let cause = match setup_file(rt, path) {
             Ok(file) => read_into(file, &mut ahead),
             Err(error) => Some(cause_of(error)),
         };

@@ -1,10 +1,10 @@
 //! What people are told after the fixed first line of an end: where, why, and what to do.
 
+use crate::files::Files;
 use crate::keepers::ON_DISK;
-use crate::paths::{RECORDS, SETUP, named};
 use crate::setup_file::SetupFile;
-use command_help::text_at;
-use ofx_types::{Note, Text, Told};
+use bank_arguments::Command;
+use ofx_types::{Note, Told};
 use record_files::{
     Cause, is_open_to_others, open_on_disk, wanted_in, why_stopped_on_disk, why_stopped_on_sqlite,
 };
@@ -15,49 +15,54 @@ use std::io;
 pub fn report_why(
     rt: &HostRuntime,
     end: Told,
-    arguments: &[Text],
+    command: Command<'_>,
+    files: Files<'_>,
     setup: &SetupFile,
     unopened: Option<Cause>,
 ) {
     let _ = match end.status.0 {
-        3 | 10 => report_setup(rt, end.note, arguments, setup),
-        4 => report_input(rt, arguments),
-        5 => report_read(rt, arguments, setup),
+        3 => report_setup(rt, end.note, files.setup, setup),
+        4 => report_input(rt, command),
+        5 => report_read(rt, command, files.setup, setup),
         6 => rt.eprintln(
             "standard output: it can't be written; the disk is full, or its reader is gone",
         ),
-        8 => report_records(rt, arguments, unopened),
-        9 => report_record(rt, end.note, arguments),
+        8 => report_records(rt, files, unopened),
+        9 => report_record(rt, end.note, files.records_word()),
+        10 => report_letter(rt, end.note, command, files.setup),
         _ => Ok(()),
     };
 }
 
-/// Says what is wrong with the setup, or missing in it.
-fn report_setup(
-    rt: &HostRuntime,
-    note: Note,
-    arguments: &[Text],
-    setup: &SetupFile,
-) -> io::Result<()> {
-    let path = text_at(arguments, SETUP);
+/// Says what is wrong with the setup at a path.
+fn report_setup(rt: &HostRuntime, note: Note, path: &str, setup: &SetupFile) -> io::Result<()> {
     match note {
         Note::Place(line) => {
             let wanted = wanted_in(setup.bytes(), line);
             eprintln!(rt; "{path}: line {line}: {wanted}")
         }
-        Note::NoUser => {
-            let user = text_at(arguments, 3);
+        _ => Ok(()),
+    }
+}
+
+/// Says why no letter can be written, for the setup at a path.
+fn report_letter(rt: &HostRuntime, note: Note, command: Command<'_>, path: &str) -> io::Result<()> {
+    match (note, command) {
+        (Note::NoUser, Command::Mail(letter)) => {
+            let user = str::from_utf8(letter.name.as_bytes()).unwrap_or("");
             eprintln!(rt; "{path}: no line USER has the name '{user}'")
         }
-        Note::Full => eprintln!(rt; "{path}: all numbers that its line ENTRIES allows are given"),
+        (Note::Full, _) => {
+            eprintln!(rt; "{path}: all numbers that its line ENTRIES allows are given")
+        }
         _ => Ok(()),
     }
 }
 
 /// Says what the standard input wants.
-fn report_input(rt: &HostRuntime, arguments: &[Text]) -> io::Result<()> {
-    match text_at(arguments, 0) {
-        "mail" => rt.eprintln(
+fn report_input(rt: &HostRuntime, command: Command<'_>) -> io::Result<()> {
+    match command {
+        Command::Mail(_) => rt.eprintln(
             "standard input: a letter has 1 to 10000 bytes, and of those below a blank only tab, CR and LF",
         ),
         _ => rt.eprintln(
@@ -67,16 +72,20 @@ fn report_input(rt: &HostRuntime, arguments: &[Text]) -> io::Result<()> {
 }
 
 /// Says what couldn't be read.
-fn report_read(rt: &HostRuntime, arguments: &[Text], setup: &SetupFile) -> io::Result<()> {
-    let path = text_at(arguments, SETUP);
+fn report_read(
+    rt: &HostRuntime,
+    command: Command<'_>,
+    path: &str,
+    setup: &SetupFile,
+) -> io::Result<()> {
     match setup.cause() {
         Some(Cause::NoRights) => return eprintln!(rt; "{path}: no rights to read it"),
         Some(cause) => return eprintln!(rt; "{path}: {cause}"),
         None => {}
     }
-    match text_at(arguments, 0) {
-        "serve" => {
-            let port = text_at(arguments, 3);
+    match command {
+        Command::Serve(plan) => {
+            let port = plan.port;
             eprintln!(rt;
                 "port {port}: no more connections can be taken; another program may have it, rights may be missing, or too many files are open"
             )
@@ -86,15 +95,15 @@ fn report_read(rt: &HostRuntime, arguments: &[Text], setup: &SetupFile) -> io::R
 }
 
 /// Tells why the records failed.
-fn report_records(rt: &HostRuntime, arguments: &[Text], unopened: Option<Cause>) -> io::Result<()> {
+fn report_records(rt: &HostRuntime, files: Files<'_>, unopened: Option<Cause>) -> io::Result<()> {
+    let path = files.records_word();
     match unopened {
-        Some(cause) => report_cause(rt, arguments, Some(cause)),
-        None => report_cause(rt, arguments, stopped_cause(rt, arguments)),
+        Some(cause) => report_cause(rt, path, Some(cause)),
+        None => report_cause(rt, path, stopped_cause(rt, path)),
     }
 }
 
-fn report_cause(rt: &HostRuntime, arguments: &[Text], cause: Option<Cause>) -> io::Result<()> {
-    let path = text_at(arguments, RECORDS);
+fn report_cause(rt: &HostRuntime, path: &str, cause: Option<Cause>) -> io::Result<()> {
     match cause {
         Some(cause) => eprintln!(rt; "{path}: {cause}"),
         None => eprintln!(rt;
@@ -104,8 +113,7 @@ fn report_cause(rt: &HostRuntime, arguments: &[Text], cause: Option<Cause>) -> i
 }
 
 /// Why records failed that were opened, by a look at them now.
-fn stopped_cause(rt: &HostRuntime, arguments: &[Text]) -> Option<Cause> {
-    let path = named(arguments, RECORDS)?;
+fn stopped_cause(rt: &HostRuntime, path: &str) -> Option<Cause> {
     match path.strip_prefix(ON_DISK) {
         Some(file) => match open_on_disk(rt, file) {
             Ok(_) => why_stopped_on_disk(rt, file),
@@ -116,8 +124,7 @@ fn stopped_cause(rt: &HostRuntime, arguments: &[Text]) -> Option<Cause> {
 }
 
 /// Says what is wrong with a record.
-fn report_record(rt: &HostRuntime, note: Note, arguments: &[Text]) -> io::Result<()> {
-    let path = text_at(arguments, RECORDS);
+fn report_record(rt: &HostRuntime, note: Note, path: &str) -> io::Result<()> {
     match note {
         Note::Record(number, at) => {
             eprintln!(rt;
@@ -135,9 +142,9 @@ fn report_record(rt: &HostRuntime, note: Note, arguments: &[Text]) -> io::Result
 
 /// Says on the error stream where the setup or the records can be read by others. After a run that told nothing an empty line
 /// comes first, since the first line is that of a run that failed.
-pub fn report_open_files(rt: &HostRuntime, arguments: &[Text], is_first: bool) {
-    let setup = named(arguments, SETUP).unwrap_or("");
-    let records = named(arguments, RECORDS).unwrap_or("");
+pub fn report_open_files(rt: &HostRuntime, files: Files<'_>, is_first: bool) {
+    let setup = files.setup;
+    let records = files.records_word();
     let file = records.strip_prefix(ON_DISK).unwrap_or(records);
     let is_setup_open = is_open_to_others(rt, setup);
     let are_records_open = records != "-" && is_open_to_others(rt, file);

@@ -1,10 +1,11 @@
 //! The command `import`: it runs over the standard streams and the file of a register, and people are told how it ended.
 
 use crate::messages::{plain, report, report_usage};
-use crate::parties::{STORE, named};
+use crate::parties::STORE;
 use crate::usage::help_text;
 use ofx_ports::{FileStore, MemStore, ReaderSource, StoreKeeper, WriterSink};
 use ofx_types::{OutOfMemory, Text, Told};
+use program_arguments::named;
 use register_run::register_told;
 use std::io;
 
@@ -14,7 +15,7 @@ pub fn import(rt: HostRuntime, arguments: &[Text]) -> Told {
     report(&rt, end);
     let _ = report_advice(&rt, end.status.0, named(arguments, STORE).unwrap_or("?"));
     if end.status.0 == 2 {
-        report_usage(&rt);
+        report_usage(&rt, &"import takes one argument: the file of the register");
     }
     end
 }

@@ -1,57 +1,62 @@
-//! The customer's program: it hands its words, a link to the bank, its store, the clock and the standard output to the proved
+//! The customer's program: it hands its order, a link to the bank, its store, the clock and the standard output to the proved
 //! run, and tells people on the error stream why the run ended.
 #![tactic(auto)]
 
-mod command_line;
 mod importing;
 mod messages;
 mod parties;
 mod usage;
 
-use crate::command_line::{Request, read_arguments};
 use crate::importing::import;
-use crate::messages::{VERSION, plain, report, report_more, report_usage};
-use crate::parties::{COMMAND, STORE, link_for, named};
+use crate::messages::{RefusedStore, VERSION, plain, report, report_more, report_usage};
+use crate::parties::{STORE, link_for};
 use crate::usage::help_text;
-use client_arguments::{ArgumentsFault, Order, order_of};
-use client_run::client_told;
+use client_arguments::{ArgumentsFault, Order, mistake_in, order_of};
+use client_run::order_told;
 use ofx_ports::{FileStore, MemStore, StoreKeeper, SystemClock, WriterSink};
 use ofx_types::{OutOfMemory, Text, Told};
-use std::io;
+use program_arguments::{Unread, read_words, text_at};
 use std::process::ExitCode;
+use std::{fmt, io};
 
 fn main(rt: HostRuntime) -> ExitCode {
-    let end = match read_arguments(&rt) {
-        Request::Help => match help_text(rt.alloc()) {
-            Ok(text) => ended(&rt, printed(&rt, &text)),
-            Err(_) => ended(&rt, plain(7)),
-        },
-        Request::Version => ended(&rt, printed(&rt, VERSION)),
-        Request::Run(arguments) => match named(&arguments, COMMAND) {
-            Some("import") => import(rt, &arguments),
-            _ => return ordered(rt, &arguments),
-        },
-        Request::Usage => unordered(&rt),
-        Request::NoMemory => ended(&rt, plain(7)),
+    let end = match read_words(&rt, &["--help", "--version"]) {
+        Ok(arguments) => asked(rt, &arguments),
+        Err(Unread::NoMemory) => ended(&rt, plain(7)),
+        Err(unread) => unordered(&rt, &unread),
     };
     ExitCode::from(end.status.0)
 }
 
-/// Does what the arguments order. A link and a store are opened only where the arguments have their form, since opening may wait.
-fn ordered(rt: HostRuntime, arguments: &[Text]) -> ExitCode {
-    let end = match order_of(arguments) {
+/// Does what the arguments ask, which are texts.
+fn asked(rt: HostRuntime, arguments: &[Text]) -> Told {
+    match text_at(arguments, 0) {
+        "--help" => match help_text(rt.alloc()) {
+            Ok(text) => ended(&rt, printed(&rt, &text)),
+            Err(_) => ended(&rt, plain(7)),
+        },
+        "--version" => ended(&rt, printed(&rt, VERSION)),
+        "import" => import(rt, arguments),
+        _ => ordered(rt, arguments),
+    }
+}
+
+/// Does what the arguments order. A link and a store are opened only where the arguments have their form, since opening may
+/// wait.
+fn ordered(rt: HostRuntime, arguments: &[Text]) -> Told {
+    match order_of(arguments) {
         Ok(order) => {
-            let end = ended(&rt, ran(rt, arguments, &order));
-            report_more(&rt, end, order.port, named(arguments, STORE));
+            let store = text_at(arguments, STORE);
+            let end = ended(&rt, ran(rt, store, &order));
             if end.status.0 == 2 {
-                report_usage(&rt);
+                report_usage(&rt, &RefusedStore(store));
             }
+            report_more(&rt, end, order.port, store);
             end
         }
-        Err(ArgumentsFault::Usage) => unordered(&rt),
+        Err(ArgumentsFault::Usage) => unordered(&rt, &mistake_in(arguments)),
         Err(ArgumentsFault::OutOfMemory) => ended(&rt, plain(7)),
-    };
-    ExitCode::from(end.status.0)
+    }
 }
 
 /// An end, which is told in a line.
@@ -60,37 +65,31 @@ fn ended(rt: &HostRuntime, end: Told) -> Told {
     end
 }
 
-/// The end of arguments without a form, which is told with the usage.
-fn unordered(rt: &HostRuntime) -> Told {
+/// The end of arguments without a form, which is told with the usage and, in the last line, what is wrong with them.
+fn unordered<M: fmt::Display>(rt: &HostRuntime, mistake: &M) -> Told {
     let end = ended(rt, plain(2));
-    report_usage(rt);
+    report_usage(rt, mistake);
     end
 }
 
-/// The end of the run over the store that the second word names: the text in a file, or none with `-`.
-fn ran(rt: HostRuntime, arguments: &[Text], order: &Order) -> Told {
-    match named(arguments, STORE) {
-        Some("-") => run_over(rt, arguments, order, &mut MemStore::new(rt.alloc())),
-        Some(path) => match FileStore::at(rt.alloc(), rt, path) {
-            Ok(mut store) => run_over(rt, arguments, order, &mut store),
+/// The end of the run over the store of that name: the text in a file, or none with `-`.
+fn ran(rt: HostRuntime, store: &str, order: &Order) -> Told {
+    match store {
+        "-" => run_over(rt, order, &mut MemStore::new(rt.alloc())),
+        path => match FileStore::at(rt.alloc(), rt, path) {
+            Ok(mut store) => run_over(rt, order, &mut store),
             Err(OutOfMemory) => plain(7),
         },
-        None => plain(2),
     }
 }
 
-/// The end of a run over a store, a link to the bank, and the standard output.
-fn run_over<S: StoreKeeper>(
-    rt: HostRuntime,
-    arguments: &[Text],
-    order: &Order,
-    store: &mut S,
-) -> Told {
+/// The end of the run over a store, a link to the bank, and the standard output.
+fn run_over<S: StoreKeeper>(rt: HostRuntime, order: &Order, store: &mut S) -> Told {
     let alloc = rt.alloc();
     let mut link = link_for(&rt, order);
     let mut clock = SystemClock::new(rt);
     let mut out = WriterSink::new(io::writer(&rt));
-    client_told(alloc, arguments, &mut link, store, &mut clock, &mut out)
+    order_told(alloc, order, &mut link, store, &mut clock, &mut out)
 }
 
 /// The end of printing a text on the standard output.

@@ -2,7 +2,7 @@
 
 use crate::usage::help_text;
 use ofx_types::{Note, Status, Told};
-use std::io;
+use std::{fmt, io};
 
 /// What `--version` prints.
 pub const VERSION: &str = "ofxclient 0.2.0\n";
@@ -20,10 +20,28 @@ pub fn report(rt: &impl Eprint, end: Told) {
     let _ = report_cause(rt, end);
 }
 
-/// Says how the program is used, where there is memory for it.
-pub fn report_usage(rt: &HostRuntime) {
+/// Says how the program is used and, in the last line, what is wrong. Nothing where memory is refused for it.
+pub fn report_usage<M: fmt::Display>(rt: &HostRuntime, mistake: &M) {
     if let Ok(text) = help_text(rt.alloc()) {
-        let _ = rt.eprint(&text);
+        let _ = report_mistake(rt, &text, mistake);
+    }
+}
+
+fn report_mistake<M: fmt::Display>(rt: &HostRuntime, text: &str, mistake: &M) -> io::Result<()> {
+    eprintln!(rt; "{text}\n{mistake}")
+}
+
+/// A store that an order can't use.
+#[derive(Clone, Copy)]
+pub struct RefusedStore<'a>(pub &'a str);
+
+impl fmt::Display for RefusedStore<'_> {
+    fn fmt<W: fmt::Write>(&self, f: &mut fmt::Formatter<W>) -> fmt::Result {
+        let store = self.0;
+        write!(
+            f,
+            "{store} is another client's or another user's, or has no number left for a file: name its client, or another store"
+        )
     }
 }
 
@@ -49,16 +67,13 @@ fn report_cause(rt: &impl Eprint, end: Told) -> io::Result<()> {
     }
 }
 
-/// Tells on a second line where it was and what to do, for a run over the bank at a port and the store of that word.
-pub fn report_more(rt: &impl Eprint, end: Told, port: u16, store: Option<&str>) {
-    let _ = report_offset(rt, end.status.0, port, store.unwrap_or("?"));
+/// Tells in a line where it was and what to do, for a run over the bank at a port and the store of that word.
+pub fn report_more(rt: &impl Eprint, end: Told, port: u16, store: &str) {
+    let _ = report_offset(rt, end.status.0, port, store);
 }
 
 fn report_offset(rt: &impl Eprint, status: u8, port: u16, store: &str) -> io::Result<()> {
     match status {
-        2 => eprintln!(rt;
-            "{store} is another client's or another user's, or has no number left for a file: name its client, or another store"
-        ),
         5 | 17 => eprintln!(rt;
             "the bank at 127.0.0.1:{port} gave no whole reply: see that it serves there; a file that was made is sent again by the next run"
         ),

@@ -1,0 +1,4 @@
+pub mod Arguments
+pub mod Bounds
+pub mod Plans
+pub mod Reading

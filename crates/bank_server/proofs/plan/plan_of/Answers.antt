@@ -1,8 +1,0 @@
-use Rattle.bank_server.proofs.Plans.{plan_read}
-use Rattle.bank_server.proofs.plan.plan_of.Goals as goal
-
-pub returns-then-is_serve : goal.returns-then-is_serve
-returns-then-is_serve c =
-    plan_read c.args.arguments.now c.command-item.result c._setup-item.result c._records-item.result c.port-item.result c.workers-item.result c.most-item.result c.numbers_of.result
-    c.in-len6.len_at_least c.in-len6.len_below c.command-item.is c._setup-item.is c._records-item.is c.port-item.is c.workers-item.is c.most-item.is
-    (c.is_serve.ensures.0 c.if-is_serve.true) c.numbers_of.ensures
