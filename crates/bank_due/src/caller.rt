@@ -5,12 +5,9 @@ ghost use Rattle.std.specs.Prelude.{None};
 use crate::advancer::Advancer;
 use bank_model::{Printer, SubmitFault};
 use bank_shared::{Advance, Bank, BankName, Pass};
-use ofx_ports::{Gate, Keeper, OpenGate};
+use ofx_ports::{Gate, Keeper};
 use ofx_types::Moment;
 use std::sync::Wait;
-
-/// The call of a gate before due work is looked for.
-const DUE_WORK: u64 = 1 << 32;
 
 /// A caller of a bank with its pass. It says nothing of the bank's journal, since other callers may come between.
 #[derive(Drop)]
@@ -26,8 +23,6 @@ impl<'a, R: Wait, N: BankName, K: Keeper, P: Printer, G: Gate> Advancer
     ghost knows = { λ _. None };
 
     fn advance(&mut self, at: Moment) -> Result<Advance, SubmitFault> {
-        // The gate is passed here: a call of a trait may not hand on what is shared by threads.
-        self.gate.pass(DUE_WORK);
-        self.bank.advance(self.rt, self.pass, at, &OpenGate)
+        self.bank.advance(self.rt, self.pass, at, self.gate)
     }
 }

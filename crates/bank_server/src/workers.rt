@@ -58,7 +58,7 @@ pub fn serve_all<
     L: Link,
     D: Doorway<L>,
     C: Clock + Drop + Send,
-    G: Gate,
+    G: Gate + Sync,
 >(
     rt: &R,
     alloc: Global,
@@ -94,7 +94,7 @@ fn all_run<
     L: Link,
     D: Doorway<L>,
     C: Clock + Drop + Send,
-    G: Gate,
+    G: Gate + Sync,
 >(
     rt: &R,
     alloc: Global,

@@ -1,20 +1,19 @@
 //! A bank that has opened from its records, and isn't begun yet.
 
-ghost use Rattle.std.specs.Prelude.{◌≡◌, ℕ, ◌≤◌, ◌⊎◌, [], false, pos, ◌≤ℤ◌, All, None, IsSome, IsSomeAnd, IfOk, IfErr, IsErrAnd, MatchResult};
+ghost use Rattle.std.specs.Prelude.{◌≡◌, ℕ, ◌≤◌, ◌⊎◌, [], false, None, IsSome, IsSomeAnd, IfOk, IfErr, IsErrAnd, MatchResult};
 ghost use Rattle.ofx_ports.specs.Faults.{CountsFaults};
 ghost use Rattle.ofx_ports.specs.Known.{Stays};
 ghost use Rattle.bank_model.specs.declared.event.State.{State};
 ghost use Rattle.bank_model.specs.Rules.{opening_state};
 ghost use Rattle.bank_model.specs.SetupForm.{IsWithinLimits};
 ghost use Rattle.event_codec.specs.Records.{Reopens};
-ghost use Rattle.bank_solo.specs.Solo.{AreAccountsIn, accounts_in};
 ghost use Rattle.bank_replay.specs.Opening.{RecordsGive, HasNoForm, IsNotLegal, HasCause};
 ghost use Rattle.bank_replay.specs.Replay.{IsOfTheOutside};
 
 use crate::journal::Journal;
 use crate::locked_bank::LockedBank;
 use crate::name::BankName;
-use bank_accounts::{Account, AccountPool};
+use bank_accounts::AccountPool;
 use bank_core::Book;
 use bank_model::{Printer, Setup};
 use bank_replay::{OpenFault, reopen};
@@ -26,9 +25,6 @@ use std::marker::Model;
 use std::snapshot::Snapshot;
 
 /// A bank that has opened from its records.
-///
-/// It has its accounts twice, in the pool for a bank of many callers and in a list for one caller, so that neither takes memory
-/// when it begins: one of both is used.
 pub struct Opened<K: Keeper, P: Printer> {
     alloc: Global,
     setup: Setup,
@@ -36,14 +32,14 @@ pub struct Opened<K: Keeper, P: Printer> {
     opened: Snapshot<K>,
     keeper: K,
     book: Book<P>,
-    accounts: Vec<Account>,
+    // all accounts, so that a bank takes no memory when it begins
     pool: AccountPool,
 }
 
 impl<K: Keeper, P: Printer> Model for Opened<K, P> {
     ghost use Rattle.std.specs.Prelude.{◌≡◌, false};
     ghost use Rattle.bank_model.specs.SetupForm.{IsWithinLimits};
-    ghost use Rattle.bank_solo.specs.Solo.{AreAccountsIn, accounts_in};
+    ghost use Rattle.bank_solo.specs.Solo.{accounts_in};
     ghost use Rattle.ofx_ports.specs.Known.{Stays};
     ghost use Rattle.bank_replay.specs.Opening.{RecordsGive};
     ghost use Rattle.bank_shared.specs.OpenedView.{OpenedView};
@@ -59,7 +55,7 @@ impl<K: Keeper, P: Printer> Model for Opened<K, P> {
     } };
 
     ghost invariant = { λ o. (o.book.setup ≡ o.setup) × IsWithinLimits o.setup × (K.unsettled o.keeper ≡ false)
-        × RecordsGive o.setup (K.records o.opened.value) o.book.state × Stays (K.records o.opened.value) (K.records o.keeper) × AreAccountsIn o.setup o.book.state o.accounts.items
+        × RecordsGive o.setup (K.records o.opened.value) o.book.state × Stays (K.records o.opened.value) (K.records o.keeper)
         × (o.pool ≡ accounts_in o.setup o.book.state) };
 }
 
@@ -71,7 +67,6 @@ impl<K: Keeper, P: Printer> Drop for Opened<K, P> {
             opened: _,
             keeper: _,
             book: _,
-            accounts: _,
             pool: _,
         } = self;
     }
@@ -120,7 +115,7 @@ impl<K: Keeper, P: Printer> Opened<K, P> {
         };
         match reopen(alloc, keys, &mut keeper, setup, printer) {
             Err(fault) => Err((fault, keeper)),
-            Ok((book, accounts)) => match in_pool(alloc, &book, &accounts) {
+            Ok((book, accounts)) => match AccountPool::from_vec(alloc, accounts) {
                 Err(OutOfMemory) => Err((OpenFault::OutOfMemory, keeper)),
                 Ok(pool) => Ok(Opened {
                     alloc,
@@ -128,15 +123,14 @@ impl<K: Keeper, P: Printer> Opened<K, P> {
                     opened,
                     keeper,
                     book,
-                    accounts,
                     pool,
                 }),
             },
         }
     }
 
-    /// The bank for one caller: its setup, its journal and its accounts in the order of their numbers. Takes no memory.
-    pub fn solo<N: BankName>(self) -> (Setup, Journal<N, K, P>, Vec<Account>)
+    /// The setup, and the locked bank. Takes no memory.
+    pub fn into_locked<N: BankName>(self) -> (Setup, LockedBank<N, K, P>)
         requires setup { self.setup ≡ N.setup }
         requires opening { self.state ≡ N.opening }
         requires first { self.opened ≡ N.first }
@@ -147,7 +141,6 @@ impl<K: Keeper, P: Printer> Opened<K, P> {
         ensures pending { result.1.pending ≡ None }
         ensures records { result.1.records ≡ self.records }
         ensures holds { RecordsGive N.setup N.first N.opening }
-        ensures accounts { AreAccountsIn N.setup N.opening result.2.items }
         ensures within { IsWithinLimits N.setup }
     {
         let Opened {
@@ -156,60 +149,9 @@ impl<K: Keeper, P: Printer> Opened<K, P> {
             opened: _,
             keeper,
             book,
-            accounts,
-            pool: _,
-        } = self;
-        let journal = Journal::new(alloc, keeper, book);
-        (setup, journal, accounts)
-    }
-
-    /// The setup, and the locked bank. Takes no memory.
-    pub(crate) fn into_locked<N: BankName>(self) -> (Setup, LockedBank<N, K, P>)
-        requires setup { self.setup ≡ N.setup }
-        requires opening { self.state ≡ N.opening }
-        requires first { self.opened ≡ N.first }
-        ensures setup { result.0 ≡ N.setup }
-        ensures of { result.1.setup ≡ N.setup }
-        ensures pending { result.1.pending ≡ None }
-        ensures within { IsWithinLimits N.setup }
-    {
-        let Opened {
-            alloc,
-            setup,
-            opened: _,
-            keeper,
-            book,
-            accounts: _,
             pool,
         } = self;
         let journal = Journal::new(alloc, keeper, book);
         (setup, LockedBank::new(alloc, journal, pool))
     }
-}
-
-/// Copies of all accounts of the bank of a book, in the pool.
-fn in_pool<P: Printer>(
-    alloc: Global,
-    book: &Book<P>,
-    accounts: &[Account],
-) -> Result<AccountPool, OutOfMemory>
-    requires { AreAccountsIn book.now.setup book.now.state accounts.now }
-    ensures { IfOk result (λ pool. pool ≡ accounts_in book.now.setup book.now.state) }
-{
-    // For the proof alone: its contract says that no balance is below zero.
-    let _setup = book.setup();
-    let copies = copied(alloc, accounts)?;
-    AccountPool::from_vec(alloc, copies)
-}
-
-/// Copies of accounts whose balances aren't below zero.
-fn copied(alloc: Global, accounts: &[Account]) -> Result<Vec<Account>, OutOfMemory>
-    requires { All (λ account. pos 0 ≤ℤ account.balance.0) accounts.now }
-    ensures { IfOk result (λ copies. copies.items ≡ accounts.now) }
-{
-    let mut copies = Vec::with_capacity(alloc, accounts.len())?;
-    for account in accounts {
-        copies.push(Account::new(account.number(), account.balance()))?;
-    }
-    Ok(copies)
 }

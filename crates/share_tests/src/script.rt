@@ -52,15 +52,8 @@ fn reported<N: BankName, R: Abort>(
     requires opening { opened.state ≡ N.opening }
     requires first { opened.opened ≡ N.first }
 {
-    let (_setup, journal, accounts) = opened.solo::<N>();
-    let locked = LockedBank::with_accounts(alloc, journal, accounts);
-    reported_by(
-        rt,
-        alloc,
-        &mut locked.expect(rt, "a locked bank"),
-        clock,
-        calls,
-    )
+    let (_setup, mut locked) = opened.into_locked::<N>();
+    reported_by(rt, alloc, &mut locked, clock, calls)
 }
 
 /// What the calls of a locked bank tell and leave pending, and the number of the next entry.

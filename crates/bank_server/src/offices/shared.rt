@@ -7,7 +7,7 @@ use bank_connection::laws::newest_are_reported;
 use bank_connection::{Office, ServeError, Served, serve_link};
 use bank_model::{Printer, Setup, SubmitFault};
 use bank_shared::{Bank, BankName, Pass};
-use ofx_ports::{Clock, Gate, Keeper, Link, OpenGate};
+use ofx_ports::{Clock, Gate, Keeper, Link};
 use ofx_types::{Moment, OutOfMemory, RequestFile, UserId};
 use std::alloc::Global;
 use std::sync::Wait;
@@ -39,10 +39,8 @@ impl<'a, N: BankName, K: Keeper, P: Printer, R: Wait, G: Gate> Office
         file: &RequestFile,
         at: Moment,
     ) -> Result<Vec<u8>, SubmitFault> {
-        // The gate is passed here and not by the bank: the prover doesn't cover handing a shared gate on from a trait's method.
-        self.gate.pass(u64::from(user.0));
         self.bank
-            .submit(self.rt, self.pass, user, file, at, &OpenGate)
+            .submit(self.rt, self.pass, user, file, at, self.gate)
     }
 
     fn look(

@@ -44,20 +44,20 @@ impl<N: BankName, K: Keeper, P: Printer> Model for SoloOffice<N, K, P> {
 }
 
 impl<N: BankName, K: Keeper, P: Printer> SoloOffice<N, K, P> {
-    /// The office of a bank that has opened.
-    pub fn new(alloc: Global, opened: Opened<K, P>) -> Result<SoloOffice<N, K, P>, OutOfMemory>
+    /// The office of a bank that has opened. Takes no memory.
+    pub fn new(opened: Opened<K, P>) -> SoloOffice<N, K, P>
         requires setup { opened.setup ≡ N.setup }
         requires opening { opened.state ≡ N.opening }
         requires first { opened.opened ≡ N.first }
-        ensures log { IfOk result (λ office. office.locked.log ≡ []) }
-        ensures records { IfOk result (λ office. office.locked.records ≡ opened.records) }
-        ensures polled { IfOk result (λ office. office.polled ≡ []) }
+        ensures log { result.locked.log ≡ [] }
+        ensures records { result.locked.records ≡ opened.records }
+        ensures polled { result.polled ≡ [] }
     {
-        let (_setup, journal, accounts) = opened.solo();
-        Ok(SoloOffice {
-            locked: LockedBank::with_accounts(alloc, journal, accounts)?,
+        let (_setup, locked) = opened.into_locked();
+        SoloOffice {
+            locked,
             polls: PollTrace::Start,
-        })
+        }
     }
 
     /// The locked bank, lent, whose journal has the log. Takes no memory.

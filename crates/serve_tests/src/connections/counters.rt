@@ -53,8 +53,8 @@ fn alone<N: BankName, R: Abort>(
     requires opening { opened.state ≡ N.opening }
     requires first { opened.opened ≡ N.first }
 {
-    let office = SoloOffice::<N, _, _>::new(alloc, opened);
-    served_alone(rt, alloc, &mut office.expect(rt, "an office"), bytes)
+    let mut office = SoloOffice::<N, _, _>::new(opened);
+    served_alone(rt, alloc, &mut office, bytes)
 }
 
 /// The same by the bank's office.
