@@ -1,3 +1,4 @@
 mod Commands
 mod Moments
 mod Plans
+pub mod SameCommand

@@ -14,5 +14,6 @@ mod topic;
 
 pub use command::{AnswerArguments, Command, LetterArguments, Plan};
 pub use mistake::Mistake;
+pub use plan::plan_of;
 pub use reading::command_of;
 pub use topic::{Topic, path_mistake};

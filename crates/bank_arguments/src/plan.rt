@@ -16,7 +16,7 @@ pub(crate) const MAX_WORKERS: u64 = 64;
 pub(crate) const MAX_CONNECTIONS: u64 = 4_294_967_295;
 
 /// What the arguments say: `serve`, the setup, the records, PORT, WORKERS and CONNECTIONS. None where they have another form.
-pub(crate) fn plan_of(arguments: &[Text]) -> Option<Plan>
+pub fn plan_of(arguments: &[Text]) -> Option<Plan>
     ensures { ReadsPlan arguments.now result }
 {
     match arguments {

@@ -1,5 +1,5 @@
 -- Arguments that no command here has.
-use Rattle.std.proofs.Common.{◌≡◌, ℕ, List, Result, Ok, Err, Option, refl, subst, ⊤}
+use Rattle.std.proofs.Common.{◌≡◌, ℕ, List, Result, Ok, Err, Option, refl, subst}
 use Rattle.ofx_types.specs.declared.number.Moment.{Moment}
 use Rattle.bank_arguments.specs.Arguments.{AreArguments, AreDueArguments, AreMailArguments, AreSeedArguments}
 use Rattle.bank_arguments.specs.Reading.{Asks, IsAnswer, IsLetter}
@@ -11,7 +11,7 @@ use Rattle.bank_commands.specs.Rehearsing.{HaveNoForm, RunsElsewhere}
 
 abbrev elsewhere_in : Result Command Mistake → Type 0
 elsewhere_in (Ok command) = RunsElsewhere command
-elsewhere_in (Err mistake) = ⊤
+elsewhere_in (Err mistake) = Unit {0}
 
 pub elsewhere_usage : (arguments : List (List ℕ)) (result : Result Command Mistake) → ((at : Option Moment) → AreArguments arguments at → IsAnswer at result)
     → (AreDueArguments arguments → result ≡ Ok Due) → ((name subject : List ℕ) → AreMailArguments arguments name subject → IsLetter name subject result)
@@ -49,12 +49,3 @@ elsewhere_other Due elsewhere = elsewhere
 elsewhere_other (Mail letter) elsewhere = elsewhere
 elsewhere_other (Rehearse seed) elsewhere = absurd elsewhere
 elsewhere_other (Serve plan) elsewhere = tt
-
-abbrev the_result : Command → Result Command Mistake
-the_result command = Ok command
-
-pub same_command : (one other : Command) → the_result one ≡ the_result other → one ≡ other
-same_command one other e = cc
-
-pub same_seed : (command : Command) (one other : ℕ) → command ≡ Rehearse one → command ≡ Rehearse other → one ≡ other
-same_seed command one other e f = cc

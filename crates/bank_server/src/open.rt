@@ -6,10 +6,10 @@ ghost use Rattle.ofx_types.specs.declared.told.Note.TheVariants.{Plain};
 ghost use Rattle.bank_replay.specs.Opening.{RecordsGive};
 ghost use Rattle.bank_opening.specs.Reports.{reported};
 ghost use Rattle.bank_opening.specs.SetupRead.{IsSetupOf};
-ghost use Rattle.bank_arguments.specs.Plans.{AreServeArguments, IsServeUsage, ReadsPlan};
+ghost use Rattle.bank_arguments.specs.Plans.{AreServeArguments, IsServeUsage};
 ghost use Rattle.bank_server.specs.Opening.{outside, RefusesOpening};
 
-use bank_arguments::{Command, Plan, command_of};
+use bank_arguments::{Plan, plan_of};
 use bank_model::Printer;
 use bank_model::laws::one_setup;
 use bank_opening::laws::one_bank;
@@ -61,16 +61,6 @@ pub fn serve_open<A: Source, K: Keeper, P: Printer>(
     match open_shared(alloc, keys, setup, keeper, printer) {
         Ok(opened) => Ok((plan, opened)),
         Err(refused) => Err(refused),
-    }
-}
-
-/// What the arguments of `serve` say. None where the arguments have another form.
-fn plan_of(arguments: &[Text]) -> Option<Plan>
-    ensures { ReadsPlan arguments.now result }
-{
-    match command_of(arguments) {
-        Ok(Command::Serve(plan)) => Some(plan),
-        _ => None,
     }
 }
 

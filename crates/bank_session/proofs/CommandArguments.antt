@@ -1,10 +1,8 @@
 -- Arguments of the three commands, and commands that are none of them.
-use Rattle.std.proofs.Common.{◌≡◌, ℕ, List, Option, Result, Ok, Err, subst, ⊤}
+use Rattle.std.proofs.Common.{◌≡◌, ℕ, List, Option, Result, Ok, Err, subst}
 use Rattle.ofx_types.specs.declared.number.Moment.{Moment}
 use Rattle.bank_arguments.specs.Arguments.{AreArguments, AreDueArguments, AreMailArguments}
 use Rattle.bank_arguments.specs.Reading.{Asks, IsAnswer, IsLetter}
-use Rattle.bank_arguments.specs.declared.command.AnswerArguments.{AnswerArguments}
-use Rattle.bank_arguments.specs.declared.command.LetterArguments.{LetterArguments}
 use Rattle.bank_arguments.specs.declared.command.Command.{Command}
 use Rattle.bank_arguments.specs.declared.command.Command.TheVariants.{Answer, Check, Due, Mail, Rehearse, Serve}
 use Rattle.bank_arguments.specs.declared.mistake.Mistake.{Mistake}
@@ -13,7 +11,7 @@ use Rattle.bank_session.specs.Arguments.{IsUsage, IsOther}
 -- what was read is none of the three
 abbrev other_in : Result Command Mistake → Type 0
 other_in (Ok command) = IsOther command
-other_in (Err mistake) = ⊤
+other_in (Err mistake) = Unit {0}
 
 -- Arguments that ask for another command have no form here.
 pub other_usage : (arguments : List (List ℕ)) (result : Result Command Mistake) → ((at : Option Moment) → AreArguments arguments at → IsAnswer at result)
@@ -33,17 +31,3 @@ usage_other arguments Due asks usage = usage.undue asks
 usage_other arguments (Mail letter) asks usage = usage.unmailed (letter.name.now, letter.subject.now, asks)
 usage_other arguments (Rehearse seed) asks usage = tt
 usage_other arguments (Serve plan) asks usage = tt
-
--- ---- what a command is
-
-abbrev the_result : Command → Result Command Mistake
-the_result command = Ok command
-
-pub same_command : (one other : Command) → the_result one ≡ the_result other → one ≡ other
-same_command one other e = cc
-
-pub same_answer : (command : Command) (one other : AnswerArguments) → command ≡ Answer one → command ≡ Answer other → one ≡ other
-same_answer command one other e f = cc
-
-pub same_letter : (command : Command) (one other : LetterArguments) → command ≡ Mail one → command ≡ Mail other → one ≡ other
-same_letter command one other e f = cc

@@ -177,20 +177,20 @@ pub fn session_told<A: Source, B: Source, W: Sink, K: Keeper, C: Clock>(
     clock: &mut C,
 ) -> Told
     requires settled { K.unsettled keeper.old ≡ false }
-    ensures usage { (result.status.0 ≡ 2) ↔ IsOther command }
+    ensures usage { (result.status.0 ≡ 2) ↔ IsOther command.entry }
     ensures plain { result.status.0 ≡ 2 → result.note ≡ Note.Plain }
-    ensures unread { IsOther command → (setup.new ≡ setup.old) × (input.new ≡ input.old) × (out.new ≡ out.old) × (keeper.new ≡ keeper.old) × (clock.new ≡ clock.old) }
-    ensures run { (found : WhatIsAnswered) → command ≡ Command.Answer found → IsRun found.at
+    ensures unread { IsOther command.entry → (setup.new ≡ setup.old) × (input.new ≡ input.old) × (out.new ≡ out.old) × (keeper.new ≡ keeper.old) × (clock.new ≡ clock.old) }
+    ensures run { (found : WhatIsAnswered) → command.entry ≡ Command.Answer found → IsRun found.at
         (⟦<(A, B, W, K, C) as Ports>⟧.seen (setup.old, input.old, out.old, keeper.old, clock.old))
         (⟦<(A, B, W, K, C) as Ports>⟧.seen (setup.new, input.new, out.new, keeper.new, clock.new)) result }
-    ensures due { command ≡ Command.Due → (input.new ≡ input.old) × IsDueCommand
+    ensures due { command.entry ≡ Command.Due → (input.new ≡ input.old) × IsDueCommand
         (⟦<(A, B, W, K, C) as Ports>⟧.seen (setup.old, input.old, out.old, keeper.old, clock.old))
         (⟦<(A, B, W, K, C) as Ports>⟧.seen (setup.new, input.new, out.new, keeper.new, clock.new)) result }
-    ensures mail { (letter : TheLetter) → command ≡ Command.Mail letter → IsMailCommand letter.name.now letter.subject.now
+    ensures mail { (letter : TheLetter) → command.entry ≡ Command.Mail letter → IsMailCommand letter.name.now letter.subject.now
         (⟦<(A, B, W, K, C) as Ports>⟧.seen (setup.old, input.old, out.old, keeper.old, clock.old))
         (⟦<(A, B, W, K, C) as Ports>⟧.seen (setup.new, input.new, out.new, keeper.new, clock.new)) result }
     ensures settled { result.status.0 ≢ 8 → K.unsettled keeper.new ≡ false }
-    ensures clock { (found : WhatIsAnswered) (at : TheMoment) → command ≡ Command.Answer found → found.at ≡ Some at → clock.new ≡ clock.old }
+    ensures clock { (found : WhatIsAnswered) (at : TheMoment) → command.entry ≡ Command.Answer found → found.at ≡ Some at → clock.new ≡ clock.old }
 {
     one_setup();
     one_bank();

@@ -1,5 +1,4 @@
 -- A wish is within bounds in one way.
-use Rattle.std.proofs.Common.{IsProp}
 use Rattle.std.proofs.Props.{props}
 use Rattle.client_core.specs.declared.wish.Wish.{Wish}
 use Rattle.client_core.specs.declared.wish.Wish.TheVariants as wishes

@@ -304,5 +304,5 @@ module _ (setup : Setup) where
       }
 
 pub runs_act : RunsAreActs
-runs_act setup arguments before after what run client left saved sound found ended well =
-    run_acts setup run.order before run.runs.between after run.end run.runs.found run.runs.works client left saved sound found ended well run.runs.opens.finds run.runs.opens.stays
+runs_act setup arguments before after what run client left saved found ended well =
+    run_acts setup run.order before run.runs.between after run.end run.runs.found run.runs.works client left saved run.order.bounded found ended well run.runs.opens.finds run.runs.opens.stays

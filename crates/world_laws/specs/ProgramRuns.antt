@@ -3,7 +3,6 @@ use Rattle.std.specs.Prelude.{◌≡◌, ℕ, List, Some, Ok}
 use Rattle.ofx_types.specs.declared.told.Told.{Told}
 use Rattle.bank_model.specs.declared.setup.Setup.{Setup}
 use Rattle.client_saved.specs.declared.state.ClientState.{ClientState}
-use Rattle.client_arguments.specs.Reading.{IsInBounds}
 use Rattle.client_arguments.specs.declared.order.Order.{Order}
 use Rattle.client_run.specs.GoingOn.{left_by, IsSaved}
 use Rattle.client_run.specs.Run.{IsRun}
@@ -25,9 +24,8 @@ pub record IsActedOut (setup : Setup) (order : Order) (before after : PortsView)
   pub starts : before.store.text ≡ Some saved → IsClientIn order saved client
   pub stands : before.store.text ≡ Some saved → after.store.text ≡ Some last
 
--- Where no save of a run failed, all that it did of the client that it found are acts of that client. The wish is within
--- bounds, as that of all arguments that have a form.
+-- Where no save of a run failed, all that it did of the client that it found are acts of that client.
 abbrev pub RunsAreActs : Type 0
 RunsAreActs = (setup : Setup) (arguments : List (List ℕ)) (before after : PortsView) (what : Told) (run : IsRun arguments before after what)
-    (client left : ClientState) (saved : List ℕ) → IsInBounds run.order.wish → run.runs.found ≡ Ok client
+    (client left : ClientState) (saved : List ℕ) → run.runs.found ≡ Ok client
     → left_by run.order before after run.end run.runs ≡ Some left → IsSaved run.end → IsActedOut setup run.order before after client left saved

@@ -1,6 +1,7 @@
 use Rattle.std.proofs.Common.{Ok, refl}
 use Rattle.bank_arguments.specs.declared.command.Command.TheVariants.{Answer, Due, Mail, Rehearse}
-use Rattle.bank_commands.proofs.Commands.{elsewhere_usage, usage_elsewhere, same_command}
+use Rattle.bank_arguments.proofs.SameCommand.{same_command}
+use Rattle.bank_commands.proofs.Commands.{elsewhere_usage, usage_elsewhere}
 use Rattle.bank_commands.proofs.dispatch.bank_told.Goals as goal
 
 pub returns-in-Ok-clause-usage : goal.returns-in-Ok-clause-usage

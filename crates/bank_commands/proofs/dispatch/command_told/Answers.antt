@@ -1,7 +1,8 @@
 use Rattle.std.proofs.Common.{◌≡◌, refl, subst}
 use Rattle.bank_arguments.specs.declared.command.Command.{Command}
 use Rattle.bank_commands.specs.Rehearsing.{RunsElsewhere}
-use Rattle.bank_commands.proofs.Commands.{other_elsewhere, elsewhere_other, same_seed}
+use Rattle.bank_arguments.proofs.SameCommand.{same_seed}
+use Rattle.bank_commands.proofs.Commands.{other_elsewhere, elsewhere_other}
 use Rattle.bank_commands.proofs.dispatch.command_told.Goals as goal
 
 pub returns-in-Rehearse-clause-usage : goal.returns-in-Rehearse-clause-usage

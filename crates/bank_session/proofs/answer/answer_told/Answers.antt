@@ -1,6 +1,7 @@
 use Rattle.std.proofs.Common.{Ok, refl}
 use Rattle.bank_arguments.specs.declared.command.Command.TheVariants.{Answer, Due, Mail}
-use Rattle.bank_session.proofs.CommandArguments.{other_usage, usage_other, same_command}
+use Rattle.bank_arguments.proofs.SameCommand.{same_command}
+use Rattle.bank_session.proofs.CommandArguments.{other_usage, usage_other}
 use Rattle.bank_session.proofs.answer.answer_told.Goals as goal
 
 pub returns-in-Ok-clause-usage : goal.returns-in-Ok-clause-usage

@@ -3,7 +3,7 @@ use Rattle.bank_arguments.specs.declared.command.AnswerArguments.{AnswerArgument
 use Rattle.bank_arguments.specs.declared.command.LetterArguments.{LetterArguments}
 use Rattle.bank_arguments.specs.declared.command.Command.{Command}
 use Rattle.bank_session.specs.Arguments.{IsOther}
-use Rattle.bank_session.proofs.CommandArguments.{same_answer, same_letter}
+use Rattle.bank_arguments.proofs.SameCommand.{same_answer, same_letter}
 use Rattle.bank_session.proofs.StatusLemmas.{is_run, never_usage}
 use Rattle.bank_session.proofs.DueCommand.{is_due_command, due_never_usage}
 use Rattle.bank_session.proofs.MailLemmas.{is_mail_command, mail_never_usage}
@@ -59,3 +59,12 @@ returns-in-Mail-clause-mail g c letter is =
 
 pub returns-in-Mail-clause-settled : goal.returns-in-Mail-clause-settled
 returns-in-Mail-clause-settled g c = settled_reported c.send_letter.result c.report_of_end-in-Mail.result _ c.report_of_end-in-Mail.ensures c.send_letter.ensures.settled
+
+pub returns-in-Check-clause-usage : goal.returns-in-Check-clause-usage
+returns-in-Check-clause-usage g c = (λ two. rw c.in-Check.is tt, λ other. rw c.no_run.ensures refl)
+
+pub returns-in-Rehearse-clause-usage : goal.returns-in-Rehearse-clause-usage
+returns-in-Rehearse-clause-usage g c = (λ two. rw c.in-Rehearse.is tt, λ other. rw c.no_run-in-Rehearse.ensures refl)
+
+pub returns-in-Serve-clause-usage : goal.returns-in-Serve-clause-usage
+returns-in-Serve-clause-usage g c = (λ two. rw c.in-Serve.is tt, λ other. rw c.no_run-in-Serve.ensures refl)
