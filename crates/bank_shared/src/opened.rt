@@ -7,13 +7,14 @@ ghost use Rattle.bank_model.specs.declared.event.State.{State};
 ghost use Rattle.bank_model.specs.Rules.{opening_state};
 ghost use Rattle.bank_model.specs.SetupForm.{IsWithinLimits};
 ghost use Rattle.event_codec.specs.Records.{Reopens};
+ghost use Rattle.bank_solo.specs.Solo.{AreAccountsIn, accounts_in};
 ghost use Rattle.bank_replay.specs.Opening.{RecordsGive, HasNoForm, IsNotLegal, HasCause};
 ghost use Rattle.bank_replay.specs.Replay.{IsOfTheOutside};
 
 use crate::journal::Journal;
 use crate::locked_bank::LockedBank;
 use crate::name::BankName;
-use bank_accounts::AccountPool;
+use bank_accounts::{Account, AccountPool};
 use bank_core::Book;
 use bank_model::{Printer, Setup};
 use bank_replay::{OpenFault, reopen};
@@ -115,7 +116,7 @@ impl<K: Keeper, P: Printer> Opened<K, P> {
         };
         match reopen(alloc, keys, &mut keeper, setup, printer) {
             Err(fault) => Err((fault, keeper)),
-            Ok((book, accounts)) => match AccountPool::from_vec(alloc, accounts) {
+            Ok((book, accounts)) => match in_pool(alloc, &book, accounts) {
                 Err(OutOfMemory) => Err((OpenFault::OutOfMemory, keeper)),
                 Ok(pool) => Ok(Opened {
                     alloc,
@@ -154,4 +155,17 @@ impl<K: Keeper, P: Printer> Opened<K, P> {
         let journal = Journal::new(alloc, keeper, book);
         (setup, LockedBank::new(alloc, journal, pool))
     }
+}
+
+/// The accounts of the bank of a book, all of them in the pool.
+fn in_pool<P: Printer>(
+    alloc: Global,
+    book: &Book<P>,
+    accounts: Vec<Account>,
+) -> Result<AccountPool, OutOfMemory>
+    requires { AreAccountsIn book.now.setup book.now.state accounts.items }
+    ensures { IfOk result (λ pool. pool ≡ accounts_in book.now.setup book.now.state) }
+{
+    let _ = book;
+    AccountPool::from_vec(alloc, accounts)
 }
