@@ -1,4 +1,4 @@
--- The accounts of a bank that are in the pool, each at the place of its number, and those that are checked out for the step of
+-- The accounts of a bank that are in the pool, each in the slot of its number, and those that are checked out for the step of
 -- an event.
 use Rattle.std.specs.Prelude.{◌≡◌, ℕ, ◌<◌, ◌⊎◌, List, length, slice_index_or, Option, None, Some, All, IsSome}
 use Rattle.std.specs.Option.{IfSome}
@@ -10,7 +10,7 @@ use Rattle.bank_accounts.specs.HeldAccounts.{IsHeld}
 abbrev pub in_pool : List (Option AccountView) → AcctId → Option AccountView
 in_pool slots number = slice_index_or slots number.0 None
 
--- Each place has the account of its number, or none.
+-- Each slot has the account of its number, or none.
 abbrev pub AreUnderNumbers : List (Option AccountView) → Type 0
 AreUnderNumbers slots =
     (number : AcctId) → IfSome (in_pool slots number) (λ (account : AccountView). account.number ≡ number)
@@ -19,7 +19,7 @@ AreUnderNumbers slots =
 abbrev pub AreAllPooled : List (Option AccountView) → Type 0
 AreAllPooled slots = (number : AcctId) → number.0 < length slots → IsSome (in_pool slots number)
 
--- An account is checked out, and away from its place; or it isn't, and is there.
+-- An account is checked out, and its slot is empty; or it isn't, and is in its slot.
 abbrev pub IsOutOrPooled : List (Option AccountView) → List (Option AccountView) → List AccountView → AcctId → Type 0
 IsOutOrPooled all slots held number =
     (IsHeld held number × (in_pool slots number ≡ None))

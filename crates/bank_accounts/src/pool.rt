@@ -1,4 +1,4 @@
-//! Accounts in the pool, each at the place of its number. Some are checked out for a while, and come back.
+//! Accounts in the pool, each in the slot of its number. Some are checked out for a while, and come back.
 
 ghost use Rattle.std.specs.Prelude.{◌≡◌, ◌≢◌, ◌<◌, [], ◌∷◌, ◌++◌, List, length, map, set, None, Some, OnOk, OnErr, IfOk, IfSome, Option, All};
 ghost use Rattle.std.specs.List.Sorted.{IsStrictlyIncreasing};
@@ -13,7 +13,7 @@ use ofx_types::{AcctId, OutOfMemory};
 use std::alloc::Global;
 use std::marker::Model;
 
-/// The accounts of a bank, numbered from 0, each at its place unless it is checked out.
+/// The accounts of a bank, numbered from 0, each in its slot unless it is checked out.
 ///
 /// ```rust
 /// use bank_accounts::{Account, AccountPool, Held};
@@ -149,7 +149,7 @@ impl AccountPool {
         self.slots[number.0 as usize].take()
     }
 
-    /// Puts an account at its place.
+    /// Puts an account into its slot.
     fn put(&mut self, account: Account)
         requires { account.number.0 < length self.old }
         ensures { self.new ≡ set self.old account.number.0 (Some account) }

@@ -41,7 +41,7 @@ pub struct Plan {
 pub enum Command<'a> {
     /// `answer`: the frames of the input, answered in order.
     Answer(AnswerArguments),
-    /// `check`: a setup and records are read, and what was found is told.
+    /// `check`: a setup and records are read, and what was found is reported.
     Check,
     /// `due`: what is due, done once.
     Due,

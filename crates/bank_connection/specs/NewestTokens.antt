@@ -20,8 +20,8 @@ newest_load S (Some object) = Some (record { object = object; token = newest obj
 abbrev pub newest_loads : Setup → State → UserId → List Ask → List (Option Load)
 newest_loads setup S user all = map (λ (ask : Ask). newest_load S (object_asked setup user ask)) all
 
--- There a poll is told just those: the two replies are one. None of them is older than the entries of the state, and each is the
--- number of one of these.
+-- In that state a poll is answered with just those: the two replies are one. None of them is older than the entries of the state,
+-- and each is the number of one of these.
 abbrev pub NewestAreReported : Type 0
 NewestAreReported = (setup : Setup) (S : State) (user : UserId) (at : Moment) (file : RequestFile) →
     let loads = newest_loads setup S user file.asks in

@@ -89,7 +89,7 @@ pub record GainsNothing (before after : OfficeView) : Type 0 where
   pub mine : after.mine ≡ before.mine
   pub polled : after.polled ≡ before.polled
 
--- A file's event is committed, and this is the reply. Other items may stand before its ending.
+-- A file's event is committed, and this is the reply. Other items may come before its ending.
 pub record IsCommitted (user : UserId) (file : RequestFile) (at : Moment) (reply : List ℕ) (old new : Option OfficeView) : Type 0 where
   pub others : List LogItem
   pub event : Event
@@ -122,7 +122,7 @@ pub record HasPolled (loads : List Load) (before after : OfficeView) : Type 0 wh
   pub polled : after.polled ≡ before.polled ++ loads
   pub fresh : All (IsFresh (entries_seen before)) loads
 
--- A poll is told the tokens that its asks loaded.
+-- A poll is answered with the tokens that its asks loaded.
 pub record IsLooked (setup : Setup) (user : UserId) (file : RequestFile) (at : Moment) (reply : List ℕ) (old new : Option OfficeView) : Type 0 where
   pub loads : List (Option Load)
   pub are_loads : AreLoadsOf setup user file loads

@@ -40,7 +40,7 @@ answer_told (asks.Statement trnuid account period) load = []
 answer_told (asks.One trnuid deed) load = []
 answer_told (asks.Sync ask) load = replies.Sync (reported_token ask (option_map (λ (l : Load). l.token) load)) ∷ []
 
--- Each ask is told its token, or that the account isn't the user's.
+-- Each synchronisation is answered with its token, or that the account isn't the user's; other asks get no answer.
 abbrev pub answers_reported : List Ask → List (Option Load) → List AskReply
 answers_reported [] loads = []
 answers_reported (ask ∷ more) [] = []

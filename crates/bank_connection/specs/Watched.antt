@@ -35,7 +35,7 @@ loads_of (polled user file at loads) = loads_made loads
 loads_of (ended user file at number) = []
 loads_of (no_memory at) = []
 
--- the tokens that polls were told
+-- the tokens that polls were answered with, and their objects
 abbrev pub loads_in : List Exchange → List Load
 loads_in xs = flat_map (λ (x : Exchange). loads_of x.outcome) xs
 
@@ -43,13 +43,14 @@ loads_in xs = flat_map (λ (x : Exchange). loads_of x.outcome) xs
 abbrev pub HasEnding : List Exchange → Type 0
 HasEnding xs = endings_in xs ≢ []
 
--- Where a file's ending follows, each token of at least 1 that a poll was told is the number of an entry of its object.
+-- Where a file's ending follows, each token of at least 1 that a poll was answered with is the number of an entry
+-- of its object.
 abbrev pub TokensHold : List Entry → List Exchange → Type 0
 TokensHold entries [] = Unit {0}
 TokensHold entries (x ∷ xs) = (HasEnding xs → All (HoldsIn entries) (loads_of x.outcome)) × TokensHold entries xs
 
 -- What an office knows after a connection: it has seen this log, which begins with what it had seen; the endings of its own that
--- are new are just those of the exchanges, in order; the tokens of polls stand among those loaded, none was too old, and none
+-- are new are just those of the exchanges, in order; the tokens of polls are among those loaded, none was too old, and none
 -- before a file's ending was made up.
 pub record HasWatched (log : List LogItem) (xs : List Exchange) (before after : OfficeView) : Type 0 where
   pub opening : after.opening ≡ before.opening

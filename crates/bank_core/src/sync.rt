@@ -1,4 +1,4 @@
-//! Synchronisation: a client is told what it has missed of an object, and its deeds on the object are done (OFX 1.6,
+//! Synchronisation: a client gets what it has missed of an object, and its deeds on the object are done (OFX 1.6,
 //! "Data Synchronization").
 
 ghost use Rattle.std.specs.Prelude.{◌≡◌, ◌<◌, ◌++◌, Some, true, length, map, IfOk, OnOk};
@@ -25,7 +25,7 @@ use std::alloc::Global;
 
 /// Answers a synchronisation, and adds what its deeds do.
 ///
-/// The history, and whether the client has lost its place or its deeds are refused, are judged on the state before them.
+/// The history, and whether synchronisation is lost or the deeds are refused, are judged on the state before the deeds.
 #[tactic(auto, unfolding(bank_model::specs::Sync::sync_answer))]
 pub(crate) fn sync(
     draft: &mut Draft<'_>,

@@ -82,7 +82,7 @@ fn covers(draft: &Draft<'_>, row: &TransferRow) -> bool
     is_covered(row.amount, draft.held_balance(from))
 }
 
-/// The row of the transfer that a recurring transfer makes at a place.
+/// The row of the transfer that a recurring transfer makes at an occurrence.
 fn spawned(
     draft: &Draft<'_>,
     number: u64,
@@ -107,7 +107,7 @@ fn is_covered(amount: Cents, balance: Cents) -> bool
     amount.0 <= balance.0
 }
 
-/// The row of the transfer with this id that a recurring transfer makes at a place.
+/// The row of the transfer with this id that a recurring transfer makes at an occurrence.
 fn next_row(id: u64, model: &ModelRow, occurrence: u32) -> Result<TransferRow, OutOfMemory>
     requires first { IsDay model.now.first.0 }
     requires there { is_some (occurrence_date (Some model.now) occurrence) ≡ true }

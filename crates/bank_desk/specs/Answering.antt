@@ -27,7 +27,7 @@ pub record Replies (sent : List ℕ → List ℕ) (setup : Setup) (at : Moment) 
   pub reply : line ≡ sent (answer_to setup before at (File user file))
   pub state : after ≡ state_after setup before at (File user file)
 
--- A user's poll is told the newest tokens, and nothing changes, not even the business day. Nothing is kept.
+-- A user's poll gets the newest tokens, and nothing changes, not even the business day. Nothing is kept.
 pub record Polls (sent : List ℕ → List ℕ) (setup : Setup) (at : Moment) (before : State) (bytes line : List ℕ) (records : List (List ℕ)) (after : State) : Type 0 where
   pub file : RequestFile
   pub user : UserId

@@ -38,7 +38,7 @@ pub record MadeRun (at : Moment) (before after : BookView) (reported reported' :
 
 -- ---- a run that isn't made to its end
 
--- These events of a run have happened, and the bank stands where they left it.
+-- These events of a run have happened, and the bank is in the state that they left.
 pub record HasBegun (at : Moment) (before after : BookView) (events : List Event) (records : List (List ℕ)) : Type 0 where
   pub are_due : AreDue before.setup before.state at events
   pub few : length events ≤ run_length

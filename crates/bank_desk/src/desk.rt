@@ -76,7 +76,7 @@ pub enum Answered {
 }
 
 impl Desk {
-    /// The bank of that setup that stands for the records that are kept. Clients' names are found by hashes with these keys.
+    /// The bank of that setup, in the state after the records that are kept. Clients' names are found by hashes with these keys.
     pub fn open<K: Keeper>(
         alloc: Global,
         keys: RandomState,

@@ -37,7 +37,7 @@ MayRemain landed None records = records ≡ []
 MayRemain landed (Some pending) records = HasLanded landed pending records ⊎ IsLost landed records
 
 -- The records are those with which the bank opened, then those of the events that the log answered and adopted, and then what
--- may stand of the pending event. From the first ones comes the state that the bank opened in.
+-- may be stored of the pending event. From the first ones comes the state that the bank opened in.
 pub record AreKept (setup : Setup) (opening : State) (first : List (List ℕ)) (log : List LogItem) (landed : Option Bool) (pending : Option PendingView) (records : List (List ℕ)) : Type 0 where
   pub opened : Reopens setup opening_state first opening
   pub coded : List (List ℕ)

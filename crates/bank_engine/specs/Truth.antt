@@ -25,8 +25,8 @@ Awaits log unsettled (Some pending) =
     (unsettled ≡ true) × IsPending (endings log) pending.number pending.event pending.at
 
 -- The log is legal from the state in which the bank opened, and no group of it is cut. The book stands for the state that it ends
--- in, whose entries are the opening ones and the log's. Where the keeper told its records when the bank opened, `first`, it has
--- these and the records of what the log answered and adopted. Its count of faults is at least that of each fault.
+-- in, whose entries are the opening ones and the log's. Where the keeper reported its records when the bank opened, `first`, it
+-- has these and the records of what the log answered and adopted. Its count of faults is at least that of each fault.
 pub record IsTrue (setup : Setup) (opening : State) (first : Option (List (List ℕ))) (journal : JournalView) : Type 0 where
   pub own : journal.setup ≡ setup
   pub legal : IsWholeLog setup opening journal.log

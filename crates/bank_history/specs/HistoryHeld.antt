@@ -7,7 +7,7 @@ use Rattle.bank_model.specs.declared.entry.Entry.{Entry}
 use Rattle.bank_model.specs.Objects.{newest}
 use Rattle.bank_history.specs.ObjectHistory.{LaidView, LaidFor}
 
--- Entries are numbered from 1 without gaps, so that an entry's number is its place.
+-- Entries are numbered from 1 without gaps, so that an entry's number is its position, from 1.
 abbrev pub AreNumbered : List Entry → Type 0
 AreNumbered entries = (k : ℕ) (d : Entry) → k < length entries → (slice_index_or entries k d).number ≡ k + 1
 

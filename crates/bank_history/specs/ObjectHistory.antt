@@ -17,7 +17,7 @@ pub record ObjectHistoryView : Type 0 where
   pub origins : List Origin
   pub room : ℕ
 
--- It stands for a history whose numbers rise.
+-- What is held of an object stands for a history whose numbers rise.
 pub record HoldsHistory (history : List Entry) (width : ℕ) (kept : ObjectHistoryView) : Type 0 where
   pub window : Represents history width kept.window
   pub origins : kept.origins ≡ flat_map (λ (entry : Entry). origin_in entry.change) history
@@ -53,7 +53,7 @@ pub record ObjectsView : Type 0 where
   pub width : ℕ
   pub held : List (ℕ × ObjectHistoryView)
 
--- It stands for entries: of each object what is held stands for its history.
+-- What is held of all objects stands for entries: what is held of each stands for its history.
 abbrev pub HoldHistories : List Entry → ObjectsView → Type 0
 HoldHistories entries objects = (object : ObjectId) → HoldsHistoryOr (history_of object entries) objects.width (held_at object objects.held)
 
@@ -62,7 +62,7 @@ pub record LaidView : Type 0 where
   pub objects : ObjectsView
   pub mails : List ObjectMails
 
--- It stands for entries: each object has its last ones, the origins of what its history made, and its mails.
+-- This stands for entries: each object has its last ones, the origins of what its history made, and its mails.
 pub record LaidFor (entries : List Entry) (laid : LaidView) : Type 0 where
   pub objects : HoldHistories entries laid.objects
   pub mails : mails.Represents laid.mails entries

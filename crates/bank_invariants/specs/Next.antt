@@ -9,7 +9,7 @@ use Rattle.bank_model.specs.Rules.{with_entries}
 use Rattle.bank_invariants.specs.SoundStates.{HasSoundRow, HasSoundModel, IsNumbered, MayBeReported, IsLawful, IsSoundState}
 
 -- An entry may come next where it has the next number, gives sound rows alone, speaks of what an entry has made by then,
--- may be reported to a client, may stand after those before it, and leaves no balance below zero.
+-- may be reported to a client, may follow those before it, and leaves no balance below zero.
 pub record IsNext (setup : Setup) (S : State) (entry : Entry) : Type 0 where
   pub number : entry.number ≡ length S.entries + 1
   pub sound : HasSoundRow setup entry

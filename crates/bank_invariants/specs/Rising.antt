@@ -1,4 +1,4 @@
--- The ids of rows that a client is told.
+-- The ids of rows that are reported to a client.
 use Rattle.std.specs.Prelude.{ℕ, List, [], ◌∷◌}
 use Rattle.std.specs.List.{flat_map}
 use Rattle.ofx_types.specs.declared.transfer.Change.{Change}

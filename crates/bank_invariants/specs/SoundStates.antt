@@ -111,10 +111,9 @@ IsLawful before (DropModel id pending) = GoesOn before id
 IsLawful before (NewMail row) = Unit {0}
 
 -- Entry i, from 1, has the number i, and there are no more entries than the setup allows. Each speaks of what an entry has
--- made by then, may stand after those before it, and may be reported to a client. A transfer has the source of its recurring
--- transfer. No recurring
--- transfer has made more transfers since it last began anew than there are dates. No balance is below zero. No user has
--- used up a uid twice, and no file of a user has two replies.
+-- made by then, may follow those before it, and may be reported to a client. A transfer has the source of its recurring
+-- transfer. No recurring transfer has made more transfers since it last began anew than there are dates. No balance is
+-- below zero. No user has used up a uid twice, and no file of a user has two replies.
 pub record IsSoundState (setup : Setup) (S : State) : Type 0 where
   pub numbered : (k : ℕ) (d : Entry) → k < length S.entries → (slice_index_or S.entries k d).number ≡ k + 1
   pub few : length S.entries ≤ setup.entries

@@ -206,8 +206,8 @@ impl Ledger {
         self.transfers.due_on(day)
     }
 
-    /// The recurring transfer that is to make its next transfer first, with its place, of those that make it by a last
-    /// day.
+    /// Of the recurring transfers that are to make their next transfer by a last day, the one to make it first, with that
+    /// transfer's index in the series, from 0.
     pub fn next_spawn(&self, last: Day) -> Option<(u64, u32)>
         ensures { result ≡ option_map (λ task. (task.id, next_occurrence task.id self.now.state.entries))
             (first_task (to_make last self.now.state.entries)) }

@@ -101,7 +101,7 @@ fn own(mails: &[HeldMails], object: ObjectId) -> Option<&HeldMails>
     mails.iter().find(|one| one.object().0 == object.0)
 }
 
-/// Where the mails of an object stand.
+/// The index of the mails of an object, where it has any or room for some.
 fn index_of(mails: &[HeldMails], object: ObjectId) -> Option<usize>
     ensures { result ≡ position (is_of object) mails.now }
 {

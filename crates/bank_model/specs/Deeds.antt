@@ -175,9 +175,9 @@ model_entries_on setup S trnuid (Some row) change more =
 abbrev pub mail_row : Setup → UserId → Option AcctName → MailText → MailRow
 mail_row setup user about mail = record { about = about; user = user_name setup user; mail = mail }
 
--- The entries that a deed adds which isn't refused. Those of transfers stand in the history of the source's transfers,
--- those of recurring transfers in the history of the source's recurring transfers, and a mail in that of the mail about its
--- account, or of the user's other mail.
+-- The entries that a deed adds where it isn't refused. Those of transfers are in the history of the source's transfers, those of
+-- recurring transfers in the history of the source's recurring transfers. A mail is in that of the mail about its account, or of
+-- the user's other mail.
 unfoldable pub done : Setup → State → UserId → Moment → List ℕ → Deed → List Entry
 done setup S user at trnuid (Transfer info) =
     next_entry S (object_of setup info.from) trnuid (NewTransfer (new_row (length S.entries + 1) at S.day info)) ∷ []
@@ -224,7 +224,7 @@ used_up code user trnuid used = if code == 2019 then used else used ++ record { 
 abbrev pub after_deed : State → UserId → List ℕ → ℕ → List Entry → State
 after_deed S user trnuid code entries = record S { entries = S.entries ++ entries; used = used_up code user trnuid S.used }
 
--- The answer tells the first entry's change, where there is one.
+-- The answer reports the first entry's change, where there is one.
 abbrev pub first_change : List Entry → Option Change
 first_change [] = None
 first_change (entry ∷ more) = Some entry.change

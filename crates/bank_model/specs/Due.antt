@@ -61,7 +61,7 @@ abbrev pub is_below_count : ℕ → Option ℕ → Bool
 is_below_count occurrence None = true
 is_below_count occurrence (Some count) = nat_lt occurrence count
 
--- the date of a occurrence number in its series, where the series has that place
+-- the date of an occurrence of a series, from 0, where the series has that occurrence
 abbrev pub date_in_series : ModelRow → ℕ → Option Day
 date_in_series row occurrence =
     if is_below_count occurrence row.recur.count then kth_date row.first row.recur.freq occurrence else None
@@ -109,7 +109,7 @@ spawns_on setup S (Some row) None = []
 spawns_on setup S (Some row) (Some date) =
     next_entry S (object_of setup row.from) (codes "0") (NewTransfer (spawned_row (length S.entries + 1) date row)) ∷ []
 
--- the date at a place, whether the series has that place or not
+-- the date of an occurrence, whether the series has that occurrence or not
 abbrev pub occurrence_date : Option ModelRow → ℕ → Option Day
 occurrence_date None occurrence = None
 occurrence_date (Some row) occurrence = kth_date row.first row.recur.freq occurrence

@@ -62,7 +62,7 @@ due_day info day = unwrap_or info.due day
 abbrev pub is_due : XferInfo → Day → Bool
 is_due info day = int_le (due_day info day).0 day.0
 
--- A day stands, and is after the business day.
+-- There is a day, and it is after the business day.
 abbrev pub is_after : Option Day → Day → Bool
 is_after None day = false
 is_after (Some due) day = int_lt day.0 due.0

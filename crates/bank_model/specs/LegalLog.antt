@@ -1,7 +1,7 @@
 -- Which logs a bank can have that opens in a state, and the state that each ends in.
 --
--- A log is a list of groups. Each ends in an answer, an adopted event or a fault, and before it stand the effects of just the
--- entries that its event adds. So the endings tell the log.
+-- A log is a list of groups. Each ends in an answer, an adopted event or a fault, and before that come the effects of just the
+-- entries that its event adds. So the endings determine the log.
 use Rattle.std.specs.Prelude.{◌≡◌, ℕ, ◌+◌, ◌-◌, ◌^◌, ◌%◌, ◌<◌, ◌⊎◌, List, [], ◌∷◌, ◌++◌, drop, fold, map, length, All, Option, None, Some}
 use Rattle.ofx_types.specs.Calendar.{IsMoment}
 use Rattle.ofx_types.specs.declared.number.Moment.{Moment}
@@ -57,9 +57,9 @@ IsUnsettled (Adopted fault event at) = ⊥
 IsUnsettled (Fault count None) = Unit {0}
 IsUnsettled (Fault count (Some pending)) = ⊥
 
--- After these endings the record of this event may stand though its append failed. That was in the last fault of an append,
--- after which no event was answered or adopted: all that came since is that it couldn't be settled. The number is the
--- fault's, modulo 2^64.
+-- After these endings the record of this event may be stored though its append failed. That was in the last fault of an append,
+-- after which no event was answered or adopted: all that came since is that it couldn't be settled. The number is the fault's,
+-- modulo 2^64.
 pub record IsPending (before : List LogItem) (number : ℕ) (event : Event) (at : Moment) : Type 0 where
   pub earlier : List LogItem
   pub count : ℕ

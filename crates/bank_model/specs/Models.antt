@@ -73,8 +73,7 @@ is_made_by id (NewMail row) = false
 abbrev pub since_anew : ℕ → List Entry → List Entry
 since_anew id entries = take_while (λ (entry : Entry). not (begins_anew id entry.change)) (reverse entries)
 
--- Its next transfer has as its place in the series, from 0, the number of transfers that it has made since it last began
--- anew.
+-- The occurrence of its next transfer in the series, from 0: the number of transfers that it has made since it last began anew.
 unfoldable pub next_occurrence : ℕ → List Entry → ℕ
 next_occurrence id entries = length (filter (λ (entry : Entry). is_made_by id entry.change) (since_anew id entries))
 

@@ -2,7 +2,7 @@
 use Rattle.std.specs.Prelude.{nat_lt, ◌==◌, if◌then◌else◌, List, [], ◌∷◌, fold, Option, None, Some}
 use Rattle.ofx_types.specs.declared.number.AcctId.{AcctId}
 
--- An account takes its place among others that rise. It is there once.
+-- An account is inserted among others whose numbers rise. It is there once.
 abbrev pub inserted : AcctId → List AcctId → List AcctId
 inserted account [] = account ∷ []
 inserted account (other ∷ more) =

@@ -1,4 +1,4 @@
--- What is synchronised: the object that a name stands for, its history, its newest token, and how far back it is told.
+-- What is synchronised: the object that a name stands for, its history, its newest token, and how far back it is reported.
 use Rattle.std.specs.Prelude.{ℕ, Bool, ◌-◌, ◌==◌, List, filter, fold, take, length, Option, None, Some}
 use Rattle.std.specs.Option.{option_map}
 use Rattle.ofx_types.specs.declared.number.AcctId.{AcctId}
@@ -48,7 +48,7 @@ last_number entries = last_number_from 0 entries
 unfoldable pub newest : ObjectId → List Entry → ℕ
 newest object entries = last_number (history_of object entries)
 
--- The history is told as far back as its last so many entries. Its floor is the number of the entry before them, 0 where
+-- The history is reported as far back as its last so many entries. Its floor is the number of the entry before them, 0 where
 -- there are no more than these.
 unfoldable pub floor : ℕ → ObjectId → List Entry → ℕ
 floor window object entries = last_number (take (length (history_of object entries) - window) (history_of object entries))

@@ -42,7 +42,7 @@ are_polls asks = not (length asks == 0) && list_all is_poll_ask asks
 unfoldable pub is_poll : RequestFile → Bool
 is_poll file = is_unnamed file && are_polls file.asks
 
--- It is told the newest token of each object, or that the account isn't the user's.
+-- It gets the newest token of each object, or token 0 and LOSTSYNC where the account isn't the user's.
 abbrev pub reported_token : SyncAsk → Option ℕ → SyncReply
 reported_token ask None = record { object = ask.object; token = codes "0"; lost = true; replies = [] }
 reported_token ask (Some token) = record { object = ask.object; token = decimal token; lost = false; replies = [] }

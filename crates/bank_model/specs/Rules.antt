@@ -210,10 +210,10 @@ state_after setup S at event = (step setup S at event).after
 abbrev pub answer_to : Setup → State → Moment → Event → List ℕ
 answer_to setup S at event = (step setup S at event).reply
 
--- A file is legal for a user of the setup where it is sound and no poll. A transfer may be posted where it waits and is due,
--- and a recurring transfer may make the transfer at the next occurrence of its series, where it isn't cancelled, the series has
--- that place and its date is at most LEAD days after the business day. A letter has a subject of 1 to 64 bytes and a body of 1
--- to 10,000. All but a file need a number that is left for their entry.
+-- A file is legal for a user of the setup where it is sound and no poll. A transfer may be posted where it waits and is due. A
+-- recurring transfer that isn't cancelled may make the next transfer of its series, where the series has that occurrence, dated
+-- at most LEAD days after the business day. A letter has a subject of 1 to 64 bytes and a body of 1 to 10,000. All but a file
+-- need a number that is left for their entry.
 abbrev pub IsLegal : Setup → State → Moment → Event → Type 0
 IsLegal setup S at (File user file) = (user.0 < length setup.users) × IsSound file × (is_poll file ≡ false)
 IsLegal setup S at (Post id) = may_post setup (raised S at) (row_of id S.entries) ≡ true
@@ -268,8 +268,8 @@ abbrev pub named_by_row : Setup → Option TransferRow → List (Option AcctId)
 named_by_row setup None = []
 named_by_row setup (Some row) = account_of setup row.from ∷ account_of setup row.to ∷ []
 
--- The accounts that a file's asks name, or the two of the transfer that is posted. A name that is no account of the setup stands as
--- none.
+-- The accounts that a file's asks name, or the two of the transfer that is posted. A name that is no account of the setup is
+-- listed as none.
 abbrev pub named : Setup → State → Event → List (Option AcctId)
 named setup S (File user file) = flat_map (named_by setup) file.asks
 named setup S (Post id) = named_by_row setup (row_of id S.entries)

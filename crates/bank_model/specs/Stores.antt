@@ -49,7 +49,7 @@ is_less id (Some own) = nat_lt own id
 abbrev pub is_below : ℕ → Row → Bool
 is_below id row = is_less id (id_of row)
 
--- A row takes the place of the one that has its id, or is in rising id among the others.
+-- A row replaces the one that has its id, or is inserted in rising id among the others.
 unfoldable pub put : ℕ → Row → List Row → List Row
 put id row [] = row ∷ []
 put id row (first ∷ more) =
@@ -59,7 +59,7 @@ put id row (first ∷ more) =
 abbrev pub remove_row : ℕ → List Row → List Row
 remove_row id rows = filter (λ (row : Row). not (has_id id row)) rows
 
--- A changed transfer keeps the recurring transfer that made it, which its reply doesn't tell.
+-- A changed transfer keeps the recurring transfer that made it, which its reply doesn't report.
 abbrev pub with_model : ℕ → TransferRow → TransferRow
 with_model made_by row = record {
   id = row.id;
@@ -160,9 +160,9 @@ with_rows store token rows = record { name = store.name; token = token; is_lost 
 abbrev pub marked_lost : Store → Store
 marked_lost store = record { name = store.name; token = store.token; is_lost = true; rows = store.rows }
 
--- A reply to a client that asks for the token alone changes nothing. One that tells it that it has lost its place marks the
--- store so. Any other brings the changes, to the rows that are there or to none where all was asked for, and
--- the reply's token, 0 where its text is none.
+-- A reply to a client that asks for the token alone changes nothing. One that says that the client has lost synchronisation marks
+-- the store so. Any other brings the changes, to the rows that are there or to none where all was asked for, and the reply's
+-- token, 0 where its text is none.
 unfoldable pub taken : Store → SyncKind → SyncReply → Store
 taken store TokenOnly reply = store
 taken store (After text) reply =

@@ -34,13 +34,13 @@ use Rattle.bank_model.specs.Objects.{account_about, object_named, history_of, ne
 abbrev pub token_of : List ℕ → Option ℕ
 token_of text = number_at 10 text
 
--- A client has lost its place where its token is none, or is above the newest one or below the floor.
+-- A client has lost synchronisation where its token is none, or is above the newest one or below the floor.
 abbrev pub is_lost_at : ℕ → ObjectId → List Entry → Option ℕ → Bool
 is_lost_at window object entries None = true
 is_lost_at window object entries (Some token) =
     nat_lt (newest object entries) token || nat_lt token (floor window object entries)
 
--- Only a client that names a token can have lost its place.
+-- Only a client that names a token can have lost synchronisation.
 unfoldable pub is_lost : ℕ → ObjectId → List Entry → SyncKind → Bool
 is_lost window object entries (After text) = is_lost_at window object entries (token_of text)
 is_lost window object entries TokenOnly = false
@@ -63,7 +63,7 @@ entries_above (Some token) entries = filter (is_above token) entries
 abbrev pub reply_of_entry : Family → Entry → DeedReply
 reply_of_entry family entry = reply_with_change family entry.trnuid entry.change
 
--- A row is told as if it were new, and one that is cancelled isn't told.
+-- A row is reported as if it were new, and one that is cancelled isn't reported.
 abbrev pub current_transfer : Option TransferRow → List Change
 current_transfer None = []
 current_transfer (Some row) = if is_cancelled row.code then [] else NewTransfer row ∷ []
@@ -86,8 +86,8 @@ current_in entries (NewMail row) = NewMail row ∷ []
 unfoldable pub present : ObjectId → List Entry → List Change
 present object entries = flat_map (λ (entry : Entry). current_in entries entry.change) (history_of object entries)
 
--- A client that names a token and hasn't lost its place is told what came after it, and one that asks for all is told what
--- stands, as if it were new. Any other is told nothing.
+-- A client that names a token and hasn't lost synchronisation is sent what came after it. One that asks for all is sent what is
+-- there, as if it were new. Any other is sent nothing.
 unfoldable pub history_replies : ℕ → ObjectId → Family → List Entry → SyncKind → List DeedReply
 history_replies window object family entries (After text) =
     if is_lost window object entries (After text) then []
@@ -141,8 +141,8 @@ pub record SyncAnswer : Type 0 where
   pub reply : SyncReply
   pub after : State
 
--- Whether the client has lost its place, the history that it is told and whether its deeds are refused are judged on the state
--- before the deeds. The token that is reported is the newest one after them.
+-- Whether the client has lost synchronisation, the history that it is sent and whether its deeds are refused are judged on the
+-- state before the deeds. The token that is reported is the newest one after them.
 unfoldable pub sync_on : Setup → State → UserId → Moment → SyncAsk → Option ObjectId → SyncAnswer
 sync_on setup S user at ask None = record {
   reply = record {
@@ -165,6 +165,6 @@ sync_on setup S user at ask (Some object) =
       after = answers.after;
     }
 
--- A synchronisation of an account that isn't the user's is told no token, nothing of the history, and 2003 for each deed.
+-- A synchronisation of an account that isn't the user's gets token 0, LOSTSYNC, nothing of the history, and 2003 for each deed.
 unfoldable pub sync_answer : Setup → State → UserId → Moment → SyncAsk → SyncAnswer
 sync_answer setup S user at ask = sync_on setup S user at ask (object_named setup user ask.object)

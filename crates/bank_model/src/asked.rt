@@ -48,7 +48,7 @@ pub fn is_positive(info: &XferInfo) -> bool
     info.amount.0 > 0
 }
 
-/// Whether a day stands, and is after the business day. Takes no memory.
+/// Whether there is a day, and it is after the business day. Takes no memory.
 pub fn is_after(due: Option<Day>, day: Day) -> bool
     ensures { result ≡ rules.is_after due day }
 {

@@ -80,7 +80,7 @@ impl<T: Keyed> Directory<T> {
         self.items.as_slice()
     }
 
-    /// The place of the item under that key. Takes no memory.
+    /// The index of the item under that key, in the order in which the items came. Takes no memory.
     pub fn find(&self, key: &T::Key) -> Option<usize>
         ensures { result ≡ position (λ item. T.has_key item key.now) self.now }
     {
@@ -129,7 +129,7 @@ impl<T: Keyed + Duplicate + Drop> Duplicate for Directory<T> {
     }
 }
 
-/// How the item at a place compares with a key. Where there is none it is greater than any.
+/// How the item at an index compares with a key. Where there is none it is greater than any.
 fn compare_at<T: Keyed>(items: &[T], index: usize, key: &T::Key) -> Ordering
     ensures { result ≡ compared T.key_of T.order key.now (slice_get items.now index) }
 {
@@ -139,7 +139,7 @@ fn compare_at<T: Keyed>(items: &[T], index: usize, key: &T::Key) -> Ordering
     }
 }
 
-/// Where in the order the place of the item under that key stands, or where it would go.
+/// Where in the order the index of the item under that key is, or, as an error, where it would go.
 fn search<T: Keyed>(items: &[T], indices: &[usize], key: &T::Key) -> Result<usize, usize>
     requires { IsOrderOf T.key_of T.order items.now indices.now }
     ensures found { IfOk result (IsFound T.key_of T.order items.now indices.now key.now) }

@@ -5,7 +5,7 @@ use ofx_types::{Change, Duplicate, ObjectId, OutOfMemory, TrnUid};
 /// One change that the bank made. Its history is the list of all entries.
 #[derive(Debug, Drop)]
 pub struct Entry {
-    /// Its place in the history, from 1.
+    /// Its position in the history, from 1.
     pub number: u64,
     /// What it belongs to.
     pub object: ObjectId,

@@ -11,8 +11,8 @@ pub enum LogItem {
     Effect(Entry),
     /// The event happened at that moment, and was answered by these bytes: none, unless it is a file.
     Answer(Event, Moment, Sequence<u8>),
-    /// The append of the event's record had failed in the ending of this number, modulo 2^64. It turned out to have landed, so the
-    /// event happened after all, at the moment that it had then. Its caller was told of the fault.
+    /// The append of the event's record had failed in the ending of this number, modulo 2^64. It turned out to have landed, so
+    /// the event happened after all, at the moment that it had then. The fault was reported to its caller.
     Adopted(u64, Event, Moment),
     /// A call of the keeper failed and raised its count of faults to this number. It was the append of the record of this
     /// event at this moment, or, where there is none, the settling of an append that had failed before.

@@ -170,7 +170,7 @@ fn add(accounts: &mut Vec<AcctId>, setup: &Setup, name: &AcctName) -> Result<(),
     }
 }
 
-/// Puts an account in its place, where it doesn't stand there yet.
+/// Inserts an account, in rising order of the numbers, where it isn't there yet.
 fn insert(accounts: &mut Vec<AcctId>, account: AcctId) -> Result<(), OutOfMemory>
     ensures { OnOk result (accounts.new.items ≡ inserted account accounts.old.items) }
 {
@@ -189,7 +189,7 @@ fn insert(accounts: &mut Vec<AcctId>, account: AcctId) -> Result<(), OutOfMemory
     }
 }
 
-/// Where the first account stands whose number isn't below the account's.
+/// The index of the first account whose number isn't below the account's.
 fn index_of(accounts: &[AcctId], account: AcctId) -> Option<usize>
     ensures { result ≡ position (λ other. nat_le account.0 other.0) accounts.now }
 {

@@ -117,7 +117,7 @@ impl Setup {
     }
 }
 
-/// The object of an account at that place among the account's three.
+/// The object of an account at that index among the account's three.
 fn numbered(account: Option<AcctId>, index: u32) -> Option<ObjectId>
     requires account { IfSome account (λ account. account.0 < 1000) }
     requires index { index < 3 }

@@ -1,4 +1,4 @@
-//! The history of an object as a client is told it: its newest token, how far back it goes, and what it says (OFX 1.6,
+//! The history of an object as a client gets it: its newest token, how far back it goes, and what it says (OFX 1.6,
 //! "Data Synchronization").
 
 ghost use Rattle.std.specs.Prelude.{◌≡◌, ◌≤◌, ◌∷◌, ◌++◌, [], nat_lt, Some, codes, length, map, filter, take, IfOk, OnOk};
@@ -53,8 +53,8 @@ fn is_lost_at(draft: &Draft<'_>, object: ObjectId, token: Option<u64>) -> bool
     }
 }
 
-/// Whether a token is below the floor: the number of the entry before the last ones that are told, 0 where there are no
-/// more than these.
+/// Whether a token is below the floor: the number of the entry before the last `window` ones, 0 where there are no more
+/// than these.
 fn is_past(draft: &Draft<'_>, object: ObjectId, token: u64) -> bool
     ensures { result ≡ nat_lt token (objects.floor draft.now.setup.window object (drafted draft.now).entries) }
 {
@@ -69,7 +69,7 @@ fn is_past(draft: &Draft<'_>, object: ObjectId, token: u64) -> bool
     token < number
 }
 
-/// What a client is told of the history that asks so.
+/// The replies to a client that asks so about an object's history: none where it has lost its place.
 #[tactic(auto, unfolding(bank_model::specs::Sync::history_replies))]
 pub fn replies_of_history(
     draft: &Draft<'_>,
@@ -178,7 +178,7 @@ fn report_made(
     }
 }
 
-/// Tells the row of a transfer, where there is one that isn't cancelled.
+/// Adds a reply with the row of a transfer, where there is one that isn't cancelled.
 fn report_transfer(
     reported: &mut Vec<DeedReply>,
     row: Option<&TransferRow>,
@@ -193,7 +193,7 @@ fn report_transfer(
     }
 }
 
-/// Tells the row of a transfer that isn't cancelled.
+/// Adds a reply with the row of a transfer, where it isn't cancelled.
 fn report_open(
     reported: &mut Vec<DeedReply>,
     row: &TransferRow,
@@ -215,7 +215,7 @@ fn is_cancelled(code: XferCode) -> bool
     matches!(code, XferCode::Cancelled)
 }
 
-/// Tells the row of a recurring transfer, where there is one that isn't cancelled.
+/// Adds a reply with the row of a recurring transfer, where there is one that isn't cancelled.
 fn report_model(
     reported: &mut Vec<DeedReply>,
     cancelled: bool,
@@ -231,7 +231,7 @@ fn report_model(
     }
 }
 
-/// Tells the row of a recurring transfer that isn't cancelled.
+/// Adds a reply with the row of a recurring transfer, where it isn't cancelled.
 fn report_going_on(
     reported: &mut Vec<DeedReply>,
     cancelled: bool,
@@ -260,7 +260,7 @@ fn report_now(
     report(reported, uid, change, family)
 }
 
-/// Tells entries, each with its own uid.
+/// Adds replies with entries, each with its own uid.
 fn report_entries(
     reported: &mut Vec<DeedReply>,
     entries: &[&Entry],
@@ -275,7 +275,7 @@ fn report_entries(
     Ok(())
 }
 
-/// Tells an entry with its own uid.
+/// Adds a reply with an entry and its own uid.
 fn report_own(
     reported: &mut Vec<DeedReply>,
     entry: &Entry,
@@ -288,7 +288,7 @@ fn report_own(
     report(reported, uid, change, family)
 }
 
-/// Tells the entries of an object above a token.
+/// Adds replies with the entries of an object above a token.
 fn report_above(
     reported: &mut Vec<DeedReply>,
     entries: &[Entry],
@@ -305,7 +305,7 @@ fn report_above(
     Ok(())
 }
 
-/// Tells an entry, where it is one of the object and above the token.
+/// Adds a reply with an entry, where it is one of the object and above the token.
 #[tactic(auto, unfolding(bank_model::specs::Objects::history_of))]
 fn report_entry(
     reported: &mut Vec<DeedReply>,
@@ -323,7 +323,7 @@ fn report_entry(
     Ok(())
 }
 
-/// Tells a change with its uid.
+/// Adds a reply with a change and its uid.
 fn report(
     reported: &mut Vec<DeedReply>,
     trnuid: TrnUid,

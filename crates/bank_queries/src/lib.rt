@@ -1,4 +1,4 @@
-//! What a client is told of a bank: statements of accounts, and histories of objects.
+//! What a client gets from a bank: statements of accounts, and histories of objects.
 #![tactic(auto)]
 
 mod history;

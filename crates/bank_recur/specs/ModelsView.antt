@@ -38,7 +38,7 @@ abbrev pub occurrence_in_series : Option Series → ℕ
 occurrence_in_series None = 0
 occurrence_in_series (Some series) = series.occurrence
 
--- the place of a recurring transfer's next one, where there is one
+-- the occurrence of the next transfer of the recurring transfer with this id, or 0 where there is none
 abbrev pub occurrence_found : ℕ → List Series → ℕ
 occurrence_found id series = occurrence_in_series (series_found id series)
 
@@ -66,8 +66,8 @@ id_made (NewMail mail) = []
 abbrev pub ids_made : List Entry → List ℕ
 ids_made entries = flat_map (λ (entry : Entry). id_made entry.change) entries
 
--- The recurring transfers stand for a list of entries: each row is the one that the entries have for its id, each is
--- cancelled where the entries drop it, and each has the place that the entries give to its next transfer.
+-- The recurring transfers stand for a list of entries, in the order in which these made them. The entries give the row of
+-- each, say whether it is cancelled, and give the occurrence of its next transfer.
 pub record Represents (models : ModelsView) (entries : List Entry) : Type 0 where
   pub rows : (id : ℕ) → row_found id models.series ≡ model_of id entries
   pub dropped : (id : ℕ) → cancelled_found id models.series ≡ is_model_dropped id entries

@@ -7,7 +7,7 @@ use Rattle.bank_model.specs.Due.{date_in_series, if_by}
 use Rattle.bank_recur.specs.ModelsView.{Series}
 use Rattle.bank_recur.specs.declared.spawn.Spawn.{Spawn}
 
--- The date is that of the place in the row's series, whose first date lies in the years 1900 to 9999.
+-- The date is that of the occurrence in the row's series, where it has one; the first date lies in the years 1900 to 9999.
 pub record IsNext (row : ModelRow) (occurrence : ℕ) (next : Option Day) : Type 0 where
   pub first : IsDay row.first.0
   pub date : next ≡ date_in_series row occurrence

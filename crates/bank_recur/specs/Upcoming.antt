@@ -8,7 +8,7 @@ use Rattle.bank_recur.specs.InOrder.{AllInOrder}
 use Rattle.bank_recur.specs.Spawning.{is_before_spawn}
 use Rattle.bank_recur.specs.declared.spawn.Spawn.{Spawn}
 
--- The next transfers, and how many there are places for.
+-- The next transfers, and for how many there is room.
 pub record UpcomingView : Type 0 where
   pub spawns : List Spawn
   pub occurrences : ℕ
@@ -30,7 +30,7 @@ abbrev pub days_of : Option Day → ℕ
 days_of None = 0
 days_of (Some day) = 1
 
--- Those before of the place come before the transfer, and those from there on don't.
+-- Those before the index come before the transfer, and those from it on don't.
 pub record IsIndex (next : Spawn) (spawns : List Spawn) (at : ℕ) : Type 0 where
   pub within : at ≤ length spawns
   pub parts : IsPartitionPoint (λ (spawn : Spawn). is_before_spawn spawn next ≡ true) (λ (spawn : Spawn). is_before_spawn spawn next ≡ false) spawns at

@@ -18,8 +18,8 @@ pub fn model_dropped_by_one_more()
         is_model_dropped id (entries ++ entry ∷ []) ≡ (is_model_dropped id entries || drops_model id entry.change) }
 {}
 
-/// The place of a recurring transfer's next one after one entry more follows from its place before and what the entry
-/// says.
+/// The occurrence of a recurring transfer's next transfer after one entry more follows from the one before and what the
+/// entry says.
 pub fn occurrence_by_one_more()
     ensures { (id : ℕ) (entries : List Entry) (entry : Entry) →
         next_occurrence id (entries ++ entry ∷ []) ≡ occurrence_after id (next_occurrence id entries) entry.change }

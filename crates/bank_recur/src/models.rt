@@ -19,7 +19,7 @@ use std::collections::HashMap;
 use std::marker::Model;
 
 /// The recurring transfers of a bank, in the order in which they were made, the index of each under its id, and the next
-/// transfers of those that make one, in the order in which they are made. There is a place for one of each.
+/// transfers of those that make one, in the order in which they are made. There is room for one of each.
 pub struct Models {
     series: Vec<HeldSeries>,
     offsets: HashMap<u64, usize>,
@@ -117,8 +117,8 @@ impl Models {
         Ok(())
     }
 
-    /// Takes in a new recurring transfer, after all others, or the row that one has from now on, in its place; it begins
-    /// anew. There is room for it, and it takes no memory.
+    /// Adds a new recurring transfer after all others, or gives the one with its id this row from now on, at its index. It
+    /// begins anew, at occurrence 0. There is room for it, and it takes no memory.
     pub fn put(&mut self, row: ModelRow)
         requires room { 0 < self.old.room }
         requires first { IsDay row.first.0 }

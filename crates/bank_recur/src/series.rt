@@ -126,7 +126,7 @@ fn date_at(row: &ModelRow, occurrence: u32) -> Option<Day>
     }
 }
 
-/// Whether the place is before the count, where there is one.
+/// Whether the occurrence, from 0, is below the count, where there is one.
 fn is_below(occurrence: u32, count: Option<u32>) -> bool
     ensures { result ≡ is_below_count occurrence count }
 {

@@ -12,8 +12,8 @@ use Rattle.record_fields.specs.declared.fault.RecordFault.{RecordFault}
 use Rattle.bank_replay.specs.declared.fault.OpenFault.{OpenFault}
 use Rattle.bank_replay.specs.declared.fault.OpenFault.TheVariants.{Read, Record, Illegal, OutOfMemory}
 
--- The bank stands for a list of records, each of which codes an event that is legal after those before it. Where the records
--- are known it is that list.
+-- The bank is in the state after a list of records, each of which codes an event that is legal after those before it. Where the
+-- records are known they are that list.
 pub record RecordsGive (setup : Setup) (known : Option (List (List ℕ))) (state : State) : Type 0 where
   pub records : List (List ℕ)
   pub are_known : IfSome known (λ all. all ≡ records)

@@ -23,8 +23,8 @@ use ofx_ports::Keeper;
 use std::alloc::Global;
 use std::hash::RandomState;
 
-/// Opens the bank of that setup from the records that are kept: the book and its accounts stand for them.
-/// Clients' names are found by hashes with these keys.
+/// Opens the bank of that setup from the records that are kept: the book and its accounts are in the state after them. Clients'
+/// names are found by hashes with these keys.
 ///
 /// - `Read` only where the keeper's count of faults rose in this call.
 /// - `Record(n, at)`: record n, from 1, is the first that codes no event, with the offset of its first fault.

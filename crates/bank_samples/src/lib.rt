@@ -1,4 +1,4 @@
-//! The sample's bank, its requests and replies, byte for byte, and changes of them. Tests of runs and of servers stand on them.
+//! The sample's bank, its requests and replies, byte for byte, and changes of them. Tests of runs and of servers use them.
 #![tactic(auto)]
 
 pub mod changes;

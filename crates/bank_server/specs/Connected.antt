@@ -18,7 +18,7 @@ faces left reads held writes = record { left = left; reads = reads; held = held;
 abbrev pub around_link : {L : Type 0} → Faces L → L → Option (List Moment) → LinkView
 around_link faces link shown = around (faces.left link) (faces.reads link) (faces.held link) (faces.writes link) shown None
 
--- What is seen of a doorway: the links that it gave and took back, where they are told, and its counts of faults and of closings.
+-- What is seen of a doorway: the links that it gave and took back, if they are known, and its counts of faults and of closings.
 pub record DoorView (L : Type 0) : Type 0 where
   pub given : Option (List L)
   pub back : Option (List L)

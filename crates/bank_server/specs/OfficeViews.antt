@@ -25,13 +25,13 @@ own_from number (Fault count pending ∷ more) = number ∷ own_from (number + 1
 abbrev pub own_endings : List LogItem → List ℕ
 own_endings log = own_from 1 (endings log)
 
--- Each poll was told the newest tokens of the state that it was answered in.
+-- Each poll was sent the newest tokens of the state that it was answered in.
 abbrev pub loads_reported : PollTrace JournalView → List Load
 loads_reported Start = []
 loads_reported (After' shape before locked user file) =
     loads_reported before ++ loads_made (newest_loads locked.value.setup locked.value.state user.value file.value.asks)
 
--- an office: what its locked bank has, and the tokens that polls were told
+-- an office: what its locked bank has, and the tokens that polls were sent
 pub record SoloView : Type 0 where
   pub locked : JournalView
   pub polled : List Load

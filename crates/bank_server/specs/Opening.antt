@@ -1,4 +1,4 @@
--- How a bank opens to be served: its words, its setup and its records.
+-- How a bank opens to be served: its arguments, its setup and its records.
 use Rattle.std.specs.Prelude.{◌≡◌, ℕ, ◌⊎◌, List, Option, None, Some, Result, Ok, Err}
 use Rattle.ofx_ports.specs.Faults.{Rose}
 use Rattle.ofx_types.specs.declared.told.Note.TheVariants.{Plain, Place, Record, Illegal}
@@ -40,7 +40,7 @@ pub record HasNoBank (before after : OpeningPorts) (stop : Stop) : Type 0 where
   pub found : IsSetupOf before.setup_left setup
   pub cause : StopsOpening setup before.records before.keeper_faults after.keeper_faults stop
 
--- The arguments have their form, and what is told is that of a stop without a setup or without a bank.
+-- The arguments have their form, and what is reported is that of a stop without a setup or without a bank.
 pub record DoesntOpen (before after : OpeningPorts) (what : Told) : Type 0 where
   pub stop : Stop
   pub reported_is : what ≡ reported_of (Err stop)

@@ -36,8 +36,8 @@ UnwrittenRunsReopen = (setup : Setup) (records kept : List (List ℕ)) (start st
     (content : Content) (line : List ℕ) → Reopens setup opening_state records start → AreTurns setup start turns state →
     AnswersFrame setup at state content line kept next → Reopens setup opening_state (records ++ (records_in turns ++ kept)) next
 
--- After the records from which a bank opened, the record of a letter that was legal there brings a bank to the state after
--- the letter, whether or not its append was told to have failed.
+-- The record of a letter that is legal after the records from which a bank opened brings a bank to the state after the letter.
+-- That holds whether or not its append was reported to have failed.
 abbrev pub LettersReopen : Type 0
 LettersReopen = (setup : Setup) (records : List (List ℕ)) (rec : List ℕ) (state : State) (at : Moment) (user : UserId)
     (subject body : List ℕ) → Reopens setup opening_state records state → IsLegal setup state at (Letter user subject body) →

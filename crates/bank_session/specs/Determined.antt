@@ -43,7 +43,7 @@ OneLine = (setup : Setup) (at : Moment) (before : State) (content : Content) (li
     AnswersFrame setup at before content line records after → AnswersFrame setup at before content line' records' after' →
     (line ≡ line') × (records ≡ records') × (after ≡ after')
 
--- A file that isn't answered has one place to tell,
+-- A file that is refused has one offset to report,
 abbrev pub OneRefusal : Type 0
 OneRefusal = (bytes : List ℕ) (offset offset' : ℕ) → IsRefused bytes offset → IsRefused bytes offset' → offset ≡ offset'
 

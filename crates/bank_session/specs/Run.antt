@@ -47,8 +47,8 @@ Settles (Ok done) unsettled = unsettled ≡ false
 Settles (Err stops.KeeperFailed) unsettled = unsettled ≡ true
 Settles (Err stop) unsettled = unsettled ≡ false
 
--- A command has the setup that all bytes of its source spell, within its limits, and a bank that stands for its records, and does
--- its work in it.
+-- A command has the setup that all bytes of its source spell, within its limits, and a bank in the state after its records, and
+-- does its work in it.
 pub record EndsWithBank (Works : Setup → State → PortsView → PortsView → Result (Unit {0}) Stop → Type 0) (before after : PortsView) (end : Result (Unit {0}) Stop) : Type 0 where
   pub setup : Setup
   pub start : State

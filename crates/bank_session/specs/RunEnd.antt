@@ -13,7 +13,7 @@ use Rattle.bank_opening.specs.declared.stop.Stop.TheVariants as stops
 use Rattle.bank_session.specs.Answers.{AnswersFrame, Turn, AreTurns, read_in, written_in, records_in, moments_in, AreMoments, IsPrefixKept, IsKeptWhereRefused}
 use Rattle.bank_session.specs.PortsView.{PortsView}
 
--- A run has taken these turns from a state, at most 1,000,000. Where the input is told it began with the frames of the turns,
+-- A run has taken these turns from a state, at most 1,000,000. Where the input is known it began with the frames of the turns,
 -- and after them came the bytes that were read ahead and those that it has left.
 pub record Taken (setup : Setup) (start : State) (before after : PortsView) (turns : List Turn) (state : State) (ahead : List ℕ) : Type 0 where
   pub are_turns : AreTurns setup start turns state

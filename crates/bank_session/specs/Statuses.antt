@@ -65,7 +65,7 @@ RefusesIllegal Stopped before after what =
     (setup : Setup) (records : List (List ℕ)) (number : ℕ) → HasRecords before setup records
     → IsNotLegal setup (Some records) number → (what ≡ reported 9 (Illegal number)) ⊎ Stopped before after what
 
--- A command that does such work ends so: what it read and wrote, and exactly where no bank opens what is told.
+-- How a command that does such work ends: what it read and wrote, and, where no bank opens, exactly when it reports what.
 pub record IsCommand (Works : Setup → State → PortsView → PortsView → Result (Unit {0}) Stop → Type 0) (Stopped : PortsView → PortsView → Told → Type 0) (before after : PortsView) (what : Told) : Type 0 where
   pub ends : EndsWith Works before after what
   pub refuses_setup : RefusesSetup Stopped before after what
@@ -93,14 +93,14 @@ pub record BringsFrames (before : PortsView) (contents : List Content) (rest : L
 abbrev pub AnswersAll : PortsView → PortsView → Told → Type 0
 AnswersAll before after what = (contents : List Content) → BringsFrames before contents [] → (what ≡ reported 0 Plain) ⊎ IsInterrupted before after what
 
--- Bytes after the frames that begin no frame, or anything after the most frames, end it with 4, and their place in the
--- input is told.
+-- Bytes after the frames that begin no frame, or anything after the most frames, end it with 4, and their offset in the input is
+-- reported.
 abbrev pub RefusesFrame : PortsView → PortsView → Told → Type 0
 RefusesFrame before after what =
     (contents : List Content) (rest : List ℕ) → BringsFrames before contents rest → rest ≢ [] → (BeginsNoFrame rest ⊎ (length contents ≡ 1000000))
     → (what ≡ reported 4 (Place (length (flat_map frame_of contents)))) ⊎ IsInterrupted before after what
 
--- The command `answer` over these words' moment ends so, and exactly where what is told.
+-- How the command `answer` with this moment, or none, in its arguments ends, and exactly when it reports what.
 pub record IsRun (at : Option Moment) (before after : PortsView) (what : Told) : Type 0 where
   pub command : IsCommand (RunEnds at) IsInterrupted before after what
   pub refuses_frame : RefusesFrame before after what
@@ -113,7 +113,7 @@ abbrev pub DoesAll : PortsView → PortsView → Told → Type 0
 DoesAll before after what =
     (setup : Setup) (start : State) → Opens before setup start → (what ≡ reported 0 Plain) ⊎ IsDueInterrupted before after what
 
--- The command `due` ends so, and exactly where what is told.
+-- How the command `due` ends, and exactly when it reports what.
 pub record IsDueCommand (before after : PortsView) (what : Told) : Type 0 where
   pub command : IsCommand DueEnds IsDueInterrupted before after what
   pub does_all : DoesAll before after what
@@ -148,7 +148,7 @@ WritesIt name before after what =
     (setup : Setup) (start : State) (input body : List ℕ) (user : UserId) → Brings before setup start input → IsBody input body
     → user_of setup name ≡ Some user → has_number setup start ≡ true → (what ≡ reported 0 Plain) ⊎ IsInterrupted before after what
 
--- The command `mail` ends so, and exactly where what is told.
+-- How the command `mail` ends, and exactly when it reports what.
 pub record IsMailCommand (name subject : List ℕ) (before after : PortsView) (what : Told) : Type 0 where
   pub command : IsCommand (MailEnds name subject) IsInterrupted before after what
   pub refuses_body : RefusesBody before after what

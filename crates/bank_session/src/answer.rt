@@ -57,10 +57,10 @@ fn run<A: Source, B: Source, W: Sink, K: Keeper, C: Clock>(
 ///
 /// The arguments of the first are `answer`, the path of the setup, where the records are kept, and perhaps `--at` with a date
 /// (OFX 1.6, "Dates, Times, and Time Zones"). The setup is read whole, and the bank opens from the records that the keeper
-/// has: it stands for the events that they code, each legal after those before it. Then each frame of the input is answered
-/// in turn. Of each event a record is appended before anything of it shows: before the bank takes the step, and before its
-/// line is written. With `--at` each frame has that moment. Without it the clock is read once for each frame, when the whole frame
-/// is there and before it is judged.
+/// has: its state is the one after the events that they code, each legal after those before it. Then each frame of the input is
+/// answered in turn. Of each event a record is appended before anything of it shows: before the bank takes the step, and before
+/// its line is written. With `--at` each frame has that moment. Without it the clock is read once for each frame, when the whole
+/// frame is there and before it is judged.
 ///
 /// A request file of a user of the setup (OFX 1.6, "Signon") is answered by the reply in its frame. The reply to a file
 /// with a NEWFILEUID is kept, and the same bytes are written again for each file of that user with this NEWFILEUID, until
@@ -138,8 +138,8 @@ pub fn answer_told<A: Source, B: Source, W: Sink, K: Keeper, C: Clock>(
     ensures plain { result.status.0 ≡ 2 → result.note ≡ Note.Plain }
     ensures unread { IsUsage arguments.now → (setup.new ≡ setup.old) × (input.new ≡ input.old) × (out.new ≡ out.old) × (keeper.new ≡ keeper.old) × (clock.new ≡ clock.old) }
 
-    // What is written and kept, for which frames and at which moments, and why the run ended; and that what the setup, the
-    // records and the input are decides what is told, unless something of the outside fails or memory is refused.
+    // What is written and kept, for which frames and at which moments, and why the run ended. The setup, the records and the
+    // input decide what is reported, unless something of the outside fails or memory is refused.
     ensures run { (at : Option TheMoment) → AreArguments arguments.now at → IsRun at
         (⟦<(A, B, W, K, C) as Ports>⟧.seen (setup.old, input.old, out.old, keeper.old, clock.old))
         (⟦<(A, B, W, K, C) as Ports>⟧.seen (setup.new, input.new, out.new, keeper.new, clock.new)) result }

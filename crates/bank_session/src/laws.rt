@@ -14,7 +14,7 @@ pub fn one_splitting()
     ensures { OneSplitting }
 {}
 
-/// A file is refused at one place, and is neither an event then nor denied.
+/// A file is refused at one offset, and is neither an event then nor denied.
 pub fn one_refusal()
     ensures offset { OneRefusal }
     ensures unanswered { RefusedIsUnanswered }
@@ -77,9 +77,9 @@ pub fn runs_reopen()
     reopening_goes_on();
 }
 
-/// The same where a run stopped within a frame, whose records stand after those of the turns: because an append failed,
-/// whether or not its record landed; because memory was refused; or because the line couldn't be written. The next run
-/// finds none of them illegal. With no turns, and a call for due work as the frame, this is the command `due`.
+/// The same where a run stopped within a frame, whose records come after those of the turns. It stopped because an append failed,
+/// whether or not its record landed; because memory was refused; or because the line couldn't be written. The next run finds none
+/// of them illegal. With no turns, and a call for due work as the frame, this is the command `due`.
 pub fn stopped_runs_reopen()
     ensures unkept { StoppedRunsReopen IsPrefixKept }
     ensures refused { StoppedRunsReopen IsKeptWhereRefused }

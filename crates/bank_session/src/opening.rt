@@ -13,7 +13,7 @@ use ofx_ports::Keeper;
 use std::alloc::Global;
 use std::hash::RandomState;
 
-/// The bank of that setup that stands for the records that are kept.
+/// The bank of that setup, in the state after the records that are kept.
 pub fn open_desk<K: Keeper>(
     alloc: Global,
     keys: RandomState,

@@ -7,7 +7,7 @@ pub record OpenedView : Type 0 where
   pub setup : Setup
   -- the state that its records left
   pub state : State
-  -- the keeper's records when it opened, where it told them
+  -- the keeper's records when it opened, where they were known
   pub opened : Option (List (List ℕ))
   -- its records now
   pub records : Option (List (List ℕ))

@@ -17,7 +17,7 @@ pub trait BankName {
     // the state in which it opened
     ghost opening: { State };
 
-    // the records from which it opened, where the keeper told them
+    // the records from which it opened, where the keeper reported them
     ghost first: { Option (List (List ℕ)) };
 }
 

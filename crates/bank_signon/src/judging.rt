@@ -66,7 +66,7 @@ pub fn judge(alloc: Global, setup: &Setup, bytes: &[u8]) -> Result<Judgement, Ou
     }
 }
 
-/// Where a fault stands. None for want of memory.
+/// The offset of a fault, from the file's first byte. None for want of memory.
 fn place_of(fault: FileFault) -> Option<u64>
     ensures { result ≡ fault_offset fault }
 {

@@ -20,7 +20,7 @@ pub record AreAccountsIn (setup : Setup) (state : State) (accounts : List Accoun
 abbrev pub account_in : Setup → State → AcctId → AccountView
 account_in setup state number = record { number = number; balance = record { 0 = balance setup state.entries number } }
 
--- All accounts of the bank, each at the place of its number.
+-- All accounts of the bank, each at the index that is its number.
 abbrev pub accounts_in : Setup → State → List (Option AccountView)
 accounts_in setup state =
     map (λ (index : ℕ). Some (account_in setup state (record { 0 = index }))) (range_with_len 0 (length setup.accounts))

@@ -118,7 +118,7 @@ fn a_series_begins_with_its_dates(rt: HostRuntime) {
     }
 }
 
-/// First days, frequencies and places that lie after the year 9999.
+/// First days, frequencies and occurrences, from 0, whose dates lie after the year 9999.
 const PAST_THE_END: &[(i32, Freq, u32)] = &[
     (2_932_889, Freq::Weekly, 2),
     (2_932_865, Freq::Monthly, 2),

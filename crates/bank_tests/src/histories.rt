@@ -33,7 +33,7 @@ fn add(rt: &impl Abort, history: &mut History, object: ObjectId, change: Change)
     });
 }
 
-/// A history that is told two entries back. The last two of five entries came since room was made.
+/// A history that is reported two entries back. The last two of five entries came since room was made.
 fn five(rt: &impl Abort, alloc: Global) -> History
     ensures width { result.width ≡ 2 }
 {

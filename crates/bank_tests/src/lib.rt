@@ -1,6 +1,6 @@
-//! Tests of what the bank's book stands on, by public calls: setups, histories, used TRNUIDs and kept replies, windows,
-//! transfers, recurring transfers and their dates, mails, accounts. Like cases stand in tables; each call that takes memory is
-//! made once with ample memory.
+//! Tests of what the bank's book is built on, by public calls: setups, histories, used TRNUIDs and kept replies, windows,
+//! transfers, recurring transfers and their dates, mails, accounts. Like cases are in tables; each call that takes memory is made
+//! once with ample memory.
 #![tactic(auto)]
 
 #[cfg(test)]

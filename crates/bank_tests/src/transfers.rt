@@ -70,7 +70,7 @@ fn a_transfer_has_the_first_refusal_that_holds(rt: HostRuntime) {
     }
 }
 
-/// Who asks, how the transfer out of 1001 stands, and the code of a change and of a cancellation.
+/// Who asks, the status of the transfer out of 1001, and the code of a change and of a cancellation.
 const STANDING: &[(UserId, XferCode, u16)] = &[
     (ALICE, XferCode::Waiting, 0),
     (BOB, XferCode::Waiting, 2018),

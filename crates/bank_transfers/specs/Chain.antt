@@ -1,5 +1,5 @@
 -- How the postings of an account are found: each posting leads to the one before it that is about an account of the same
--- key. Places count from 1, and 0 is none.
+-- key. Positions count from 1, and 0 is none.
 use Rattle.std.specs.Prelude.{◌≡◌, ℕ, zero, suc, ◌+◌, ◌*◌, ◌%◌, ◌^◌, ◌<◌, ◌≤◌, ◌≤ℤ◌, Bool, true, ◌||◌, ◌==◌, if◌then◌else◌, List, [], ◌∷◌, map, fold, take, length, slice_index_or, Option, None, Some}
 use Rattle.std.specs.Map.{lookup}
 use Rattle.ofx_types.specs.declared.account.AcctName.{AcctName}
@@ -22,7 +22,7 @@ touches key posting = (key_of posting.row.from == key) || (key_of posting.row.to
 abbrev pub is_of : ℕ → Posting → Bool
 is_of id posting = posting.row.id == id
 
--- the place of the last posting that passes a test
+-- the position of the last posting that passes a test, or 0, from whether the first one passes and the position among the rest
 abbrev pub index_before : Bool → ℕ → ℕ
 index_before passes zero = if passes then 1 else 0
 index_before passes (suc index) = suc (suc index)
@@ -37,7 +37,7 @@ posting_of linked = record { number = linked.number; row = linked.row }
 abbrev pub postings_of : List Linked → List Posting
 postings_of held = map posting_of held
 
--- The posting at a place passes a test; at 0 there is none.
+-- The posting at a position passes a test; at 0 there is none.
 abbrev pub PassesAt : (Posting → Bool) → ℕ → List Posting → Type 0
 PassesAt test zero postings = Unit {0}
 PassesAt test (suc k) postings = (d : Posting) → test (slice_index_or postings k d) ≡ true
@@ -46,7 +46,7 @@ PassesAt test (suc k) postings = (d : Posting) → test (slice_index_or postings
 abbrev pub IsBetween : Moment → Moment → Posting → Type 0
 IsBetween least greatest posting = (least.0 ≤ℤ posting.row.stamp.0) × (posting.row.stamp.0 ≤ℤ greatest.0)
 
--- Stamps are from one moment to another: those of the postings of a key after one place, up to another.
+-- The stamps of the postings of a key after one position, up to and at another, are from one moment to another.
 abbrev pub AreBetween : ℕ → Moment → Moment → ℕ → ℕ → List Posting → Type 0
 AreBetween key least greatest after index postings = (k : ℕ) (d : Posting) → after ≤ k → k < index
     → touches key (slice_index_or postings k d) ≡ true → IsBetween least greatest (slice_index_or postings k d)
@@ -69,6 +69,6 @@ abbrev pub index_or_none : Option ℕ → ℕ
 index_or_none None = 0
 index_or_none (Some index) = index
 
--- The table has the place of the last posting of each key.
+-- The table has, under each key, the position of the last posting that passes the key's test.
 abbrev pub HasLasts : (ℕ → Posting → Bool) → List (ℕ × ℕ) → List Posting → Type 0
 HasLasts test table postings = (key : ℕ) → index_or_none (lookup (λ k. key == k) table) ≡ last_by (test key) postings

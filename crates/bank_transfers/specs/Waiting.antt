@@ -23,7 +23,7 @@ pub record AreRows (waiting : WaitingView) (rows : List TransferRow) : Type 0 wh
 abbrev pub task_order : DueTask → DueTask → Ordering
 task_order a b = ordering_then (int_cmp b.day.0.0 a.day.0.0) (nat_cmp b.id.0 a.id.0)
 
--- The transfers of one recurring transfer stand together, by their ids, and before those of one with a lesser id.
+-- The transfers that one recurring transfer made are listed together, by their ids, and before those of one with a lesser id.
 abbrev pub made_order : Made → Made → Ordering
 made_order a b = ordering_then (nat_cmp b.model.0 a.model.0) (nat_cmp a.id b.id)
 
@@ -37,8 +37,8 @@ task_key row = record { day = record { 0 = row.due }; id = record { 0 = row.id }
 abbrev pub made_key : TransferRow → Made
 made_key row = record { model = record { 0 = row.model }; id = row.id }
 
--- What lists the rows that stand under ids: each row is under its own, and the tasks and the transfers that recurring
--- ones made are those of the rows.
+-- How the rows are listed: each row is under its own id, and the tasks and the transfers that recurring ones made are
+-- those of the rows.
 pub record AreListed (rows : List (ℕ × TransferRow)) (tasks : List DueTask) (made : List Made) : Type 0 where
   pub keyed : (id : ℕ) → IfSome (row_at rows id) (λ (row : TransferRow). row.id ≡ id)
   pub by_day : Lists task_order (λ (task : DueTask). task.id.0) task_key tasks (row_at rows)

@@ -36,8 +36,8 @@ pub fn money_stays()
         → balances setup entries ≡ openings setup.accounts }
 {}
 
-/// What transfers stand for stays where an entry gives no transfer a row and drops none, as an entry of a recurring
-/// transfer does.
+/// Transfers that represent entries also represent them with one more that gives no transfer a row and drops none, like an
+/// entry of a recurring transfer.
 pub fn models_leave_transfers()
     ensures { (transfers : TransfersView) (entries : List Entry) (entry : Entry) → Represents transfers entries
         → row_in entry.change ≡ None → ((id : ℕ) → drops id entry.change ≡ false)

@@ -5,7 +5,7 @@ ghost use Rattle.std.specs.List.Sorted.{IsStrictlySortedBy};
 ghost use Rattle.std.specs.Ordering.{eq_by_cmp};
 ghost use Rattle.bank_transfers.specs.Order.{has};
 
-/// Puts a key at its place. There is room for it, and it takes no memory.
+/// Inserts a key in order, unless it is there. There is room for it, and it takes no memory.
 pub(crate) fn put_key<K: Ord + Drop>(keys: &mut Vec<K>, key: K)
     requires sorted { IsStrictlySortedBy K.cmp keys.old.items }
     requires room { vec_len keys.old < vec_capacity keys.old }

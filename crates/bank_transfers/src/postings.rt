@@ -66,7 +66,7 @@ impl Linked {
     }
 }
 
-/// The posted transfers, with the places of the last one of each key of an account, and of each transfer.
+/// The posted transfers, with the position, from 1, of the last one of each key of an account, and of each transfer.
 pub(crate) struct Postings {
     held: Vec<Linked>,
     accounts: HashMap<u64, usize>,
@@ -199,7 +199,7 @@ impl Postings {
     }
 }
 
-/// How the posting at a place leads back to earlier ones of a key that is its source's or its destination's.
+/// How the posting at a position, from 1, leads back to earlier ones of a key that is its source's or its destination's.
 fn link_at(held: &[Linked], index: usize, key: u64) -> SkipLink
     requires linked { AreLinked held.now }
     requires some { 0 < index }
@@ -210,10 +210,10 @@ fn link_at(held: &[Linked], index: usize, key: u64) -> SkipLink
     held[index - 1].link(key)
 }
 
-/// How a new posting leads back to those of a key before it, of which the last has that place.
+/// How a new posting with this stamp leads back to those of a key before it, of which the last is at `before`, or 0.
 ///
 /// Where that one's skip, and the skip from where it lands, are over equally many postings, the new one skips over both and itself.
-/// So there are skips of every power of two, and a few of them lead to any place.
+/// So skips are over 1, 3, 7, 15 and so on postings of the key, and a few of them lead to any position.
 fn link_to(held: &[Linked], before: usize, key: u64, stamp: Moment) -> SkipLink
     requires linked { AreLinked held.now }
     requires before { before ≡ last_by (touches key) (postings_of held.now) }
@@ -234,7 +234,7 @@ fn link_to(held: &[Linked], before: usize, key: u64, stamp: Moment) -> SkipLink
     SkipLink::over(before, stamp, last, earlier)
 }
 
-/// The place at a key, or 0.
+/// The position under a key, or 0 where there is none.
 fn last_at(indices: &HashMap<u64, usize>, key: u64) -> usize
     ensures { result ≡ index_or_none (lookup (λ k. key == k) indices.now.entries) }
 {
@@ -244,7 +244,7 @@ fn last_at(indices: &HashMap<u64, usize>, key: u64) -> usize
     }
 }
 
-/// Sets the place at a key. There is room for it, and it takes no memory.
+/// Sets the position under a key. There is room for it, and it takes no memory.
 fn set_index(indices: &mut HashMap<u64, usize>, key: u64, index: usize)
     requires { 0 < spare indices.old }
     ensures indices { (other : ℕ) → lookup (λ k. other == k) indices.new.entries

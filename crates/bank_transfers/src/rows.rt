@@ -56,7 +56,7 @@ impl Rows {
         Ok(())
     }
 
-    /// Puts a row, in the place of the one with its id. There is room for it, and it takes no memory.
+    /// Puts a row, in place of one with its id. There is room for it, and it takes no memory.
     pub(crate) fn put(&mut self, row: TransferRow)
         requires room { 0 < self.old.room }
         ensures found { (id : ℕ) → row_at self.new.rows id ≡ (if row.id == id then Some row else row_at self.old.rows id) }

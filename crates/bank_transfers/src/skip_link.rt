@@ -6,12 +6,12 @@ ghost use Rattle.bank_transfers.specs.SkipLink as link;
 use crate::posted::is_before;
 use ofx_types::Moment;
 
-/// The way back from a posting. Places count from 1, and 0 is none.
+/// The way back from a posting. Positions count from 1, and 0 is none.
 #[derive(Clone, Copy)]
 pub(crate) struct SkipLink {
-    // the place of the last posting of the key before it
+    // the position of the last posting of the key before it
     pub(crate) before: usize,
-    // the place of one of the key no later than that, or 0
+    // the position of one of the key no later than that, or 0
     pub(crate) skip: usize,
     // Skips over equally many postings of the key have the same rank.
     pub(crate) rank: u8,
@@ -50,7 +50,7 @@ impl SkipLink {
         }
     }
 
-    /// The place to look at next for the postings of a period: where it skips to, if none over which it skips is in the period.
+    /// The next position to look at for postings of a period: `skip` where none of those skipped is in it, and else `before`.
     pub(crate) fn next(&self, period: (Moment, Option<Moment>)) -> usize
         ensures { result ≡ link.next self.now period.0 period.1 }
     {

@@ -32,7 +32,7 @@ pub(crate) struct Made {
 }
 
 /// The rows of the transfers that wait. The one that is due first is the last of the tasks, where it is taken without moving the
-/// others. Those of a recurring transfer stand one after another, and a new one that none made comes after all.
+/// others. Those that a recurring transfer made are listed one after another, and a new one that none made comes last.
 pub(crate) struct Waiting {
     held: HashMap<u64, TransferRow>,
     tasks: Vec<DueTask>,
@@ -100,7 +100,7 @@ impl Waiting {
         Ok(())
     }
 
-    /// Puts the row of a transfer that waits, in the place of the one with its id. There is room for it, and it takes no memory.
+    /// Puts the row of a transfer that waits, in place of one with its id. There is room for it, and it takes no memory.
     pub(crate) fn put(&mut self, row: TransferRow)
         requires room { 0 < self.old.room }
         ensures found { (id : ℕ) → row_at self.new.rows id ≡ (if row.id == id then Some row else row_at self.old.rows id) }

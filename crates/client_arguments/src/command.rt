@@ -71,7 +71,7 @@ fn mail_of(arguments: &[Text]) -> Result<Wish, ArgumentsFault>
     }
 }
 
-/// The wish to be shown what is kept, for which no words stand after `show`.
+/// The wish to be shown what is kept, which takes no arguments after `show`.
 fn show_of(arguments: &[Text]) -> Result<Wish, ArgumentsFault>
     ensures { (bank : List ℕ) → Reads (IsWishedBy bank verbs.Show arguments.now) result }
 {

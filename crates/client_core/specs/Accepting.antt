@@ -49,8 +49,8 @@ abbrev pub sync_lines : SyncAsk → SyncReply → List Store → List (List ℕ)
 sync_lines ask reply stores =
     map done_line (last_replies ask.deeds reply.replies) ++ store_text (store_under ask.object stores) ∷ []
 
--- A statement is told by its balance. A synchronisation is told by the code of each deed that was asked for, and by the store as
--- it is now. Any other pair has no line; a client makes no file with a deed outside a synchronisation.
+-- A statement is reported by its balance. A synchronisation is reported by the code of each deed that was asked for, and by the
+-- store as it is now. Any other pair has no line; a client makes no file with a deed outside a synchronisation.
 abbrev pub lines_of : Ask → AskReply → List Store → List (List ℕ)
 lines_of (asks.Statement trnuid account period) (replies.Statement uid code body) stores = balance_text account code body ∷ []
 lines_of (asks.Sync ask) (replies.Sync reply) stores = sync_lines ask reply stores

@@ -49,8 +49,8 @@ is_answered (asks.One trnuid deed) (replies.One reply) =
 is_answered (asks.Sync ask) (replies.Sync reply) = is_sync_answered ask reply
 is_answered ask reply = false
 
--- The number of the first ask that isn't answered by the reply at its place, or of the first place that one of both lists
--- lacks. They are numbered from this number on.
+-- The number of the first ask that isn't answered by the reply at its position, or of the first position that one of both
+-- lists lacks. They are numbered from this number on.
 abbrev pub unanswered_from : ℕ → List Ask → List AskReply → Option ℕ
 unanswered_from number [] [] = None
 unanswered_from number (ask ∷ asks) (reply ∷ replies) =

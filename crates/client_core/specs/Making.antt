@@ -33,7 +33,7 @@ deed_name name number index = file_name name number ++ 45 ∷ decimal index
 
 -- ---- asks
 
--- A store is asked about by its token, and about all that stands where it is marked lost.
+-- For a store, what came after its token is asked for, and all that there is where it is marked lost.
 abbrev pub kind_asked : Store → SyncKind
 kind_asked store = if store.is_lost then Refresh else After (decimal store.token)
 

@@ -1,4 +1,4 @@
--- How the answers of calls stand to what the rules give, and which replies may be taken.
+-- How the answers of calls relate to what the rules give, and which replies may be taken.
 use Rattle.std.specs.Prelude.{◌≡◌, ℕ, Result, Ok, Err, List}
 use Rattle.std.specs.Option.{IfSome}
 use Rattle.std.specs.List.{AllByRecursion}

@@ -10,8 +10,8 @@ use ofx_values::read_number;
 /// The most digits of a token.
 const MAX_DIGITS: usize = 10;
 
-/// The number of the first ask, from 1, that isn't answered by the reply at its place, or of the first place that one of both
-/// lists lacks. Takes no memory.
+/// The number of the first ask, from 1, that isn't answered by the reply at its position, or of the first position that one of
+/// both lists lacks. Takes no memory.
 #[tactic(auto, unfolding(crate::specs::Answering::first_unanswered))]
 pub fn first_unanswered(asks: &[Ask], replies: &[AskReply]) -> Option<u64>
     ensures { result ≡ rules.first_unanswered asks.now replies.now }

@@ -188,7 +188,7 @@ impl Client {
     ///
     /// The caller knows that the rows that the reply brings are within their bounds. `NotMine` exactly where it doesn't bear the
     /// outstanding file's name or nothing is outstanding; then `Signon(code)` exactly where the signon failed; then `Shape(n)`
-    /// exactly where the reply at place n, from 1, doesn't answer what was asked there. After any refusal the client is as
+    /// exactly where reply n, from 1, doesn't answer ask n, or one of both is missing. After any refusal the client is as
     /// before, and the file stays outstanding.
     pub fn accept(&mut self, reply: &ReplyFile) -> Result<Report, ClientFault>
         requires { AllByRecursion IsSoundReply reply.now.replies }
@@ -216,7 +216,7 @@ impl Client {
     /// The client that a saved text describes. What `save_text` gives is read back as it was.
     ///
     /// `Bad(at)` exactly where the text describes none: the first field without a form begins at `at`, or all have one and more
-    /// bytes stand from `at` on.
+    /// bytes follow from `at` on.
     pub fn load_text(alloc: Global, bytes: &[u8]) -> Result<Client, StoreFault>
         // The bytes are the saved text of the client that is found.
         ensures found { IfOk result (λ client. IsSavedText bytes.now client) }

@@ -25,10 +25,10 @@ use std::alloc::Global;
 /// The version of the files that are made.
 const VERSION: u16 = 160;
 
-/// The place among a file's uids that a statement has.
+/// The index of a statement's uid in its file.
 const STATEMENT: u64 = 0;
 
-/// The place that the first deed has.
+/// The index of the first deed's uid in its file.
 const FIRST: u64 = 1;
 
 // ---- what a wish asks

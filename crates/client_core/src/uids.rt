@@ -27,7 +27,7 @@ fn file_name(alloc: Global, name: &Text, number: u64) -> Result<Vec<u8>, OutOfMe
     Ok(bytes)
 }
 
-/// The bytes of the TRNUID of what is there at a place of a file.
+/// The bytes of the TRNUID with an index in a file.
 #[tactic(auto, unfolding(crate::specs::Making::deed_name))]
 fn deed_name(alloc: Global, name: &Text, number: u64, index: u64) -> Result<Vec<u8>, OutOfMemory>
     ensures { IfOk result (λ bytes. bytes.items ≡ deed_name name.now number index) }
@@ -50,7 +50,7 @@ pub(crate) fn file_uid(alloc: Global, name: &Text, number: u64) -> Result<FileUi
     }
 }
 
-/// The TRNUID of what is there at a place of a client's file of a number.
+/// The TRNUID with an index in a client's file of a number.
 pub(crate) fn deed_uid(
     alloc: Global,
     name: &Text,

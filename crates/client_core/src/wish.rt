@@ -19,7 +19,7 @@ pub enum Wish {
     Stop(u64),
     /// A mail to the bank: what it is about, and what it says.
     Mail(Text, Text),
-    /// To be told whether there is news of an account.
+    /// To check whether there is news of an account.
     Check(AcctName),
     /// To be shown what the client keeps.
     Show,

@@ -88,14 +88,14 @@ abbrev pub ReportsNews : Result (List (List ℕ)) ClientFault → OutView → Ou
 ReportsNews (Err fault) out out' end = (end ≡ Err (stops.Refused fault)) × (out' ≡ out)
 ReportsNews (Ok lines) out out' end = (reported : Result (Unit {0}) PutFault) × Prints (printed lines) out out' reported × (end ≡ print_end reported)
 
--- A reply to a poll is told by the rule of `news`, unless memory is refused.
+-- A reply to a poll is reported by the rule of `news`, unless memory is refused.
 abbrev pub JudgesNews : List Ask → Result ReplyFile CallStop → OutView → OutView → Result (Unit {0}) ClientStop → Type 0
 JudgesNews asks (Err stop) out out' end = (end ≡ Err (stops.Call stop)) × (out' ≡ out)
 JudgesNews asks (Ok reply) out out' end =
     (judged : Result (List (List ℕ)) ClientFault) × FollowsRule (news asks reply) judged × ReportsNews judged out out' end
 
--- The poll file of the account is sent, as made at the moment that the clock shows, and the newest tokens are told. An outstanding
--- file is left alone.
+-- The poll file of the account is sent, as made at the moment that the clock shows, and the newest tokens are printed. An
+-- outstanding file is left alone.
 pub record Checks (pass : List ℕ) (client : ClientState) (account : AcctName) (link : LinkView) (shown : Option (List Moment)) (out : OutView) (link' : LinkView) (shown' : Option (List Moment)) (out' : OutView) (end : Result (Unit {0}) ClientStop) : Type 0 where
   pub at : Moment
   pub reads : Grows shown shown' (at ∷ [])

@@ -26,7 +26,7 @@ pub record IsOurs (order : Order) (client : ClientState) : Type 0 where
   pub user_is : client.user ≡ order.user
   pub has_number : client.next < 9999999999
 
--- where a text is told, it is this one
+-- where the store's text is known, it is this one
 abbrev pub IsText : StoreView → List ℕ → Type 0
 IsText store text = IfSome store.text (λ reported. text ≡ reported)
 
@@ -54,8 +54,8 @@ pub record Opens (order : Order) (before after : StoreView) (found : Result Clie
 
 -- ---- saving
 
--- What a client knows stands from now on, and the count of faults hasn't fallen. After a save that failed it stands or what
--- stood before, and after want of memory what stood before.
+-- The client's saved text is stored from now on, and the count of faults hasn't fallen. After a save that failed, that text
+-- or the one before is stored; after want of memory, the one before.
 abbrev pub Saves : ClientState → StoreView → StoreView → Result (Unit {0}) PutFault → Type 0
 Saves client before after (Ok done) =
     (text : List ℕ) × IsSavedText text client × Becomes before.text after.text text × (before.faults ≤ after.faults)

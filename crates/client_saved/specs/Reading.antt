@@ -23,7 +23,7 @@ use Rattle.client_saved.specs.declared.state.ClientState.{ClientState}
 
 -- ---- rows
 
--- An id that doesn't rise is told at the first byte of its row.
+-- An id that doesn't rise is reported at the first byte of its row.
 unfoldable pub rising_id_at : ℕ → ℕ → List ℕ → ℕ → Result (ℕ × ℕ) ℕ
 rising_id_at bound first text at = do
   id ← id_at text at
@@ -104,7 +104,7 @@ rows_at family text at = do
 
 -- ---- stores
 
--- An object that has a store already is told at its first byte.
+-- An object that has a store already is reported at its first byte.
 unfoldable pub new_object_at : List Store → List ℕ → ℕ → Result (ObjectName × ℕ) ℕ
 new_object_at before text at = do
   object ← object_at false text at
@@ -167,7 +167,7 @@ state_at text at = do
   stores ← stores_at text outstanding.1
   Ok (record { name = name.0; user = user.0; next = next.0; done = done.0; outstanding = outstanding.0; stores = stores.0 }, stores.1)
 
--- A whole text: where all has a form and more bytes stand after it, the first of these has none.
+-- A whole text: where all has a form and more bytes come after it, the first of these has none.
 unfoldable pub state_read : List ℕ → Result ClientState ℕ
 state_read text = do
   state ← state_at text 0

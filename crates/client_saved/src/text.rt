@@ -69,10 +69,10 @@ fn put_state(state: &ClientState, out: &mut Vec<u8>) -> Result<(), OutOfMemory>
 
 /// What a client knows, as a saved text says it.
 ///
-/// `Bad(at)` exactly where the text isn't one of a client: the fields are looked at from the left, and the first without a form
-/// begins at `at`, or all have one and more bytes stand from `at` on. An object that has a store already, and a row that
-/// isn't of its store's family or whose id isn't above the one before it, have no form at their first byte. The file that
-/// waits for its reply has the client's user and an empty password.
+/// `Bad(at)` exactly where the text isn't one of a client. The fields are looked at from the left: the first without a form
+/// begins at `at`, or all have one and more bytes follow from `at` on. An object that has a store already, and a row that isn't
+/// of its store's family or whose id isn't above the one before it, have no form at their first byte. The file that waits for its
+/// reply has the client's user and an empty password.
 pub fn read_state(alloc: Global, text: &[u8]) -> Result<ClientState, StoreFault>
     // The text is the saved text of what is found.
     ensures found { IfOk result (λ state. IsSavedText text.now state) }

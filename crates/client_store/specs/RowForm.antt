@@ -1,4 +1,4 @@
--- The rows of a client as the bank's rules see them, and the order in which they stand.
+-- The rows of a client as the bank's rules see them, and their order.
 use Rattle.std.specs.Prelude.{◌≡◌, ℕ, suc, Bool, true, false, ◌&&◌, nat_le, List, [], ◌∷◌, map, Option, None, Some}
 use Rattle.ofx_types.specs.SyncForm.{object_family}
 use Rattle.ofx_types.specs.declared.transfer.Family.{Family}
@@ -28,17 +28,17 @@ is_of BankMail (mail_row row) = true
 is_of Mail (mail_row row) = true
 is_of family row = false
 
--- An id is no less than a bound. A mail has none, and may stand after any other.
+-- An id is no less than a bound. A mail has none, and may come after any other.
 abbrev pub is_from : ℕ → Option ℕ → Bool
 is_from bound None = true
 is_from bound (Some own) = nat_le bound own
 
--- the least id that may stand after an id
+-- the least id that may come after a row with this id; the bound stays where it has none
 abbrev pub bound_after : ℕ → Option ℕ → ℕ
 bound_after bound None = bound
 bound_after bound (Some own) = suc own
 
--- A row may stand after others: it is of the family, and its id is no less than the bound.
+-- A row may come after others: it is of the family, and its id is no less than the bound.
 abbrev pub may_follow : Family → ℕ → model.Row → Bool
 may_follow family bound row = is_of family row && is_from bound (id_of row)
 

@@ -12,7 +12,7 @@ pub record HeldRows : Type 0 where
   pub rows : List model.Row
   pub room : ℕ
 
--- The place of an id: each row before it is below the id, and the one that is there, if any, isn't.
+-- The index of an id: each row before it is below the id, and the row at it, if any, isn't.
 abbrev pub IsIndex : ℕ → List model.Row → ℕ → Type 0
 IsIndex id [] zero = Unit {0}
 IsIndex id [] (suc at) = ⊥

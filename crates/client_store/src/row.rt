@@ -53,7 +53,7 @@ impl Row {
         }
     }
 
-    /// Whether the row may stand after another in an object of the family: it is of the family, and its id, where both have
+    /// Whether the row may come after another in an object of the family: it is of the family, and its id, where both have
     /// one, is above the id of the row before it, if there is one.
     pub fn may_follow(&self, family: Family, before: Option<u64>) -> bool
         ensures { result ≡ form.may_follow family (form.bound_after 0 before) (seen self.now) }
@@ -81,7 +81,7 @@ impl Row {
         }
     }
 
-    /// Whether it is there before the place of that id. A mail comes before any.
+    /// Whether it comes before the index of that id. A mail comes before any.
     pub(crate) fn is_below(&self, id: u64) -> bool
         ensures { result ≡ model.is_below id (seen self.now) }
     {

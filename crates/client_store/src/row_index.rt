@@ -11,7 +11,7 @@ use crate::row::Row;
 use ofx_types::{Duplicate, Family, OutOfMemory, TransferRow};
 use std::alloc::Global;
 
-/// The place of an id: where its row stands, or where it would go. The family is that of the rows.
+/// The index of an id: where its row is, or where it would be inserted. The family is that of the rows.
 fn index(rows: &[Row], family: Family, id: u64) -> usize
     requires { IsRising family 0 (all_seen rows.now) }
     ensures within { result ≤ length rows.now }
@@ -24,7 +24,7 @@ fn index(rows: &[Row], family: Family, id: u64) -> usize
     )
 }
 
-/// Whether the row at a place has that id.
+/// Whether there is a row at an index and it has that id.
 fn has_id_at(rows: &[Row], at: usize, id: u64) -> bool
     ensures has { result ≡ view.is_named id (slice_get rows.now at) }
     ensures within { result ≡ true → at < length rows.now }
@@ -35,7 +35,7 @@ fn has_id_at(rows: &[Row], at: usize, id: u64) -> bool
     }
 }
 
-/// The row at a place, where it has that id.
+/// The row at an index, where it has that id.
 fn row_at(rows: &[Row], at: usize, id: u64) -> Option<&Row>
     ensures { option_copied result ≡ view.row_in id (slice_get rows.now at) }
 {
@@ -50,7 +50,7 @@ pub(crate) fn row_among(rows: &[Row], family: Family, id: u64) -> Option<&Row>
     row_at(rows, index(rows, family, id), id)
 }
 
-/// Puts a row in the place of the one that has its id, or among the others. There is room for it. The family is that of the
+/// Puts a row in place of the one that has its id, or inserts it in order. There is room for it. The family is that of the
 /// rows.
 pub(crate) fn put_row(rows: &mut Vec<Row>, family: Family, id: u64, row: Row)
     requires rising { IsRising family 0 (all_seen rows.old.items) }
@@ -80,7 +80,7 @@ pub(crate) fn remove_row_by_id(rows: &mut Vec<Row>, family: Family, id: u64)
     }
 }
 
-/// Puts a row in the place of another.
+/// Puts a row in place of the one at an index.
 fn replace_at(rows: &mut Vec<Row>, at: usize, row: Row)
     requires { at < vec_len rows.old }
     ensures rows { rows.new.items ≡ slice_set rows.old.items at row }
@@ -90,7 +90,7 @@ fn replace_at(rows: &mut Vec<Row>, at: usize, row: Row)
     rows[at] = row;
 }
 
-/// Puts a row at a place, for which there is room.
+/// Inserts a row at an index. There is room for it.
 fn insert_into(rows: &mut Vec<Row>, at: usize, row: Row)
     requires within { at ≤ vec_len rows.old }
     requires room { vec_len rows.old < vec_capacity rows.old }
@@ -104,7 +104,7 @@ fn insert_into(rows: &mut Vec<Row>, at: usize, row: Row)
     }
 }
 
-/// The recurring transfer that made the row at a place, where it is a transfer of that id, and 0 otherwise.
+/// The recurring transfer that made the row at an index, where it is a transfer of that id, and 0 otherwise.
 fn model_at(rows: &[Row], at: usize, id: u64) -> u64
     ensures { result ≡ view.model_in id (slice_get rows.now at) }
 {

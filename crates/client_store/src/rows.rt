@@ -144,7 +144,7 @@ impl Rows {
         }
     }
 
-    /// Puts a row in the place of the one that has its id, or among the others. There is room for it.
+    /// Puts a row in place of the one that has its id, or inserts it in order. There is room for it.
     fn put(&mut self, id: u64, row: Row)
         requires room { 0 < self.old.room }
         requires kind { form.is_of self.old.family (seen row) ≡ true }

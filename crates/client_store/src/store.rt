@@ -152,10 +152,10 @@ impl Store {
     ///
     /// Whoever asks for the token alone changes nothing. A reply with LOSTSYNC Y marks the store lost and changes nothing else.
     /// Any other brings its changes of status 0, to the rows that are there or, where all was asked for, to none; the token
-    /// becomes the reply's and the mark goes. What is new or changed takes the place of its id, and a changed transfer keeps the
-    /// recurring transfer that made it; what is cancelled is taken out; a mail comes last. A change that isn't of the object's
-    /// family does nothing. The token has 1 to 10 digits; any other is taken as 0. This is so of every reply, also of one that no
-    /// bank would give: the rows stand in rising id after it.
+    /// becomes the reply's and the mark goes. What is new or changed replaces the row with its id, or is inserted in order. A
+    /// changed transfer keeps the recurring transfer that made it; what is cancelled is taken out; a mail comes last. A change
+    /// that isn't of the object's family does nothing. The token has 1 to 10 digits; any other is taken as 0. This is so of every
+    /// reply, also of one that no bank would give: the rows are in rising id after it.
     ///
     /// Where memory is refused the store is as before.
     #[tactic(auto, unfolding(bank_model::specs::Stores::taken))]
@@ -170,7 +170,7 @@ impl Store {
         }
     }
 
-    /// Takes in what came after the store's token, or all that stands.
+    /// Takes in the reply to what came after the store's token, or to all there is. A lost one only marks the store.
     fn apply_history(&mut self, all: bool, reply: &SyncReply) -> Result<(), OutOfMemory>
         ensures taken { OnOk result (self.new ≡ history_applied self.old all reply.now) }
         ensures err { OnErr result (self.new ≡ self.old) }

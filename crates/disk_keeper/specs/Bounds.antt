@@ -1,4 +1,4 @@
--- Where gates stand within a file, also one that isn't told.
+-- The bounds of gates within a file, also one whose history isn't known.
 use Rattle.std.specs.Prelude.{◌≡◌, ℕ, ◌+◌, ◌<◌, ◌≤◌, ◌^◌}
 use Rattle.disk_keeper.specs.declared.reading.Gate.{Gate}
 use Rattle.disk_keeper.specs.declared.reading.Found.{Found}

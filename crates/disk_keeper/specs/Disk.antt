@@ -10,7 +10,7 @@ pub record History : Type 0 where
   -- what was done, the newest first
   pub changes : List Change
 
--- the bytes with these in the place of those from an offset on, and longer where these pass the end
+-- the bytes with these in place of those from an offset on, and longer where these pass the end
 abbrev pub overlaid : List ℕ → ℕ → List ℕ → List ℕ
 overlaid old at bytes = take at old ++ bytes ++ drop (at + length bytes) old
 
@@ -62,13 +62,13 @@ abbrev pub GoesOn : Option History → Option History → List Change → Type 0
 GoesOn None new more = ⊤
 GoesOn (Some old) new more = new ≡ Some (after old more)
 
--- Nothing was done to a disk that tells, or it was synced: at each moment a crash leaves what it may have left before, or the
--- image.
+-- Nothing was done to a disk whose history is known, or it was synced: at each moment a crash leaves what it may have left
+-- before, or the image.
 abbrev pub AtMostSynced : Option History → Option History → Type 0
 AtMostSynced None new = ⊤
 AtMostSynced (Some old) new = (new ≡ Some old) ⊎ (new ≡ Some (after old (Sync ∷ [])))
 
--- A disk whose history is known goes on telling it.
+-- A disk whose history is known goes on reporting it.
 abbrev pub ReportsOn : Option History → Option History → Type 0
 ReportsOn None new = ⊤
 ReportsOn (Some old) new = IsSome new
@@ -86,12 +86,12 @@ IsBroken at size more = (more ≡ []) ⊎ ((bytes : List ℕ) × (length bytes �
 abbrev pub Breaks : ℕ → ℕ → Option History → Option History → Type 0
 Breaks at size old new = (more : List Change) × IsBroken at size more × GoesOn old new more
 
--- These are the image's bytes from an offset on, where it is told.
+-- These are the image's bytes from an offset on, where the history is known.
 abbrev pub Shows : Option History → ℕ → List ℕ → Type 0
 Shows None at bytes = ⊤
 Shows (Some history) at bytes = bytes ≡ slice_range (shown history) at (at + length bytes)
 
--- The image has so many bytes, where it is told.
+-- The image has so many bytes, where the history is known.
 abbrev pub HasSize : Option History → ℕ → Type 0
 HasSize None size = ⊤
 HasSize (Some history) size = size ≡ length (shown history)

@@ -15,8 +15,8 @@ is_begun Nothing = false
 is_begun Body = true
 is_begun (Opening next) = true
 
--- The gate after the record of an append that failed, where that stands: the append had come to its gate, and the gate is
--- open.
+-- The gate after the record of an append that failed, where that is stored: the append had come to its gate, and the gate
+-- is open.
 abbrev pub opened_by : Begun → ℕ → Option ℕ
 opened_by Nothing gate = None
 opened_by Body gate = None
@@ -36,7 +36,7 @@ NextWithin end size Nothing = Unit {0}
 NextWithin end size Body = Unit {0}
 NextWithin end size (Opening next) = (next < size) × (next < 2 ^ 63) × (end.offset < next)
 
--- The records of a disk that tells, with the gate after them and the gate that was read last.
+-- The records of a disk whose history is known, with the gate after them and the gate that was read last.
 pub record Keeps (end last : Gate) (begun : Begun) (history : History) : Type 0 where
   pub records : List (List ℕ)
   pub count : end.records ≡ length records

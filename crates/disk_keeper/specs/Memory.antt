@@ -20,7 +20,7 @@ pub record MemState : Type 0 where
   -- how many of its calls failed for want of memory
   pub memory_faults : ℕ
 
--- it tells all that it holds
+-- it reports all that it holds
 abbrev pub reported_by : MemState → Option History
 reported_by disk = Some (record { found = disk.found; changes = disk.changes })
 

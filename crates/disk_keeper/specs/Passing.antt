@@ -3,7 +3,7 @@ use Rattle.std.specs.Prelude.{◌≡◌, ℕ, List, ◌∷◌, ◌++◌, length}
 use Rattle.disk_keeper.specs.Layout.{prefix, HaveSizes}
 use Rattle.disk_keeper.specs.declared.reading.Gate.{Gate}
 
--- A gate stands between two of these records, or at an end of them.
+-- A gate is between two of these records, or at an end of them.
 pub record Passed (records : List (List ℕ)) (gate : Gate) : Type 0 where
   pub passed : List (List ℕ)
   pub rest : List (List ℕ)
@@ -11,7 +11,7 @@ pub record Passed (records : List (List ℕ)) (gate : Gate) : Type 0 where
   pub count : gate.records ≡ length passed
   pub offset : gate.offset ≡ length (prefix passed)
 
--- These records stand at the start of a file, and more bytes after them.
+-- These records are at the start of a file, and at least one byte comes after them.
 pub record Holds (records : List (List ℕ)) (file : List ℕ) : Type 0 where
   pub suffix : List ℕ
   pub some : ℕ

@@ -23,7 +23,7 @@ pub enum Reached {
 
 /// Appends a record after the gate at this offset, which isn't open.
 ///
-/// The body is on the disk before the gate is opened, so that after a gate that is torn open a record stands whole.
+/// The body is on the disk before the gate is opened, so that a whole record follows a gate that is torn open.
 pub fn append_record<D: Disk>(disk: &mut D, gate: u64, bytes: &[u8]) -> Reached
     requires within { gate < D.extent disk.old }
     requires most { gate < 2 ^ 63 }
@@ -50,7 +50,7 @@ pub fn append_record<D: Disk>(disk: &mut D, gate: u64, bytes: &[u8]) -> Reached
 }
 
 /// Writes the length of a record, its bytes and a gate that is shut after the gate at this offset. The answer is the
-/// place of the new gate.
+/// offset of the new gate.
 fn write_body<D: Disk>(disk: &mut D, gate: u64, bytes: &[u8]) -> Result<u64, Failed>
     requires within { gate < D.extent disk.old }
     requires most { gate < 2 ^ 63 }

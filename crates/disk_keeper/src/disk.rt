@@ -1,4 +1,4 @@
-//! A disk, as the keeper sees it: one file that is read and written at any place, and synced.
+//! A disk, as the keeper sees it: one file that is read and written at any offset, and synced.
 
 ghost use Rattle.std.specs.Prelude.{◌≡◌, ℕ, ◌+◌, ◌^◌, ◌<◌, ◌≤◌, max, [], ◌∷◌, Option, None, length, IsErr, OnOk, OnErr};
 ghost use Rattle.ofx_ports.specs.Faults.{CountsFaults};
@@ -12,7 +12,7 @@ use ofx_ports::Failed;
 /// A write shows in reads at once. Until a sync, a crash may leave any bytes in its range. A sync that fails changes
 /// nothing of what reads show.
 pub trait Disk: Drop {
-    // what was found on it and what was done to it since, where this is told
+    // what was found on it and what was done to it since, where this is known
     ghost history: { Self → Option History };
 
     // the number of its bytes

@@ -1,6 +1,6 @@
 //! Why a disk could not be made or opened.
 
-/// Why no keeper stands over a disk. The disk is handed back.
+/// Why no keeper was made or opened over a disk. The disk is handed back.
 #[derive(Drop)]
 pub enum DiskFault<D> {
     /// A call of the disk failed.

@@ -194,7 +194,7 @@ statement_at rec at = do
   period ← optional_at period_at rec account.1
   Ok (asks.Statement uid.0 account.0 period.0, period.1)
 
--- After a mail ask only mail may stand.
+-- After a mail ask only mail may follow.
 abbrev pub wanted_after : Bool → Option Family
 wanted_after false = None
 wanted_after true = Some families.Mail

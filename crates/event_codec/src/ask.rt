@@ -139,7 +139,7 @@ fn statement(alloc: Global, rec: &[u8], at: usize) -> Result<(Ask, usize), Recor
     Ok((Ask::Statement(uid, account, period), next))
 }
 
-/// The family of the deeds that may stand after a mail ask, or none where any may.
+/// The family that a deed must be of: mail after a mail ask, and otherwise none, where any may follow.
 fn wanted_after(is_after_mail: bool) -> Option<Family>
     ensures { result ≡ wanted_after is_after_mail }
 {

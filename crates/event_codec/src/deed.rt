@@ -15,7 +15,7 @@ use record_fields::{
 };
 use std::alloc::Global;
 
-/// Whether a deed of this kind may stand where only deeds of one family are wanted, or any are.
+/// Whether a deed of this kind is allowed where only deeds of one family are wanted, or any are.
 fn is_wanted(wanted: Option<Family>, kind: u8) -> bool
     ensures { result ≡ is_wanted wanted kind }
 {

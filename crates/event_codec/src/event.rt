@@ -133,7 +133,7 @@ fn put_file(file: &RequestFile, out: &mut Vec<u8>) -> Result<(), OutOfMemory>
 /// The event that a record codes, and its moment.
 ///
 /// `Version(n)` exactly where the first byte n isn't 1. Otherwise `Bad(at)` where no event has this coding: the fields are
-/// looked at from the left, and the first without a form begins at `at`, or all have one and more bytes stand from `at` on.
+/// looked at from the left, and the first without a form begins at `at`, or all have one and more bytes follow from `at` on.
 pub fn read_event(alloc: Global, rec: &[u8]) -> Result<(Event, Moment), RecordFault>
     // What is found is coded by the record.
     ensures found { IfOk result (λ found. Codes rec.now found.1 found.0) }

@@ -2,8 +2,8 @@
 //!
 //! `write_event` and `read_event` are whole records. Each field has a writer, which appends its coding, and a reader, which
 //! gives the value that is at an offset and the offset after it, or the offset of the first field without a form. Where
-//! memory is refused, a writer may have appended a part of the coding, and what stood before it is kept. The laws tell that
-//! reading finds just what the coding says, and that a bank comes by its records to one state.
+//! memory is refused, a writer may have appended a part of the coding, and what was before it is kept. The laws say that
+//! reading finds just what the coding says, and that a bank's records lead to one state.
 #![tactic(auto)]
 
 mod ask;

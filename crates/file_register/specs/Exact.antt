@@ -14,7 +14,7 @@ use Rattle.file_register.specs.declared.import.ImportFault.TheVariants as faults
 abbrev pub IsRefusedAs : Result Imported ImportFault → ImportFault → Type 0
 IsRefusedAs result fault = (result ≡ Err fault) ⊎ (result ≡ Err faults.OutOfMemory)
 
--- A failed signon is told,
+-- A failed signon is reported,
 abbrev pub SignonsAreTold : Type 0
 SignonsAreTold = (old : List Line) (reply : ReplyFile) (result : Result Imported ImportFault) (new : List Line)
     → Imports old reply result new → reply.signon ≢ 0 → IsRefusedAs result (faults.Signon reply.signon)

@@ -1,4 +1,4 @@
--- Reading a saved text from left to right: the lines of a register, or the place of the first field that has no form.
+-- Reading a saved text from left to right: the lines of a register, or the offset of the first field that has no form.
 use Rattle.std.specs.Prelude.{ℕ, zero, suc, nat_le, ◌==◌, Bool, true, if◌then◌else◌, List, [], ◌∷◌, length, Option, None, Some, Result, Ok, Err}
 use Rattle.std.specs.Ordering.{is_lt, nat_cmp, ordering_then}
 use Rattle.ofx_types.specs.declared.account.AcctName.{AcctName}

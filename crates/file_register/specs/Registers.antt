@@ -9,7 +9,7 @@ use Rattle.file_register.specs.Order.{line_cmp, IsSameEntry}
 use Rattle.file_register.specs.Lines.{IsSoundLine}
 use Rattle.file_register.specs.declared.line.Line.{Line}
 
--- A line goes to its place in the order, unless one of its account and FITID is there.
+-- A line is inserted in order, unless one of its account and FITID is there.
 abbrev pub put_line : List Line → Line → List Line
 put_line = insert_key line_cmp
 

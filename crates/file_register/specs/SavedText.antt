@@ -1,4 +1,4 @@
--- Which bytes are the saved text of a register, and the place of the first fault of those that are none.
+-- Which bytes are the saved text of a register, and the offset of the first fault of those that are none.
 use Rattle.std.specs.Prelude.{◌≡◌, ◌≢◌, ℕ, List, [], Result, Ok, Err, ◌⊎◌}
 use Rattle.file_register.specs.Registers.{IsRegister}
 use Rattle.file_register.specs.Coding.{register_text}
@@ -16,7 +16,7 @@ pub record IsSavedText (text : List ℕ) (lines : List Line) : Type 0 where
 abbrev pub IsTextOf : List ℕ → List Line → Type 0
 IsTextOf text lines = ((text ≡ []) × (lines ≡ [])) ⊎ IsSavedText text lines
 
--- The first field of a text without a form begins at this place, or nothing may follow there any more.
+-- The first field without a form begins at this offset, or all fields have one and more bytes follow from there on.
 abbrev pub IsFirstFault : List ℕ → ℕ → Type 0
 IsFirstFault text at = (text ≢ []) × (register_read text ≡ Err at)
 

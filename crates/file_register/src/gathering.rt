@@ -13,7 +13,7 @@ use std::alloc::Global;
 use std::cmp::Ordering;
 use std::collections::BTreeSet;
 
-/// The place of the line of the same account and FITID among lines in order.
+/// The index of the line of the same account and FITID among lines in order; `Err` where there is none.
 fn search(lines: &[Line], line: &Line) -> Result<usize, usize>
     requires { IsRising lines.now }
     ensures found { IfOk result (IsFoundAt lines.now line.now) }

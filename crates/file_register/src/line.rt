@@ -33,7 +33,7 @@ impl Duplicate for Line {
 }
 
 impl Line {
-    /// How the line's place in a register compares with another's.
+    /// How the line compares with another in a register's order: by account, then by FITID.
     #[tactic(auto, unfolding(crate::specs::Order::line_cmp))]
     pub(crate) fn compare(&self, other: &Line) -> Ordering
         ensures { result ≡ line_cmp self.now other.now }

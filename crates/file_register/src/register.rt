@@ -128,7 +128,7 @@ impl Register {
     /// The register that a text was saved of. An empty text is an empty register.
     ///
     /// `Bad(at)` exactly where the text has another form: the fields are looked at from the left, and the first without a form
-    /// begins at `at`, or all have one and more bytes stand from `at` on. A count above 500,000 has no form, nor an amount or a
+    /// begins at `at`, or all have one and more bytes follow from `at` on. A count above 500,000 has no form, nor an amount or a
     /// moment past its bounds, nor a line at its first byte that isn't above the one before it.
     pub fn load_text(alloc: Global, bytes: &[u8]) -> Result<Register, RegisterFault>
         // The text is that of the register that is found.

@@ -21,7 +21,7 @@ only (value ∷ []) = Some value
 only (value ∷ another ∷ values) = None
 
 -- The length of the body: what the one Content-Length field says in 1 to 9 digits. None is usable where that field occurs
--- twice, whether or not both agree, or where a Transfer-Encoding field stands.
+-- twice, whether or not both agree, or where there is a Transfer-Encoding field.
 unfoldable pub usable_length : List (List ℕ × List ℕ) → Option ℕ
 usable_length fields =
     if list_any (is_named (codes "Transfer-Encoding")) fields then None

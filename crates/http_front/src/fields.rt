@@ -12,8 +12,8 @@ ghost use Rattle.http_front.specs.Fields.{is_named, values_of, only};
 
 use httparse::spans::HeaderSpan;
 
-/// The length of the body: what the one Content-Length field says in 1 to 9 digits, where no Transfer-Encoding field
-/// stands.
+/// The length of the body: what the one Content-Length field says in 1 to 9 digits, where there is no
+/// Transfer-Encoding field.
 #[tactic(auto, unfolding(crate::specs::Fields::usable_length))]
 pub(crate) fn usable_length(buf: &[u8], fields: &[HeaderSpan]) -> Option<u64>
     requires { All (IsHeaderWithin (length buf.now)) fields.now }
@@ -25,7 +25,7 @@ pub(crate) fn usable_length(buf: &[u8], fields: &[HeaderSpan]) -> Option<u64>
     number_in(only_value(buf, fields, b"Content-Length")?)
 }
 
-/// Whether a field of this name stands.
+/// Whether there is a field of this name.
 fn has_field(buf: &[u8], fields: &[HeaderSpan], name: &[u8]) -> bool
     requires { All (IsHeaderWithin (length buf.now)) fields.now }
     ensures { result ≡ list_any (is_named name.now) (map (header_bytes buf.now) fields.now) }

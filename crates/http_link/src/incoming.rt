@@ -80,7 +80,7 @@ impl Incoming {
     }
 }
 
-/// Moves the bytes from one place up to another to the start.
+/// Moves the bytes from one offset up to another to the start.
 fn shift(buffer: &mut [u8], start: usize, end: usize)
     requires ordered { start ≤ end }
     requires within { end ≤ length buffer.old }

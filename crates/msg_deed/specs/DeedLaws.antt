@@ -1,5 +1,5 @@
--- What holds of the forms of deeds and of the answers to them: each stands exactly where it is read, and its faults have
--- offsets.
+-- What holds of the forms of deeds and of the answers to them: each is there exactly where it is read, and its faults
+-- have offsets.
 use Rattle.std.specs.Prelude.{◌≡◌, ◌↔◌, ℕ, List, Ok}
 use Rattle.ofx_types.specs.Nodes.{Item}
 use Rattle.ofx_types.specs.DeedForm.{IsDeed, IsDeedReply}
@@ -8,7 +8,7 @@ use Rattle.ofx_types.specs.declared.transfer.Deed.{Deed}
 use Rattle.ofx_types.specs.declared.transfer.DeedReply.{DeedReply}
 use Rattle.ofx_tree.specs.Located.{Holds, Any, IsWithin}
 
--- A uid and a deed stand in a transaction, an INTRATRNRQ or a RECINTRATRNRQ, exactly where reading gives them.
+-- A uid and a deed are in a transaction, an INTRATRNRQ or a RECINTRATRNRQ, exactly where reading gives them.
 abbrev pub DeedsAreFound : Type 0
 DeedsAreFound =
     (transaction : Item) (trnuid : List ℕ) (deed : Deed)

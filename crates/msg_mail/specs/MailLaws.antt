@@ -1,4 +1,4 @@
--- What holds of the forms of mail: each stands exactly where it is read, and its faults have offsets.
+-- What holds of the forms of mail: each is there exactly where it is read, and its faults have offsets.
 use Rattle.std.specs.Prelude.{◌≡◌, ◌↔◌, ℕ, List, Ok}
 use Rattle.ofx_types.specs.Nodes.{Item}
 use Rattle.ofx_types.specs.MailForm.{IsMailDeed, IsMailReply}
@@ -7,7 +7,7 @@ use Rattle.ofx_types.specs.declared.transfer.Deed.{Deed}
 use Rattle.ofx_types.specs.declared.transfer.DeedReply.{DeedReply}
 use Rattle.ofx_tree.specs.Located.{Holds, Any, IsWithin}
 
--- A uid and a mail stand in a transaction, a BANKMAILTRNRQ or a MAILTRNRQ, exactly where reading gives them.
+-- A uid and a mail are in a transaction, a BANKMAILTRNRQ or a MAILTRNRQ, exactly where reading gives them.
 abbrev pub MailsAreFound : Type 0
 MailsAreFound =
     (transaction : Item) (trnuid : List ℕ) (deed : Deed)

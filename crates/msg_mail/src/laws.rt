@@ -36,7 +36,7 @@ pub fn signon_reply_faults_have_offsets()
 }
 
 /// What is written of a sound signon are lawful documents, and that name and that password are read from them wherever they
-/// stand.
+/// are.
 pub fn signons_read_back()
     ensures written { SignonsAreDocuments }
     ensures lawful { SignonsAreLawful }

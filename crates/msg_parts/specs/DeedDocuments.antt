@@ -27,7 +27,7 @@ use Rattle.msg_parts.specs.MailDocuments.{mail_about, mail_reply_name}
 
 -- ---- requests
 
--- A due day stands as its midnight in GMT.
+-- A due day is written as its midnight in GMT.
 abbrev pub due_document : Option Day → Documents
 due_document None = empty
 due_document (Some day) = leaf (codes "DTDUE") (moment_text (midnight day.0)) empty

@@ -7,7 +7,7 @@ use Rattle.ofx_types.specs.declared.fault.TreeFault.{TreeFault}
 use Rattle.ofx_types.specs.declared.fault.TreeFault.TheVariants.{Value}
 use Rattle.ofx_types.specs.declared.account.AcctName.{AcctName}
 
--- The uid that bytes are, which stand at this offset: 1 to 36 of them.
+-- The uid that the bytes at this offset are: 1 to 36 of them.
 unfoldable pub trnuid_at : ℕ → List ℕ → Result (List ℕ) TreeFault
 trnuid_at offset text = if is_text_within 36 text then Ok text else Err (Value offset)
 

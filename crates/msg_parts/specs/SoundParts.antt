@@ -24,7 +24,7 @@ pub record IsSoundAccount (account : AcctName) : Type 0 where
 
 -- ---- deeds
 
--- Mail about an account stands apart from other mail.
+-- Mail about an account has a family of its own.
 abbrev pub mail_family : Option AcctName → Family
 mail_family None = Mail
 mail_family (Some account) = BankMail

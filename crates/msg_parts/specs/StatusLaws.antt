@@ -1,4 +1,4 @@
--- What holds of the form of a status: it stands exactly where it is read, and its faults have offsets.
+-- The laws of the form of a status: it holds exactly where reading gives it, and its faults have offsets.
 use Rattle.std.specs.Prelude.{◌≡◌, ◌↔◌, ℕ, Ok}
 use Rattle.ofx_types.specs.Nodes.{Item}
 use Rattle.ofx_types.specs.ReplyGrammar.{IsStatus}

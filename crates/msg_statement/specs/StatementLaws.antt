@@ -1,4 +1,4 @@
--- What holds of the forms of statements: each stands exactly where it is read, and its faults have offsets.
+-- What holds of the forms of statements: each is there exactly where it is read, and its faults have offsets.
 use Rattle.std.specs.Prelude.{◌≡◌, ◌↔◌, ℕ, Ok}
 use Rattle.ofx_types.specs.Nodes.{Item}
 use Rattle.ofx_types.specs.RequestForm.{IsStatement}

@@ -1,4 +1,4 @@
--- Forms that stand one after the other among the children of an aggregate.
+-- Forms that come one after the other among the children of an aggregate.
 use Rattle.std.specs.Prelude.{ℕ, Bool, List, [], ◌∷◌, ◌++◌, Option, None, Some, Result, Ok, if◌then◌else◌}
 use Rattle.ofx_types.specs.Nodes.{Item}
 use Rattle.ofx_types.specs.FormWords.{◌>>=◌}

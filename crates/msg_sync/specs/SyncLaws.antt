@@ -1,4 +1,4 @@
--- What holds of the forms of synchronisation and of the transactions in it: each stands exactly where it is read, and its
+-- What holds of the forms of synchronisation and of the transactions in it: each is there exactly where it is read, and its
 -- faults have offsets.
 use Rattle.std.specs.Prelude.{◌≡◌, ◌↔◌, ℕ, List, Ok}
 use Rattle.ofx_types.specs.Nodes.{Item}
@@ -10,7 +10,7 @@ use Rattle.ofx_types.specs.declared.sync.SyncAsk.{SyncAsk}
 use Rattle.ofx_types.specs.declared.sync.SyncReply.{SyncReply}
 use Rattle.ofx_tree.specs.Located.{Holds, Any, IsWithin}
 
--- A uid and a deed stand in a transaction exactly where reading gives them.
+-- A uid and a deed are in a transaction exactly where reading gives them.
 abbrev pub TransactionsAreFound : Type 0
 TransactionsAreFound =
     (transaction : Item) (deed : List ℕ × Deed) → IsTransaction transaction deed ↔ (transaction_of transaction ≡ Ok deed)

@@ -102,8 +102,8 @@ pub fn syncs_read_back()
     transactions_read_back();
 }
 
-/// What is written of a sound reply to a synchronisation are lawful documents, and reads back as that reply wherever it
-/// stands; each changed transfer reads back with model 0.
+/// What is written of a sound reply to a synchronisation are lawful documents, and reads back as that reply wherever it is; each
+/// changed transfer reads back with model 0.
 pub fn sync_replies_read_back()
     ensures written { SyncRepliesAreDocuments }
     ensures lawful { SyncRepliesAreLawful }

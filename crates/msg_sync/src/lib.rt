@@ -1,9 +1,9 @@
-//! Synchronisation: what a client asks to be told of an object's history, and what it is told, read from a tape and
-//! written on a sheet (OFX 1.6, "Data Synchronization").
+//! Synchronisation: what a client asks for of an object's history, and what it is sent, read from a tape and written on a sheet
+//! (OFX 1.6, "Data Synchronization").
 //!
-//! Here too stand the calls for a transaction of any kind, which a file may have alone or inside a synchronisation. What is
-//! read is the message that is there, or the first fault of its form with that fault's offset. What is written is the
-//! message's one printed form.
+//! The calls for a transaction of any kind, which a file may have alone or inside a synchronisation, are here too. What is read
+//! is the message that is there, or the first fault of its form with that fault's offset. What is written is the message's one
+//! printed form.
 #![tactic(auto)]
 
 pub mod laws;

@@ -1,4 +1,4 @@
-//! Forms that stand one after the other, each put after those that are read already.
+//! Forms that come one after the other, each put after those that are read already.
 
 ghost use Rattle.std.specs.Prelude.{◌≡◌, ◌++◌, IfErr, OnOk, OnErr, option_to_list};
 

@@ -1,4 +1,4 @@
-//! What a client is told of an object (INTRASYNCRS, RECINTRASYNCRS, BANKMAILSYNCRS, MAILSYNCRS), read and written.
+//! What a client is sent of an object (INTRASYNCRS, RECINTRASYNCRS, BANKMAILSYNCRS, MAILSYNCRS), read and written.
 
 ghost use Rattle.std.specs.Prelude.{◌≡◌, ◌++◌, OnOk};
 ghost use Rattle.std.specs.Io.{StartsWith};
@@ -25,7 +25,7 @@ use std::alloc::Global;
 const MAX_BYTES: u32 = 64;
 
 /// The answer that the reply to a synchronisation is: INTRASYNCRS, RECINTRASYNCRS, BANKMAILSYNCRS or MAILSYNCRS. Where LOSTSYNC
-/// doesn't stand nothing is lost. Answers of another family are skipped.
+/// isn't there nothing is lost. Answers of another family are skipped.
 ///
 /// The first fault of its form, with its offset, which is its own where it has another name; `OutOfMemory` where memory
 /// for its texts or its answers is refused.

@@ -1,4 +1,4 @@
-//! What a client asks to be told of an object (INTRASYNCRQ, RECINTRASYNCRQ, BANKMAILSYNCRQ, MAILSYNCRQ), read and written.
+//! What a client asks for of an object (INTRASYNCRQ, RECINTRASYNCRQ, BANKMAILSYNCRQ, MAILSYNCRQ), read and written.
 
 ghost use Rattle.std.specs.Prelude.{◌≡◌, ◌++◌, OnOk};
 ghost use Rattle.std.specs.Io.{StartsWith};

@@ -1,4 +1,4 @@
--- Where the faults of a body stand: within the body, and from the file's first byte.
+-- The offsets of the faults of a body: within the body, and from the file's first byte.
 use Rattle.std.specs.Prelude.{ℕ, ◌+◌, ◌≤◌}
 use Rattle.ofx_types.specs.declared.fault.TapeFault.{TapeFault}
 use Rattle.ofx_types.specs.declared.fault.TapeFault.TheVariants as tags

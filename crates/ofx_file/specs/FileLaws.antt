@@ -1,4 +1,4 @@
--- What holds of the forms of requests and replies: each stands exactly where it is read, and its faults have offsets.
+-- The laws of the forms of requests and replies: each holds exactly where reading gives it, and its faults have offsets.
 use Rattle.std.specs.Prelude.{◌≡◌, ◌↔◌, ℕ, Ok}
 use Rattle.ofx_types.specs.Nodes.{Item}
 use Rattle.ofx_types.specs.MessageForm.{IsRequest, IsReply}

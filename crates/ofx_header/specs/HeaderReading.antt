@@ -36,7 +36,7 @@ unfoldable pub line_at : {A : Type 0} → (List ℕ → Option A) → ℕ → Li
 line_at meaning number mark bytes at =
     raw_at number mark bytes at >>= λ raw. if_allowed number at raw.1 (meaning (trimmed raw.0))
 
--- What values stand for: one value, and one of some, for nothing beyond that.
+-- What values stand for. A value that is fixed, or one of some that are allowed, stands for nothing more.
 abbrev pub fixed_in : List ℕ → List ℕ → Option (Unit {0})
 fixed_in value given = if bytes_eq given value then Some tt else None
 
@@ -50,7 +50,7 @@ version_in given =
     else (if bytes_eq given (codes "151") then Some 151
     else (if bytes_eq given (codes "160") then Some 160 else None)))
 
--- `NONE` stands for no uid, and what has no fault for itself.
+-- `NONE` stands for no uid, and a value that has no fault as a uid stands for itself.
 abbrev pub uid_in : List ℕ → Option (Option (List ℕ))
 uid_in given =
     if bytes_eq given (codes "NONE") then Some None

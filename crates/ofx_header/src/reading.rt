@@ -10,8 +10,8 @@ use crate::line::raw_at;
 use crate::values::{Header, is_charset, uid_in, version_in};
 use ofx_types::{FileUid, HeaderFault, trim};
 
-/// The header that the bytes begin with, and its number of bytes up to the end of the ninth line. The body stands
-/// after them, with the empty line that is usual there (OFX 1.6, "Open Financial Exchange Headers").
+/// The header that the bytes begin with, and its number of bytes up to the end of the ninth line. After them come the empty line
+/// that is usual there (OFX 1.6, "Open Financial Exchange Headers") and the body.
 ///
 /// The first bad line is `Line` where it doesn't begin with its tag and a colon, and `Value` where its value isn't
 /// allowed. A line whose LF isn't there is `Cut`.

@@ -38,7 +38,7 @@ pub(crate) fn is_charset(value: &[u8]) -> bool
     value == b"1252".as_slice() || value == b"ISO-8859-1".as_slice() || value == b"NONE".as_slice()
 }
 
-/// The uid that the bytes after a mark stand for, or none.
+/// The uid, or no uid for `NONE`, that the bytes after a mark stand for; none where they are neither.
 pub(crate) fn uid_in(raw: &[u8]) -> Option<Option<FileUid>>
     ensures { result ≡ header.uid_in (trimmed raw.now) }
 {

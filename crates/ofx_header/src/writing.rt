@@ -11,7 +11,7 @@ use ofx_types::{FileUid, OutOfMemory};
 
 /// Appends the nine lines of a header and the empty line after them, each with CRLF at its end.
 ///
-/// After `OutOfMemory` some of them may be appended, and what stood in front is kept.
+/// After `OutOfMemory` some of them may be appended, and what was there before is kept.
 pub fn write_header(header: &Header, out: &mut Vec<u8>) -> Result<(), OutOfMemory>
     ensures written { OnOk result (out.new.items ≡ out.old.items ++ header_text header.now.version header.now.older header.now.newer) }
     ensures kept { StartsWith out.new.items out.old.items }

@@ -1,4 +1,4 @@
--- What the adapters stand over.
+-- What the adapters wrap.
 use Rattle.std.specs.Prelude.{ℕ, List, Option, None, Some, Result, IsErr}
 use Rattle.std.specs.Io.KnownBytes.{ReadConsumes}
 use Rattle.ofx_ports.specs.declared.adapters.reader.ReaderSource.{ReaderSource}

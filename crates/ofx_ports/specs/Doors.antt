@@ -7,7 +7,7 @@ given_by (Ok None) = []
 given_by (Ok (Some link)) = link ∷ []
 given_by (Err fault) = []
 
--- Where both are told, fewer links came back than were given.
+-- Where both are known, fewer links came back than were given.
 abbrev pub HasOneOut : {L : Type 0} → Option (List L) → Option (List L) → Type 0
 HasOneOut None back = ⊤
 HasOneOut (Some given) None = ⊤

@@ -31,7 +31,7 @@ abbrev pub stands_if : Result Bool Failed → Option Bool
 stands_if (Ok holds) = Some holds
 stands_if (Err failed) = None
 
--- the number of records with one more, where that one stands
+-- the number of records with one more, where that one is stored
 abbrev pub counted : ℕ → Bool → ℕ
 counted size true = size + 1
 counted size false = size

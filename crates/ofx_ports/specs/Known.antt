@@ -1,4 +1,4 @@
--- Lists that some things of the outside tell and others don't.
+-- Lists that are known of some things of the outside and not of others.
 use Rattle.std.specs.Prelude.{◌≡◌, List, ◌++◌, ⊤, Option, None, Some}
 
 -- A list that is known stays as it was.

@@ -4,14 +4,14 @@ use Rattle.ofx_ports.specs.Known.{Stays}
 use Rattle.ofx_ports.specs.declared.fault.PutFault.{PutFault}
 use Rattle.ofx_ports.specs.declared.fault.PutFault.TheVariants.{Failed, OutOfMemory}
 
--- A text that is reported is this one from now on.
+-- A text that is known is this one from now on.
 abbrev pub Becomes : Option (List ℕ) → Option (List ℕ) → List ℕ → Type 0
 Becomes None new text = ⊤
 Becomes (Some old) None text = ⊥
 Becomes (Some old) (Some new) text = new ≡ text
 
--- A text that was saved stands. After a save that failed it stands or the old one does, and after want of memory the old
--- one does.
+-- A text that was saved is stored. After a save that failed it or the old one is stored, and after want of memory the old
+-- one is.
 abbrev pub Saved : Option (List ℕ) → Option (List ℕ) → List ℕ → Result (Unit {0}) PutFault → Type 0
 Saved old new text (Ok done) = Becomes old new text
 Saved old new text (Err Failed) = Stays old new ⊎ Becomes old new text

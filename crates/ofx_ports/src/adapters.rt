@@ -1,5 +1,5 @@
-//! The adapters: they stand over the standard library's readers, writers, files, sockets and clocks,
-//! and tell nothing of what those hold.
+//! The adapters: they wrap the standard library's readers, writers, files, sockets and clocks,
+//! and say nothing of what those hold.
 
 pub mod file_store;
 pub mod folder;

@@ -9,7 +9,7 @@ use ofx_types::Moment;
 
 /// A clock. It may stand still and may go back.
 pub trait Clock {
-    // the answers given so far, in order, where they are told
+    // the answers given so far, in order, where they are known
     ghost shown: { Self → Option (List TheMoment) };
 
     /// The moment that the clock shows. Its year lies from 1900 to 9999.

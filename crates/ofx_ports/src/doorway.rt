@@ -11,10 +11,10 @@ use crate::link::Link;
 /// Gives links to those who wait for one, and takes them back. Each worker has a doorway of its own, which goes with it
 /// to its thread.
 pub trait Doorway<L: Link>: Drop + Send {
-    // the links that it gave, as they were then, in order, where they are told
+    // the links that it gave, as they were then, in order, where they are known
     ghost given: { Self → Option (List L) };
 
-    // the links that it took back, in order, where they are told
+    // the links that it took back, in order, where they are known
     ghost back: { Self → Option (List L) };
 
     // how many of its calls failed

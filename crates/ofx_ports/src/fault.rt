@@ -13,7 +13,7 @@ pub struct Failed;
 /// Why a record could not be appended, or a text saved.
 #[derive(Clone, Copy, Debug, PartialEq, Eq, Error)]
 pub enum PutFault {
-    /// The call failed. Whether the record is stored is to be settled. Of a text the old one stands or the new one.
+    /// The call failed. Whether the record is stored is to be settled. Of a text the old one or the new one is stored.
     #[error("what was to be kept could not be written")]
     Failed,
     /// Memory was refused. The records are as before, and so is the text.

@@ -27,7 +27,7 @@ use crate::fault::{Failed, FetchFault, PutFault};
 /// assert!(rt; keeper.len() == 2 && record.as_slice() == b"two".as_slice());
 /// ```
 pub trait Keeper: Drop {
-    // the records that are stored, oldest first, where they are told
+    // the records that are stored, oldest first, where they are known
     ghost records: { Self → Option (List (List ℕ)) };
 
     // the number of records, without one that is to be settled
@@ -36,7 +36,7 @@ pub trait Keeper: Drop {
     // whether an append failed and is not settled
     ghost unsettled: { Self → Bool };
 
-    // whether the record that is to be settled is at the end, where this is told
+    // whether the record that is to be settled is at the end, where this is known
     ghost landed: { Self → Option Bool };
 
     // how many of its calls failed

@@ -1,8 +1,8 @@
 //! What a bank and a client ask of the outside: bytes to read and to write, records to keep, a text to keep, the time, links to
-//! peers, and doorways where links come in. Each is a trait whose clauses say what a call does to what the outside tells of
-//! itself, and count its faults. The memory forms tell all that they hold and fail where they are told to. The
-//! adapters stand over the standard library's readers, writers, files, sockets and clocks, and tell nothing. `write_whole`
-//! writes bytes whole.
+//! peers, and doorways where links come in. Each is a trait whose clauses say what a call does to what is known of the outside,
+//! and count its faults. All that the memory forms hold is known, and their calls of given numbers fail. The adapters wrap the
+//! standard library's readers, writers, files, sockets and clocks, and say nothing of what those hold. `write_whole` writes
+//! bytes whole.
 #![tactic(auto)]
 
 mod adapters;

@@ -7,12 +7,12 @@ ghost use Rattle.ofx_ports.specs.Faults.{CountsFaults};
 use crate::fault::Failed;
 
 /// A source and a sink in one, as a connection. It has one count of faults for its reads and one for its writes, and
-/// what one of the two does leaves what the other tells as it is.
+/// what one of the two does leaves what is known of the other as it is.
 pub trait Link: Drop + Send {
-    // the bytes that reads will give from here on, where they are told
+    // the bytes that reads will give from here on, where they are known
     ghost left: { Self → Option (List ℕ) };
 
-    // the bytes written so far, where they are told
+    // the bytes written so far, where they are known
     ghost held: { Self → Option (List ℕ) };
 
     // how many of its reads failed
@@ -35,7 +35,7 @@ pub trait Link: Drop + Send {
 
     /// Writes the first of these bytes and answers how many it took, which is at least one.
     ///
-    /// `Failed` comes only where the count of writes' faults rose in this call. Where the bytes written are told, none
+    /// `Failed` comes only where the count of writes' faults rose in this call. Where the bytes written are known, none
     /// was taken then.
     fn write(&mut self, bytes: &[u8]) -> Result<usize, Failed>
         requires { 0 < length bytes.now }

@@ -1,4 +1,4 @@
-//! The memory forms: they tell all that they hold, and fail at the calls that they are told to.
+//! The memory forms: all that they hold is known, and their calls of given numbers fail.
 
 pub mod clock;
 pub mod door;

@@ -8,7 +8,7 @@ use crate::fault::Failed;
 
 /// Bytes that are written in order, as a file or the output of a program.
 pub trait Sink {
-    // the bytes written so far, where they are told
+    // the bytes written so far, where they are known
     ghost held: { Self → Option (List ℕ) };
 
     // how many of its calls failed
@@ -16,7 +16,7 @@ pub trait Sink {
 
     /// Writes the first of these bytes and answers how many it took, which is at least one.
     ///
-    /// `Failed` comes only where the count of faults rose in this call. Where the bytes written are told, none was
+    /// `Failed` comes only where the count of faults rose in this call. Where the bytes written are known, none was
     /// taken then.
     fn write(&mut self, bytes: &[u8]) -> Result<usize, Failed>
         requires { 0 < length bytes.now }

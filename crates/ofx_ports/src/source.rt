@@ -8,7 +8,7 @@ use crate::fault::Failed;
 
 /// Bytes that are read in order, as a file or the input of a program.
 pub trait Source {
-    // the bytes that reads will give from here on, where they are told
+    // the bytes that reads will give from here on, where they are known
     ghost left: { Self → Option (List ℕ) };
 
     // how many of its calls failed

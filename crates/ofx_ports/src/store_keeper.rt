@@ -9,17 +9,17 @@ use crate::fault::{FetchFault, PutFault};
 
 /// One text of any bytes, which each save replaces as a whole. Before the first save it is empty.
 pub trait StoreKeeper: Drop {
-    // the text that is there, where it is told
+    // the text that is there, where it is known
     ghost saved: { Self → Option (List ℕ) };
 
     // how many of its calls failed
     ghost faults: { Self → ℕ };
 
-    /// Puts this text in place of the one that stands.
+    /// Puts this text in place of the one that is stored.
     ///
-    /// - `Failed` only where the count of faults rose in this call. The old text stands or this one, and no mixture of
+    /// - `Failed` only where the count of faults rose in this call. The old text or this one is stored, and no mixture of
     ///   them.
-    /// - `OutOfMemory`: the old text stands.
+    /// - `OutOfMemory`: the old text is stored.
     fn save(&mut self, text: &[u8]) -> Result<(), PutFault>
         ensures text { Saved (saved self.old) (saved self.new) text.now result }
         ensures faults { CountsFaults (faults self.old) (faults self.new) (IsErrOf result PutFault.Failed) };

@@ -1,4 +1,4 @@
--- How many nodes stand in a body: each takes at least its start tag.
+-- How many nodes a body has at most: each takes at least its start tag.
 use Rattle.std.specs.Prelude.{ℕ, ◌+◌, ◌*◌, ◌≤◌, List, length, codes}
 use Rattle.std.specs.List.{sum_by, count_by}
 use Rattle.std.specs.Str.{bytes_eq}
@@ -12,7 +12,7 @@ tag_size node = length node.name + 2
 abbrev pub count_named : List ℕ → List TagNode → ℕ
 count_named name nodes = count_by (λ n. bytes_eq n.name name) nodes
 
--- The start tags of all nodes of a body stand in it.
+-- The start tags of all nodes of a body fit in it.
 abbrev pub TagsFit : Type 0
 TagsFit = (body : List ℕ) (nodes : List TagNode) → AreNodesOf body nodes → sum_by tag_size nodes ≤ length body
 

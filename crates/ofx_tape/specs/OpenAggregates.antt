@@ -96,7 +96,7 @@ abbrev pub open_indices : ℕ → List Frame → List ℕ
 open_indices unknown [] = []
 open_indices unknown (f ∷ outer) = length (built_nodes unknown outer f.before) ∷ open_indices unknown outer
 
--- OFX is the outermost aggregate, and nothing stands beside it.
+-- OFX is the outermost aggregate, and nothing comes before it.
 abbrev pub AreInOfx : List Frame → Type 0
 AreInOfx [] = Unit {0}
 AreInOfx (f ∷ []) = (f.name ≡ codes "OFX") × (f.before ≡ nothing)

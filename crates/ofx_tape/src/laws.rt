@@ -24,7 +24,7 @@ pub fn nodes_are_slices()
     ensures { NodesAreSlices }
 {}
 
-/// The start tags of a body's nodes stand in it, so a body of n bytes has at most n / 11 statement requests.
+/// The start tags of a body's nodes fit in it, so a body of n bytes has at most n / 11 statement requests.
 pub fn nodes_fit_the_body()
     ensures all { TagsFit }
     ensures named { NamedTagsFit }

@@ -12,8 +12,8 @@ use crate::scan::{is_tag_next, skip_white};
 
 /// Whether a start tag of this name, before these bytes, is an element's.
 ///
-/// Where no text but white space stands up to the next `<`, the name must always be an element's; where other text does,
-/// it must not always be an aggregate's.
+/// Where only white space comes before the next `<` or the end, the name must be one that is always an element's. Where
+/// other text does, it must be one that isn't always an aggregate's.
 pub(crate) fn begins_element(name: &[u8], suffix: &[u8]) -> bool
     ensures { result ≡ is_element name.now (before_first is_open suffix.now) }
 {

@@ -34,7 +34,7 @@ pub record IsBranch (name : List ℕ) : Type 0 where
   pub has_name : IsAggregateName name
   pub is_known : is_one_of aggregate_names name ≡ true
 
--- All of them are such leaves and branches, and at most so many branches stand in each other.
+-- All of them are such leaves and branches, and at most so many branches are nested in each other.
 abbrev pub AreLawful : ℕ → Documents → Type 0
 AreLawful room empty = Unit {0}
 AreLawful room (leaf name value suffix) = IsLeaf name value × AreLawful room suffix

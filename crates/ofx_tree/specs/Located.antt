@@ -1,4 +1,4 @@
--- Where the faults of forms stand.
+-- The offsets of the faults of forms.
 use Rattle.std.specs.Prelude.{ℕ, ◌≤◌, List, Result, MatchResult}
 use Rattle.std.specs.List.{AllByRecursion}
 use Rattle.ofx_types.specs.Nodes.{TagNode, Item}

@@ -1,4 +1,4 @@
--- The children that stand under a name.
+-- The children that have a name and aren't absent.
 use Rattle.std.specs.Prelude.{ℕ, Bool, not, ◌&&◌, List, filter}
 use Rattle.ofx_types.specs.Nodes.{Item}
 use Rattle.ofx_types.specs.TagNames.{is_one_of}

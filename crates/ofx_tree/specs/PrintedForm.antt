@@ -22,8 +22,8 @@ pub record IsAggregateName (name : List ℕ) : Type 0 where
 abbrev pub written : List ℕ → List ℕ
 written value = ended (escaped value)
 
--- A text of 1 byte or more that is written as an element reads back as an element with that value, unless the end tag of
--- its name stands on the next line.
+-- A text of 1 byte or more that is written as an element reads back as an element with that value, unless the next line
+-- begins with the end tag of its name.
 abbrev pub ElementsReadBack : Type 0
 ElementsReadBack =
     (size room offset : ℕ) (name value more rest : List ℕ) (suffix : Tree)
@@ -44,7 +44,7 @@ AggregatesReadBack =
     → Spells size room more suffix rest
     → Spells size room (sheet.aggregate name inner ++ more) (tags.aggregate offset name (ended []) within suffix) rest
 
--- What is written between the tags of OFX reads back as a body. White space may be in front, as the empty line of a
+-- What is written between the tags of OFX reads back as a body. White space may come first, as the empty line of a
 -- header does.
 abbrev pub BodiesReadBack : Type 0
 BodiesReadBack =

@@ -102,7 +102,7 @@ impl<'t> Cursor<'t> {
 
     /// The child of this name, which occurs once.
     ///
-    /// `Missing` at this aggregate's place where there is none, `Repeated` at the second one's where several do. An element
+    /// `Missing` at this aggregate's offset where there is none, `Repeated` at the second one's where several do. An element
     /// whose trimmed value is empty counts as absent.
     pub fn one(&self, name: &[u8]) -> Result<Cursor<'t>, TreeFault>
         ensures { result ≡ one name.now self.now }
@@ -115,7 +115,7 @@ impl<'t> Cursor<'t> {
 
     /// The child of this name, which may occur once.
     ///
-    /// `Repeated` at the second one's place where several stand. An element whose trimmed value is empty counts as
+    /// `Repeated` at the second one's offset where several do. An element whose trimmed value is empty counts as
     /// absent.
     pub fn maybe(&self, name: &[u8]) -> Result<Option<Cursor<'t>>, TreeFault>
         ensures { result ≡ maybe name.now self.now }
@@ -132,7 +132,7 @@ impl<'t> Cursor<'t> {
 
     /// The child with one of three names, which occurs once: just one child has any of them.
     ///
-    /// `Missing` at this aggregate's place where there is none, `Repeated` at the second one's where several do, whether
+    /// `Missing` at this aggregate's offset where there is none, `Repeated` at the second one's where several do, whether
     /// they have the same name or not. An element whose trimmed value is empty counts as absent.
     pub fn one_of(&self, first: &[u8], second: &[u8], third: &[u8]) -> Result<Cursor<'t>, TreeFault>
         ensures { result ≡ one_of (first.now ∷ second.now ∷ third.now ∷ []) self.now }
@@ -171,7 +171,7 @@ impl<'t> Cursor<'t> {
         child.own_flag()
     }
 
-    /// The flag of the child of this name, which may occur once: `Y` or `N`. Where it doesn't stand the flag is `N`.
+    /// The flag of the child of this name, which may occur once: `Y` or `N`. Where it doesn't occur the flag is `N`.
     ///
     /// The faults of `maybe`; `Value` at the child's offset where its value is any other.
     #[tactic(auto, unfolding(ofx_types::specs::FormWords::maybe_flag_in))]

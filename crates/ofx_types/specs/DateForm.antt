@@ -28,7 +28,7 @@ pub record IsClock (text : List ℕ) (seconds : ℕ) : Type 0 where
   pub spelled : text ≡ two_digits hour ++ (two_digits minute ++ two_digits second)
   pub meant : seconds ≡ 3600 * hour + 60 * minute + second
 
--- After the seconds a point and three digits may stand, which mean nothing.
+-- After the seconds a point and three digits may follow, which mean nothing.
 abbrev pub IsFraction : List ℕ → Type 0
 IsFraction text = (text ≡ []) ⊎ ((n : ℕ) × (n < 1000) × (text ≡ 46 ∷ three_digits n))
 
@@ -42,7 +42,7 @@ IsTime text seconds =
 abbrev pub IsHours : List ℕ → ℕ → Type 0
 IsHours text hour = ((hour < 10) × (text ≡ (48 + hour) ∷ [])) ⊎ ((hour < 100) × (text ≡ two_digits hour))
 
--- After them a point and one or two digits may stand: tenths or hundredths of an hour.
+-- After them a point and one or two digits may follow: tenths or hundredths of an hour.
 abbrev pub IsPart : List ℕ → ℕ → Type 0
 IsPart text hundredth =
     ((text ≡ []) × (hundredth ≡ 0))
@@ -53,7 +53,7 @@ IsPart text hundredth =
 abbrev pub is_name_byte : ℕ → Bool
 is_name_byte b = not ((b == 91) || (b == 93))
 
--- A colon and a name of at most 32 bytes may stand after the offset.
+-- A colon and a name of at most 32 bytes may follow the offset.
 abbrev pub IsName : List ℕ → Type 0
 IsName text =
     (text ≡ []) ⊎ ((name : List ℕ) × (text ≡ 58 ∷ name) × (length name ≤ 32) × IsTrue (list_all is_name_byte name))

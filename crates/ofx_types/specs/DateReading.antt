@@ -53,7 +53,7 @@ after_three (a ∷ b ∷ []) = None
 after_three (a ∷ b ∷ c ∷ rest) =
     if is_ascii_digit a && is_ascii_digit b && is_ascii_digit c then Some rest else None
 
--- what follows a point and three digits, where the point stands
+-- what follows a point and three digits, or all of it where there is no point
 unfoldable pub after_fraction : List ℕ → Option (List ℕ)
 after_fraction [] = Some []
 after_fraction (b ∷ rest) = if b == 46 then after_three rest else Some (b ∷ rest)
@@ -72,7 +72,7 @@ clock_and_fraction_at text = do
 unfoldable pub time_at : List ℕ → Option (ℕ × List ℕ)
 time_at text = if is_timeless text then Some (0, text) else clock_and_fraction_at text
 
--- a second digit may stand after the first
+-- a second digit may follow the first
 abbrev pub hours_after : ℕ → List ℕ → ℕ × List ℕ
 hours_after h [] = (h, [])
 hours_after h (b ∷ rest) = if is_ascii_digit b then (10 * h + (b - 48), rest) else (h, b ∷ rest)
@@ -91,7 +91,7 @@ unfoldable pub tenths_at : List ℕ → Option (ℕ × List ℕ)
 tenths_at [] = None
 tenths_at (a ∷ rest) = if is_ascii_digit a then Some (tenths_after (a - 48) rest) else None
 
--- hundredths of an hour after a point, where the point stands
+-- hundredths of an hour after a point, or 0 where there is no point
 unfoldable pub part_at : List ℕ → Option (ℕ × List ℕ)
 part_at [] = Some (0, [])
 part_at (b ∷ rest) = if b == 46 then tenths_at rest else Some (0, b ∷ rest)

@@ -84,7 +84,7 @@ replies_in RecIntra = model_replies
 replies_in BankMail = []
 replies_in Mail = []
 
--- INTRARS, INTRAMODRS, INTRACANRS, RECINTRARS, RECINTRAMODRS and RECINTRACANRS. A mail is told by none of them.
+-- INTRARS, INTRAMODRS, INTRACANRS, RECINTRARS, RECINTRAMODRS and RECINTRACANRS. None of them reports a mail.
 abbrev pub IsChange : Item → Change → Type 0
 IsChange reply (NewTransfer row) =
     (reply.node.name ≡ codes "INTRARS") × IsRow reply row × IsMaybeIdIn (codes "RECSRVRTID") reply row.model
@@ -98,7 +98,7 @@ IsChange reply (DropModel id pending) =
     × IsFlagIn (codes "CANPENDING") reply pending
 IsChange reply (NewMail row) = ⊥
 
--- With code 0 just one of the replies stands. With any other code nothing more is looked at.
+-- With code 0 there is just one of the replies. With any other code nothing more is looked at.
 abbrev pub IsChangeByCode : ℕ → Family → Item → Option Change → Type 0
 IsChangeByCode code family transaction None = code ≢ 0
 IsChangeByCode code family transaction (Some change) =

@@ -20,7 +20,7 @@ use Rattle.ofx_types.specs.declared.transfer.DeedReply.{DeedReply}
 
 -- ---- how a transfer recurs
 
--- NINSTS stands where there is a count.
+-- NINSTS is written where there is a count.
 unfoldable pub count_text : Option ℕ → List ℕ
 count_text None = []
 count_text (Some count) = element (codes "NINSTS") (decimal count)

@@ -16,8 +16,7 @@ use Rattle.ofx_types.specs.declared.fault.FileFault.TheVariants.{Header, Syntax,
 use Rattle.ofx_types.specs.declared.request.RequestFile.{RequestFile}
 use Rattle.ofx_types.specs.declared.reply.ReplyFile.{ReplyFile}
 
--- The bytes begin with a header, and the body after it, whose first byte has the number `size` of the bytes in front
--- of it, has these nodes, of which the root is OFX.
+-- The bytes from offset `size` on, which are the body, have these nodes, of which the root is OFX.
 pub record HasBody (bytes : List ℕ) (size : ℕ) (nodes : List TagNode) (ofx : Item) : Type 0 where
   pub are_nodes : AreNodesOf (drop size bytes) nodes
   pub is_root : IsRoot nodes ofx
@@ -41,13 +40,13 @@ pub record SpellsReply (bytes : List ℕ) (reply : ReplyFile) : Type 0 where
   pub body : HasBody bytes size nodes ofx
   pub form : IsReply ofx reply.signon reply.moment reply.replies
 
--- where a fault of the header stands
+-- the offset of a fault of the header, from the first byte
 abbrev pub header_offset : HeaderFault → ℕ
 header_offset (headers.Line number at) = at
 header_offset (headers.Value number at) = at
 header_offset (headers.Cut at) = at
 
--- where a fault of the tags stands, from the body's first byte; want of memory stands nowhere
+-- the offset of a fault of the tags, from the body's first byte; want of memory has none
 abbrev pub tag_offset : TapeFault → Option ℕ
 tag_offset (tags.Tag at) = Some at
 tag_offset (tags.Mismatch at) = Some at
@@ -55,14 +54,14 @@ tag_offset (tags.Depth at) = Some at
 tag_offset (tags.Cut at) = Some at
 tag_offset tags.OutOfMemory = None
 
--- where a fault of the forms stands, from the body's first byte
+-- the offset of a fault of the forms, from the body's first byte; want of memory has none
 abbrev pub form_offset : TreeFault → Option ℕ
 form_offset (forms.Missing at) = Some at
 form_offset (forms.Repeated at) = Some at
 form_offset (forms.Value at) = Some at
 form_offset forms.OutOfMemory = None
 
--- A header stands, of this size.
+-- The bytes begin with a header of this size.
 pub record HasHeader (bytes : List ℕ) (size : ℕ) : Type 0 where
   pub version : ℕ
   pub older : Option (List ℕ)

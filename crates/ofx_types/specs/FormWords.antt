@@ -114,7 +114,7 @@ abbrev pub ReadsForm : {A : Type 0} → Result A TreeFault → Result A TreeFaul
 ReadsForm (Ok x) read = read ≡ Ok x
 ReadsForm (Err fault) read = FailsSo fault read
 
--- Where a child that must occur once occurs twice the second one is the fault, and where it doesn't stand the parent is.
+-- Where a child that must occur once occurs twice the second one is the fault, and where it is missing the parent is.
 abbrev pub only_of : ℕ → List Item → Result Item TreeFault
 only_of offset [] = Err (Missing offset)
 only_of offset (child ∷ []) = Ok child

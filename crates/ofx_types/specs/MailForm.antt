@@ -31,7 +31,7 @@ pub record IsMailText (mail : Item) (text : MailText) : Type 0 where
 abbrev pub HasMail : Item → MailText → Type 0
 HasMail parent text = (mail : Item) × IsOnly (codes "MAIL") parent mail × IsMailText mail text
 
--- In a reply USERID stands too.
+-- In a reply there is USERID too.
 abbrev pub HasMailOf : Item → List ℕ → MailText → Type 0
 HasMailOf parent user text =
     (mail : Item) × IsOnly (codes "MAIL") parent mail × IsTextIn (codes "USERID") 32 mail user × IsMailText mail text
@@ -74,7 +74,7 @@ abbrev pub IsPlainMailRow : Item → MailRow → Type 0
 IsPlainMailRow transaction row =
     (reply : Item) × IsOnly (codes "MAILRS") transaction reply × (row.about ≡ None) × HasMailOf reply row.user row.mail
 
--- With code 0 the reply of the family stands. With any other code nothing more is looked at.
+-- With code 0 there is the reply of the family. With any other code nothing more is looked at.
 abbrev pub IsMailByCode : ℕ → Family → Item → Option Change → Type 0
 IsMailByCode code families.BankMail transaction (Some (NewMail row)) = (code ≡ 0) × IsBankMailRow transaction row
 IsMailByCode code families.Mail transaction (Some (NewMail row)) = (code ≡ 0) × IsPlainMailRow transaction row

@@ -16,7 +16,7 @@ use Rattle.ofx_types.specs.declared.reply.AskReply.TheVariants as replies
 abbrev pub is_named_one_of : List (List ℕ) → Item → Bool
 is_named_one_of names item = is_one_of names item.node.name
 
--- A message set may occur once. Its messages stand in the order of the file, and other children are skipped.
+-- A message set may occur once. Its messages are in the order of the file, and other children are skipped.
 abbrev pub AreMessages : {M : Type 0} → (Item → M → Type 0) → List (List ℕ) → Item → List M → Type 0
 AreMessages IsMessage names set messages = AllZip IsMessage (filter (is_named_one_of names) (children set)) messages
 

@@ -44,7 +44,7 @@ sync_text ask = aggregate (sync_name (object_family ask.object))
     ++ (element (codes "REJECTIFMISSING") (flag_word ask.reject)
     ++ (plain_text (object_family ask.object) ++ (object_text ask.object ++ flat_map transaction_text ask.deeds))))
 
--- LOSTSYNC always stands.
+-- LOSTSYNC is always written.
 unfoldable pub sync_reply_text : SyncReply → List ℕ
 sync_reply_text reply = aggregate (sync_reply_name (object_family reply.object))
     (element (codes "TOKEN") reply.token

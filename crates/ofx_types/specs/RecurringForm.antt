@@ -22,7 +22,7 @@ freq_word Quarterly = codes "QUARTERLY"
 freq_word Semiannually = codes "SEMIANNUALLY"
 freq_word Annually = codes "ANNUALLY"
 
--- NINSTS may stand: a number of 1 to 3 digits, from 1 to 999.
+-- NINSTS may be missing. It is a number of 1 to 3 digits, from 1 to 999.
 abbrev pub IsMaybeCount : Item → Option ℕ → Type 0
 IsMaybeCount recurrinst None = IsNone (codes "NINSTS") recurrinst
 IsMaybeCount recurrinst (Some count) = IsNumberIn (codes "NINSTS") 3 recurrinst count × (0 < count)

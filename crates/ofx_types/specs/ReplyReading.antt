@@ -79,7 +79,7 @@ body_of stmtrs = do
   available ← balance_of availbal
   Ok (record { account = account; list = list; ledger = ledger.0; available = available.0; moment = ledger.1 })
 
--- With code 0 a statement stands. With any other code nothing more is looked at.
+-- With code 0 there must be a statement. With any other code nothing more is looked at.
 unfoldable pub body_by_code : ℕ → Item → Result (Option StatementBody) TreeFault
 body_by_code code stmttrnrs =
     if code == 0 then (one (codes "STMTRS") stmttrnrs >>= λ stmtrs. body_of stmtrs >>= λ body. Ok (Some body))

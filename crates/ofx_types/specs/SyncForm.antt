@@ -1,4 +1,4 @@
--- The forms of synchronisation: what a client asks of an object's history, and what it is told (OFX 1.6, "Data
+-- The forms of synchronisation: what a client asks of an object's history, and what it gets (OFX 1.6, "Data
 -- Synchronization").
 use Rattle.std.specs.Prelude.{◌≡◌, ◌⊎◌, ℕ, Bool, true, false, List, [], ◌∷◌, filter, codes}
 use Rattle.std.specs.List.{AllZip}
@@ -62,7 +62,7 @@ sync_name families.Mail = codes "MAILSYNCRQ"
 abbrev pub sync_kinds : List (List ℕ)
 sync_kinds = codes "TOKEN" ∷ codes "TOKENONLY" ∷ codes "REFRESH" ∷ []
 
--- TOKEN, TOKENONLY and REFRESH. The last two stand for nothing but `Y`.
+-- TOKEN, TOKENONLY and REFRESH. The last two have no value but `Y`.
 abbrev pub IsKind : Item → SyncKind → Type 0
 IsKind choice (After token) = (choice.node.name ≡ codes "TOKEN") × Represents 64 choice.node.text token
 IsKind choice TokenOnly = (choice.node.name ≡ codes "TOKENONLY") × (value_of choice.node.text ≡ codes "Y")
@@ -87,7 +87,7 @@ sync_reply_name families.RecIntra = codes "RECINTRASYNCRS"
 sync_reply_name families.BankMail = codes "BANKMAILSYNCRS"
 sync_reply_name families.Mail = codes "MAILSYNCRS"
 
--- INTRASYNCRS, RECINTRASYNCRS, BANKMAILSYNCRS and MAILSYNCRS. Where LOSTSYNC doesn't stand it is `N`.
+-- INTRASYNCRS, RECINTRASYNCRS, BANKMAILSYNCRS and MAILSYNCRS. Where LOSTSYNC is missing it is `N`.
 pub record IsSyncReply (sync : Item) (reply : SyncReply) : Type 0 where
   pub is_named : sync.node.name ≡ sync_reply_name (object_family reply.object)
   pub token : IsTextIn (codes "TOKEN") 64 sync reply.token

@@ -64,7 +64,7 @@ abbrev pub pieces_of : ℕ → List ℕ → List Located
 pieces_of size bytes = text_pieces size bytes ++ pieces_after size bytes
 
 -- What is round a piece: the names of the aggregates still open, the innermost first; whether OFX has ended; and the
--- element that stands just before, with or without its value, where its end tag may still come.
+-- element just before, with or without its value, where its end tag may still come.
 pub record Around : Type 0 where
   pub open_names : List (List ℕ)
   pub has_ended : Bool
@@ -89,8 +89,8 @@ abbrev pub fault_at : ℕ → Option ℕ → Around → Result Around TapeFault
 fault_at offset None around = Ok around
 fault_at offset (Some i) around = Err (faults.Tag (offset + i))
 
--- After the start tag of an element its value stands, in which a control byte is a fault. Anywhere else a byte that
--- isn't white space is one.
+-- After the start tag of an element comes its value, in which a control byte other than tab, LF and CR is a fault. Anywhere
+-- else a byte that isn't white space is one.
 abbrev pub is_refused_after : Option (List ℕ) → ℕ → Bool
 is_refused_after None b = not (is_white b)
 is_refused_after (Some name) b = is_refused_in_text b

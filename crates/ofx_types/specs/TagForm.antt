@@ -37,7 +37,7 @@ pub record IsElement (name text closing more : List ℕ) : Type 0 where
   pub is_value : list_all is_value_byte text ≡ true
   pub closes : Closes name closing more
 
--- Only white space stands between the tags of aggregates.
+-- Only white space is between the tags of aggregates.
 pub record IsAggregate (name text white : List ℕ) : Type 0 where
   pub has_name : is_name name ≡ true
   pub is_one : is_element name text ≡ false

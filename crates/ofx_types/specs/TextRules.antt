@@ -18,11 +18,11 @@ trim_end bytes = reverse (trim_start (reverse bytes))
 abbrev pub trimmed : List ℕ → List ℕ
 trimmed bytes = trim_end (trim_start bytes)
 
--- A byte below 0x20 is a control byte. Tab, LF and CR may stand inside a text, and no other control byte may.
+-- A byte below 0x20 is a control byte. Tab, LF and CR may be inside a text, and no other control byte may.
 abbrev pub is_refused_in_text : ℕ → Bool
 is_refused_in_text b = nat_lt b 32 && not (is_white b)
 
--- A file uid stands on one line of a header, so no control byte at all may be in it.
+-- A file uid is on one line of a header, so no control byte at all may be in it.
 abbrev pub is_refused_in_uid : ℕ → Bool
 is_refused_in_uid b = nat_lt b 32
 

@@ -12,7 +12,7 @@ use Rattle.ofx_types.specs.declared.transfer.XferCode.{XferCode}
 use Rattle.ofx_types.specs.declared.transfer.XferCode.TheVariants.{Waiting, Posted, NoFunds, Cancelled}
 use Rattle.ofx_types.specs.declared.transfer.TransferRow.{TransferRow}
 
--- DTDUE may stand. The day is that of the moment in GMT.
+-- DTDUE may be missing. The day is that of the moment in GMT.
 abbrev pub IsMaybeDue : Item → Option Day → Type 0
 IsMaybeDue xferinfo None = IsNone (codes "DTDUE") xferinfo
 IsMaybeDue xferinfo (Some day) = (moment : Moment) × IsMomentIn (codes "DTDUE") xferinfo moment × (day.0 ≡ day_of moment.0)
@@ -38,7 +38,7 @@ transfer_requests = codes "INTRARQ" ∷ codes "INTRAMODRQ" ∷ codes "INTRACANRQ
 
 -- ---- replies
 
--- the words of XFERPRCCODE; a cancelled transfer is told by INTRACANRS, and its word is never read
+-- the words of XFERPRCCODE; a cancelled transfer is reported by INTRACANRS, and its word is never read
 abbrev pub code_word : XferCode → List ℕ
 code_word Waiting = codes "WILLPROCESSON"
 code_word Posted = codes "POSTEDON"
@@ -55,7 +55,7 @@ pub record IsProcessing (parent : Item) (code : XferCode) (stamp : Moment) : Typ
   pub is_reported : code ≢ Cancelled
   pub has_stamp : IsMomentIn (codes "DTXFERPRC") xferprcsts stamp
 
--- what XFERINFO says of a row, whose due day always stands
+-- what XFERINFO says of a row, which always has a due day
 abbrev pub info_of : TransferRow → XferInfo
 info_of row = record { from = row.from; to = row.to; amount = row.amount; due = Some row.due }
 

@@ -72,7 +72,7 @@ processing_of xferprcsts = do
 unfoldable pub processing_in : Item → Result (XferCode × Moment) TreeFault
 processing_in parent = one (codes "XFERPRCSTS") parent >>= processing_of
 
--- In a reply the due day stands.
+-- A reply must have the due day: a missing one is a fault at this offset.
 abbrev pub day_or : ℕ → Option Day → Result Day TreeFault
 day_or offset None = Err (Missing offset)
 day_or offset (Some day) = Ok day

@@ -15,7 +15,7 @@ pub enum HeaderFault {
 /// byte.
 #[derive(Clone, Copy, Debug, PartialEq, Eq)]
 pub enum TapeFault {
-    /// A `<` that begins no tag, a byte where no text may stand, a control byte, a first tag other than `<OFX>`, or a
+    /// A `<` that begins no tag, a byte where no text may be, a control byte, a first tag other than `<OFX>`, or a
     /// start tag after the end of OFX.
     Tag(u64),
     /// An end tag that doesn't close the innermost open aggregate.
@@ -32,9 +32,9 @@ pub enum TapeFault {
 /// byte.
 #[derive(Clone, Copy, Debug, PartialEq, Eq)]
 pub enum TreeFault {
-    /// A child that must stand doesn't: the parent's offset.
+    /// A child that must be there is missing: the parent's offset.
     Missing(u64),
-    /// A child occurs twice that may occur once: the second one's place.
+    /// A child occurs twice that may occur once: the second one's offset.
     Repeated(u64),
     /// A value or a form that isn't read: the child's offset.
     Value(u64),

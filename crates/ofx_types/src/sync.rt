@@ -1,4 +1,4 @@
-//! Synchronisation by tokens: what a client asks to be told of an object's history, and what it is told (OFX 1.6, "Data
+//! Synchronisation by tokens: what a client asks of an object's history, and what it gets (OFX 1.6, "Data
 //! Synchronization").
 
 ghost use Rattle.std.specs.Prelude.{◌≡◌};
@@ -31,7 +31,7 @@ pub enum SyncKind {
     After(Text),
     /// The newest token alone (TOKENONLY).
     TokenOnly,
-    /// All that stands now (REFRESH).
+    /// All that exists now (REFRESH).
     Refresh,
 }
 

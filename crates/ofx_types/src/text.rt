@@ -17,7 +17,7 @@ pub enum TextFault {
     Empty,
     /// The trimmed bytes are more than the limit: this many.
     TooLong(u64),
-    /// A byte that may not stand in the text, by its offset in the trimmed bytes.
+    /// A byte that is not allowed in the text, by its offset in the trimmed bytes.
     BadByte(u64),
     /// Memory was refused.
     OutOfMemory,
@@ -74,7 +74,7 @@ fn trim_back(bytes: &[u8]) -> &[u8]
     rest
 }
 
-/// Whether a byte may not stand in a text: a control byte other than tab, LF and CR.
+/// Whether a byte is not allowed in a text: a control byte other than tab, LF and CR.
 fn is_refused(byte: u8) -> bool
     ensures { result ≡ is_refused_in_text byte }
 {
@@ -100,7 +100,7 @@ pub(crate) fn fault_in(text: &[u8], most: u32) -> Option<TextFault>
     }
 }
 
-/// A text: bytes without white space at either end, in which no control byte stands but tab, LF and CR.
+/// A text: bytes without white space at either end, in which there is no control byte but tab, LF and CR.
 ///
 /// Its copies share the bytes, and take no memory.
 ///

@@ -1,4 +1,4 @@
-//! How a run of a program ended, with the numbers that people are told.
+//! How a run of a program ended, with the numbers that are reported.
 
 use crate::number::Status;
 
@@ -7,11 +7,11 @@ use crate::number::Status;
 pub struct Told {
     /// The status with which the program ends.
     pub status: Status,
-    /// What the line on the error stream tells beside it.
+    /// What the line on the error stream says beside it.
     pub note: Note,
 }
 
-/// The numbers that the line on the error stream tells.
+/// The numbers that the line on the error stream gives.
 #[derive(Clone, Copy, Debug, PartialEq, Eq)]
 pub enum Note {
     /// None.

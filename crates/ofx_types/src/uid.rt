@@ -194,7 +194,7 @@ fn file_uid_fault_in(text: &[u8]) -> Option<TextFault>
     line_fault_in(text)
 }
 
-/// What is wrong with bytes that stand on one line of a header.
+/// What is wrong with bytes on one line of a header.
 fn line_fault_in(text: &[u8]) -> Option<TextFault>
     ensures { result ≡ text_fault is_refused_in_uid 36 text.now }
 {

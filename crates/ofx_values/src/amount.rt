@@ -82,7 +82,7 @@ fn split_digits(text: &[u8]) -> (&[u8], &[u8])
     text.split_at(digits_at(text))
 }
 
-/// How many digits stand at the start.
+/// How many digits are at the start.
 fn digits_at(text: &[u8]) -> usize
     ensures count { result ≡ length (reading.prefix_digits text.now) }
     ensures within { result ≤ length text.now }
@@ -134,7 +134,7 @@ fn cents_after(digits: &[u8]) -> u8
     }
 }
 
-/// Whether only zeros stand after the first two digits.
+/// Whether only zeros follow the first two digits.
 fn is_whole_cents(digits: &[u8]) -> bool
     ensures { result ≡ list_all (λ b. b == 48) (drop 2 digits.now) }
 {

@@ -19,7 +19,7 @@ use ofx_types::{Day, Moment, trim};
 /// The moment that the bytes spell, after trimming (OFX 1.6, "Dates, Times, and Time Zones").
 ///
 /// A date is YYYYMMDD or YYYYMMDDHHMMSS, the second perhaps with a point and three digits, which mean nothing. After
-/// either a zone in brackets may stand: an offset in hours from -12 to +14, and perhaps a colon and a name. Without a
+/// either a zone in brackets may follow: an offset in hours from -12 to +14, and perhaps a colon and a name. Without a
 /// time it is midnight, and without a zone it is GMT. `ValueFault::Date` where the bytes spell no date, or the written
 /// date or the moment in GMT lies outside the years 1900 to 9999.
 pub fn read_moment(raw: &[u8]) -> Result<Moment, ValueFault>
@@ -102,7 +102,7 @@ fn clock_seconds(hour: u8, minute: u8, second: u8) -> Option<u32>
     }
 }
 
-/// The bytes after a point and three digits, or all of them where no point stands.
+/// The bytes after a point and three digits, or all of them where no point comes first.
 #[tactic(auto, unfolding(ofx_types::specs::DateReading::after_fraction))]
 fn after_fraction(text: &[u8]) -> Option<&[u8]>
     ensures { ReadsValue (λ x. x.now) result (reading.after_fraction text.now) }

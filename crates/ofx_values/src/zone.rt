@@ -66,7 +66,7 @@ fn hours_at(text: &[u8]) -> Option<(u8, &[u8])>
     }
 }
 
-/// Hundredths of an hour after a point, or none where no point stands, and the bytes after them.
+/// Hundredths of an hour after a point, or 0 where no point comes first, and the bytes after them.
 #[tactic(auto, unfolding(ofx_types::specs::DateReading::part_at))]
 fn part_at(text: &[u8]) -> Option<(u8, &[u8])>
     ensures gives { ReadsValue (λ x. (x.0, x.1.now)) result (reading.part_at text.now) }

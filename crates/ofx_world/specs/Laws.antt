@@ -1,4 +1,4 @@
--- The laws of banks, clients, files and records on which the laws of the world stand.
+-- The laws of banks, clients, files and records from which the laws of the world are proved.
 use Rattle.std.specs.Prelude.{◌≡◌, ℕ, ◌<◌, ◌↔◌, List, ◌++◌, length, None, Some, Ok}
 use Rattle.ofx_types.specs.Calendar.{IsMoment}
 use Rattle.ofx_types.specs.FileForm.{SpellsFile, OneFile, OneReply}

@@ -18,7 +18,7 @@ pub record PendingView : Type 0 where
   pub landed : Bool
 
 -- The setup and the state of the bank, the records that aren't pending, oldest first, what is pending, and the fault that is
--- set for the next append: its record will stand all the same, or won't.
+-- set for the next append: its record will be stored all the same, or won't.
 pub record ServerView : Type 0 where
   pub setup : Setup
   pub state : State

@@ -21,7 +21,7 @@ use Rattle.ofx_world.specs.World.{WorldView}
 
 -- ---- replies
 
--- A reply is the one-thread bank's at its place: among the records stands that of a user's file, and in the state to which those
+-- A reply is the one-thread bank's at its index: among the records is that of a user's file, and in the state to which those
 -- before it lead, this is what the bank answers to it.
 pub record IsAtItsIndex (setup : Setup) (records : List (List ℕ)) (reply : List ℕ) : Type 0 where
   pub earlier : List (List ℕ)
@@ -59,7 +59,7 @@ HasRightStores setup entries customer = (user : UserId) → user_of setup custom
 -- ---- the whole
 
 -- The bank is in the state to which the records lead that aren't pending. No user's TRNUID is used up twice; no balance, which
--- is what its rule gives, is below zero, and all together are the openings. Each reply is the one-thread bank's at its place;
+-- is what its rule gives, is below zero, and all together are the openings. Each reply is the one-thread bank's at its index;
 -- all replies to a file that is outstanding are alike; each client acts for a user of the setup; and each store of a client is
 -- right, or marked lost.
 pub record IsRightWorld (world : WorldView) : Type 0 where

@@ -1,4 +1,4 @@
-//! The laws of sound worlds, and those of the crates below on which they stand. Nothing here runs.
+//! The laws of sound worlds, and those of the crates below from which they are proved. Nothing here runs.
 
 ghost use Rattle.ofx_world.specs.GoingOn.{BanksKeepWorlds, SoundWorlds, StepsKeepWorlds};
 ghost use Rattle.ofx_world.specs.Laws.{HistoryLaws, Laws, RecordLaws, ReplyLaws, StoreLaws};

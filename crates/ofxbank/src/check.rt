@@ -1,4 +1,4 @@
-//! The command `check`: a setup and records are read, and what was found is told. Nothing is written.
+//! The command `check`: a setup and records are read, and what was found is reported. Nothing is written.
 
 ghost use Rattle.std.specs.Prelude.{◌≡◌, false};
 

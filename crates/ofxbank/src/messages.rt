@@ -1,4 +1,4 @@
-//! What people are told by fixed lines: why a run ended, and that a server listens.
+//! What is reported to people in fixed lines: why a run ended, and that a server listens.
 
 use ofx_types::{Note, Status, Told};
 use std::io;

@@ -1,4 +1,4 @@
-//! A run of a command: the setup is read, the records are bound to it and opened, and what comes of it is told.
+//! A run of a command: the setup is read, the records are bound to it and opened, and what comes of it is reported.
 
 ghost use Rattle.std.specs.Prelude.{◌≡◌, false};
 

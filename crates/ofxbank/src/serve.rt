@@ -24,7 +24,7 @@ use std::thread::Threads;
 use std::time::Duration;
 use std::{env, io};
 
-/// A doorway on this machine, of whose links each exchange is told.
+/// A doorway on this machine, each exchange of whose links is reported as far as the log's level covers it.
 type Door = LoggedDoor<TcpListener, HostRuntime, HostRuntime>;
 
 /// A worker's doorway and its clock.
@@ -105,10 +105,10 @@ fn served_over<R: Threads + Wait + Sync, K: Keeper + Send>(
     }
 }
 
-/// The name of the environment's word that says how much is reported.
+/// The name of the environment variable that says how much is reported.
 const LOG_WORD: &str = "OFXBANK_LOG";
 
-/// How much is reported: what the environment says, and each exchange where it says nothing, or another word.
+/// How much is reported: what the environment variable says, and each exchange where it isn't set or has another value.
 fn log_level(rt: &HostRuntime) -> Level {
     match env::var(rt, LOG_WORD) {
         Ok(argument) => Level::named(argument.as_str()).unwrap_or(Level::Info),

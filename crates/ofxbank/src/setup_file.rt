@@ -1,4 +1,4 @@
-//! The file of the setup, read once for the run, for what records are bound to, and for what people are told.
+//! The file of the setup, read once for the run, for what records are bound to, and for what is reported to people.
 
 ghost use Rattle.std.specs.Prelude.{IfOk};
 ghost use Rattle.bank_model.specs.SetupForm.{IsWithinLimits};

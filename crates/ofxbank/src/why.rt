@@ -1,4 +1,4 @@
-//! What people are told after the fixed first line of an end: where, why, and what to do.
+//! What is reported to people after the fixed first line of an end: where, why, and what to do.
 
 use crate::files::Files;
 use crate::keepers::ON_DISK;
@@ -10,8 +10,8 @@ use record_files::{
 };
 use std::io;
 
-/// Prints on the error stream where and why a run ended that has told its first line. `unopened` is why its records weren't opened,
-/// where they weren't.
+/// Prints on the error stream where and why a run ended that has printed its first line. `unopened` is why its records weren't
+/// opened, where they weren't.
 pub fn report_why(
     rt: &HostRuntime,
     end: Told,
@@ -140,8 +140,8 @@ fn report_record(rt: &HostRuntime, note: Note, path: &str) -> io::Result<()> {
     }
 }
 
-/// Says on the error stream where the setup or the records can be read by others. After a run that told nothing an empty line
-/// comes first, since the first line is that of a run that failed.
+/// Says on the error stream where the setup or the records can be read by others. After a run that reported nothing an empty
+/// line comes first, since the first line is that of a run that failed.
 pub fn report_open_files(rt: &HostRuntime, files: Files<'_>, is_first: bool) {
     let setup = files.setup;
     let records = files.records_word();

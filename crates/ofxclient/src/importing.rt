@@ -1,4 +1,4 @@
-//! The command `import`: it runs over the standard streams and the file of a register, and people are told how it ended.
+//! The command `import`: it runs over the standard streams and the file of a register, and reports how it ended.
 
 use crate::messages::{plain, report, report_usage};
 use crate::parties::STORE;

@@ -1,5 +1,5 @@
 //! The customer's program: it hands its order, a link to the bank, its store, the clock and the standard output to the proved
-//! run, and tells people on the error stream why the run ended.
+//! run, and reports on the error stream why the run ended.
 #![tactic(auto)]
 
 mod importing;
@@ -59,13 +59,13 @@ fn ordered(rt: HostRuntime, arguments: &[Text]) -> Told {
     }
 }
 
-/// An end, which is told in a line.
+/// Reports an end in a line, and answers it.
 fn ended(rt: &HostRuntime, end: Told) -> Told {
     report(rt, end);
     end
 }
 
-/// The end of arguments without a form, which is told with the usage and, in the last line, what is wrong with them.
+/// Reports arguments without a form: the end, the usage and, in the last line, what is wrong with them. Answers the end.
 fn unordered<M: fmt::Display>(rt: &HostRuntime, mistake: &M) -> Told {
     let end = ended(rt, plain(2));
     report_usage(rt, mistake);

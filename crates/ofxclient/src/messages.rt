@@ -1,4 +1,4 @@
-//! What people are told: why a run ended, where, and what to do.
+//! What is reported to people: why a run ended, where, and what to do.
 
 use crate::usage::help_text;
 use ofx_types::{Note, Status, Told};
@@ -67,7 +67,7 @@ fn report_cause(rt: &impl Eprint, end: Told) -> io::Result<()> {
     }
 }
 
-/// Tells in a line where it was and what to do, for a run over the bank at a port and the store of that word.
+/// Reports in a line where it was and what to do, for a run over the bank at a port and the store of that name.
 pub fn report_more(rt: &impl Eprint, end: Told, port: u16, store: &str) {
     let _ = report_offset(rt, end.status.0, port, store);
 }

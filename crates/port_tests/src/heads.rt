@@ -1,5 +1,5 @@
-//! Heads of HTTP messages: each public call once, and tables of heads, with what they tell, where they are cut, and those that
-//! are bad.
+//! Heads of HTTP messages: each public call once, and tables of heads, with what is read of them, where they are cut, and those
+//! that are bad.
 
 ghost use Rattle.http_front.specs.HeadText.{IsReplyCode};
 
@@ -201,7 +201,7 @@ fn a_head_has_at_most_8192_bytes(rt: HostRuntime) {
     }
 }
 
-/// Numbers of fields, how a head ends behind them, and what is read.
+/// Numbers of fields, how a head ends after them, and what is read.
 const CROWDS: &[(usize, &[u8], Option<HeadFault>)] = &[
     (64, b"\n", None),
     (64, b"", Some(HeadFault::NotYet)),
@@ -236,7 +236,7 @@ fn a_head_has_at_most_64_fields(rt: HostRuntime) {
     reads_reply(&rt, &reply, Err(HeadFault::Bad));
 }
 
-/// Heads of replies, with the code and the body's length that they tell.
+/// Heads of replies, with the code and the body's length that they give.
 const REPLIES: &[(&[u8], u16, Option<u64>)] = &[
     (
         b"HTTP/1.1 200 OK\r\nContent-Length: 12\r\n\r\n",

@@ -1,5 +1,5 @@
-//! Stores of one text: the one in memory, whose calls fail where they are told to, and the one in a file, which a crash or a
-//! save that fails leaves with a whole text.
+//! Stores of one text: the one in memory, whose calls of given numbers fail, and the one in a file, which a crash or a save
+//! that fails leaves with a whole text.
 
 use crate::same::{same, same_bytes};
 use ofx_ports::{FetchFault, FileStore, MemStore, PutFault, StoreKeeper};
@@ -88,7 +88,7 @@ fn a_crash_leaves_the_old_text_and_the_next_save_goes_on(rt: HostRuntime) {
     removed(&rt, &rt, "crashed");
 }
 
-// A folder stands where the new text is to be written, and one where the text is to be.
+// A folder has the name of the file that the new text is written into, and then that of the text's own file.
 #[test]
 fn a_file_that_cannot_be_written_or_read_fails(rt: HostRuntime) {
     folder(&rt, &rt, "barred");

@@ -7,7 +7,7 @@ use Rattle.postgres_model.specs.World.{Call, Unsent, Waits, Done, Keeper, Closed
 abbrev pub reached : List Event → World
 reached events = run start events
 
--- These records stand under the numbers from the first on.
+-- The log has these records under the numbers from the first on.
 abbrev pub StandsFrom : (first : ℕ) → List (List ℕ) → Log → Type 0
 StandsFrom first group log = (i : ℕ) → i < length group → record_at (first + i) log.rows ≡ slice_get group i
 

@@ -11,7 +11,7 @@ pub data Call : Type 0 where
   Waits : (keeper : ℕ) → Request → Call
   Done : (keeper : ℕ) → Request → Answer → Call
 
--- the function with another value at one place
+-- the function with another value at one number
 abbrev pub updated : {A : Type 0} → (ℕ → A) → ℕ → A → ℕ → A
 updated f offset new n = if n == offset then new else f n
 
@@ -31,7 +31,7 @@ abbrev pub sending : Engine → ℕ → Request → Engine
 sending e keeper request =
     record { log = e.log; sent = suc e.sent; calls = updated e.calls (suc e.sent) (Waits keeper request); makers = e.makers }
 
--- The engine does a call once, however often it is told to.
+-- The engine does a call once, however often it is asked to.
 abbrev pub done : Engine → ℕ → Call → Engine
 done e call Unsent = e
 done e call (Waits keeper request) =
@@ -52,7 +52,7 @@ pub record Held : Type 0 where
   pub records : List (List ℕ)
 
 -- A keeper holds no log; has sent a take; holds the log; has sent an append of a group; has given that up, and doesn't know
--- whether the group stands; or has sent a retake to settle it.
+-- whether the group is in the log; or has sent a retake to settle it.
 pub data Keeper : Type 0 where
   Closed : Keeper
   Taking : (call : ℕ) → Keeper
@@ -61,13 +61,13 @@ pub data Keeper : Type 0 where
   Unsettled : Held → (group : List (List ℕ)) → (append : ℕ) → Keeper
   Settling : Held → (group : List (List ℕ)) → (append retake : ℕ) → Keeper
 
--- A keeper was told that this group stands, the first record under this number.
+-- A keeper got the answer that this group is in the log, the first record under this number.
 pub record Acknowledged : Type 0 where
   pub keeper : ℕ
   pub first : ℕ
   pub group : List (List ℕ)
 
--- Settling answered whether the group of this append stands.
+-- Settling answered whether the group of this append is in the log.
 pub record Settled : Type 0 where
   pub append : ℕ
   pub holds : Bool
@@ -95,7 +95,7 @@ next_number held = suc (length held.records)
 abbrev pub with_group : Held → List (List ℕ) → List (List ℕ)
 with_group held group = held.records ++ group
 
--- A take makes the log the keeper's, with all that stands.
+-- A take makes the log the keeper's, with all its records.
 abbrev pub told_take : (call : ℕ) → Answer → Told
 told_take call (Took epoch rows) = silent (Idle (record { epoch = epoch; token = call; records = fetched 1 (length rows) rows }))
 told_take call _ = silent Closed

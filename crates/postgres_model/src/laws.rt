@@ -6,7 +6,7 @@ ghost use Rattle.postgres_model.specs.Engine.{numbered, Row, Request, Append, To
 ghost use Rattle.postgres_model.specs.World.{Acknowledged, Settled, Held, Keeper, Idle, Event, Done};
 ghost use Rattle.postgres_model.specs.Laws.{reached, StandsFrom, has_landed, HasLog, texts};
 
-/// A record whose append a keeper was told to stand is under its number for ever, whatever happens later.
+/// A record whose append was acknowledged to a keeper is under its number for ever, whatever happens later.
 pub fn acknowledged_records_stand()
     ensures { (early late : List Event) (j : ℕ) (a : Acknowledged) → slice_get (reached early).acknowledged j ≡ Some a
         → StandsFrom a.first a.group (reached (early ++ late)).engine.log }
@@ -19,8 +19,8 @@ pub fn one_keeper_has_each_number()
         → m < length a.group → n < length b.group → a.first + m ≡ b.first + n → a.keeper ≡ b.keeper }
 {}
 
-/// After settling has answered whether an append's records stand, nothing changes it. An append that is reported not to stand
-/// never lands later.
+/// After settling has answered whether an append's records are in the log, nothing changes it. An append whose records are
+/// reported not to be there never lands later.
 pub fn settled_appends_stay_settled()
     ensures { (early late : List Event) (j : ℕ) (s : Settled) → slice_get (reached early).settled j ≡ Some s
         → has_landed ((reached (early ++ late)).engine.calls s.append) ≡ s.holds }
@@ -34,7 +34,7 @@ pub fn keepers_hold_a_prefix()
         → (reached events).engine.log.epoch ≡ held.epoch → (reached events).engine.log.rows ≡ numbered 1 held.records }
 {}
 
-/// Whatever was ever appended under an epoch before one that was taken is among the records that this take was told. So no
+/// Whatever was ever appended under an epoch before one that was taken is among the records that this take got. So no
 /// append of an epoch that is over lands later, and one that is heard of later was known already.
 pub fn past_appends_are_told()
     ensures { (events : List Event) (t c k j epoch past first count : ℕ) (taking : Request) (rows : List Row) (group : List (List ℕ))

@@ -1,4 +1,4 @@
--- How the answers of calls stand to what reading gives.
+-- How the answers of calls relate to what reading gives.
 use Rattle.std.specs.Prelude.{◌≡◌, ℕ, Result, Ok, Err}
 use Rattle.record_fields.specs.declared.fault.RecordFault.{RecordFault}
 use Rattle.record_fields.specs.declared.fault.RecordFault.TheVariants as faults

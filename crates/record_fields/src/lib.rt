@@ -2,8 +2,8 @@
 //! its readers and writers.
 //!
 //! Each field has a writer, which appends its coding, and a reader, which gives the value that is at an offset and the
-//! place after it, or the offset of the first field without a form. Where memory is refused, a writer may have appended a
-//! part of the coding, and what stood before it is kept. The laws tell that reading finds just what the coding says.
+//! offset after it, or the offset of the first field without a form. Where memory is refused, a writer may have appended a
+//! part of the coding, and what was there before is kept. The laws tell that reading finds just what the coding says.
 #![tactic(auto)]
 
 mod account;

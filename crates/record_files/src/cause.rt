@@ -1,4 +1,4 @@
-//! Why a file of records can't be opened or used, as people are told it.
+//! Why a file of records can't be opened or used, as it is reported to people.
 
 use crate::setup_lines::{first_difference, line_of};
 use std::alloc::Global;

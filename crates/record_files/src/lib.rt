@@ -1,5 +1,5 @@
 //! The files of records as a run meets them: made for their owner alone, bound to the setup that they began with, and where one
-//! can't be opened, why. The keepers over them stand in `sqlite_keeper` and `disk_keeper`.
+//! can't be opened, why. The keepers over them are in `sqlite_keeper` and `disk_keeper`.
 //!
 //! A setup is bound beside the keepers, which know nothing of it: in a second table of an SQLite file, and in a file beside one of
 //! `disk:PATH`.

@@ -15,7 +15,7 @@ const ROOM: usize = 10_000;
 const LETTERS: &str =
     "<STMTTRN><TRNTYPE>XFER<DTPOSTED>20240131120200<TRNAMT>-2.50<FITID>20a</STMTTRN>";
 
-/// What a run told over these ports.
+/// What a run over these ports reported.
 fn reported_by(
     rt: &impl Abort,
     alloc: Global,

@@ -42,7 +42,7 @@ const FRAMELESS: [(&str, u64); 5] = [
     ("FILE 3\nabcFILE", 10),
 ];
 
-/// What a run told and printed, over a store.
+/// What a run over a store reported and printed.
 fn reported_over(
     rt: &impl Abort,
     alloc: Global,
@@ -60,7 +60,7 @@ fn reported_over(
     )
 }
 
-/// Compares what was told with a status and a place.
+/// Compares what was reported with a status and a note.
 fn same(rt: &impl Abort, reported: Told, status: u8, note: Note) {
     assert_eq!(rt; (reported.status, reported.note), (Status(status), note));
 }

@@ -15,17 +15,17 @@ use ofx_types::{Moment, Note, Status, Told};
 use std::alloc::Global;
 use std::process::Abort;
 
-/// The words of a run at the sample's moment.
+/// The arguments of a run at the sample's moment.
 const AT_NOON: [&str; 5] = ["answer", "setup", "-", "--at", "20240131120000"];
 
-/// The words of a run by the clock.
+/// The arguments of a run by the clock.
 const BY_CLOCK: [&str; 3] = ["answer", "setup", "-"];
 
 /// The names of the transactions of three requests.
 const NAMES: [&[u8; 2]; 3] = [b"s1", b"s2", b"s3"];
 
-/// What a run with these words, this keeper and this clock told, and what it wrote, by the sample's setup. First it is settled
-/// which records stand.
+/// What a run with these arguments, this keeper and this clock reported, and what it wrote, by the sample's setup. First the
+/// keeper settles which records are stored.
 fn reported_over(
     rt: &impl Abort,
     alloc: Global,
@@ -139,8 +139,8 @@ fn a_read_that_fails_stops_the_run(rt: HostRuntime) {
     }
 }
 
-/// The writes, the bytes that stand before each, and the status where it fails. The three replies have 761 bytes, and
-/// each is written in pieces of 300, 300 and 161.
+/// The writes, how many bytes are written before each, and the status where it fails. Each of the three replies has 761
+/// bytes and is written in pieces of 300, 300 and 161.
 const WRITES: &[(u64, usize, u8)] = &[
     (1, 0, 6),
     (2, 300, 6),

@@ -1,4 +1,4 @@
-//! What tests of the sample's bank stand on: its setup, its requests and replies, and what they are read from and written to. A
+//! What tests of the sample's bank share: its setup, its requests and replies, and what they are read from and written to. A
 //! test ends where one of these can't be made.
 
 ghost use Rattle.bank_model.specs.SetupForm.{IsWithinLimits};
@@ -27,7 +27,7 @@ pub fn setup(rt: &impl Abort, alloc: Global) -> Setup
     Setup::read(alloc, SETUP).expect(rt, "the setup")
 }
 
-/// The words of a command line.
+/// The arguments of a command line.
 pub fn texts(rt: &impl Abort, alloc: Global, words: &[&str]) -> Vec<Text> {
     words::texts(alloc, words).expect(rt, "words")
 }

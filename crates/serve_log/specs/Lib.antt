@@ -1,2 +1,2 @@
--- What the log stands round.
+-- What the log's adapters wrap.
 pub mod Within

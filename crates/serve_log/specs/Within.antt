@@ -1,4 +1,4 @@
--- What the log's adapters stand round.
+-- What the log's adapters wrap.
 use Rattle.ofx_ports.specs.declared.adapters.tcp_door.TcpDoor.{TcpDoor}
 use Rattle.serve_log.specs.declared.door.LoggedDoor.{LoggedDoor}
 use Rattle.serve_log.specs.declared.keeper.LoggedKeeper.{LoggedKeeper}

@@ -6,7 +6,7 @@ use std::fmt::Display;
 use std::rt;
 use std::time::{Instant, SystemTime, UNIX_EPOCH};
 
-/// The error stream of a runtime, with its clock. A line that can't be written is lost, and nobody is told.
+/// The error stream of a runtime, with its clock. A line that can't be written is lost, and no error is reported.
 #[derive(Clone, Copy)]
 pub struct AccessLog<R: Copy> {
     rt: R,

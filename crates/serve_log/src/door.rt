@@ -12,7 +12,8 @@ use std::io::{Read, Write};
 use std::net::{OpenListener, OpenStream};
 use std::rt;
 
-/// The doorway of a worker, of whose links each exchange is told in a line. It counts faults and closings as the doorway within.
+/// The doorway of a worker. Each exchange of its links that the log's level covers is reported in a line. It counts faults and
+/// closings as the inner doorway does.
 #[derive(Drop)]
 pub struct LoggedDoor<T, C, R: Copy> {
     door: TcpDoor<T, C>,

@@ -8,8 +8,9 @@ use crate::stamp::Stamp;
 use ofx_ports::{Failed, FetchFault, Keeper, PutFault};
 use std::{fmt, rt};
 
-/// A keeper of records, of which each append that fails is told in a line, and each try to settle one. It says what the keeper
-/// within tells. A fetch that fails isn't told: records are read where the bank opens, and that run tells of it by its end.
+/// A keeper of records that reports in a line each append and each settling that is `Failed`, unless the level is `Off`. It
+/// answers what the inner keeper answers. A fetch that fails isn't reported: records are read where the bank opens, and that
+/// run's end reports it.
 ///
 /// ```rust
 /// use ofx_ports::{Keeper, MemKeeper, PutFault};

@@ -22,12 +22,12 @@ impl Level {
         }
     }
 
-    /// Whether anything is told.
+    /// Whether anything is reported.
     pub(crate) fn is_on(self) -> bool {
         !matches!(self, Level::Off)
     }
 
-    /// Whether an exchange is told, which is a warning or not.
+    /// Whether an exchange is reported, by whether it is a warning.
     pub(crate) fn covers(self, is_warning: bool) -> bool {
         match self {
             Level::Off => false,

@@ -1,7 +1,7 @@
 //! The log of a server: a line on the error stream for each exchange, and for each fault of the keeper of the records.
 //!
-//! The adapters stand round a doorway, its links and a keeper. They hand each call on, look at what goes through, and tell what
-//! these tell. No line has a password, the number of an account or a body.
+//! The adapters wrap a doorway, its links and a keeper. They pass each call on, look at what goes through, and answer what these
+//! answer. No line has a password, the number of an account or a body.
 #![tactic(auto)]
 
 mod access_line;

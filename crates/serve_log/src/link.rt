@@ -9,7 +9,7 @@ use ofx_ports::{Failed, Link};
 use std::alloc::Global;
 use std::rt;
 
-/// A link of which each exchange is told in a line. It says what the link within tells.
+/// A link that reports in a line each exchange that the log's level covers. It answers what the inner link answers.
 #[derive(Drop)]
 pub struct LoggedLink<L, R: Copy> {
     link: L,

@@ -17,7 +17,7 @@ pub(crate) const KINDS: [(&[u8], &[u8], &str); KIND_COUNT] = [
 
 pub(crate) const KIND_COUNT: usize = 9;
 
-/// How many of the kinds are synchronisations. What is told within one isn't counted.
+/// How many of the kinds are synchronisations. Answers within one aren't counted.
 const SYNC_COUNT: usize = 4;
 
 /// What became of the signon.
@@ -51,8 +51,8 @@ impl ReplyNote {
     }
 }
 
-/// What the reply at the start of the bytes tells. None where they are no reply. A body that doesn't stand whole after the head
-/// tells nothing.
+/// What the reply at the start of the bytes tells. None where they are no reply, or its head gives no length. The body is read
+/// only where the status is 200 and the bytes are just its head and body.
 pub(crate) fn note_of(bytes: &[u8]) -> Option<ReplyNote> {
     let head = read_response(bytes).ok()?;
     let length = head.length?;
@@ -68,7 +68,7 @@ pub(crate) fn note_of(bytes: &[u8]) -> Option<ReplyNote> {
     Some(note)
 }
 
-/// Notes what a reply file tells, whose tags stand on lines of their own.
+/// Notes what a reply file tells, whose tags are on lines of their own.
 fn read_file(body: &[u8], note: &mut ReplyNote) {
     let mut inside = None;
     for line in body.split(|byte| *byte == b'\n') {

@@ -17,7 +17,7 @@ pub(crate) fn body_of(bytes: &[u8]) -> Option<&[u8]> {
 /// The user's name in a file that was signed on, as the file spells it.
 ///
 /// Such a file has a SONRQ with a USERID. Where only one SONRQ is in it, and one USERID in that, they are these; otherwise
-/// the name isn't told, since a file may have others in parts that nobody reads.
+/// the name isn't reported, since a file may have others in parts that nobody reads.
 pub(crate) fn user_in(body: &[u8]) -> Option<&[u8]> {
     let signon = before(after_only(body, b"<SONRQ>")?, b"</SONRQ>")?;
     let name = before(after_only(signon, b"<USERID>")?, b"<")?;
@@ -45,7 +45,7 @@ fn suffix<'a>(text: &'a [u8], tag: &[u8]) -> Option<&'a [u8]> {
     None
 }
 
-/// What precedes the first place at which this text stands.
+/// What precedes the first occurrence of this text.
 fn before<'a>(text: &'a [u8], end: &[u8]) -> Option<&'a [u8]> {
     for at in 0..text.len() {
         if text[at..].starts_with(end) {

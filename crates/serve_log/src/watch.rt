@@ -52,7 +52,7 @@ impl Watch {
         }
     }
 
-    /// So many of these bytes were written. A line is told after the last one of a reply.
+    /// So many of these bytes were written. The exchange is reported after the last byte of a reply.
     pub(crate) fn wrote<R: Eprint + rt::Clock + Copy>(
         &mut self,
         bytes: &[u8],

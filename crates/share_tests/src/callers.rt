@@ -17,7 +17,7 @@ use std::marker::Brand;
 use std::process::Abort;
 use std::sync::Wait;
 
-/// What a caller of the bank is told of a file in its frame.
+/// What a caller of the bank gets for a file in its frame.
 pub fn asked<N: BankName, R: Abort + Wait>(
     rt: &R,
     alloc: Global,
@@ -47,7 +47,7 @@ pub fn asked<N: BankName, R: Abort + Wait>(
     }
 }
 
-/// What a caller of the bank is told when due work is looked for.
+/// What a caller of the bank gets when due work is looked for.
 fn advanced<N: BankName, R: Abort + Wait>(
     rt: &R,
     alloc: Global,
@@ -60,7 +60,7 @@ fn advanced<N: BankName, R: Abort + Wait>(
     advance_line(rt, alloc, &bank.advance(rt, pass, at, &OpenGate))
 }
 
-/// What two callers of a bank of the sample's setup are told by turns.
+/// What two callers of a bank of the sample's setup get by turns.
 fn reported_by_turns<N: BankName, R: Abort + Wait>(
     rt: &R,
     alloc: Global,
@@ -75,8 +75,8 @@ fn reported_by_turns<N: BankName, R: Abort + Wait>(
     reported_to_both(rt, alloc, &bank, &mut first, &mut second)
 }
 
-/// What both callers are told: of a transfer that is due on the next day, of a poll, of what is due on that day, and of a poll
-/// again.
+/// What both callers get: for a transfer that is due on the next day, for a poll, for the work due on that day, for a poll again,
+/// and for due work once more.
 fn reported_to_both<N: BankName, R: Abort + Wait>(
     rt: &R,
     alloc: Global,

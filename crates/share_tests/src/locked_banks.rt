@@ -80,7 +80,7 @@ const FAULT: &str = "keeper 1\npending file\n";
 const SECOND_FAULT: &str = "keeper 2\npending file\n";
 
 /// Which calls of the keeper fail and which of these land, while a named file with a transfer is handed in once a minute four
-/// times and a file without a name after that; which of the four are told of a fault, and the moment at which the file happened.
+/// times and a file without a name after that; which of the four get a fault, and the moment at which the file happened.
 const FAILING: &[(&[u64], &[u64], [&str; 4], &str)] = &[
     (&[], &[], ["", "", "", ""], "20240131120000"),
     (&[1], &[], [FAULT, "", "", ""], "20240131120100"),
@@ -119,7 +119,7 @@ const FAILING: &[(&[u64], &[u64], [&str; 4], &str)] = &[
     (&[2], &[2], ["", FAULT, "", ""], "20240131120000"),
 ];
 
-/// What is told where these of the four calls are told of faults, and the named file happened at that moment: each other call is
+/// What is reported where these of the four calls get faults, and the named file happened at that moment: each other call is
 /// answered by its reply, and the transfer was posted once.
 fn reported_of_once(rt: &impl Abort, alloc: Global, faults: &[&str; 4], moment: &str) -> String {
     let reply = reported_at(rt, alloc, &FIRST, moment);
@@ -182,7 +182,7 @@ fn a_named_file_happens_once_however_the_keeper_fails(rt: HostRuntime) {
 }
 
 /// Which calls of the keeper fail and which of these land, in a bank with a transfer that is due on the next day, which is looked
-/// for three times, and what is told then.
+/// for three times, and what is reported then.
 const DUE: &[(&[u64], &[u64], &str)] = &[
     (
         &[],

@@ -1,4 +1,4 @@
-//! What tests of the sample's bank stand on: how it opens, its requests and replies, and lines of text. A test ends where one of
+//! What tests of the sample's bank use: how it opens, its requests and replies, and lines of text. A test ends where one of
 //! these can't be made.
 
 ghost use Rattle.std.specs.Prelude.{◌≡◌, false, is_some};
@@ -65,7 +65,7 @@ pub fn numbered(rt: &impl Abort, alloc: Global, word: &str, number: u64) -> Stri
     format!(in alloc; "{word} {number}\n").expect(rt, "room")
 }
 
-/// Puts a text behind what was told.
+/// Appends a text to what was reported.
 pub fn report(rt: &impl Abort, reported: &mut String, more: &str) {
     reported.push_str(more).expect(rt, "room");
 }

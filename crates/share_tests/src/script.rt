@@ -1,4 +1,4 @@
-//! Calls of a locked bank, one after another, in lines of text: what each is told and leaves pending, and how many entries
+//! Calls of a locked bank, one after another, in lines of text: what each answers and leaves pending, and how many entries
 //! there are.
 
 ghost use Rattle.std.specs.Prelude.{◌≡◌, ◌<◌, false, is_some, length, All};
@@ -108,7 +108,7 @@ pub fn advance_line(
     }
 }
 
-/// What a file is told, in a frame.
+/// The answer to a file, in a frame.
 fn file_answer<N: BankName, R: Abort>(
     rt: &R,
     alloc: Global,

@@ -1,4 +1,4 @@
-//! The one table of a file of records, and how a database is told to have it. Each call serves any store, so that what is
+//! The one table of a file of records, and how it is found or made in a database. Each call serves any store, so that what is
 //! proved of it is proved once.
 
 use crate::refusal::Refusal;

@@ -31,8 +31,8 @@ pub record GoesOn (setup : Setup) (before : List Entry) (object : ObjectId) (id 
 
 -- What an entry of an object may say after others. What is new has its entry's number as its id, and is in the object of
 -- its source, which is an account of the setup. A change and a cancellation are of a transfer that waits, or of a recurring
--- transfer that isn't cancelled, and stand where it is. A change keeps its source, and of a transfer also the recurring
--- transfer that made it. No entry gives a transfer a row that is cancelled. Mail may always come; that about an account stands
+-- transfer that isn't cancelled, and are in its object. A change keeps its source, and of a transfer also the recurring
+-- transfer that made it. No entry gives a transfer a row that is cancelled. Mail may always come; that about an account is
 -- in an object of such mail, and any other in one of a user's other mail.
 abbrev pub MaySay : Setup → List Entry → ObjectId → Change → Type 0
 MaySay setup before object (NewTransfer row) =

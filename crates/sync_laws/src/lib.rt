@@ -1,7 +1,7 @@
 //! The laws of synchronisation, over the rules of `bank_model`. Nothing here runs: each contract is a law.
 //!
 //! A client keeps a store of each object: a token, and the rows that belong to it. When it takes the bank's reply to a
-//! synchronisation, the store holds the rows that belong to the new token, or the client is told that it has lost its place;
+//! synchronisation, the store holds the rows that belong to the new token, or the reply says that synchronisation is lost;
 //! and whatever the bank does meanwhile, a store that is right stays right.
 #![tactic(auto)]
 

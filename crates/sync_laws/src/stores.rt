@@ -54,8 +54,8 @@ pub fn token_alone_leaves_stores()
 {}
 
 /// Where all was asked for, or what came after a token, the store is marked lost exactly where the reply says so. A user's store
-/// of an object that is right and isn't marked lost, and whose client asks by its token, is told so exactly where its token is
-/// below the floor of the object. A store keeps its name.
+/// of an object that is right and isn't marked lost, and whose client asks by its token, is marked so exactly where its token
+/// is below the floor of the object. A store keeps its name.
 pub fn stores_are_lost_where_the_reply_says_so()
     ensures after { (store : Store) (text : List ℕ) (reply : SyncReply) → (taken store (After text) reply).is_lost ≡ reply.lost }
     ensures refresh { (store : Store) (reply : SyncReply) → (taken store Refresh reply).is_lost ≡ reply.lost }
@@ -100,7 +100,7 @@ pub fn stores_are_right_by_refresh()
         → (store_after setup S user at ask store).is_lost ≡ false }
 {}
 
-/// Whoever synchronises an account that isn't the user's is told to be lost, and nothing happens at the bank. The store is
+/// Whoever synchronises an account that isn't the user's is reported lost, and nothing happens at the bank. The store is
 /// marked lost after the reply, with its token and its rows as they were, or stays as it is where the token alone was
 /// asked for.
 pub fn strangers_stores_are_lost()
@@ -120,7 +120,7 @@ pub fn strangers_stores_are_lost()
 
 /// The rows that a client's own rule makes of an object's entries up to a token, one after another, are those that the entries
 /// say: each row as its last entry gave it, without those that were cancelled, and each mail. So nothing that is in an object is
-/// left out for being of another family. The family is the object's, by the place where the object stands; of an object that a
+/// left out for being of another family. The family is the object's, by the index of the object; of an object that a
 /// user names it is the name's.
 pub fn rows_are_those_of_the_entries()
     ensures object { (setup : Setup) (S : State) (family : Family) (object : ObjectId) (token : ℕ) → IsInOrder setup S

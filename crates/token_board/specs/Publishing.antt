@@ -33,7 +33,8 @@ pub record HasPublished (board : BoardView) (writer : WriterView) (before : List
 
 -- ---- the pass
 
--- What hearing a pass tells of it: what it has seen begins the log, its tokens stand there, and its endings are among the log's.
+-- What hearing a pass shows of it: what it has seen begins the log, its tokens are 0 or numbers of entries there, and its endings
+-- are among the log's.
 pub record IsHeard (board : BoardView) (log : List LogItem) (pass : PassView) : Type 0 where
   pub seen : Begins pass.seen log
   pub tokens : All (IsTokenIn board.start log) pass.polled

@@ -1,6 +1,6 @@
 -- The rule of a board: how its words and all views of it hang together, at each moment.
 --
--- Word 0 counts the endings of the log, and after it stands a word for each object.
+-- Word 0 counts the endings of the log, and after it comes a word for each object.
 use Rattle.std.specs.Prelude.{◌≡◌, ℕ, ◌+◌, ◌<◌, ◌≤◌, ◌%◌, ◌^◌, true, List, [], ◌∷◌, length, max, fold, slice_index, All}
 use mathlib.Core.Option.{some}
 use lib.ListN.{get_elem?}

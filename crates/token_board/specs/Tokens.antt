@@ -1,6 +1,6 @@
 -- The newest tokens of objects over a log, and the tokens that were newest once.
 --
--- A board begins with a list of numbers: that of each object's last entry, at the place of the object, and 0 where it has none.
+-- A board begins with a list of numbers: that of each object's last entry, at the index of the object, and 0 where it has none.
 -- These and the entries of the log's effects are the entries that the board speaks of.
 use Rattle.std.specs.Prelude.{◌≡◌, ℕ, ◌<◌, ◌≤◌, List, [], ◌∷◌, ◌++◌, map, length, slice_index_or, All, Contains}
 use Rattle.std.specs.List.{flat_map}

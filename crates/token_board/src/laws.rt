@@ -1,4 +1,4 @@
-//! What may be published, and what a pass may be told to own. Nothing here runs: each contract is a law.
+//! What may be published, and which endings a pass may be given to own. Nothing here runs: each contract is a law.
 
 ghost use Rattle.token_board.specs.Following.{NumberedFollow};
 ghost use Rattle.token_board.specs.Publishing.{NothingPublished, EntriesPublished, EndingPublished, HeardMayMeet, HeardMeets};

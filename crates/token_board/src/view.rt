@@ -18,7 +18,7 @@ pub struct View {
     pub writes: bool,
     /// How much of the log it has seen.
     pub seen: LinkedList<LogItem>,
-    /// What it was told that another one has seen.
+    /// What another one has seen, which it has heard.
     pub heard: LinkedList<LogItem>,
     /// The endings that it owns, or claims for whoever asked.
     pub owned: LinkedList<u64>,

@@ -42,8 +42,8 @@ number_of before (Some entry) = entry.number
 
 -- ---- how a window keeps it
 
--- Numbers rise from the floor. The ring has a place for each entry, and no more places than the window is wide; where it has
--- fewer, it has places for the entries to come as well.
+-- Numbers rise from the floor. The ring has a slot for each entry, and no more slots than the window is wide; where it has
+-- fewer, it has slots for the entries to come as well.
 pub record IsWindow (width capacity floor room : ℕ) (held : List Entry) : Type 0 where
   pub wide : 0 < width
   pub rising : RiseFrom floor held

@@ -1,4 +1,4 @@
-//! The last entries of one object, which clients are told from.
+//! The last entries of one object, from which clients get what came after their token.
 //!
 //! A `Window` holds so many entries at most: where another one comes, the oldest leaves. It knows the number of the last one
 //! that left, which is its floor, and lends the entries above a token. Its contracts say what it answers by the history that

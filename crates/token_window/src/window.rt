@@ -192,8 +192,8 @@ fn floor_after(floor: u64, left: &Option<Entry>) -> u64
     }
 }
 
-/// How many places a ring gets that wants so many: at least twice as many as before where it grows, so that entries are seldom
-/// moved, and no more than the window is wide.
+/// How many slots a ring gets that wants so many: at least twice as many as before where it grows, so that entries are seldom
+/// moved, but never more than the window is wide.
 fn offsets(width: usize, before: usize, wanted: usize) -> usize
     requires narrow { (before ≤ width) × (width < 2 ^ 32) }
     ensures narrow { result ≤ width }

@@ -58,7 +58,7 @@ pub record SoundServersGoOn : Type 0 where
 
 -- ---- logs
 
--- The reply to a user's file is the one-thread bank's at its place.
+-- The reply to a user's file is the one-thread bank's at its index.
 abbrev pub IsReported : Setup → List (List ℕ) → Event → List ℕ → Type 0
 IsReported setup records (events.File user file) reply = IsAtItsIndex setup records reply
 IsReported setup records (events.Post id) reply = reply ≡ []
@@ -72,7 +72,7 @@ HasReply setup records (Adopted fault event at) = Unit {0}
 HasReply setup records (Fault count pending) = Unit {0}
 
 -- A fresh bank of the world comes by the records from which a served bank opened to the state in which it opened, and then goes
--- along its log. It is sound then, and each reply in the log is the one-thread bank's at its place among its records.
+-- along its log. It is sound then, and each reply in the log is the one-thread bank's at its index among its records.
 pub record IsRun (setup : Setup) (opening : State) (first : List (List ℕ)) (log : List LogItem) (after : ServerView) : Type 0 where
   pub opens : ComesBy (fresh setup) first (at_rest setup opening first)
   pub goes : GoesAlong (at_rest setup opening first) (endings log) after

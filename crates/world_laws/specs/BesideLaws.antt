@@ -26,8 +26,8 @@ use Rattle.world_laws.specs.Beside.{ClientsView, Doing, ending, acting, giving_u
 use Rattle.world_laws.specs.ServedBank.{at_rest}
 
 -- What goes on, and what is true of it. `IsRightWorld` says: the bank is in the state to which its records lead; its books are
--- right; each reply that was given is the one-thread bank's at its place; all replies to an outstanding file are alike; each client
--- acts for a user; and each store of each client holds its object's entries folded up to its token, or is marked lost.
+-- right; each reply that was given is the one-thread bank's at its index; all replies to an outstanding file are alike; each
+-- client acts for a user; and each store of each client holds its object's entries folded up to its token, or is marked lost.
 abbrev pub StaysRight : ServerView → ClientsView → Type 0
 StaysRight server clients = IsSoundWorld (world_of server clients) × IsRightWorld (world_of server clients)
 

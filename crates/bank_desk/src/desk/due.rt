@@ -13,9 +13,9 @@ use ofx_types::Moment;
 use std::alloc::Global;
 
 impl Desk {
-    /// Does what is due at that moment, one event after another, until none is or they are as many as a run has, and counts
-    /// them. Where it isn't done, a prefix of them has happened, and the bank stands where that left it: memory is refused to no
-    /// event whose append was acknowledged.
+    /// Does what is due at that moment, one event after another, until none is or they are as many as a run has, and counts them.
+    /// Where it isn't done, a prefix of them has happened, and the bank is in the state after that prefix: memory is refused to
+    /// no event whose append was acknowledged.
     pub fn due<K: Keeper>(
         &mut self,
         alloc: Global,

@@ -74,7 +74,7 @@ pub fn entries_are_few()
         → length (after_all setup opening_state run).entries ≤ setup.entries }
 {}
 
-/// The transfers that wait stand in the order of their ids, all of them and those of one recurring transfer, also in the
+/// The transfers that wait are listed in the order of their ids, all of them and those of one recurring transfer, also in the
 /// middle of a step. So the entries that go along with a change or a cancellation of a recurring transfer come in that order.
 pub fn waiting_ids_rise()
     ensures run { (setup : Setup) (run : List Happening) → IsWithinLimits setup → AreLegal setup opening_state run
@@ -85,7 +85,7 @@ pub fn waiting_ids_rise()
         → Leads setup IsSoundStage S T → IsStrictlyIncreasing (map (λ (row : TransferRow). row.id) (waiting_of id T.entries)) }
 {}
 
-/// A client that asks for all is told the transfers, or the recurring transfers, of an object in the order of their ids, also
+/// A client that asks for all gets the transfers, or the recurring transfers, of an object in the order of their ids, also
 /// in the middle of a step.
 pub fn reported_ids_rise()
     ensures { (setup : Setup) (S T : State) (object : ObjectId) → IsWithinLimits setup → IsSoundState setup S

@@ -1,4 +1,4 @@
-//! Accounts by their names, the objects in whose histories entries stand, and the uid of what the bank does by itself.
+//! Accounts by their names, the objects in whose histories entries are, and the uid of what the bank does by itself.
 
 ghost use Rattle.std.specs.Prelude.{◌≡◌, ◌<◌, Some, true, is_some, codes, length, IfOk};
 ghost use Rattle.bank_model.specs.SetupLookups.{account_of};

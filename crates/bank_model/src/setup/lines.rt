@@ -127,7 +127,7 @@ fn add_owner(
     }
 }
 
-/// The owners whose names stand in a row, one space between each two.
+/// The owners whose names are listed, one space between each two.
 fn owners_of(alloc: Global, users: &Users, names: &[u8]) -> Result<Option<Owners>, OutOfMemory>
     requires { length users.now ≤ 1000 }
     ensures { IfOk result (λ owners. owners ≡ owners_at users.now names.now) }

@@ -142,7 +142,7 @@ pub(super) fn word_text(alloc: Global, word: &[u8]) -> Result<Text, OutOfMemory>
     }
 }
 
-/// The text of no bytes, in the place of a word that is still to be read.
+/// The text of no bytes, in place of a word that is still to be read.
 pub(super) fn no_word(alloc: Global) -> Result<Text, OutOfMemory>
     ensures { IfOk result (λ text. text ≡ []) }
 {

@@ -1,6 +1,6 @@
 //! Reply files. The lines of each end here in a line feed alone, and in files in CR LF.
 
-/// Each answer that may stand alone, done and refused.
+/// Each answer that a file may have alone, outside a synchronisation, done and refused.
 pub const ALONE: &[u8] = b"OFXHEADER:100
 DATA:OFXSGML
 VERSION:160

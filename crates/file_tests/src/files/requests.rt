@@ -1,7 +1,7 @@
 //! Request files. The lines of each end here in a line feed alone, and in files in CR LF.
 
-/// Each request that may stand alone: of statements with and without a period, of transfers, of recurring transfers and of
-/// mail.
+/// Each request that a file may have alone, outside a synchronisation: of statements with and without a period, of transfers, of
+/// recurring transfers and of mail.
 pub const ALONE: &[u8] = b"OFXHEADER:100
 DATA:OFXSGML
 VERSION:160

@@ -46,7 +46,7 @@ fn read_recur(recurrinst: &Cursor<'_>) -> Result<Recur, TreeFault>
     Ok(Recur { count, freq })
 }
 
-/// The count, where one stands.
+/// The count, where there is one.
 fn count_of(ninsts: Option<Cursor<'_>>) -> Result<Option<u32>, TreeFault>
     ensures { result ≡ reading.count_if_any ninsts.entry }
 {

@@ -16,7 +16,7 @@ use ofx_values::{day_of, midnight};
 use std::alloc::Global;
 use std::marker::Model;
 
-/// What the XFERINFO of a reply says, in which the due day always stands.
+/// What the XFERINFO of a reply says, which always has a due day.
 #[derive(Debug, Drop)]
 pub(crate) struct DueInfo {
     pub(crate) info: XferInfo,
@@ -68,7 +68,7 @@ fn due_of(moment: Option<Moment>) -> Option<Day>
     }
 }
 
-/// What the XFERINFO of a reply says, in which the due day stands.
+/// What the XFERINFO of a reply says, which must have a due day.
 #[tactic(auto, unfolding(ofx_types::specs::TransferReading::due_info_in))]
 pub(crate) fn read_due_info_in(alloc: Global, parent: &Cursor<'_>) -> Result<DueInfo, TreeFault>
     ensures { ReadsForm result (reading.due_info_in parent.now) }
@@ -86,7 +86,7 @@ fn read_due_info(alloc: Global, xferinfo: &Cursor<'_>) -> Result<DueInfo, TreeFa
     Ok(DueInfo { info, due })
 }
 
-/// The due day, which is missing at the offset of its aggregate where it doesn't stand.
+/// The due day, or `Missing` at the offset of its aggregate where there is none.
 fn day_or(due: Option<Day>, offset: u64) -> Result<Day, TreeFault>
     ensures { result ≡ reading.day_or offset due }
 {

@@ -1,4 +1,4 @@
-//! What is answered to a mail, and how a letter of the bank is told (BANKMAILTRNRS, MAILTRNRS), read and written.
+//! What is answered to a mail, and how a letter of the bank is sent (BANKMAILTRNRS, MAILTRNRS), read and written.
 
 ghost use Rattle.std.specs.Prelude.{◌≡◌, ◌++◌, OnOk};
 ghost use Rattle.std.specs.Io.{StartsWith};

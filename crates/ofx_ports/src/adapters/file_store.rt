@@ -46,7 +46,7 @@ impl<R: Files + Drop> FileStore<R> {
     }
 }
 
-// Writes the text beside the file and puts it in its place. Where that can't be done, nothing is left beside it.
+// Writes the text into the file beside and renames that over the file. Where this fails, it tries to remove the file beside.
 fn put_in_place<R: Files>(rt: &R, path: &str, beside: &str, text: &[u8]) -> io::Result<()> {
     let located = write_beside(rt, beside, text).and_then(|()| fs::rename(rt, beside, path));
     if located.is_err() {

@@ -178,7 +178,7 @@ impl Keeper for MemKeeper {
         ensures faults { CountsFaults self.old.calls.faults self.new.calls.faults (IsErrOf result PutFault.Failed) }
 
         // An append fails only where its number is one of those that fail, and succeeds only where it isn't. The
-        // record of one that fails stands exactly where it is told to land.
+        // record of one that fails is stored exactly where its number is in `landing` too.
         ensures fails { put_failed result ≡ true → fails_next self.old.calls ≡ true }
         ensures succeeds { OnOk result (fails_next self.old.calls ≡ false) }
         ensures lands { put_failed result ≡ true → self.new.landed ≡ Some (lands_next self.old) }

@@ -15,8 +15,8 @@ use ofx_types::OutOfMemory;
 use std::alloc::Global;
 use std::marker::Model;
 
-/// A peer in memory: what it sends stands from the start, and it takes what it is sent while it has room. Its reads
-/// and its writes are counted apart, and fail where they are told to.
+/// A peer in memory: what it sends is fixed from the start, and it takes what it is sent while it has room. Its reads
+/// and its writes are counted apart, and those of given numbers fail.
 #[derive(Debug, Drop)]
 pub struct MemLink {
     incoming: MemSource,

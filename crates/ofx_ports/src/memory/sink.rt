@@ -12,7 +12,7 @@ use ofx_types::OutOfMemory;
 use std::alloc::Global;
 use std::marker::Model;
 
-/// Bytes in memory that are written in order. Its room stands from the start.
+/// Bytes in memory that are written in order. Its room is fixed from the start.
 #[derive(Debug, Drop)]
 pub struct MemSink {
     bytes: Vec<u8>,

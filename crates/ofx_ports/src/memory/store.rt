@@ -56,7 +56,7 @@ impl MemStore {
         }
     }
 
-    /// A store in which this text stands and whose calls of the numbers in `failing` fail. Calls of `save` and `load` are
+    /// A store that holds this text and whose calls of the numbers in `failing` fail. Calls of `save` and `load` are
     /// counted together, from 1. A save that fails keeps its text where its number is in `landing` too.
     pub fn failing(
         alloc: Global,
@@ -116,7 +116,7 @@ impl StoreKeeper for MemStore {
         ensures faults { CountsFaults self.old.calls.faults self.new.calls.faults (IsErrOf result PutFault.Failed) }
 
         // A save fails only where its number is one of those that fail, and succeeds only where it isn't. After one that
-        // fails its text stands where it is told to land, and otherwise the old one does.
+        // fails its text is stored where its number is in `landing` too, and otherwise the old one is.
         ensures fails { put_failed result ≡ true → fails_next self.old.calls ≡ true }
         ensures succeeds { OnOk result (fails_next self.old.calls ≡ false) }
         ensures lands { put_failed result ≡ true → self.new.text ≡ (if text_lands_next self.old then text.now else self.old.text) }

@@ -11,7 +11,7 @@ const SUMMAND: u64 = 1_442_695_040_888_963_407;
 /// The low bits of a state, which repeat soon, aren't drawn.
 const LOW: u64 = 8_589_934_592;
 
-/// Where the drawing stands.
+/// The state of the drawing.
 #[derive(Clone, Copy)]
 pub(crate) struct Chance {
     state: u64,

@@ -10,7 +10,7 @@ use ofx_types::Moment;
 use std::alloc::Global;
 use std::process::Abort;
 
-/// What the first reply to the named file with the transfer tells.
+/// The first reply to the named file with the transfer, as changes of the sample's reply.
 const FIRST: [(&str, &str); 5] = [NAMED, POSTED, PAID, SOURCE_BALANCE, SOURCE_BALANCE];
 
 /// 31 January 2024 at 12:00:00, and twice an hour later.
@@ -23,7 +23,7 @@ const AN_HOUR_APART: [Moment; 3] = [
 /// The moment an hour later.
 const AT_ONE: (&str, &str) = ("20240131120000", "20240131130000");
 
-/// What the plain file is told an hour later. The sample's reply tells its moment four times.
+/// The reply to the plain file an hour later, as changes of the sample's reply, which has its moment four times.
 const LATER: [(&str, &str); 7] = [
     AT_ONE,
     AT_ONE,

@@ -7,13 +7,13 @@ use ofx_types::{Moment, Note, Told};
 use std::alloc::Global;
 use std::process::Abort;
 
-/// The words of a letter to bob.
+/// The arguments of a letter to bob.
 const TO_BOB: [&str; 5] = ["mail", "setup", "-", "bob", "Hello"];
 
 /// What the clock shows, one after another.
 const SHOWN: [Moment; 3] = [Moment(1_706_702_400), Moment(1), Moment(0)];
 
-/// What the letter's run told, and what it wrote, in a bank without records.
+/// What the letter's run reported, and what it wrote, in a bank without records.
 fn reported_of(
     rt: &impl Abort,
     alloc: Global,

@@ -10,7 +10,7 @@ use ofx_types::{Moment, Note, Told};
 use std::alloc::Global;
 use std::process::Abort;
 
-/// What a run over the sample's frames of these names told at the sample's moment, and what it wrote.
+/// What a run over the sample's frames of these names reported at the sample's moment, and what it wrote.
 fn run_over(
     rt: &impl Abort,
     alloc: Global,
@@ -38,7 +38,7 @@ fn failing(rt: &impl Abort, alloc: Global, failing: &[u64], landing: &[u64]) -> 
 /// The second append of a run, which is the third call of its keeper.
 const SECOND: [u64; 1] = [3];
 
-/// Which calls land though they fail, and how many records stand then.
+/// Which calls land though they fail, and how many records are stored then.
 const LANDINGS: &[(&[u64], u64)] = &[(&[], 1), (&SECOND, 2)];
 
 /// Nothing is written for the second file. The records that are stored open the next run.
