@@ -106,10 +106,13 @@ fn what_is_no_file_of_records_is_refused_and_left_alone(rt: HostRuntime) {
     for path in ["refused/text", "refused/note", "refused/loose"] {
         is_left_alone(&rt, &rt, path);
     }
-    let held = opened(&rt, &rt, "refused/held", 0);
-    for path in ["refused", "refused/none/records", "refused/held"] {
+    for path in ["refused", "refused/none/records"] {
         is_refused(&rt, &rt, path);
     }
+    // The keeper that has a file open goes on after another was refused.
+    let mut held = opened(&rt, &rt, "refused/held", 0);
+    is_refused(&rt, &rt, "refused/held");
+    keep(&rt, &mut held, b"one");
     drop(held);
     removed(&rt, &rt, "refused");
 }
