@@ -1,7 +1,7 @@
 use Rattle.std.proofs.Common.{Ok, refl}
 use Rattle.bank_arguments.specs.declared.command.Command.TheVariants.{Answer, Due, Mail}
 use Rattle.bank_arguments.proofs.SameCommand.{same_command}
-use Rattle.bank_session.proofs.CommandArguments.{other_usage, usage_other}
+use Rattle.bank_session.proofs.CommandArguments.{other_usage, usage_other, mailed}
 use Rattle.bank_session.proofs.answer.answer_told.Goals as goal
 
 pub returns-in-Ok-clause-usage : goal.returns-in-Ok-clause-usage
@@ -24,7 +24,7 @@ returns-in-Ok-clause-due g c are = c.session_told.ensures.due (same_command c.in
 pub returns-in-Ok-clause-mail : goal.returns-in-Ok-clause-mail
 returns-in-Ok-clause-mail g c name subject are =
     let found = c.in-Ok.ensures.letter name subject are in
-    rw (← found.2, ← found.3) (c.session_told.ensures.mail found.0 (same_command c.in-Ok.command (Mail found.0) found.1))
+    mailed name subject found.0.name.now found.0.subject.now _ _ c.session_told.result found.2 found.3 (c.session_told.ensures.mail found.0 (same_command c.in-Ok.command (Mail found.0) found.1))
 
 pub returns-in-Ok-clause-clock : goal.returns-in-Ok-clause-clock
 returns-in-Ok-clause-clock g c at are =
@@ -34,5 +34,15 @@ returns-in-Ok-clause-clock g c at are =
 pub returns-in-Err-clause-usage : goal.returns-in-Err-clause-usage
 returns-in-Err-clause-usage g c = (
   λ two. other_usage c.args.arguments.now _ c.in-Err.ensures.answer c.in-Err.ensures.due c.in-Err.ensures.letter tt,
-  λ usage. refl,
+  λ usage. rw c.no_run.ensures refl,
 )
+
+pub returns-in-Err-clause-run : goal.returns-in-Err-clause-run
+returns-in-Err-clause-run g c at are =
+    let usage = other_usage c.args.arguments.now _ c.in-Err.ensures.answer c.in-Err.ensures.due c.in-Err.ensures.letter tt in
+    absurd (usage.unanswered at are)
+
+pub returns-in-Err-clause-mail : goal.returns-in-Err-clause-mail
+returns-in-Err-clause-mail g c name subject are =
+    let usage = other_usage c.args.arguments.now _ c.in-Err.ensures.answer c.in-Err.ensures.due c.in-Err.ensures.letter tt in
+    absurd (usage.unmailed (name, subject, are))
