@@ -1,6 +1,7 @@
-"""nginx with a certificate of its own making, which takes TLS off the connections and hands them on to the bank. The
-configuration is the one that docs/serve.md shows, but for the paths and the ports."""
+"""nginx with a certificate of its own making, which takes TLS off the connections and hands them on to the bank. Its server is
+the one of package/nginx.conf, but for the paths and the ports."""
 import os
+import re
 import subprocess
 import time
 
@@ -8,6 +9,7 @@ from customers.tools import path_of, said
 from served.server import MAX_SECONDS, Wrong, free_port
 
 NEEDS = "nginx", "openssl"
+SERVER = os.path.join(os.path.dirname(os.path.abspath(__file__)), "..", "..", "package", "nginx.conf")
 CONFIGURATION = """daemon off;
 pid nginx.pid;
 error_log error.log;
@@ -19,22 +21,23 @@ http {
     fastcgi_temp_path fastcgi;
     uwsgi_temp_path uwsgi;
     scgi_temp_path scgi;
-    limit_req_zone $binary_remote_addr zone=ofx:1m rate=5r/s;
-    server {
-        listen 127.0.0.1:%(port)d ssl;
-        ssl_certificate certificate.pem;
-        ssl_certificate_key key.pem;
-        client_max_body_size 256k;
-        location = /ofx {
-            limit_req zone=ofx burst=20;
-            proxy_pass http://127.0.0.1:%(bank)d;
-        }
-        location / {
-            return 404;
-        }
-    }
+    include server.conf;
 }
 """
+
+
+def server(port, bank_port):
+    """The server of package/nginx.conf at this port, with the certificate that is beside it."""
+    with open(SERVER) as f:
+        text = f.read()
+    for old, new in ((r"^ *listen \[::\].*\n", ""), (r"listen 443 ", "listen 127.0.0.1:%d " % port),
+                     (r"/etc/letsencrypt/live/bank.example/fullchain.pem", "certificate.pem"),
+                     (r"/etc/letsencrypt/live/bank.example/privkey.pem", "key.pem"), (r"bank\.example", "localhost"),
+                     (r"127\.0\.0\.1:8080", "127.0.0.1:%d" % bank_port)):
+        text, count = re.subn(old, new, text, flags=re.MULTILINE)
+        if count == 0:
+            raise Wrong("package/nginx.conf has nothing like %s" % old)
+    return text
 
 
 class Front:
@@ -43,8 +46,9 @@ class Front:
         said(["openssl", "req", "-x509", "-newkey", "rsa:2048", "-nodes", "-keyout", "key.pem", "-out",
               "certificate.pem", "-days", "2", "-subj", "/CN=localhost", "-addext",
               "subjectAltName=DNS:localhost"], folder)
-        with open(os.path.join(folder, "nginx.conf"), "w") as f:
-            f.write(CONFIGURATION % {"bank": bank_port, "port": self.port})
+        for name, text in (("nginx.conf", CONFIGURATION), ("server.conf", server(self.port, bank_port))):
+            with open(os.path.join(folder, name), "w") as f:
+                f.write(text)
         with open(os.path.join(folder, "told"), "wb") as told:
             self.child = subprocess.Popen([path_of("nginx"), "-p", folder + "/", "-c", "nginx.conf"], cwd=folder,
                                           stdin=subprocess.DEVNULL, stdout=told, stderr=told)
