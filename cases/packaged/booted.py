@@ -116,6 +116,24 @@ def confined(machine):
         raise Wrong("it may leave a core")
 
 
+def sqlite(machine):
+    """a bank whose records are an SQLite file is created and opened again within the same bounds"""
+    machine.said("""set -e
+mkdir -p /run/systemd/system/ofxbank.service.d
+cat > /run/systemd/system/ofxbank.service.d/records.conf <<'END'
+[Service]
+ExecStart=
+ExecStart=/usr/bin/ofxbank serve /etc/ofxbank/setup bank.db ${PORT} ${WORKERS} 0
+END
+systemctl daemon-reload
+systemctl restart ofxbank""")
+    machine.said(CLIENT.replace("alice.store", "sqlite.store") + "transfer 1001 CHECKING 1002 SAVINGS 10.00")
+    machine.said("systemctl restart ofxbank")
+    if "balance 1001 CHECKING 90.00" not in machine.said(CLIENT.replace("alice.store", "sqlite.store") + "sync 1001 CHECKING"):
+        raise Wrong("the transfer isn't there")
+    machine.said("rm -r /run/systemd/system/ofxbank.service.d && systemctl daemon-reload && systemctl restart ofxbank")
+
+
 def midnight(machine):
     """the timer connects at midnight GMT, after which a transfer due that day is posted with that day's stamp"""
     need("cc")
@@ -203,5 +221,5 @@ def booted(trial):
     with Machine(copy) as machine:
         yield without_setup, machine
         set_up(copy)
-        for test in refusals, starts, killed, confined, midnight, proxied, rotated, purged:
+        for test in refusals, starts, killed, confined, sqlite, midnight, proxied, rotated, purged:
             yield test, machine
