@@ -100,7 +100,7 @@ def no_text(desk):
 
 NAMED = (  # a command, the offset of a word, the word in its place, or None where the words end there, and what is told
     ("sync", 0, "x", "PORT is 'x'; it is a number from 0 to 65535"), ("sync", 0, "080", "PORT is '080'; it is a number from 0 to 65535"),
-    ("sync", 2, "c-1", "CLIENT is 'c-1'; it is 1 to 12 letters and digits"), ("sync", 4, "p" * 65, "PASS is '%s'; it is 1 to 64 bytes" % ("p" * 65)),
+    ("sync", 2, "c-1", "CLIENT is 'c-1'; it is 1 to 12 letters and digits"), ("sync", 4, "p" * 65, "PASS isn't 1 to 64 bytes"),
     ("sync", 0, None, "PORT is missing"), ("sync", 6, None, "COMMAND is missing"), ("sync", 7, None, "NUMBER is missing"),
     ("sync", 6, "sink", "COMMAND is 'sink'; it is one of the words that are listed above"),
     ("sync", 8, "checking", "KIND is 'checking'; it is CHECKING, SAVINGS, MONEYMRKT or CREDITLINE"),

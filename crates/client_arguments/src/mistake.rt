@@ -21,6 +21,8 @@ pub enum Mistake<'a> {
     TooMany(&'a str),
     /// The word of the first name has another form than the last text says.
     NoForm(&'static str, &'a str, &'static str),
+    /// The word of the first name, which isn't shown, has another form than the last text says.
+    Secret(&'static str, &'static str),
 }
 
 impl fmt::Display for Mistake<'_> {
@@ -32,6 +34,7 @@ impl fmt::Display for Mistake<'_> {
                 f,
                 "{name} is '{argument}'; it is {form}"
             ),
+            Mistake::Secret(name, form) => write!(f, "{name} isn't {form}"),
         }
     }
 }
@@ -178,7 +181,10 @@ fn mistake_among<'a>(arguments: &'a [Text], first: usize, kinds: &[Kind]) -> Opt
             None => return Some(Mistake::Missing(name)),
             Some(argument) => {
                 if !kind.has_form(argument) {
-                    return Some(Mistake::NoForm(name, text_at(arguments, offset), form));
+                    return Some(match *kind {
+                        Kind::Pass => Mistake::Secret(name, form),
+                        _ => Mistake::NoForm(name, text_at(arguments, offset), form),
+                    });
                 }
             }
         }

@@ -56,3 +56,10 @@ pub record IsUnread (before after : PortsView) (what : Told) : Type 0 where
 abbrev pub IsClientRun : List (List ℕ) → PortsView → PortsView → Told → Type 0
 IsClientRun arguments before after what =
     IsUnordered arguments before after what ⊎ (IsRun arguments before after what ⊎ IsUnread before after what)
+
+-- ---- laws
+
+-- The run of an order that the arguments have is the run of the arguments.
+abbrev pub OrderRunsAreRuns : Type 0
+OrderRunsAreRuns = (arguments : List (List ℕ)) (order : Order) (before after : PortsView) (what : Told)
+    → AreArguments arguments order → IsOrderRun order before after what → IsClientRun arguments before after what

@@ -2,12 +2,18 @@
 
 ghost use Rattle.client_run.specs.Exact.{RefusesArguments, RefusesOthers, RefusesText, OnlyRefusesThese, OnlyRefusesFaults, OnlyBrokenStores, OnlyBrokenReads, OnlyBrokenWrites, WholeRepliesDecide, UnfinishedRepliesCut, BadHeadsEnd};
 ghost use Rattle.client_run.specs.GoingOn.{GoesOn};
+ghost use Rattle.client_run.specs.Run.{OrderRunsAreRuns};
 ghost use Rattle.client_run.specs.Complete.{AcceptsTheBanks};
 
 use client_laws::bank_replies_answer;
 use client_saved::laws::{faults_save_nothing, one_first_fault, one_state};
 use http_front::laws::{bad_heads_stay, heads_stay, one_head};
 use ofx_file::laws::{faults_spell_no_reply, one_reply};
+
+/// What is said of runs by their arguments holds of `order_told`, which the program calls with the order of its arguments.
+pub fn order_runs_are_runs()
+    ensures { OrderRunsAreRuns }
+{}
 
 /// A run is refused for its words, or for a store of another client or user or with no number left, exactly where that is so, and
 /// for a text without a form exactly where that is so, as far as the text can be loaded and memory is there.

@@ -20,7 +20,7 @@ use std::process::ExitCode;
 use std::{fmt, io};
 
 fn main(rt: HostRuntime) -> ExitCode {
-    let end = match read_words(&rt, &["--help", "--version"]) {
+    let end = match read_words(&rt, &["--help", "-h", "--version", "-V"]) {
         Ok(arguments) => asked(rt, &arguments),
         Err(Unread::NoMemory) => ended(&rt, plain(7)),
         Err(unread) => unordered(&rt, &unread),
@@ -31,11 +31,11 @@ fn main(rt: HostRuntime) -> ExitCode {
 /// Does what the arguments ask, which are texts.
 fn asked(rt: HostRuntime, arguments: &[Text]) -> Told {
     match text_at(arguments, 0) {
-        "--help" => match help_text(rt.alloc()) {
+        "--help" | "-h" => match help_text(rt.alloc()) {
             Ok(text) => ended(&rt, printed(&rt, &text)),
             Err(_) => ended(&rt, plain(7)),
         },
-        "--version" => ended(&rt, printed(&rt, VERSION)),
+        "--version" | "-V" => ended(&rt, printed(&rt, VERSION)),
         "import" => import(rt, arguments),
         _ => ordered(rt, arguments),
     }
