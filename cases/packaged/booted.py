@@ -97,7 +97,8 @@ def killed(machine):
     """a bank that is killed starts again, with its timer"""
     machine.said("systemctl start ofxbank && systemctl kill --signal=KILL ofxbank")
     end = time.monotonic() + 60
-    while machine.run("systemctl is-active ofxbank ofxbank-midnight.timer").returncode != 0 or machine.shown("ofxbank", "NRestarts") != "1":
+    active = "systemctl is-active ofxbank ofxbank-midnight.timer"
+    while machine.run(active).returncode != 0 or machine.shown("ofxbank", "NRestarts") != "1":
         if time.monotonic() > end:
             raise Wrong("it doesn't")
         time.sleep(0.5)
@@ -140,8 +141,11 @@ def midnight(machine):
     said(["cc", "-shared", "-fPIC", "-DOFFSET=\"%s\"" % OFFSET, "-o", machine.path("/usr/lib/clock.so"),
           os.path.join(ROOT, "cases/packaged/clock.c")])
     os.chmod(machine.path("/usr/lib/clock.so"), 0o755)
-    machine.said("mkdir -p /run/systemd/system/ofxbank.service.d && printf '[Service]\\nEnvironment=LD_PRELOAD=/usr/lib/clock.so\\n' "
-                 "> /run/systemd/system/ofxbank.service.d/clock.conf && systemctl daemon-reload && systemctl restart ofxbank")
+    machine.said("""set -e
+mkdir -p /run/systemd/system/ofxbank.service.d
+printf '[Service]\\nEnvironment=LD_PRELOAD=/usr/lib/clock.so\\n' > /run/systemd/system/ofxbank.service.d/clock.conf
+systemctl daemon-reload
+systemctl restart ofxbank""")
     line = machine.said("systemctl show --property=NextElapseUSecRealtime --value ofxbank-midnight.timer")
     if " 00:00:00 " not in line:
         raise Wrong("the timer's next moment is %r" % line)
