@@ -57,7 +57,11 @@ def refused(machine, status, again):
     if machine.run("systemctl start ofxbank").returncode == 0:
         raise Wrong("`systemctl start` ends with 0 where the bank ends with %d" % status)
     time.sleep(3)
-    found, times = machine.shown("ofxbank", "ExecMainStatus"), int(machine.shown("ofxbank", "NRestarts"))
+    end, found, times = time.monotonic() + 60, None, 0
+    # While the bank is tried again, it has no status.
+    while found != str(status) and time.monotonic() < end:
+        found, times = machine.shown("ofxbank", "ExecMainStatus"), int(machine.shown("ofxbank", "NRestarts"))
+        time.sleep(0.1)
     machine.run("systemctl stop ofxbank; systemctl reset-failed ofxbank")
     if found != str(status) or (times > 0) != again:
         raise Wrong("status %s, wanted %d; %d times again" % (found, status, times))
@@ -78,8 +82,10 @@ def refusals(machine):
     with open(machine.path("/root/busy.py"), "w") as f:
         f.write(BUSY)
     machine.said("systemd-run --unit=busy python3 /root/busy.py; until curl -s %s; [ $? -eq 52 ]; do sleep 0.1; done" % PLAIN)
-    refused(machine, 5, again=True)
-    machine.said("systemctl stop busy")
+    try:
+        refused(machine, 5, again=True)
+    finally:
+        machine.said("systemctl stop busy")
 
 
 def starts(machine):
