@@ -64,8 +64,11 @@ def new_bank(place):
         restored(place, records)
         lines = place.run("check", "setup", records).stdout.decode()
         wants("balances 150.00" in lines, "check says %r" % lines)
-        place.write("new.setup", place.text("setup").replace("BANK 121099999", "BANK " + OTHER).replace("1001 CHECKING 10000", "1001 CHECKING 9900")
-                    .replace("1002 SAVINGS 5000", "1002 SAVINGS 5100"))
+        text = place.text("setup")
+        for old, new in (("BANK 121099999", "BANK " + OTHER), ("1001 CHECKING 10000", "1001 CHECKING 9900"),
+                         ("1002 SAVINGS 5000", "1002 SAVINGS 5100")):
+            text = text.replace(old, new)
+        place.write("new.setup", text)
         new = records.replace("bank.", "new.")
         told(place, new, "transfer b1 %s/1001/CHECKING %s/1002/SAVINGS 4.00" % (OTHER, OTHER), setup="new.setup")
         for ask, wanted in ((SYNC % 3, "<LOSTSYNC>Y\r\n"), (SYNC % "refresh", "<LOSTSYNC>Y\r\n"),

@@ -57,7 +57,11 @@ def refused(machine, status, again):
     if machine.run("systemctl start ofxbank").returncode == 0:
         raise Wrong("`systemctl start` ends with 0 where the bank ends with %d" % status)
     time.sleep(3)
-    found, times = machine.shown("ofxbank", "ExecMainStatus"), int(machine.shown("ofxbank", "NRestarts"))
+    end, found, times = time.monotonic() + 60, None, 0
+    # While the bank is tried again, it has no status.
+    while found != str(status) and time.monotonic() < end:
+        found, times = machine.shown("ofxbank", "ExecMainStatus"), int(machine.shown("ofxbank", "NRestarts"))
+        time.sleep(0.1)
     machine.run("systemctl stop ofxbank; systemctl reset-failed ofxbank")
     if found != str(status) or (times > 0) != again:
         raise Wrong("status %s, wanted %d; %d times again" % (found, status, times))
@@ -78,8 +82,10 @@ def refusals(machine):
     with open(machine.path("/root/busy.py"), "w") as f:
         f.write(BUSY)
     machine.said("systemd-run --unit=busy python3 /root/busy.py; until curl -s %s; [ $? -eq 52 ]; do sleep 0.1; done" % PLAIN)
-    refused(machine, 5, again=True)
-    machine.said("systemctl stop busy")
+    try:
+        refused(machine, 5, again=True)
+    finally:
+        machine.said("systemctl stop busy")
 
 
 def starts(machine):
@@ -97,7 +103,8 @@ def killed(machine):
     """a bank that is killed starts again, with its timer"""
     machine.said("systemctl start ofxbank && systemctl kill --signal=KILL ofxbank")
     end = time.monotonic() + 60
-    while machine.run("systemctl is-active ofxbank ofxbank-midnight.timer").returncode != 0 or machine.shown("ofxbank", "NRestarts") != "1":
+    active = "systemctl is-active ofxbank ofxbank-midnight.timer"
+    while machine.run(active).returncode != 0 or machine.shown("ofxbank", "NRestarts") != "1":
         if time.monotonic() > end:
             raise Wrong("it doesn't")
         time.sleep(0.5)
@@ -140,8 +147,11 @@ def midnight(machine):
     said(["cc", "-shared", "-fPIC", "-DOFFSET=\"%s\"" % OFFSET, "-o", machine.path("/usr/lib/clock.so"),
           os.path.join(ROOT, "cases/packaged/clock.c")])
     os.chmod(machine.path("/usr/lib/clock.so"), 0o755)
-    machine.said("mkdir -p /run/systemd/system/ofxbank.service.d && printf '[Service]\\nEnvironment=LD_PRELOAD=/usr/lib/clock.so\\n' "
-                 "> /run/systemd/system/ofxbank.service.d/clock.conf && systemctl daemon-reload && systemctl restart ofxbank")
+    machine.said("""set -e
+mkdir -p /run/systemd/system/ofxbank.service.d
+printf '[Service]\\nEnvironment=LD_PRELOAD=/usr/lib/clock.so\\n' > /run/systemd/system/ofxbank.service.d/clock.conf
+systemctl daemon-reload
+systemctl restart ofxbank""")
     line = machine.said("systemctl show --property=NextElapseUSecRealtime --value ofxbank-midnight.timer")
     if " 00:00:00 " not in line:
         raise Wrong("the timer's next moment is %r" % line)
