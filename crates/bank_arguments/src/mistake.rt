@@ -1,4 +1,5 @@
-//! What is wrong with arguments that have no form: the first word that is missing, not wanted or not in form, in their order.
+//! What is wrong with arguments that have no form: first a path that is none, then a word that is missing, or an option or a word
+//! that isn't wanted, and then the first word that isn't in form.
 
 use crate::plan::{MAX_CONNECTIONS, MAX_PORT, MAX_WORKERS};
 use crate::topic::{Topic, path_mistake};

@@ -1,8 +1,8 @@
 //! The bank as a server: connections to a bank that many callers share, the workers that serve them, and how the bank opens for it.
 //!
-//! `serve_open` judges the arguments, reads the setup and opens the bank. `serve_all` begins it and has a worker for each
-//! doorway, in a thread of its own. A worker does what is due and serves one connection after another, each by
-//! `serve_connection`.
+//! `open_shared` reads the setup and opens the bank; `serve_open` judges the arguments first. `serve_all` begins the bank and
+//! has a worker for each doorway, in a thread of its own where one can be made. A worker does what is due and serves one
+//! connection after another, each by `serve_connection`.
 #![tactic(auto)]
 
 mod offices;

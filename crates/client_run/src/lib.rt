@@ -1,7 +1,8 @@
 //! Runs of the customer's program: the client that is kept is found, the file of a wish is made, sent and answered, and what the
 //! reply makes of the client is saved and reported.
 //!
-//! The clauses of `client_told` say what a run sent, saved and printed, and why it ended.
+//! The clauses of `order_told` say what a run sent, saved and printed, and why it ended. Those of `client_told` say the same in
+//! terms of the arguments.
 #![tactic(auto)]
 
 mod calling;

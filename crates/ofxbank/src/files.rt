@@ -15,7 +15,7 @@ const RECORDS: usize = 2;
 pub struct Files<'a> {
     /// The file of the setup; `-` names none.
     pub setup: &'a str,
-    /// The records; `-` keeps none. None where no word names them.
+    /// The records; `-` keeps them in memory. None where no word names them.
     pub records: Option<&'a str>,
 }
 

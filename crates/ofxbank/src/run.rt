@@ -87,7 +87,7 @@ fn cause_of(bound: Result<(), Unbound>) -> Option<Cause> {
     }
 }
 
-/// The end of a run over its records: those of a file, or of none with `-`.
+/// The end of a run over its records: those of a file, or with `-` in memory.
 fn answered(rt: HostRuntime, command: Command<'_>, files: Files<'_>, setup: &SetupFile) -> Told {
     match files.records {
         Some("-") => run_over(rt, command, setup, &mut MemKeeper::new(rt.alloc())),

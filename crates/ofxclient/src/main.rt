@@ -72,7 +72,7 @@ fn unordered<M: fmt::Display>(rt: &HostRuntime, mistake: &M) -> Told {
     end
 }
 
-/// The end of the run over the store of that name: the text in a file, or none with `-`.
+/// The end of the run over the store of that name: the text in a file, or with `-` in memory.
 fn ran(rt: HostRuntime, store: &str, order: &Order) -> Told {
     match store {
         "-" => run_over(rt, order, &mut MemStore::new(rt.alloc())),
