@@ -97,7 +97,7 @@ def bad_words(place):
             (["check"], "SETUP is missing"),
             (["check", "setup", "bank.db", "x"], "'x' is one word too many"),
             (["answer", "setup", "b" * 10001],
-             "word 3 has a byte that no word may have, or is empty, or has more than 10000 bytes")):
+             "word 3 has a byte that no word may have, or has more than 10000 bytes")):
         refuses(place, words, told)
     done = place.run("answer", b"\xff", "-")
     lines = done.stderr.decode().split("\n")

@@ -23,7 +23,7 @@ impl fmt::Display for Unread {
         match *self {
             Unread::NoText(number) => write!(
                 f,
-                "word {number} has a byte that no word may have, or is empty, or has more than {MAX_WORD} bytes"
+                "word {number} has a byte that no word may have, or has more than {MAX_WORD} bytes"
             ),
             Unread::NoUnicode => f.write_str("a word isn't UTF-8"),
             Unread::NoMemory => f.write_str("no memory"),
