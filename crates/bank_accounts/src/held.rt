@@ -111,7 +111,7 @@ impl Held {
             .map(|account| account.balance())
     }
 
-    /// Gives each account the balance that it came to, where it came to another one. Takes no memory.
+    /// Sets the new balance of each account that has one. Takes no memory.
     pub fn set_balances(&mut self, balances: &Balances)
         ensures { self.new ≡ map (with_balances balances.now.given) self.old }
     {

@@ -45,7 +45,7 @@ pub fn refuse<L: Link>(
     }
 }
 
-/// Answers a whole request of so many bytes, which is the exchange of this number, and answers whether the connection ends
+/// Answers a whole request of so many bytes, which is the exchange of this number, and returns whether the connection ends
 /// after it. What it is answered is settled before a byte of the reply is written, and the head of the reply takes no memory.
 pub fn exchange<O: Office, L: Link, C: Clock>(
     alloc: Global,

@@ -186,7 +186,7 @@ fn judged(draft: &Draft<'_>, only: Option<AcctId>, deed: &Deed) -> u16
     }
 }
 
-/// The balance of the source of a transfer. An account that the bank hasn't has none.
+/// The balance of the source of a transfer. An account that the bank hasn't has 0.
 fn source_balance(draft: &Draft<'_>, info: &XferInfo) -> Cents
     requires { IfSome (account_of draft.now.setup info.now.from) (IsHeld draft.now.held) }
     ensures { result.0 ≡ rules.source_balance draft.now.setup (drafted draft.now) info.now }

@@ -200,7 +200,7 @@ impl Additions {
         ledger.is_cancelled(id) || cancels_any(&self.row_changes, id)
     }
 
-    /// The balance that an account comes to, in cents, where it comes to another one.
+    /// The new balance of an account, in cents; None if it has none.
     pub(crate) fn balance(&self, account: AcctId) -> Option<Cents>
         ensures { result ≡ amount_given self.now.balances account }
     {

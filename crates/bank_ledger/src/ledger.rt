@@ -207,7 +207,7 @@ impl Ledger {
     }
 
     /// Of the recurring transfers that are to make their next transfer by a last day, the one to make it first, with that
-    /// transfer's index in the series, from 0.
+    /// transfer's occurrence number, from 0.
     pub fn next_spawn(&self, last: Day) -> Option<(u64, u32)>
         ensures { result ≡ option_map (λ task. (task.id, next_occurrence task.id self.now.state.entries))
             (first_task (to_make last self.now.state.entries)) }

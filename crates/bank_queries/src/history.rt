@@ -32,7 +32,7 @@ pub fn newest(draft: &Draft<'_>, object: ObjectId) -> u64
     last_number(draft.entries(), object, before)
 }
 
-/// Whether a client that asks so has lost its place in the history of an object.
+/// Whether a client that asks so has lost synchronisation of an object.
 #[tactic(auto, unfolding(bank_model::specs::Sync::is_lost))]
 pub fn is_lost(draft: &Draft<'_>, object: ObjectId, kind: &SyncKind) -> bool
     ensures { result ≡ rules.is_lost draft.now.setup.window object (drafted draft.now).entries kind.now }
@@ -69,7 +69,7 @@ fn is_past(draft: &Draft<'_>, object: ObjectId, token: u64) -> bool
     token < number
 }
 
-/// The replies to a client that asks so about an object's history: none where it has lost its place.
+/// The replies to a client that asks so about an object's history: none where it has lost synchronisation.
 #[tactic(auto, unfolding(bank_model::specs::Sync::history_replies))]
 pub fn replies_of_history(
     draft: &Draft<'_>,

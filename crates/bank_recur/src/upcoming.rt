@@ -112,7 +112,7 @@ impl Upcoming {
     }
 }
 
-/// How many of transfers in order come before this one, found by halves: its index among them.
+/// How many of transfers in order come before this one, found by binary search: its index among them.
 fn occurrence(spawns: &[Spawn], next: Spawn) -> usize
     requires { IsInOrder spawns.now }
     ensures { IsIndex next spawns.now result }

@@ -1,4 +1,4 @@
-//! What the bytes of a file are to the bank: an event, a poll, a failed signon, or a file that isn't answered.
+//! What the bytes of a file are to the bank: an event, a poll, a failed signon, or no request file.
 
 ghost use Rattle.std.specs.Prelude.{◌≡◌, ◌≤◌, length, IfOk};
 ghost use Rattle.ofx_types.specs.FileForm.{SpellsFile};
@@ -20,7 +20,7 @@ pub enum Judgement {
     Poll(UserId, RequestFile),
     /// A file whose signon failed.
     Denied(RequestFile),
-    /// A file that isn't answered, and the offset to tell.
+    /// No request file, and its fault's offset.
     Refused(u64),
 }
 

@@ -296,7 +296,7 @@ fn open_one(alloc: Global, client: &mut ClientState, object: &ObjectName) -> Res
     Ok(())
 }
 
-/// Makes the stores of what an errand asks about. Where memory is refused all are as before.
+/// Makes the stores of what the content asks about. Where memory is refused all are as before.
 fn open(alloc: Global, client: &mut ClientState, content: &Content) -> Result<(), OutOfMemory>
     ensures ok { OnOk result (client.new ≡ rules.with_opened (rules.objects_of content.now) client.old) }
     ensures err { OnErr result (client.new ≡ client.old) }
@@ -307,7 +307,7 @@ fn open(alloc: Global, client: &mut ClientState, content: &Content) -> Result<()
     }
 }
 
-/// Makes the file of an errand. Where memory is refused the client is as before.
+/// Makes the file of the content. Where memory is refused the client is as before.
 fn set_out(
     alloc: Global,
     client: &mut ClientState,

@@ -15,7 +15,7 @@ use ofx_types::{Change, Family, MailRow, OutOfMemory};
 use std::alloc::Global;
 use std::marker::Model;
 
-/// The rows of an object of a family, in rising id. Each is found by its id in steps of halving.
+/// The rows of an object of a family, in rising id. Each is found by its id by binary search.
 pub(crate) struct Rows {
     family: Family,
     items: Vec<Row>,
@@ -80,7 +80,7 @@ impl Rows {
         }
     }
 
-    /// What is stored in the family's order: that is known of all rows that are held.
+    /// All rows are of the family, in rising id where they have one.
     pub(crate) fn known(&self)
         ensures { IsRising self.now.family 0 self.now.rows }
     {

@@ -31,7 +31,7 @@ const MAX_DIGITS: usize = 10;
 /// let alloc = rt.alloc();
 /// let mut store = Store::new(alloc, ObjectName::Mail).expect(&rt, "room");
 /// assert!(rt; store.token() == 0 && store.rows().is_empty());
-/// // All that stands was asked for: no mail came up to token 3.
+/// // All current rows were asked for: no mail came up to token 3.
 /// let reply = SyncReply {
 ///     object: ObjectName::Mail,
 ///     token: Text::new(alloc, b"3", 64).expect(&rt, "a token"),
@@ -140,7 +140,7 @@ impl Store {
         self.rows.items()
     }
 
-    /// The row of the transfer or recurring transfer with this id (SRVRTID, RECSRVRTID), lent. It is found in steps of halving.
+    /// The row of the transfer or recurring transfer with this id (SRVRTID, RECSRVRTID), lent. It is found by binary search.
     /// Takes no memory.
     pub fn row(&self, id: u64) -> Option<&Row>
         ensures { option_map seen (option_copied result) ≡ find (model.has_id id) self.now.rows }

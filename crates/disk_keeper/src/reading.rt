@@ -155,8 +155,8 @@ pub fn read_size<D: Disk>(disk: &mut D, offset: u64) -> Result<Option<u64>, Fail
     Ok(Some(size))
 }
 
-/// The gate before the record of this number, by the lengths of those after a gate before it. Where one passes the
-/// end, which is so of no file that is reported, no memory could hold it.
+/// The gate before the record of this number, by the lengths of those after a gate before it. `OutOfMemory` where a record
+/// would pass the end, which no file of known history has.
 pub fn find_gate<D: Disk>(disk: &mut D, from: Gate, number: u64) -> Result<Gate, FetchFault>
     requires within { from.offset ≤ D.extent disk.old }
     requires before { from.records < number }
@@ -200,7 +200,7 @@ pub fn read_record<D: Disk>(disk: &mut D, offset: u64, into: &mut Vec<u8>) -> Re
     Ok(())
 }
 
-/// Reads the length of the record after the gate at this offset, which no memory could hold where it passes the end.
+/// Reads the length of the record after the gate at this offset. `OutOfMemory` where the record would pass the end.
 fn whole_size<D: Disk>(disk: &mut D, offset: u64) -> Result<u64, FetchFault>
     requires { offset ≤ D.extent disk.old }
     ensures within { IfOk result (λ size. (offset + 9 + size ≤ D.extent disk.new) × (D.extent disk.new < 2 ^ 63)) }

@@ -38,7 +38,7 @@ fn find_among<'a>(lines: &'a [Line], line: &Line) -> Option<&'a Line>
     }
 }
 
-/// Whether a line says what the one says that is kept of its account and FITID.
+/// Whether a line has the date and amount of the one kept under its account and FITID.
 fn agree(kept: &Line, line: Line) -> Result<(), ImportFault>
     ensures { Agrees kept.now line result }
 {

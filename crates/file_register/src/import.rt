@@ -23,7 +23,8 @@ pub struct Imported {
 pub enum ImportFault {
     /// The signon failed, with this code.
     Signon(u16),
-    /// Two lines of one account and FITID say otherwise: the one that came first, and the first of the file that differs.
+    /// Two lines of one account and FITID differ in date or amount: the one that came first, and the first of the file that
+    /// differs.
     Clash(Line, Line),
     /// More than 500,000 lines would be there.
     Full,

@@ -1,7 +1,7 @@
 //! A register of downloaded statements: the lines of reply files, gathered by account and FITID, each once, in one order.
 //!
 //! `Register` takes reply files and answers their lines and the sum of each account. What it keeps doesn't depend on the order in
-//! which files come, nor on how often. A line that says otherwise than an earlier one of its account and FITID is refused with its
+//! which files come, nor on how often. A line that differs from an earlier one of its account and FITID is refused with its
 //! file. The register is saved as a text, and read from it.
 #![tactic(auto)]
 

@@ -23,7 +23,7 @@ fn put_post(size: usize, room: &mut Vec<u8>)
 }
 
 /// Writes the client's request. Its head is put together in `room`, which has room for it, so that no memory is needed. Where
-/// there is memory for the body beside it, both are written by one call.
+/// there is memory for the body beside it, both are written together.
 pub fn post<L: Link>(room: &mut Vec<u8>, link: &mut L, body: &[u8]) -> Result<(), Failed>
     requires { 512 ≤ vec_capacity room.old }
     ensures whole { OnOk result (Appends (L.held link.old) (L.held link.new) (request_of body.now)) }

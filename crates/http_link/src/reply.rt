@@ -80,7 +80,7 @@ fn put_head(code: u16, size: usize, closes: bool, room: &mut Vec<u8>)
 }
 
 /// Writes a reply. Its head is put together in `room`, which has room for it, so that no memory is needed. Where there is memory
-/// for the body beside it, both are written by one call.
+/// for the body beside it, both are written together.
 pub fn send<L: Link>(
     room: &mut Vec<u8>,
     link: &mut L,

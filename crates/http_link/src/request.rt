@@ -14,7 +14,7 @@ use ofx_ports::Link;
 /// The most bytes of a body.
 const MAX_BODY: u64 = 262_144;
 
-/// What comes before the bytes that have come.
+/// What the bytes that have come begin with.
 #[derive(Clone, Copy)]
 enum Prefix {
     /// Nothing, and the link has ended.

@@ -41,7 +41,7 @@ pub struct Service<'a> {
     pub setup: &'a SetupFile,
 }
 
-/// The end of serving a bank over its records: those of a file, or of none with `-`. The threads are those of `threads`.
+/// The end of serving a bank over its records: those of a file, or in memory with `-`. The threads are those of `threads`.
 pub fn served<R: Threads + Wait + Sync>(
     threads: &R,
     rt: &HostRuntime,

@@ -51,7 +51,7 @@ fn run<A: Source, S: StoreKeeper, W: Sink>(
 /// The arguments are `import` and STORE, which was used to open the store. The input has frames: `FILE`, a space, the number of bytes,
 /// LF, and the bytes of a reply file, at most 67,108,864 of them. For each frame in turn a line is printed: `IMPORT` with the number
 /// of lines that the register didn't have and of those that it had; `BAD` with the offset of the fault of bytes that spell no reply
-/// file; `SIGNON` with the code of one that failed; `CLASH` with the account and the FITID of which another line says otherwise; or
+/// file; `SIGNON` with the code of one that failed; `CLASH` with the account and the FITID of two lines that differ; or
 /// `FULL` where the register would have more than 500,000 lines. A file that isn't imported changes nothing. After the last frame
 /// the register is saved, and for each account a line is printed with the number and the sum of its lines (OFX 1.6, "Statement
 /// Download").

@@ -11,7 +11,7 @@ use crate::refusal::Refusal;
 use ofx_ports::{Failed, FetchFault, Keeper, PutFault};
 use std::marker::Model;
 
-/// The records in a file, one row of its one table for each, numbered from 1. There are taken to be as many as the greatest
+/// The records in a file, one row of its table `records` for each, numbered from 1. There are taken to be as many as the greatest
 /// number says, and one that is missing fails where it is fetched. No other program can open the file meanwhile.
 ///
 /// A record is on the disk when its append is acknowledged. A keeper over a file that couldn't be opened has one

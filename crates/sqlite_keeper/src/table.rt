@@ -1,5 +1,5 @@
-//! The one table of a file of records, and how it is found or made in a database. Each call serves any store, so that what is
-//! proved of it is proved once.
+//! The table `records` of a file of records, and how it is found or made in a database. Each call serves any store, so that
+//! what is proved of it is proved once.
 
 use crate::refusal::Refusal;
 use sqlite::{Alter, Connection, Error, Statement, params};

@@ -44,7 +44,7 @@ impl<'a> Since<'a> {
     }
 }
 
-/// Those of entries in order that are above a token, found by halves.
+/// Those of entries in order that are above a token, found by binary search.
 fn above(entries: &[Entry], token: u64) -> &[Entry]
     requires { IsNonDecreasingBy (λ (entry : Entry). entry.number) entries.now }
     ensures above { result.now ≡ filter (is_above token) entries.now }
