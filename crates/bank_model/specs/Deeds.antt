@@ -56,7 +56,7 @@ judged setup S user only (Mail mail) = mail_code mail
 -- ---- what is done
 
 -- Account a has its transfers at 3a, its recurring transfers at 3a + 1 and the mail about it at 3a + 2. For an account that the
--- bank lacks 0 is in; no entry is made for one.
+-- bank lacks the number is 0; no entry is made for one.
 abbrev pub intra_of : Option AcctId → ObjectId
 intra_of None = record { 0 = 0 }
 intra_of (Some account) = record { 0 = 3 * account.0 }
