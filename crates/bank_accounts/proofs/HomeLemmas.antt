@@ -269,4 +269,4 @@ numbered_slots accounts numbered number = by (cases number.0)
 pub slots_numbered : (accounts : List AccountView) → AreUnderNumbers (map Some accounts) → AreNumbered accounts
 slots_numbered accounts under k d within =
     let found : get_or (map Some accounts) k None ≡ Some (get_or accounts k d) = get_or-map Some accounts k d None within in
-    ap rank (subst (λ (index : Option AccountView). IfSome index (λ (account : AccountView). account.number ≡ record { 0 = k })) found (under (record { 0 = k })))
+    ap rank (subst (λ (slot : Option AccountView). IfSome slot (λ (account : AccountView). account.number ≡ record { 0 = k })) found (under (record { 0 = k })))

@@ -130,8 +130,8 @@ impl AccountPool {
     {
         let AccountPool { mut slots } = self;
         let mut accounts = Vec::with_capacity(alloc, slots.len())?;
-        while let Some(index) = slots.pop() {
-            if let Some(account) = index {
+        while let Some(slot) = slots.pop() {
+            if let Some(account) = slot {
                 accounts.push(account)?;
             }
         }

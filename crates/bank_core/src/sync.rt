@@ -69,8 +69,8 @@ fn sync_object(
     let before = newest(draft, object);
     let code = rejection(ask.reject, before, &ask.kind);
     let replies = deeds_or_rejection(draft, alloc, ask, code, reported)?;
-    let rest = newest(draft, object);
-    let token = number_text(alloc, rest)?;
+    let after = newest(draft, object);
+    let token = number_text(alloc, after)?;
     let name = ask.object.copy()?;
     Ok(SyncReply {
         object: name,

@@ -12,7 +12,7 @@ use Rattle.ofx_types.specs.declared.transfer.Deed.TheVariants.{BankMail, Mail}
 use Rattle.bank_model.specs.declared.entry.Entry.{Entry}
 use Rattle.bank_model.specs.declared.setup.Setup.{Setup}
 use Rattle.bank_model.specs.declared.event.State.{State}
-use Rattle.bank_model.specs.Deeds.{letter_object_of, mail_object, mail_row, next_entry, done}
+use Rattle.bank_model.specs.Deeds.{mail_about_object_of, mail_object, mail_row, next_entry, done}
 use Rattle.bank_model.specs.Rules.{letter, letter_entry}
 use Rattle.bank_invariants.specs.SoundStates.{IsSoundState}
 use Rattle.bank_invariants.specs.Next.{IsNext}
@@ -37,9 +37,9 @@ mail_is setup S user asked at trnuid mail object uid row is is_object is_uid is_
     same_entry S object (mail_object setup user) uid trnuid row (mail_row setup user None mail) (is_object ∙ ap (mail_object setup) is) is_uid (is_row ∙ ap (λ (u : UserId). mail_row setup u None mail) is)
     ∙ sym (mail_entries setup S user at trnuid mail)
 
-pub bank_mail_is : (setup : Setup) (S : State) (user asked : UserId) (at : Moment) (trnuid : List ℕ) (account name : AcctName) (mail : MailText) (object : ObjectId) (uid : List ℕ) (row : MailRow) → asked ≡ user → object ≡ letter_object_of setup account → uid ≡ trnuid → name ≡ account → row ≡ mail_row setup asked (Some name) mail → next_entry S object uid (NewMail row) ∷ [] ≡ done setup S user at trnuid (BankMail account mail)
+pub bank_mail_is : (setup : Setup) (S : State) (user asked : UserId) (at : Moment) (trnuid : List ℕ) (account name : AcctName) (mail : MailText) (object : ObjectId) (uid : List ℕ) (row : MailRow) → asked ≡ user → object ≡ mail_about_object_of setup account → uid ≡ trnuid → name ≡ account → row ≡ mail_row setup asked (Some name) mail → next_entry S object uid (NewMail row) ∷ [] ≡ done setup S user at trnuid (BankMail account mail)
 bank_mail_is setup S user asked at trnuid account name mail object uid row is is_object is_uid is_name is_row =
-    same_entry S object (letter_object_of setup account) uid trnuid row (mail_row setup user (Some account) mail) is_object is_uid
+    same_entry S object (mail_about_object_of setup account) uid trnuid row (mail_row setup user (Some account) mail) is_object is_uid
     (is_row ∙ ap (λ (u : UserId). mail_row setup u (Some name) mail) is ∙ ap (λ (n : AcctName). mail_row setup user (Some n) mail) is_name)
     ∙ sym (bank_mail_entries setup S user at trnuid account mail)
 

@@ -36,7 +36,7 @@ pub(crate) fn add_bank_mail(
         (done draft.old.setup (drafted draft.old) draft.old.user draft.old.at trnuid.now
         (asked.BankMail about.now mail.now))) }
 {
-    let object = draft.letter_object_of(about);
+    let object = draft.mail_about_object_of(about);
     let account = own_name(draft.setup(), about)?;
     let row = mail_row(draft, draft.user(), Some(account), mail)?;
     let uid = trnuid.copy()?;

@@ -31,7 +31,7 @@ use Rattle.bank_model.specs.Models.{model_of, is_waiting, waiting_of}
 use Rattle.bank_model.specs.Judging.{is_positive}
 use Rattle.bank_transfers.specs.Growth.{row_after}
 use Rattle.bank_transfers.proofs.GrowthLemmas.{row_of-push}
-use Rattle.bank_model.specs.Deeds.{judged, object_of, changed_row, changed_model, with_terms, next_entry, entries_after, if_pending, model_entries_on, letter_object_of, mail_object, mail_row, done}
+use Rattle.bank_model.specs.Deeds.{judged, object_of, changed_row, changed_model, with_terms, next_entry, entries_after, if_pending, model_entries_on, mail_about_object_of, mail_object, mail_row, done}
 use Rattle.bank_model.specs.Rules.{with_entries}
 use Rattle.bank_model.specs.Sound.{IsSoundInfo, IsSoundDeed}
 use Rattle.bank_invariants.specs.SoundStates.{IsSoundState, HasSource}
@@ -187,7 +187,7 @@ count_of : (count most : ℕ) (entries rest : List Entry) (entry : Entry) → en
 count_of count most entries rest entry are few =
     let same : length entries ≡ length (entry ∷ rest) = ap length are in omega arith
 
-pub bank_mail_entries : (setup : Setup) (S : State) (user : UserId) (at : Moment) (trnuid : List ℕ) (account : AcctName) (mail : MailText) → done setup S user at trnuid (BankMail account mail) ≡ next_entry S (letter_object_of setup account) trnuid (NewMail (mail_row setup user (Some account) mail)) ∷ []
+pub bank_mail_entries : (setup : Setup) (S : State) (user : UserId) (at : Moment) (trnuid : List ℕ) (account : AcctName) (mail : MailText) → done setup S user at trnuid (BankMail account mail) ≡ next_entry S (mail_about_object_of setup account) trnuid (NewMail (mail_row setup user (Some account) mail)) ∷ []
 unfolding done
 bank_mail_entries setup S user at trnuid account mail = refl
 
@@ -249,10 +249,10 @@ deed_done setup S user only at trnuid (CancelModel id also) within sound moment 
       rest_next = dropped_next setup S trnuid id also sound to (count_of (length S.entries) setup.entries _ _ _ are few);
     }
 deed_done setup S user only at trnuid (BankMail account mail) within sound moment deed none few = record {
-  entry = next_entry S (letter_object_of setup account) trnuid (NewMail (mail_row setup user (Some account) mail));
+  entry = next_entry S (mail_about_object_of setup account) trnuid (NewMail (mail_row setup user (Some account) mail));
   rest = [];
   are = bank_mail_entries setup S user at trnuid account mail;
-  next = mail_next setup S (letter_object_of setup account) trnuid (mail_row setup user (Some account) mail) sound deed.1.created;
+  next = mail_next setup S (mail_about_object_of setup account) trnuid (mail_row setup user (Some account) mail) sound deed.1.created;
   rest_next = tt;
 }
 deed_done setup S user only at trnuid (Mail mail) within sound moment deed none few = record {

@@ -32,7 +32,7 @@ use Rattle.bank_model.specs.declared.event.Event.TheVariants.{File}
 use Rattle.bank_model.specs.SetupLookups.{account_of, own_account, if_owned, is_owner}
 use Rattle.bank_model.specs.Ledger.{balance, is_covered}
 use Rattle.bank_model.specs.Judging.{Refusal, refused, first_of, is_only, is_own, is_own_account, is_destination, is_positive, is_due, is_after, transfer_code, model_code}
-use Rattle.bank_model.specs.Deeds.{DeedAnswer, balance_if_any, source_balance, intra_of, recurring_of, letters_of, judged, done, is_full, unless_full, first_change, code_of, after_deed, answer_with, deed_answer}
+use Rattle.bank_model.specs.Deeds.{DeedAnswer, balance_if_any, source_balance, intra_of, recurring_of, mail_about_of, judged, done, is_full, unless_full, first_change, code_of, after_deed, answer_with, deed_answer}
 use Rattle.bank_model.specs.Objects.{account_about, numbered, object_named, newest}
 use Rattle.bank_model.specs.Sync.{DeedAnswers, SyncAnswer, reply_with_change, rejection, deed_answers, deeds_or_rejection, history_replies, sync_on, sync_answer}
 use Rattle.bank_model.specs.Once.{is_used}
@@ -157,7 +157,7 @@ object_there : (setup : Setup) (user : UserId) (name : ObjectName) (source : Acc
 unfolding object_named
 object_there setup user (objects.Intra account) source about = (intra_of (Some source), ap (numbered intra_of) about)
 object_there setup user (objects.RecIntra account) source about = (recurring_of (Some source), ap (numbered recurring_of) about)
-object_there setup user (objects.BankMail account) source about = (letters_of (Some source), ap (numbered letters_of) about)
+object_there setup user (objects.BankMail account) source about = (mail_about_of (Some source), ap (numbered mail_about_of) about)
 object_there setup user objects.Mail source about = cc
 
 -- the answer of a synchronisation that refuses no deed for what its client missed

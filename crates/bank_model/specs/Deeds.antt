@@ -56,7 +56,7 @@ judged setup S user only (Mail mail) = mail_code mail
 -- ---- what is done
 
 -- Account a has its transfers at 3a, its recurring transfers at 3a + 1 and the mail about it at 3a + 2. For an account that the
--- bank lacks 0 is in; no entry is made for one.
+-- bank lacks the number is 0; no entry is made for one.
 abbrev pub intra_of : Option AcctId → ObjectId
 intra_of None = record { 0 = 0 }
 intra_of (Some account) = record { 0 = 3 * account.0 }
@@ -73,12 +73,12 @@ abbrev pub model_object_of : Setup → AcctName → ObjectId
 model_object_of setup source = recurring_of (account_of setup source)
 
 -- the mail about it
-abbrev pub letters_of : Option AcctId → ObjectId
-letters_of None = record { 0 = 0 }
-letters_of (Some account) = record { 0 = 3 * account.0 + 2 }
+abbrev pub mail_about_of : Option AcctId → ObjectId
+mail_about_of None = record { 0 = 0 }
+mail_about_of (Some account) = record { 0 = 3 * account.0 + 2 }
 
-abbrev pub letter_object_of : Setup → AcctName → ObjectId
-letter_object_of setup about = letters_of (account_of setup about)
+abbrev pub mail_about_object_of : Setup → AcctName → ObjectId
+mail_about_object_of setup about = mail_about_of (account_of setup about)
 
 -- After those of all accounts come the users' other mails.
 abbrev pub mail_object : Setup → UserId → ObjectId
@@ -194,7 +194,7 @@ done setup S user at trnuid (CancelModel id pending) =
     model_entries_on setup S trnuid (model_of id S.entries) (λ row. DropModel id pending)
     (if_pending pending (entries_after setup (length S.entries + 1) (λ row. DropTransfer row.id) (waiting_of id S.entries)))
 done setup S user at trnuid (BankMail account mail) =
-    next_entry S (letter_object_of setup account) trnuid (NewMail (mail_row setup user (Some account) mail)) ∷ []
+    next_entry S (mail_about_object_of setup account) trnuid (NewMail (mail_row setup user (Some account) mail)) ∷ []
 done setup S user at trnuid (Mail mail) = next_entry S (mail_object setup user) trnuid (NewMail (mail_row setup user None mail)) ∷ []
 
 -- ---- the code, the answer and the state after it

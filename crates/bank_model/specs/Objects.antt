@@ -9,7 +9,7 @@ use Rattle.ofx_types.specs.declared.sync.ObjectName.TheVariants.{Intra, RecIntra
 use Rattle.bank_model.specs.declared.setup.Setup.{Setup}
 use Rattle.bank_model.specs.declared.entry.Entry.{Entry}
 use Rattle.bank_model.specs.SetupLookups.{own_account}
-use Rattle.bank_model.specs.Deeds.{intra_of, recurring_of, letters_of, mail_object}
+use Rattle.bank_model.specs.Deeds.{intra_of, recurring_of, mail_about_of, mail_object}
 
 -- The account of a user that a name is about. Mail about nothing in particular is about none.
 abbrev pub account_about : Setup → UserId → ObjectName → Option AcctId
@@ -26,7 +26,7 @@ numbered number account = option_map (λ (known : AcctId). number (Some known)) 
 unfoldable pub object_named : Setup → UserId → ObjectName → Option ObjectId
 object_named setup user (Intra account) = numbered intra_of (own_account setup user account)
 object_named setup user (RecIntra account) = numbered recurring_of (own_account setup user account)
-object_named setup user (BankMail account) = numbered letters_of (own_account setup user account)
+object_named setup user (BankMail account) = numbered mail_about_of (own_account setup user account)
 object_named setup user Mail = Some (mail_object setup user)
 
 -- an object's history: the entries that belong to it, in order

@@ -30,7 +30,7 @@ is_poll_ask (asks.Statement trnuid account period) = false
 is_poll_ask (asks.One trnuid deed) = false
 is_poll_ask (asks.Sync ask) = is_token_only ask.kind && (length ask.deeds == 0)
 
--- A file has no NEWFILEUID, so it isn't kept, and no OLDFILEUID, so it releases nothing.
+-- whether a file has neither NEWFILEUID (nothing is kept) nor OLDFILEUID (nothing is released)
 abbrev pub is_unnamed : RequestFile → Bool
 is_unnamed file = is_none file.older && is_none file.newer
 

@@ -34,7 +34,7 @@ use Rattle.bank_model.specs.Objects.{account_about, object_named, history_of, ne
 abbrev pub token_of : List ℕ → Option ℕ
 token_of text = number_at 10 text
 
--- A client has lost synchronisation where its token is none, or is above the newest one or below the floor.
+-- A client has lost synchronisation where its token is no number, or is above the newest one or below the floor.
 abbrev pub is_lost_at : ℕ → ObjectId → List Entry → Option ℕ → Bool
 is_lost_at window object entries None = true
 is_lost_at window object entries (Some token) =
@@ -97,7 +97,7 @@ history_replies window object family entries Refresh = map (reply_with_change fa
 
 -- ---- the deeds
 
--- A deed that is refused with all others leaves everything as it is, and its uid may be used.
+-- A deed that is refused with all others leaves everything as it is, and its uid isn't used up.
 abbrev pub refused_with : Family → ℕ → List ℕ × Deed → DeedReply
 refused_with family code deed = record { trnuid = deed.0; family = family; code = code; change = None }
 

@@ -61,10 +61,10 @@ impl Setup {
     }
 
     /// The object of the mail about the account of that name, which the setup has. Takes no memory.
-    pub fn letter_object_of(&self, about: &AcctName) -> ObjectId
+    pub fn mail_about_object_of(&self, about: &AcctName) -> ObjectId
         requires within { IsWithinLimits self.now }
         requires there { is_some (lookups.account_of self.now about.now) ≡ true }
-        ensures { result ≡ deeds.letter_object_of self.now about.now }
+        ensures { result ≡ deeds.mail_about_object_of self.now about.now }
     {
         ObjectId(3 * self.account_named(about).0 + 2)
     }

@@ -34,8 +34,8 @@ made_by_one id day series upcoming ahead is = looked (series_found id series) (s
     looked None is = cc
     looked (Some one) is = refl
 
-pub room_left : (a b occurrences many : ℕ) → 0 < min (min a b) (occurrences - many) → many < occurrences
-room_left a b occurrences many room = omega arith
+pub room_left : (a b capacity many : ℕ) → 0 < min (min a b) (capacity - many) → many < capacity
+room_left a b capacity many room = omega arith
 
 -- ---- one in another's stead
 
@@ -48,19 +48,19 @@ changed_many id at one new series there =
 pub holds_before : (id at : ℕ) (one : Series) (series : List Series) (old : UpcomingView) (before : Option Day) → IsAt id at one series → IsAhead series old → before ≡ date_ahead one → day_in id old.spawns ≡ before
 holds_before id at one series old before there ahead was = ahead.days id ∙ ap date_ahead_of there.found ∙ sym was
 
-pub occurrence_left : (id at : ℕ) (one new : Series) (series : List Series) (old : UpcomingView) (before after : Option Day) → IsAt id at one series → IsAhead series old → before ≡ date_ahead one → after ≡ date_ahead new → length old.spawns + days_of after ≤ old.occurrences + days_of before
-occurrence_left id at one new series old before after there ahead was is =
-    omega (arith, changed_many id at one new series there, few (set series at new), length-set series at new, ahead.many, ahead.occurrences, ap days_of was, ap days_of is)
+pub room_for_exchange : (id at : ℕ) (one new : Series) (series : List Series) (old : UpcomingView) (before after : Option Day) → IsAt id at one series → IsAhead series old → before ≡ date_ahead one → after ≡ date_ahead new → length old.spawns + days_of after ≤ old.room + days_of before
+room_for_exchange id at one new series old before after there ahead was is =
+    omega (arith, changed_many id at one new series there, few (set series at new), length-set series at new, ahead.many, ahead.room, ap days_of was, ap days_of is)
 
 pub ahead_set : (id at : ℕ) (one new : Series) (series : List Series) (old upcoming : UpcomingView) (before after : Option Day) → IsAt id at one series → new.row.id ≡ id → IsAhead series old → before ≡ date_ahead one → after ≡ date_ahead new
     → ((other : ℕ) → day_in other upcoming.spawns ≡ cond (eqb id other) after (day_in other old.spawns))
     → length upcoming.spawns + days_of before ≡ length old.spawns + days_of after
-    → upcoming.occurrences ≡ old.occurrences
+    → upcoming.room ≡ old.room
     → IsAhead (set series at new) upcoming
-ahead_set id at one new series old upcoming before after there same ahead was is exchanged many occurrences = record {
+ahead_set id at one new series old upcoming before after there same ahead was is exchanged many same_room = record {
   days = λ other. exchanged other ∙ chosen other (eqb id other) ∙ sym (ap date_ahead_of (now_set id at one new series there same other));
   many = omega (arith, changed_many id at one new series there, ahead.many, many, ap days_of was, ap days_of is);
-  occurrences = omega (arith, length-set series at new, occurrences, ahead.occurrences);
+  room = omega (arith, length-set series at new, same_room, ahead.room);
 }
   where
     chosen : (other : ℕ) (b : Bool) → cond b after (day_in other old.spawns) ≡ date_ahead_of (cond b (Some new) (series_found other series))
@@ -80,12 +80,12 @@ holds_none id series old none ahead = ahead.days id ∙ ap date_ahead_of none
 pub ahead_pushed : (id : ℕ) (new : Series) (series : List Series) (old upcoming : UpcomingView) (day : Option Day) → series_found id series ≡ None → new.row.id ≡ id → IsAhead series old → day ≡ date_ahead new
     → ((other : ℕ) → day_in other upcoming.spawns ≡ cond (eqb id other) day (day_in other old.spawns))
     → length upcoming.spawns ≡ length old.spawns + days_of day
-    → upcoming.occurrences ≡ old.occurrences → length series < old.occurrences
+    → upcoming.room ≡ old.room → length series < old.room
     → IsAhead (series ++ new ∷ []) upcoming
-ahead_pushed id new series old upcoming day none same ahead is entered many occurrences room = record {
+ahead_pushed id new series old upcoming day none same ahead is entered many same_room room = record {
   days = λ other. entered other ∙ chosen other (eqb id other) ∙ ap (λ n. date_ahead_of (cond (eqb n other) (Some new) (series_found other series))) (sym same) ∙ sym (ap date_ahead_of (now_pushed new series (ap (λ n. series_found n series) same ∙ none) other));
   many = omega (arith, more_many new series, ahead.many, many, ap days_of is);
-  occurrences = omega (arith, length-append series (new ∷ []), occurrences, room);
+  room = omega (arith, length-append series (new ∷ []), same_room, room);
 }
   where
     chosen : (other : ℕ) (b : Bool) → cond b day (day_in other old.spawns) ≡ date_ahead_of (cond b (Some new) (series_found other series))
@@ -93,9 +93,9 @@ ahead_pushed id new series old upcoming day none same ahead is entered many occu
     chosen other false = ahead.days other
 
 -- Room for more of them changes nothing of what is there there.
-pub ahead_reserved : (series : List Series) (old new : UpcomingView) → new.spawns ≡ old.spawns → old.occurrences ≤ new.occurrences → IsAhead series old → IsAhead series new
+pub ahead_reserved : (series : List Series) (old new : UpcomingView) → new.spawns ≡ old.spawns → old.room ≤ new.room → IsAhead series old → IsAhead series new
 ahead_reserved series old new same more ahead = record {
   days = λ id. ap (day_in id) same ∙ ahead.days id;
   many = ap length same ∙ ahead.many;
-  occurrences = let room = ahead.occurrences in omega (arith, room, more);
+  room = let room = ahead.room in omega (arith, room, more);
 }

@@ -19,7 +19,7 @@ use Rattle.ofx_types.specs.declared.transfer.Change.TheVariants.{NewTransfer, Se
 use Rattle.bank_model.specs.declared.entry.Entry.{Entry}
 use Rattle.bank_model.specs.Models.{model_in, if_model_named, or_model_before, model_of, drops_model, is_of_model, is_made_by, next_occurrence}
 use Rattle.bank_recur.specs.Growth.{occurrence_after}
-use Rattle.bank_recur.specs.ModelsView.{Series, ModelsView, series_found, row_found, is_cancelled_series, cancelled_found, occurrence_in_series, occurrence_found, id_made, ids_of, IsOnce, HasOffsets, Represents, GivesModel, Cancels, IsMadeBy, LeavesModels}
+use Rattle.bank_recur.specs.ModelsView.{Series, ModelsView, series_found, row_found, is_cancelled_series, cancelled_found, occurrence_in_series, occurrence_found, id_made, ids_of, IsOnce, HasIndices, Represents, GivesModel, Cancels, IsMadeBy, LeavesModels}
 use Rattle.bank_recur.proofs.GrowthLemmas.{model_of-push, is_model_dropped-push, ids_made-push, next_occurrence-push}
 
 -- ---- one entry more
@@ -65,7 +65,7 @@ is_named id one = eqb one.row.id id
 
 -- where the one of an id stands
 pub record IsAt (id at : ℕ) (one : Series) (series : List Series) : Type 0 where
-  pub occurrence : at ≡ position_or_len (is_named id) series
+  pub index : at ≡ position_or_len (is_named id) series
   pub within : at < length series
   pub found : series_found id series ≡ Some one
   pub element : get_or series at one ≡ one
@@ -74,11 +74,11 @@ pub is_at : (id at : ℕ) (one : Series) (series seen : List Series) (where_is :
 is_at id at one series seen where_is looked same is element =
     let located : position (is_named id) series ≡ Some at = sym (looked ∙ ap (position (is_named id)) same) ∙ is in
     let facts = position-Some (is_named id) series at one located in
-    let occurrence : at ≡ position_or_len (is_named id) series = first (nat_lt (position_or_len (is_named id) series) (length series)) (position_or_len (is_named id) series) located in
+    let index : at ≡ position_or_len (is_named id) series = first (nat_lt (position_or_len (is_named id) series) (length series)) (position_or_len (is_named id) series) located in
     record {
-      occurrence = occurrence;
+      index = index;
       within = facts.0;
-      found = find_at (is_named id) series ∙ ap (slice_get series) (sym occurrence) ∙ slice_get-get_or series at one facts.0 ∙ ap (λ (o : Series). Some o) (sym element);
+      found = find_at (is_named id) series ∙ ap (slice_get series) (sym index) ∙ slice_get-get_or series at one facts.0 ∙ ap (λ (o : Series). Some o) (sym element);
       element = sym element;
     }
   where
@@ -93,8 +93,8 @@ prefix-map f p [] = refl
 prefix-map f p (x ∷ xs) = ap (λ n. cond (not (p (f x))) (1 + n) 0) (prefix-map f p xs)
 
 -- The place of an id among them is that of its recurring transfer.
-pub occurrence_by_id : (id : ℕ) (series : List Series) → position (λ k. eqb id k) (ids_of series) ≡ position (is_named id) series
-occurrence_by_id id series =
+pub index_by_id : (id : ℕ) (series : List Series) → position (λ k. eqb id k) (ids_of series) ≡ position (is_named id) series
+index_by_id id series =
     (λ i. position (λ k. nat_eq_equiv.symm id k i) (ids_of series))
     ∙ (λ i. cond (nat_lt (prefix-map (λ (one : Series). one.row.id) (λ k. eqb k id) series i) (length-map series (λ (one : Series). one.row.id) i)) (Some (prefix-map (λ (one : Series). one.row.id) (λ k. eqb k id) series i)) None)
 
@@ -114,10 +114,10 @@ position_push test ids id =
     position_from-zero test (ids ++ id ∷ []) ∙ from_push test 0 ids id
     ∙ (λ i. option_or (sym (position_from-zero test ids) i) (cond (test id) (Some (same i)) None))
 
--- One more id, which isn't there, comes with the offset of the end.
-pub offsets_pushed : (id at : ℕ) (ids : List ℕ) (old new : List (ℕ × ℕ)) → position (λ k. eqb id k) ids ≡ None → at ≡ length ids
-    → ((other : ℕ) → lookup (λ k. eqb other k) new ≡ cond (eqb id other) (Some at) (lookup (λ k. eqb other k) old)) → HasOffsets old ids → HasOffsets new (ids ++ id ∷ [])
-offsets_pushed id at ids old new none last put held other = put other ∙ named (eqb id other) refl ∙ sym (position_push (λ k. eqb other k) ids id)
+-- One more id, which isn't there, comes with the index of the end.
+pub indices_pushed : (id at : ℕ) (ids : List ℕ) (old new : List (ℕ × ℕ)) → position (λ k. eqb id k) ids ≡ None → at ≡ length ids
+    → ((other : ℕ) → lookup (λ k. eqb other k) new ≡ cond (eqb id other) (Some at) (lookup (λ k. eqb other k) old)) → HasIndices old ids → HasIndices new (ids ++ id ∷ [])
+indices_pushed id at ids old new none last put held other = put other ∙ named (eqb id other) refl ∙ sym (position_push (λ k. eqb other k) ids id)
   where
     alone : (found : Option ℕ) → found ≡ option_or found None
     alone None = refl
@@ -239,8 +239,8 @@ is_there id old entries holds none there = let e : false ≡ true = ap is_some (
 not_there : (id : ℕ) (one : Series) (old : ModelsView) (entries : List Entry) → Represents old entries → series_found id old.series ≡ Some one → model_of id entries ≡ None → ⊥
 not_there id one old entries holds found none = let e : Some one.row ≡ None = ap (option_map (λ (o : Series). o.row)) (sym found) ∙ holds.rows id ∙ none in cc
 
-pub offset_is : (id : ℕ) (one : Series) (old : ModelsView) (entries : List Entry) → Represents old entries → series_found id old.series ≡ Some one → one.occurrence ≡ next_occurrence id entries
-offset_is id one old entries holds found = sym (ap occurrence_in_series found) ∙ holds.occurrences id (ap (λ o. is_some (option_map (λ (s : Series). s.row) o)) found)
+pub occurrence_is : (id : ℕ) (one : Series) (old : ModelsView) (entries : List Entry) → Represents old entries → series_found id old.series ≡ Some one → one.occurrence ≡ next_occurrence id entries
+occurrence_is id one old entries holds found = sym (ap occurrence_in_series found) ∙ holds.occurrences id (ap (λ o. is_some (option_map (λ (s : Series). s.row) o)) found)
 
 -- the row of one that is there
 pub holds_set : (old new : ModelsView) (entries : List Entry) (entry : Entry) (at : ℕ) (one : Series) (row : ModelRow) → Represents old entries → IsAt row.id at one old.series → GivesModel entries entry.change row → new.series ≡ set old.series at (record { row = row; cancelled = one.cancelled; occurrence = 0 }) → Represents new (entries ++ entry ∷ [])
@@ -300,7 +300,7 @@ holds_cancelled old new entries entry id at one holds there cancels is = holds_m
           (sym (ap (λ b. cancelled_found id old.series || b) (eq-eqb id id refl) ∙ or-true (cancelled_found id old.series)))
           (λ other e. sym (ap (λ b. cancelled_found other old.series || b) e ∙ or-false (cancelled_found other old.series)));
       occurrences = by_id id gone old.series new.series now (λ other found. is_some (option_map (λ (o : Series). o.row) found) ≡ true → occurrence_in_series found ≡ next_occurrence other entries)
-          (λ is. offset_is id one old entries holds there.found)
+          (λ is. occurrence_is id one old entries holds there.found)
           (λ other e. holds.occurrences other);
       order = ap ids_of is ∙ ids_set id at one gone old.series there (found_id id one old.series there.found) ∙ sym (append-nil (ids_of old.series));
     }
@@ -348,7 +348,7 @@ holds_stepped old new entries entry id at one holds there makes is = holds_more 
           (sym (or-false (cancelled_found id old.series) ∙ ap is_cancelled_series there.found))
           (λ other e. sym (or-false (cancelled_found other old.series)));
       occurrences = by_id id next old.series new.series now (λ other found. is_some (option_map (λ (o : Series). o.row) found) ≡ true → occurrence_in_series found ≡ cond (eqb row.model other) (next_occurrence other entries + 1) (next_occurrence other entries))
-          (λ is. ap (λ n. n + 1) (offset_is id one old entries holds there.found) ∙ sym (raised (next_occurrence id entries) (eqb row.model id) (eq-eqb row.model id of_model)))
+          (λ is. ap (λ n. n + 1) (occurrence_is id one old entries holds there.found) ∙ sym (raised (next_occurrence id entries) (eqb row.model id) (eq-eqb row.model id of_model)))
           (λ other e is. holds.occurrences other is ∙ sym (ap (λ b. cond b (next_occurrence other entries + 1) (next_occurrence other entries)) (ap (λ n. eqb n other) of_model ∙ e)));
       order = ap ids_of is ∙ ids_set id at one next old.series there (found_id id one old.series there.found) ∙ sym (append-nil (ids_of old.series));
     }

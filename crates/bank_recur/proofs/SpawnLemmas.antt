@@ -20,7 +20,7 @@ use Rattle.bank_recur.specs.ModelsView.{Series, ModelsView, series_found, is_can
 use Rattle.bank_recur.specs.Spawning.{date_ahead, date_ahead_of, date_by, date_found}
 use Rattle.bank_recur.specs.Upcoming.{UpcomingView, IsFirst, day_in}
 use Rattle.bank_recur.specs.declared.spawn.Spawn.{Spawn}
-use Rattle.bank_recur.proofs.RepresentsLemmas.{offset_is}
+use Rattle.bank_recur.proofs.RepresentsLemmas.{occurrence_is}
 
 -- ---- what is to be made, series by series
 
@@ -63,7 +63,7 @@ date_is last models entries id holds = looked (series_found id models.series) re
         let dropped : is_model_dropped id entries ≡ one.cancelled = sym (holds.dropped id) ∙ ap is_cancelled_series is in
         sym (ap (date_if_any last id entries) row
         ∙ ap (λ b. cond b None (if_by last (date_in_series one.row (next_occurrence id entries)))) dropped
-        ∙ ap (λ n. cond one.cancelled None (if_by last (date_in_series one.row n))) (sym (offset_is id one models entries holds is)))
+        ∙ ap (λ n. cond one.cancelled None (if_by last (date_in_series one.row n))) (sym (occurrence_is id one models entries holds is)))
 
 -- ---- the first of tasks
 

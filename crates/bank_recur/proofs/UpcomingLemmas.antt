@@ -92,14 +92,14 @@ swapped y x other false false day its rest apart e f = refl
 -- ---- one more
 
 pub order_insert : (x : Spawn) (xs : List Spawn) (at : ℕ) → IsInOrder xs → IsIndex x xs at → day_in x.id xs ≡ None → IsInOrder (insert xs at x)
-order_insert x xs at order occurrence none =
+order_insert x xs at order index none =
     in_order_insert Precedes xs at x
-    (λ k d low high. record { before = occurrence.parts.0 k d low high; apart = apart k d (omega (arith, occurrence.within)) })
+    (λ k d low high. record { before = index.parts.0 k d low high; apart = apart k d (omega (arith, index.within)) })
     (λ k d low high. record {
-      before = one_of_both (get_or xs k d) x (occurrence.parts.1 k d low high) (other k d high);
+      before = one_of_both (get_or xs k d) x (index.parts.1 k d low high) (other k d high);
       apart = other k d high;
     })
-    occurrence.within order
+    index.within order
   where
     apart : (k : ℕ) (d : Spawn) → k < length xs → eqb (get_or xs k d).id x.id ≡ false
     apart k d high = all_at (λ (s : Spawn). eqb s.id x.id ≡ false) xs k d high (none_in x.id xs none)
@@ -180,6 +180,6 @@ first_of first (y ∷ xs) now is order same =
 -- ---- as the calls see them
 
 pub there_in : (x : Spawn) (xs seen now : List Spawn) (at : ℕ) (day : Option Day) → IsInOrder xs → IsIndex x seen at → seen ≡ xs → xs ≡ now → day_in x.id now ≡ day → day ≡ Some x.day → IsThere x xs at
-there_in x xs seen now at day order occurrence looked same is given =
-    let here = subst (λ l. IsIndex x l at) looked occurrence in
+there_in x xs seen now at day order index looked same is given =
+    let here = subst (λ l. IsIndex x l at) looked index in
     there_at x xs at order here.parts.0 here.parts.1 (ap (day_in x.id) same ∙ is ∙ given)

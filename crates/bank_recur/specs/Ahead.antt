@@ -10,4 +10,4 @@ use Rattle.bank_recur.specs.Upcoming.{UpcomingView, day_in, days_of}
 pub record IsAhead (series : List Series) (upcoming : UpcomingView) : Type 0 where
   pub days : (id : ℕ) → day_in id upcoming.spawns ≡ date_ahead_of (series_found id series)
   pub many : length upcoming.spawns ≡ sum_by (λ (one : Series). days_of (date_ahead one)) series
-  pub occurrences : length series ≤ upcoming.occurrences
+  pub room : length series ≤ upcoming.room

@@ -49,9 +49,9 @@ ids_of series = map (λ (one : Series). one.row.id) series
 abbrev pub IsOnce : List Series → Type 0
 IsOnce series = IsDistinct (λ (a b : ℕ). a == b) (ids_of series)
 
--- Each id has the offset of the first one with it, and other numbers have none.
-abbrev pub HasOffsets : List (ℕ × ℕ) → List ℕ → Type 0
-HasOffsets offsets ids = (id : ℕ) → lookup (λ k. id == k) offsets ≡ position (λ k. id == k) ids
+-- Each id has the index of the first one with it, and other numbers have none.
+abbrev pub HasIndices : List (ℕ × ℕ) → List ℕ → Type 0
+HasIndices indices ids = (id : ℕ) → lookup (λ k. id == k) indices ≡ position (λ k. id == k) ids
 
 -- the ids of the recurring transfers that entries made, in their order
 abbrev pub id_made : Change → List ℕ

@@ -11,7 +11,7 @@ use Rattle.bank_recur.specs.declared.spawn.Spawn.{Spawn}
 -- The next transfers, and for how many there is room.
 pub record UpcomingView : Type 0 where
   pub spawns : List Spawn
-  pub occurrences : ℕ
+  pub room : ℕ
 
 -- The first comes before the other, and they aren't of one recurring transfer.
 pub record Precedes (first other : Spawn) : Type 0 where

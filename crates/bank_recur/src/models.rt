@@ -22,25 +22,25 @@ use std::marker::Model;
 /// transfers of those that make one, in the order in which they are made. There is room for one of each.
 pub struct Models {
     series: Vec<HeldSeries>,
-    offsets: HashMap<u64, usize>,
+    indices: HashMap<u64, usize>,
     upcoming: Upcoming,
 }
 
 impl Model for Models {
     ghost use Rattle.std.specs.Prelude.{◌≡◌, ◌-◌, min, length, vec_len, vec_capacity};
     ghost use Rattle.std.specs.HashMap.{spare};
-    ghost use Rattle.bank_recur.specs.ModelsView.{ModelsView, ids_of, IsOnce, HasOffsets};
+    ghost use Rattle.bank_recur.specs.ModelsView.{ModelsView, ids_of, IsOnce, HasIndices};
     ghost use Rattle.bank_recur.specs.Ahead.{IsAhead};
 
     ghost Value = { ModelsView };
 
     ghost view = { λ m. record {
       series = m.series.items;
-      room = min (min (vec_capacity m.series - vec_len m.series) (spare m.offsets)) (m.upcoming.occurrences - length m.series.items);
+      room = min (min (vec_capacity m.series - vec_len m.series) (spare m.indices)) (m.upcoming.room - length m.series.items);
     } };
 
     ghost invariant = { λ m. IsOnce m.series.items
-        × HasOffsets m.offsets.entries (ids_of m.series.items)
+        × HasIndices m.indices.entries (ids_of m.series.items)
         × IsAhead m.series.items m.upcoming };
 }
 
@@ -48,7 +48,7 @@ impl Drop for Models {
     fn drop(self) {
         let Models {
             series: _,
-            offsets: _,
+            indices: _,
             upcoming: _,
         } = self;
     }
@@ -61,7 +61,7 @@ impl Models {
     {
         Models {
             series: Vec::new(alloc),
-            offsets: HashMap::new(alloc),
+            indices: HashMap::new(alloc),
             upcoming: Upcoming::new(alloc),
         }
     }
@@ -111,7 +111,7 @@ impl Models {
         ensures room_stays { self.old.room ≤ self.new.room }
     {
         self.series.reserve(models as usize)?;
-        self.offsets.reserve(models as usize)?;
+        self.indices.reserve(models as usize)?;
         let ahead = self.series.len() - self.upcoming.len();
         self.upcoming.reserve(ahead + models as usize)?;
         Ok(())
@@ -139,11 +139,11 @@ impl Models {
                 self.upcoming.exchange(id, before, after);
             }
             None => {
-                let offset = self.series.len();
+                let index = self.series.len();
                 let one = HeldSeries::new(row);
                 let day = one.date_ahead();
                 self.series.push_reserved(one);
-                let added: Result<_, _> = self.offsets.insert(id, offset);
+                let added: Result<_, _> = self.indices.insert(id, index);
                 let _new = added.unwrap();
                 self.upcoming.enter(id, day);
             }
@@ -208,8 +208,8 @@ impl Models {
     fn index_of(&self, id: u64) -> Option<usize>
         ensures { result ≡ position (λ one. one.row.id == id) self.now.series }
     {
-        match self.offsets.get(&id) {
-            Some(offset) => Some(*offset),
+        match self.indices.get(&id) {
+            Some(index) => Some(*index),
             None => None,
         }
     }

@@ -19,7 +19,7 @@ impl Model for Upcoming {
 
     ghost Value = { UpcomingView };
 
-    ghost view = { λ upcoming. record { spawns = upcoming.spawns.items; occurrences = vec_capacity upcoming.spawns } };
+    ghost view = { λ upcoming. record { spawns = upcoming.spawns.items; room = vec_capacity upcoming.spawns } };
 
     ghost invariant = { λ upcoming. IsInOrder upcoming.spawns.items };
 }
@@ -50,8 +50,8 @@ impl Upcoming {
     /// Makes room for so many more.
     pub(crate) fn reserve(&mut self, more: usize) -> Result<(), OutOfMemory>
         ensures spawns { self.new.spawns ≡ self.old.spawns }
-        ensures room { OnOk result (length self.old.spawns + more ≤ self.new.occurrences) }
-        ensures room_stays { self.old.occurrences ≤ self.new.occurrences }
+        ensures room { OnOk result (length self.old.spawns + more ≤ self.new.room) }
+        ensures room_stays { self.old.room ≤ self.new.room }
     {
         self.spawns.reserve(more)?;
         Ok(())
@@ -70,11 +70,11 @@ impl Upcoming {
     /// The recurring transfer with this id makes its next transfer on another day than before, or none.
     pub(crate) fn exchange(&mut self, id: u64, before: Option<Day>, after: Option<Day>)
         requires before { day_in id self.old.spawns ≡ before }
-        requires room { length self.old.spawns + days_of after ≤ self.old.occurrences + days_of before }
+        requires room { length self.old.spawns + days_of after ≤ self.old.room + days_of before }
         ensures days { (other : ℕ) → day_in other self.new.spawns
             ≡ (if id == other then after else day_in other self.old.spawns) }
         ensures length { length self.new.spawns + days_of before ≡ length self.old.spawns + days_of after }
-        ensures occurrences { self.new.occurrences ≡ self.old.occurrences }
+        ensures room { self.new.room ≡ self.old.room }
     {
         self.leave(id, before);
         self.enter(id, after);
@@ -83,15 +83,15 @@ impl Upcoming {
     /// Puts in the next transfer of the recurring transfer with this id, which has none there, where it makes one.
     pub(crate) fn enter(&mut self, id: u64, day: Option<Day>)
         requires apart { day_in id self.old.spawns ≡ None }
-        requires room { length self.old.spawns + days_of day ≤ self.old.occurrences }
+        requires room { length self.old.spawns + days_of day ≤ self.old.room }
         ensures days { (other : ℕ) → day_in other self.new.spawns
             ≡ (if id == other then day else day_in other self.old.spawns) }
         ensures length { length self.new.spawns ≡ length self.old.spawns + days_of day }
-        ensures occurrences { self.new.occurrences ≡ self.old.occurrences }
+        ensures room { self.new.room ≡ self.old.room }
     {
         if let Some(day) = day {
             let next = Spawn { day, id };
-            let at = occurrence(&self.spawns, next);
+            let at = index_of(&self.spawns, next);
             let entered: Result<_, _> = self.spawns.insert(at, next);
             let _room = entered.unwrap();
         }
@@ -103,17 +103,17 @@ impl Upcoming {
         ensures days { (other : ℕ) → day_in other self.new.spawns
             ≡ (if id == other then None else day_in other self.old.spawns) }
         ensures length { length self.new.spawns + days_of day ≡ length self.old.spawns }
-        ensures occurrences { self.new.occurrences ≡ self.old.occurrences }
+        ensures room { self.new.room ≡ self.old.room }
     {
         if let Some(day) = day {
-            let at = occurrence(&self.spawns, Spawn { day, id });
+            let at = index_of(&self.spawns, Spawn { day, id });
             let _gone = self.spawns.remove(at);
         }
     }
 }
 
 /// How many of transfers in order come before this one, found by binary search: its index among them.
-fn occurrence(spawns: &[Spawn], next: Spawn) -> usize
+fn index_of(spawns: &[Spawn], next: Spawn) -> usize
     requires { IsInOrder spawns.now }
     ensures { IsIndex next spawns.now result }
 {

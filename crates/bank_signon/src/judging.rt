@@ -59,7 +59,7 @@ pub fn judge(alloc: Global, setup: &Setup, bytes: &[u8]) -> Result<Judgement, Ou
 {
     match read_request(alloc, bytes) {
         Ok(file) => Ok(judge_file(setup, bytes, file)),
-        Err(fault) => match place_of(fault) {
+        Err(fault) => match offset_of(fault) {
             Some(offset) => Ok(Judgement::Refused(offset)),
             None => Err(OutOfMemory),
         },
@@ -67,7 +67,7 @@ pub fn judge(alloc: Global, setup: &Setup, bytes: &[u8]) -> Result<Judgement, Ou
 }
 
 /// The offset of a fault, from the file's first byte. None for want of memory.
-fn place_of(fault: FileFault) -> Option<u64>
+fn offset_of(fault: FileFault) -> Option<u64>
     ensures { result ≡ fault_offset fault }
 {
     match fault {

@@ -20,7 +20,7 @@ use std::alloc::Global;
 const HEAD_ROOM: usize = 512;
 
 /// The code of a reply that has a reply file as its body.
-const FOUND: u16 = 200;
+const OK: u16 = 200;
 
 /// Why no reply came.
 pub(crate) fn call_stop(fault: CallFault) -> CallStop
@@ -109,7 +109,7 @@ fn body_of(alloc: Global, bytes: &[u8], answer: Response) -> Result<ReplyFile, C
     requires { HoldsReply bytes.now answer }
     ensures { rules.ReadsBody bytes.now answer result }
 {
-    if answer.code != FOUND {
+    if answer.code != OK {
         return Err(CallStop::Http(answer.code));
     }
     match read_reply(alloc, &bytes[answer.head..answer.size]) {

@@ -52,12 +52,12 @@ abbrev pub LeavesThroughout : (List ℕ → Type 0) → History → List Change 
 LeavesThroughout P history [] = Leaves P history
 LeavesThroughout P history (change ∷ more) = Leaves P (after history (change ∷ more)) × LeavesThroughout P history more
 
--- From one history that is reported to another, all that a crash may leave at any moment has P.
+-- From one known history to another, all that a crash may leave at any moment has P.
 abbrev pub LeavesOnly : (List ℕ → Type 0) → Option History → Option History → Type 0
 LeavesOnly P None new = ⊤
 LeavesOnly P (Some old) new = (more : List Change) × (new ≡ Some (after old more)) × LeavesThroughout P old more
 
--- A history that is reported goes on with these changes, the newest first.
+-- A known history goes on with these changes, the newest first.
 abbrev pub GoesOn : Option History → Option History → List Change → Type 0
 GoesOn None new more = ⊤
 GoesOn (Some old) new more = new ≡ Some (after old more)
@@ -68,7 +68,7 @@ abbrev pub AtMostSynced : Option History → Option History → Type 0
 AtMostSynced None new = ⊤
 AtMostSynced (Some old) new = (new ≡ Some old) ⊎ (new ≡ Some (after old (Sync ∷ [])))
 
--- A disk whose history is known goes on reporting it.
+-- A disk's known history stays known.
 abbrev pub ReportsOn : Option History → Option History → Type 0
 ReportsOn None new = ⊤
 ReportsOn (Some old) new = IsSome new
@@ -82,7 +82,7 @@ write_of at bytes = Write at (length bytes) bytes
 abbrev pub IsBroken : ℕ → ℕ → List Change → Type 0
 IsBroken at size more = (more ≡ []) ⊎ ((bytes : List ℕ) × (length bytes ≤ size) × (more ≡ Write at size bytes ∷ []))
 
--- A history that is reported goes on with a write that failed.
+-- A known history goes on with a write that failed.
 abbrev pub Breaks : ℕ → ℕ → Option History → Option History → Type 0
 Breaks at size old new = (more : List Change) × IsBroken at size more × GoesOn old new more
 

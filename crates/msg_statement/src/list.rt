@@ -17,7 +17,7 @@ use ofx_types::{Lines, OutOfMemory, StatementLine, StatementList, TreeFault};
 use std::alloc::Global;
 
 /// The most digits of a transaction's number.
-const MAX_BYTES: usize = 10;
+const MAX_DIGITS: usize = 10;
 
 /// The transactions of a period, where they are.
 pub(crate) fn read_maybe_list(
@@ -86,7 +86,7 @@ fn read_line(stmttrn: &Cursor<'_>) -> Result<StatementLine, TreeFault>
 {
     let posted = stmttrn.moment(b"DTPOSTED")?;
     let amount = stmttrn.amount(b"TRNAMT")?;
-    let number = stmttrn.number(b"FITID", MAX_BYTES)?;
+    let number = stmttrn.number(b"FITID", MAX_DIGITS)?;
     Ok(StatementLine {
         number,
         posted,

@@ -26,7 +26,7 @@ is_refused_in_text b = nat_lt b 32 && not (is_white b)
 abbrev pub is_refused_in_uid : ℕ → Bool
 is_refused_in_uid b = nat_lt b 32
 
--- what a text is: nothing is left to trim, and no byte is refused
+-- what a text is: nothing is left to trim, no byte is refused, and it is shorter than 2^32
 pub record IsText (text : List ℕ) : Type 0 where
   pub is_trimmed : trimmed text ≡ text
   pub is_clean : position is_refused_in_text text ≡ None

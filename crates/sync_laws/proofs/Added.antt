@@ -27,7 +27,7 @@ use Rattle.bank_model.specs.SetupLookups.{account_of, own_account, is_owner}
 use Rattle.bank_model.specs.Ledger.{row_of}
 use Rattle.bank_model.specs.Models.{model_of, is_model_dropped, waiting_of}
 use Rattle.bank_model.specs.Judging.{is_own_account}
-use Rattle.bank_model.specs.Deeds.{intra_of, recurring_of, letters_of, mail_object, object_of, source_balance, entries_after, first_change, judged, done, code_of, answer_with, deed_answer}
+use Rattle.bank_model.specs.Deeds.{intra_of, recurring_of, mail_about_of, mail_object, object_of, source_balance, entries_after, first_change, judged, done, code_of, answer_with, deed_answer}
 use Rattle.bank_model.specs.Objects.{account_about, numbered, object_named, belongs_to, history_of}
 use Rattle.bank_model.specs.Sync.{refused_with, rejection, deed_answers, deeds_or_rejection}
 use Rattle.bank_model.specs.Sound.{IsSoundPair, IsSoundSync}
@@ -167,10 +167,10 @@ placed_recurring setup S user account at trnuid (CancelTransfer id) is none = cc
 placed_recurring setup S user account at trnuid (BankMail about mail) is none = cc
 placed_recurring setup S user account at trnuid (Mail mail) is none = cc
 
-placed_letter : (setup : Setup) (S : State) (user : UserId) (account : AcctId) (at : Moment) (trnuid : List ℕ) (deed : Deed) → family_of deed ≡ families.BankMail → judged setup S user (Some account) deed ≡ 0 → IsPlaced (letters_of (Some account)) (done setup S user at trnuid deed)
+placed_letter : (setup : Setup) (S : State) (user : UserId) (account : AcctId) (at : Moment) (trnuid : List ℕ) (deed : Deed) → family_of deed ≡ families.BankMail → judged setup S user (Some account) deed ≡ 0 → IsPlaced (mail_about_of (Some account)) (done setup S user at trnuid deed)
 unfolding judged done
 placed_letter setup S user account at trnuid (BankMail about mail) is none =
-    placed_is _ _ _ [] refl (own_only setup user account letters_of (account_of setup about) (own_letter setup user (Some account) about mail none)) (history_of-none (letters_of (Some account)))
+    placed_is _ _ _ [] refl (own_only setup user account mail_about_of (account_of setup about) (own_letter setup user (Some account) about mail none)) (history_of-none (mail_about_of (Some account)))
 placed_letter setup S user account at trnuid (Transfer info) is none = cc
 placed_letter setup S user account at trnuid (ModifyTransfer id info) is none = cc
 placed_letter setup S user account at trnuid (CancelTransfer id) is none = cc
@@ -204,7 +204,7 @@ placed_named setup S user at trnuid deed (objects.RecIntra name) object is famil
     let own = account_of_object recurring_of (own_account setup user name) object is in
     subst (λ (o : ObjectId). IsPlaced o (done setup S user at trnuid deed)) (sym own.2) (placed_recurring setup S user own.0 at trnuid deed family (ap (λ (only : Option AcctId). judged setup S user only deed) (sym own.1) ∙ none))
 placed_named setup S user at trnuid deed (objects.BankMail name) object is family none =
-    let own = account_of_object letters_of (own_account setup user name) object is in
+    let own = account_of_object mail_about_of (own_account setup user name) object is in
     subst (λ (o : ObjectId). IsPlaced o (done setup S user at trnuid deed)) (sym own.2) (placed_letter setup S user own.0 at trnuid deed family (ap (λ (only : Option AcctId). judged setup S user only deed) (sym own.1) ∙ none))
 placed_named setup S user at trnuid deed objects.Mail object is family none =
     let same : mail_object setup user ≡ object = cc in

@@ -18,7 +18,7 @@ use Rattle.bank_model.specs.declared.setup.Setup.{Setup}
 use Rattle.bank_model.specs.SetupForm.{IsWithinLimits}
 use Rattle.bank_model.specs.SetupLookups.{account_of, line_at, names_owner, is_owner, if_owned}
 use Rattle.bank_model.specs.Judging.{is_only, is_own_account}
-use Rattle.bank_model.specs.Deeds.{intra_of, recurring_of, letters_of, mail_object, object_of}
+use Rattle.bank_model.specs.Deeds.{intra_of, recurring_of, mail_about_of, mail_object, object_of}
 use Rattle.bank_model.specs.Objects.{numbered, object_named}
 use Rattle.bank_invariants.proofs.AccountIndices.{slice_get-below}
 use Rattle.sync_laws.specs.ObjectFamilies.{IsObjectOf}
@@ -64,8 +64,8 @@ at_transfers setup found known = subst (λ (f : Option AcctId). IsObjectOf setup
 pub at_recurring : (setup : Setup) (found : Option AcctId) → IsKnown setup found → IsObjectOf setup families.RecIntra (recurring_of found).0
 at_recurring setup found known = subst (λ (f : Option AcctId). IsObjectOf setup families.RecIntra (recurring_of f).0) (sym known.is) (known.account.0, known.below, refl)
 
-pub at_letters : (setup : Setup) (found : Option AcctId) → IsKnown setup found → IsObjectOf setup families.BankMail (letters_of found).0
-at_letters setup found known = subst (λ (f : Option AcctId). IsObjectOf setup families.BankMail (letters_of f).0) (sym known.is) (known.account.0, known.below, refl)
+pub at_letters : (setup : Setup) (found : Option AcctId) → IsKnown setup found → IsObjectOf setup families.BankMail (mail_about_of found).0
+at_letters setup found known = subst (λ (f : Option AcctId). IsObjectOf setup families.BankMail (mail_about_of f).0) (sym known.is) (known.account.0, known.below, refl)
 
 pub mail_index : (setup : Setup) (user : UserId) → IsObjectOf setup families.Mail (mail_object setup user).0
 mail_index setup user = omega arith
@@ -109,7 +109,7 @@ named_index setup user (objects.RecIntra account) object is =
     let known = named_known setup user recurring_of (account_of setup account) object is in
     (known.0.0, known.1, ap (λ (o : ObjectId). o.0) known.2)
 named_index setup user (objects.BankMail account) object is =
-    let known = named_known setup user letters_of (account_of setup account) object is in
+    let known = named_known setup user mail_about_of (account_of setup account) object is in
     (known.0.0, known.1, ap (λ (o : ObjectId). o.0) known.2)
 named_index setup user objects.Mail object is =
     let same : mail_object setup user ≡ object = cc in

@@ -153,8 +153,8 @@ impl Window {
     {
         let room = self.room.max(entries);
         let wanted = self.entries.len() + room as usize;
-        let offsets = offsets(self.width as usize, self.entries.capacity(), wanted);
-        self.entries.resize(offsets)?;
+        let capacity = capacity_for(self.width as usize, self.entries.capacity(), wanted);
+        self.entries.resize(capacity)?;
         self.room = room;
         Ok(())
     }
@@ -194,7 +194,7 @@ fn floor_after(floor: u64, left: &Option<Entry>) -> u64
 
 /// How many slots a ring gets that wants so many: at least twice as many as before where it grows, so that entries are seldom
 /// moved, but never more than the window is wide.
-fn offsets(width: usize, before: usize, wanted: usize) -> usize
+fn capacity_for(width: usize, before: usize, wanted: usize) -> usize
     requires narrow { (before ≤ width) × (width < 2 ^ 32) }
     ensures narrow { result ≤ width }
     ensures more { before ≤ result }

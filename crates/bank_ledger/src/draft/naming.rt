@@ -33,11 +33,11 @@ impl Draft<'_> {
     }
 
     /// The object of the mail about the account of that name.
-    pub fn letter_object_of(&self, about: &AcctName) -> ObjectId
+    pub fn mail_about_object_of(&self, about: &AcctName) -> ObjectId
         requires { is_some (account_of self.now.setup about.now) ≡ true }
-        ensures { result ≡ deeds.letter_object_of self.now.setup about.now }
+        ensures { result ≡ deeds.mail_about_object_of self.now.setup about.now }
     {
-        self.setup.letter_object_of(about)
+        self.setup.mail_about_object_of(about)
     }
 
     /// The object of a user's other mail.

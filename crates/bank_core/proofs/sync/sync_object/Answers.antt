@@ -12,7 +12,7 @@ returns-clause-reply c =
       judged = c.rejection-code.ensures ∙ ap (λ (n : ℕ). rejection c.args.ask.now.reject n c.args.ask.now.kind) c.newest-before.ensures;
       left = c.in_ok-replies.ensures.after;
     })
-    c.in_ok-name.ensures (c.in_ok-token.ensures ∙ ap decimal c.newest-rest.ensures) c.is_lost-lost.ensures c.in_ok-reported.ensures c.in_ok-replies.ensures.replies c.from_vec.ensures
+    c.in_ok-name.ensures (c.in_ok-token.ensures ∙ ap decimal c.newest-after.ensures) c.is_lost-lost.ensures c.in_ok-reported.ensures c.in_ok-replies.ensures.replies c.from_vec.ensures
 
 pub returns-clause-after : goal.returns-clause-after
 returns-clause-after c =

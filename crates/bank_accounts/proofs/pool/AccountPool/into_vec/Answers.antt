@@ -4,10 +4,10 @@ use Rattle.bank_accounts.specs.Pool.{AreUnderNumbers}
 use Rattle.bank_accounts.proofs.HomeLemmas.{no_empty_slot, slots_numbered}
 use Rattle.bank_accounts.proofs.pool.AccountPool.into_vec.Goals as goal
 
-pub loop-index-preserved : goal.loop-index-preserved
-loop-index-preserved c =
-    let last : c.loop-index.slots.items ≡ c.pop.new.self.items ++ None ∷ [] = grind (arith, common_steps) in
-    absurd (no_empty_slot c.args.self c.loop-index.slots.items c.pop.new.self.items (map Some (reverse c.loop-index.accounts.items)) c.requires c.loop-index.invariant last)
+pub loop-slot-preserved : goal.loop-slot-preserved
+loop-slot-preserved c =
+    let last : c.loop-slot.slots.items ≡ c.pop.new.self.items ++ None ∷ [] = grind (arith, common_steps) in
+    absurd (no_empty_slot c.args.self c.loop-slot.slots.items c.pop.new.self.items (map Some (reverse c.loop-slot.accounts.items)) c.requires c.loop-slot.invariant last)
 
 pub returns-clause-numbered : goal.returns-clause-numbered
 returns-clause-numbered c =

@@ -3,7 +3,7 @@ use Rattle.std.proofs.Common.{rules}
 use Rattle.bank_recur.specs.Spawning.{is_before_spawn}
 use Rattle.bank_recur.specs.declared.spawn.Spawn.{Spawn}
 use Rattle.bank_recur.proofs.UpcomingLemmas.{parted}
-use Rattle.bank_recur.proofs.upcoming.occurrence.Goals as goal
+use Rattle.bank_recur.proofs.upcoming.index_of.Goals as goal
 
 pub returns : goal.returns
 returns c = record {
