@@ -2,22 +2,11 @@
 use Rattle.std.proofs.Common.{◌≡◌, ◌≢◌, ℕ, zero, suc, ◌<◌, ◌≤◌, ◌+◌, List, [], ◌∷◌, ◌++◌, length, take, get_or, codes, arith, refl, sym, ap, ◌∙◌, append_assoc, length-append}
 use Rattle.std.specs.Fmt.{decimal}
 use Rattle.std.proofs.lemmas.List.{get_or_at, get_or_append_left, take_at, take-append-le, take_more, length-take-le}
-use Rattle.std.proofs.lemmas.Fmt.{length-decimal-le, digits_decimal}
-use Rattle.std.proofs.lemmas.Str.Parse.{not_in_digits}
+use Rattle.std.proofs.lemmas.Fmt.{length-decimal-le}
 use Rattle.bank_frames.specs.Frames.{Content, request, due_work, IsLength, length_line, frame_head, frame_of, Fits, BeginsNoFrame}
 use Rattle.bank_frames.specs.FirstLine.{EndsLine, HasNoLineEnd}
 use Rattle.bank_frames.specs.FrameHead.{BeginsFrame, BeginsDue, IsNoFirstLine}
-use Rattle.bank_frames.proofs.Lengths.{own}
-
--- no LF is in the line of a length
-no_line_feed : (n k : ℕ) → IsLength n → k < length (length_line n) → get_or (length_line n) k 0 ≢ 10
-no_line_feed n zero small h e = absurd (omega (arith, e))
-no_line_feed n (suc zero) small h e = absurd (omega (arith, e))
-no_line_feed n (suc (suc zero)) small h e = absurd (omega (arith, e))
-no_line_feed n (suc (suc (suc zero))) small h e = absurd (omega (arith, e))
-no_line_feed n (suc (suc (suc (suc zero)))) small h e = absurd (omega (arith, e))
-no_line_feed n (suc (suc (suc (suc (suc k))))) small h e =
-    not_in_digits own (decimal n) 10 (digits_decimal own n (omega arith)) (λ within. omega (arith, within)) k (omega (arith, h)) e
+use Rattle.bank_frames.proofs.Lengths.{no_line_feed}
 
 pub line_is_short : (n : ℕ) → IsLength n → length (length_line n) < 12
 line_is_short n small = omega (arith, length-decimal-le 6 n (omega arith) (omega arith) (omega arith))
@@ -38,7 +27,7 @@ head_regrouped n rest = simp append_assoc
 
 pub head_ends_line : (n : ℕ) (rest : List ℕ) → IsLength n → EndsLine (frame_head n ++ rest) (length (length_line n))
 head_ends_line n rest small =
-    rw (head_regrouped n rest) (line_ended (length_line n) rest (line_is_short n small) (λ k h. no_line_feed n k small h))
+    rw (head_regrouped n rest) (line_ended (length_line n) rest (line_is_short n small) (λ k h. no_line_feed n k (omega arith) h))
 
 -- the first line of a frame without its LF, and what follows it
 abbrev pub line_of : Content → List ℕ
@@ -58,7 +47,7 @@ line_short (request file) fits = line_is_short (length file) fits
 line_short due_work fits = omega arith
 
 no_line_feed_in : (content : Content) (k : ℕ) → Fits content → k < length (line_of content) → get_or (line_of content) k 0 ≢ 10
-no_line_feed_in (request file) k fits h e = no_line_feed (length file) k fits h e
+no_line_feed_in (request file) k fits h e = let small : length file ≤ 262144 = fits in no_line_feed (length file) k (omega arith) h e
 no_line_feed_in due_work zero fits h e = absurd (omega (arith, e))
 no_line_feed_in due_work (suc zero) fits h e = absurd (omega (arith, e))
 no_line_feed_in due_work (suc (suc zero)) fits h e = absurd (omega (arith, e))

@@ -1,4 +1,4 @@
-mod Lengths
+pub mod Lengths
 mod HeadLines
 pub mod Agreement
 mod Windows

@@ -6,10 +6,10 @@ abbrev pub number_from : ℕ → List ℕ → ℕ
 number_from value [] = value
 number_from value (digit ∷ digits) = number_from (value * 10 + (digit - 48)) digits
 
--- A length has one to six digits, and no leading zero but in `0` itself.
+-- A length has one to eight digits, and no leading zero but in `0` itself.
 pub record MayBeLength (digits : List ℕ) : Type 0 where
   pub there : 0 < length digits
-  pub short : length digits ≤ 6
+  pub short : length digits ≤ 8
   pub lead : slice_index digits 0 ≡ 48 → length digits ≡ 1
 
 -- The first line of a frame has at most 12 bytes. Its LF is the first one among them.

@@ -1,57 +1,18 @@
 -- The first line of a frame ends once, and says how long its file is.
-use Rattle.std.proofs.Common.{◌≡◌, ◌≢◌, ℕ, zero, suc, ◌<◌, ◌≤◌, ◌+◌, ◌-◌, Bool, true, false, cond, List, [], ◌∷◌, ◌++◌, length, take, drop, get_or, Option, None, Some, IfSome, IfNone, arith, rules, refl, sym, ap, subst, ◌∙◌, append_assoc, length-append}
-use Rattle.std.specs.Str.{all_ascii_digits}
+use Rattle.std.proofs.Common.{◌≡◌, ◌≢◌, ℕ, suc, ◌<◌, ◌≤◌, ◌-◌, List, [], ◌∷◌, ◌++◌, length, take, drop, get_or, Option, None, Some, IfSome, IfNone, arith, refl, sym, ap, subst, ◌∙◌, append_assoc, length-append}
 use Rattle.std.specs.Fmt.{decimal}
 use Rattle.std.proofs.lemmas.List.{get_or_at, get_or_append_left}
-use Rattle.std.proofs.lemmas.Fmt.{length-decimal-le, digits_decimal, digits_value-decimal, decimal_injective}
-use Rattle.std.proofs.lemmas.Str.Parse.{IsNumeralModel, numerals_by_fold, tells_all_ascii_digits, not_in_digits}
-use Rattle.bank_frames.specs.FirstLine.{number_from}
+use Rattle.std.proofs.lemmas.Fmt.{length-decimal-le, decimal_injective}
+use Rattle.bank_frames.proofs.Lengths.{no_line_feed}
 use Rattle.bank_frames.specs.Frames.{length_line, frame_head, frame}
 use Rattle.register_run.specs.Frames.{IsLength, Fits, BeginsNoFrame}
 use Rattle.register_run.specs.Heads.{HasNoLineEnd, IsLine, IsHead, IsNoHead}
 use Rattle.register_run.specs.NextFrame.{IsFrame}
 
-own : IsNumeralModel (λ ds. all_ascii_digits ds ≡ true) (number_from 0)
-own = numerals_by_fold _ tells_all_ascii_digits number_from (search rules)
-
--- ---- the text of a length
-
--- the text of a length is all digits, at most eight, and stands for it
-pub record IsText (digits : List ℕ) (n : ℕ) : Type 0 where
-  pub short : length digits ≤ 8
-  pub all_digits : all_ascii_digits digits ≡ true
-  pub value : number_from 0 digits ≡ n
-
-pub is_text : (digits : List ℕ) (n : ℕ) → IsLength n → digits ≡ decimal n → IsText digits n
-is_text digits n h e = rw e (record {
-  short = length-decimal-le 8 n (omega arith) (omega arith) (omega arith);
-  all_digits = digits_decimal own n (omega arith);
-  value = digits_value-decimal own n (omega arith);
-})
-
--- no number is read only of what isn't all digits
-pub no_digits : (all : Bool) (n : ℕ) → None ≡ cond all (Some n) None → all ≡ true → ⊥
-no_digits true n h t = cc
-no_digits false n h t = cc
-
--- the number that was read is the one of which the digits are the text
-pub one_number : (all : Bool) (n found m : ℕ) → Some found ≡ cond all (Some n) None → n ≡ m → found ≡ m
-one_number true n found m h e = cc
-one_number false n found m h e = absurd cc
-
 -- ---- line ends
 
-no_line_feed : (n k : ℕ) → IsLength n → k < length (length_line n) → get_or (length_line n) k 0 ≢ 10
-no_line_feed n zero small h e = absurd (omega (arith, e))
-no_line_feed n (suc zero) small h e = absurd (omega (arith, e))
-no_line_feed n (suc (suc zero)) small h e = absurd (omega (arith, e))
-no_line_feed n (suc (suc (suc zero))) small h e = absurd (omega (arith, e))
-no_line_feed n (suc (suc (suc (suc zero)))) small h e = absurd (omega (arith, e))
-no_line_feed n (suc (suc (suc (suc (suc k))))) small h e =
-    not_in_digits own (decimal n) 10 (digits_decimal own n (omega arith)) (λ within. omega (arith, within)) k (omega (arith, h)) e
-
 clean_line : (n : ℕ) → IsLength n → HasNoLineEnd (length_line n)
-clean_line n small k h = no_line_feed n k small h
+clean_line n small k h = no_line_feed n k (omega arith) h
 
 line_is_short : (n : ℕ) → IsLength n → length (length_line n) < 14
 line_is_short n small = omega (arith, length-decimal-le 8 n (omega arith) (omega arith) (omega arith))

@@ -1,17 +1,12 @@
 //! The first line of a frame: `FILE`, a space, the number of the file's bytes, and LF.
 
-ghost use Rattle.std.specs.Prelude.{◌≡◌, ◌≤◌, ◌-◌, ◌↔◌, ℕ, [], length, slice_get, Some, None, IsTrue, IfOk, IfSome, IfNone, IsErrOf, if◌then◌else◌};
+ghost use Rattle.std.specs.Prelude.{◌≡◌, ◌-◌, ◌↔◌, [], length, slice_get, Some, IsTrue, IfOk, IfSome, IfNone, IsErrOf};
 ghost use Rattle.std.specs.Io.KnownBytes.{Keeps, prepend_known};
-ghost use Rattle.std.specs.Str.{all_ascii_digits};
-ghost use Rattle.std.specs.Fmt.{decimal};
 ghost use Rattle.ofx_ports.specs.Faults.{CountsFaults};
-ghost use Rattle.bank_frames.specs.Frames.{length_line};
-ghost use Rattle.bank_frames.specs.FirstLine.{number_from};
-ghost use Rattle.register_run.specs.Frames.{IsLength};
 ghost use Rattle.register_run.specs.Heads.{EndsSo, IsHead, IsLine, IsNoHead};
 
 use crate::reading::read_more;
-use itoa::Buffer;
+use bank_frames::length_in;
 use ofx_ports::{FetchFault, Source};
 
 /// The most bytes of a reply file.
@@ -19,9 +14,6 @@ pub(crate) const MAX_FILE: usize = 67_108_864;
 
 /// The most bytes of the first line of a frame, with its LF.
 const MAX_HEAD: usize = 14;
-
-/// The most digits of the number of a file's bytes.
-const MAX_DIGITS: usize = 8;
 
 /// How a line ends.
 #[derive(Clone, Copy)]
@@ -67,66 +59,11 @@ pub(crate) fn read_line<A: Source>(
     Ok(LineEnd::Nowhere)
 }
 
-/// The number that digits stand for. None where a byte is no digit.
-fn number(digits: &[u8]) -> Option<usize>
-    requires { length digits.now ≤ 8 }
-    ensures { result ≡ (if all_ascii_digits digits.now then Some (number_from 0 digits.now) else None) }
-{
-    let mut value = 0;
-    for digit in digits {
-        if !digit.is_ascii_digit() {
-            return None;
-        }
-        value = value * 10 + (*digit - b'0') as usize;
-    }
-    Some(value)
-}
-
-/// Whether digits are the text of a length.
-fn is_text_of(digits: &[u8], length: usize) -> bool
-    ensures { IsTrue result ↔ (digits.now ≡ decimal length) }
-{
-    digits == Buffer::new().format(length as u64).as_bytes()
-}
-
-/// The length that digits stand for, where they are the text of one.
-fn length_of(digits: &[u8]) -> Option<usize>
-    ensures some { IfSome result (λ n. IsLength n × (digits.now ≡ decimal n)) }
-    ensures none { IfNone result ((n : ℕ) → IsLength n → digits.now ≡ decimal n → ⊥) }
-{
-    if digits.len() > MAX_DIGITS {
-        return None;
-    }
-    match number(digits) {
-        None => None,
-        Some(n) => {
-            if n > MAX_FILE {
-                None
-            } else if is_text_of(digits, n) {
-                Some(n)
-            } else {
-                None
-            }
-        }
-    }
-}
-
-/// The length that a line gives, the line without its LF.
-fn length_in(line: &[u8]) -> Option<usize>
-    ensures some { IfSome result (λ n. IsLength n × (line.now ≡ length_line n)) }
-    ensures none { IfNone result ((n : ℕ) → IsLength n → line.now ≡ length_line n → ⊥) }
-{
-    match line {
-        [b'F', b'I', b'L', b'E', b' ', digits @ ..] => length_of(digits),
-        _ => None,
-    }
-}
-
 /// The size of the file that the first line of a frame announces.
 pub(crate) fn size_in(bytes: &[u8]) -> Option<usize>
     requires { IsLine bytes.now }
     ensures some { IfSome result (IsHead bytes.now) }
     ensures none { IfNone result (IsNoHead bytes.now) }
 {
-    length_in(&bytes[..bytes.len() - 1])
+    length_in(&bytes[..bytes.len() - 1], MAX_FILE)
 }

@@ -1,7 +1,7 @@
 use Rattle.std.proofs.Common.{◌≡◌, ◌<◌, ◌^◌, drop}
 use Rattle.std.specs.Str.{all_ascii_digits}
 use Rattle.bank_frames.specs.FirstLine.{number_from}
-use Rattle.bank_frames.proofs.frame_head.number.Given as goal
+use Rattle.bank_frames.proofs.length_line.number.Given as goal
 
 abbrev pub invariant-loop-digit : goal.invariant-loop-digit
 invariant-loop-digit l = record {
