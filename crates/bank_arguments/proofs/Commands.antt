@@ -45,46 +45,26 @@ asks_of arguments (Serve plan) read = read
 
 pub answer_read : (arguments : List (List ℕ)) (command : Command) (at : Option Moment) → ReadsCommand arguments (Some command) → AreArguments arguments at → IsAnswer at (Ok command)
 answer_read arguments (Answer found) at read are = (found, refl, sym (read.1 at are))
-answer_read arguments Check at read are = let e : 99 ≡ 97 = meant arguments Check 97 read (ap (λ (a : List (List ℕ)). first_byte a) are.spelled) in absurd (omega (arith, e))
-answer_read arguments Due at read are = let e : 100 ≡ 97 = meant arguments Due 97 read (ap (λ (a : List (List ℕ)). first_byte a) are.spelled) in absurd (omega (arith, e))
-answer_read arguments (Mail letter) at read are = let e : 109 ≡ 97 = meant arguments (Mail letter) 97 read (ap (λ (a : List (List ℕ)). first_byte a) are.spelled) in absurd (omega (arith, e))
-answer_read arguments (Rehearse other) at read are = let e : 114 ≡ 97 = meant arguments (Rehearse other) 97 read (ap (λ (a : List (List ℕ)). first_byte a) are.spelled) in absurd (omega (arith, e))
-answer_read arguments (Serve other) at read are = let e : 115 ≡ 97 = meant arguments (Serve other) 97 read (ap (λ (a : List (List ℕ)). first_byte a) are.spelled) in absurd (omega (arith, e))
+answer_read arguments other at read are = let e : begins_with other ≡ 97 = meant arguments other 97 read (ap (λ (a : List (List ℕ)). first_byte a) are.spelled) in absurd (omega (arith, e))
 
 pub check_read : (arguments : List (List ℕ)) (command : Command) → ReadsCommand arguments (Some command) → AreCheckArguments arguments → command ≡ Check
-check_read arguments (Answer found) read are = let e : 97 ≡ 99 = meant arguments (Answer found) 99 read (ap (λ (a : List (List ℕ)). first_byte a) are.spelled) in absurd (omega (arith, e))
 check_read arguments Check read are = refl
-check_read arguments Due read are = let e : 100 ≡ 99 = meant arguments Due 99 read (ap (λ (a : List (List ℕ)). first_byte a) are.spelled) in absurd (omega (arith, e))
-check_read arguments (Mail letter) read are = let e : 109 ≡ 99 = meant arguments (Mail letter) 99 read (ap (λ (a : List (List ℕ)). first_byte a) are.spelled) in absurd (omega (arith, e))
-check_read arguments (Rehearse other) read are = let e : 114 ≡ 99 = meant arguments (Rehearse other) 99 read (ap (λ (a : List (List ℕ)). first_byte a) are.spelled) in absurd (omega (arith, e))
-check_read arguments (Serve other) read are = let e : 115 ≡ 99 = meant arguments (Serve other) 99 read (ap (λ (a : List (List ℕ)). first_byte a) are.spelled) in absurd (omega (arith, e))
+check_read arguments other read are = let e : begins_with other ≡ 99 = meant arguments other 99 read (ap (λ (a : List (List ℕ)). first_byte a) are.spelled) in absurd (omega (arith, e))
 
 pub due_read : (arguments : List (List ℕ)) (command : Command) → ReadsCommand arguments (Some command) → AreDueArguments arguments → command ≡ Due
-due_read arguments (Answer found) read are = let e : 97 ≡ 100 = meant arguments (Answer found) 100 read (ap (λ (a : List (List ℕ)). first_byte a) are.spelled) in absurd (omega (arith, e))
-due_read arguments Check read are = let e : 99 ≡ 100 = meant arguments Check 100 read (ap (λ (a : List (List ℕ)). first_byte a) are.spelled) in absurd (omega (arith, e))
 due_read arguments Due read are = refl
-due_read arguments (Mail letter) read are = let e : 109 ≡ 100 = meant arguments (Mail letter) 100 read (ap (λ (a : List (List ℕ)). first_byte a) are.spelled) in absurd (omega (arith, e))
-due_read arguments (Rehearse other) read are = let e : 114 ≡ 100 = meant arguments (Rehearse other) 100 read (ap (λ (a : List (List ℕ)). first_byte a) are.spelled) in absurd (omega (arith, e))
-due_read arguments (Serve other) read are = let e : 115 ≡ 100 = meant arguments (Serve other) 100 read (ap (λ (a : List (List ℕ)). first_byte a) are.spelled) in absurd (omega (arith, e))
+due_read arguments other read are = let e : begins_with other ≡ 100 = meant arguments other 100 read (ap (λ (a : List (List ℕ)). first_byte a) are.spelled) in absurd (omega (arith, e))
 
 pub letter_read : (arguments : List (List ℕ)) (command : Command) (name subject : List ℕ) → ReadsCommand arguments (Some command) → AreMailArguments arguments name subject → IsLetter name subject (Ok command)
-letter_read arguments (Answer found) name subject read are = let e : 97 ≡ 109 = meant arguments (Answer found) 109 read (ap (λ (a : List (List ℕ)). first_byte a) are.spelled) in absurd (omega (arith, e))
-letter_read arguments Check name subject read are = let e : 99 ≡ 109 = meant arguments Check 109 read (ap (λ (a : List (List ℕ)). first_byte a) are.spelled) in absurd (omega (arith, e))
-letter_read arguments Due name subject read are = let e : 100 ≡ 109 = meant arguments Due 109 read (ap (λ (a : List (List ℕ)). first_byte a) are.spelled) in absurd (omega (arith, e))
 letter_read arguments (Mail letter) name subject read are =
     let same = sym read.spelled ∙ are.spelled in
     (letter, refl, ap (λ (a : List (List ℕ)). get_or a 3 []) same, ap (λ (a : List (List ℕ)). get_or a 4 []) same)
-letter_read arguments (Rehearse other) name subject read are = let e : 114 ≡ 109 = meant arguments (Rehearse other) 109 read (ap (λ (a : List (List ℕ)). first_byte a) are.spelled) in absurd (omega (arith, e))
-letter_read arguments (Serve other) name subject read are = let e : 115 ≡ 109 = meant arguments (Serve other) 109 read (ap (λ (a : List (List ℕ)). first_byte a) are.spelled) in absurd (omega (arith, e))
+letter_read arguments other name subject read are = let e : begins_with other ≡ 109 = meant arguments other 109 read (ap (λ (a : List (List ℕ)). first_byte a) are.spelled) in absurd (omega (arith, e))
 
 pub seed_read : (arguments : List (List ℕ)) (command : Command) (seed : ℕ) → ReadsCommand arguments (Some command) → AreSeedArguments arguments seed → command ≡ Rehearse seed
-seed_read arguments (Answer found) seed read are = let e : 97 ≡ 114 = meant arguments (Answer found) 114 read (ap (λ (a : List (List ℕ)). first_byte a) are.spelled) in absurd (omega (arith, e))
-seed_read arguments Check seed read are = let e : 99 ≡ 114 = meant arguments Check 114 read (ap (λ (a : List (List ℕ)). first_byte a) are.spelled) in absurd (omega (arith, e))
-seed_read arguments Due seed read are = let e : 100 ≡ 114 = meant arguments Due 114 read (ap (λ (a : List (List ℕ)). first_byte a) are.spelled) in absurd (omega (arith, e))
-seed_read arguments (Mail letter) seed read are = let e : 109 ≡ 114 = meant arguments (Mail letter) 114 read (ap (λ (a : List (List ℕ)). first_byte a) are.spelled) in absurd (omega (arith, e))
-seed_read arguments (Rehearse other) seed read are =
-    ap (λ (n : ℕ). Rehearse n) (decimal_injective other seed read.fits are.fits (ap (λ (a : List (List ℕ)). get_or a 1 []) (sym read.spelled ∙ are.spelled)))
-seed_read arguments (Serve other) seed read are = let e : 115 ≡ 114 = meant arguments (Serve other) 114 read (ap (λ (a : List (List ℕ)). first_byte a) are.spelled) in absurd (omega (arith, e))
+seed_read arguments (Rehearse found) seed read are =
+    ap (λ (n : ℕ). Rehearse n) (decimal_injective found seed read.fits are.fits (ap (λ (a : List (List ℕ)). get_or a 1 []) (sym read.spelled ∙ are.spelled)))
+seed_read arguments other seed read are = let e : begins_with other ≡ 114 = meant arguments other 114 read (ap (λ (a : List (List ℕ)). first_byte a) are.spelled) in absurd (omega (arith, e))
 
 -- one word is one number
 one_number : (least most : ℕ) (argument word : List ℕ) (n m : ℕ) → most < 2 ^ 64 → IsNumber least most argument n → IsNumber least most word m → argument ≡ word → n ≡ m
@@ -103,9 +83,5 @@ one_plan arguments one other is are =
     ap (λ (n : ℕ). plan_with n one.workers one.most) port ∙ (ap (λ (n : ℕ). plan_with other.port n one.most) workers ∙ ap (λ (n : ℕ). plan_with other.port other.workers n) most)
 
 pub plan_read : (arguments : List (List ℕ)) (command : Command) (plan : Plan) → ReadsCommand arguments (Some command) → AreServeArguments arguments plan → command ≡ Serve plan
-plan_read arguments (Answer found) plan read are = let e : 97 ≡ 115 = meant arguments (Answer found) 115 read (ap (λ (a : List (List ℕ)). first_byte a) are.spelled) in absurd (omega (arith, e))
-plan_read arguments Check plan read are = let e : 99 ≡ 115 = meant arguments Check 115 read (ap (λ (a : List (List ℕ)). first_byte a) are.spelled) in absurd (omega (arith, e))
-plan_read arguments Due plan read are = let e : 100 ≡ 115 = meant arguments Due 115 read (ap (λ (a : List (List ℕ)). first_byte a) are.spelled) in absurd (omega (arith, e))
-plan_read arguments (Mail letter) plan read are = let e : 109 ≡ 115 = meant arguments (Mail letter) 115 read (ap (λ (a : List (List ℕ)). first_byte a) are.spelled) in absurd (omega (arith, e))
-plan_read arguments (Rehearse other) plan read are = let e : 114 ≡ 115 = meant arguments (Rehearse other) 115 read (ap (λ (a : List (List ℕ)). first_byte a) are.spelled) in absurd (omega (arith, e))
-plan_read arguments (Serve other) plan read are = ap (λ (p : Plan). Serve p) (one_plan arguments other plan read are)
+plan_read arguments (Serve found) plan read are = ap (λ (p : Plan). Serve p) (one_plan arguments found plan read are)
+plan_read arguments other plan read are = let e : begins_with other ≡ 115 = meant arguments other 115 read (ap (λ (a : List (List ℕ)). first_byte a) are.spelled) in absurd (omega (arith, e))
