@@ -2,7 +2,7 @@
 use Rattle.std.proofs.Common.{◌≡◌, ℕ, ◌+◌, ◌*◌, ◌/◌, ◌%◌, ◌^◌, ◌<◌, ◌≤◌, true, false, List, [], ◌∷◌, ◌++◌, length, refl, sym, ap, ◌∙◌, subst, le_refl, add-zero, append-nil, arith}
 use Rattle.std.proofs.Math.Nat.{mod-add-div', add-mul-mod_self_right}
 use Rattle.std.specs.Prelude.{All}
-use Rattle.std.proofs.lemmas.List.Elements.{All-nil}
+use Rattle.std.proofs.lemmas.List.Elements.{All-nil, All-weaker}
 use Rattle.atomic_table.specs.Table.{Me, Step}
 use Rattle.bank_model.specs.declared.entry.Entry.{Entry}
 use Rattle.bank_model.specs.declared.log.LogItem.{LogItem}
@@ -136,3 +136,10 @@ meets st found pass note mid me p n above joined seen =
 -- tokens that were heard, of values that are equal
 pub tokens_along : {start start' : List ℕ} {log log' : List LogItem} {loads loads' : List Load} → start ≡ start' → log ≡ log' → loads ≡ loads' → All (IsTokenIn start log) loads → All (IsTokenIn start' log') loads'
 tokens_along s l t h = subst (λ (x : List ℕ × List LogItem × List Load). All (IsTokenIn x.0 x.1) x.2) (λ i. (s i, l i, t i)) h
+
+-- The endings of a pass that was heard are among the log's.
+pub mine_within : {heard seen log log' : List LogItem} {own own' : List ℕ} → heard ≡ seen → log ≡ log' → own ≡ own' → Begins heard log → AreEndings seen own → All (λ number. number ≤ length (endings log')) own'
+mine_within {heard} {seen} {log} {log'} {own} {own'} h l o begins endings_of =
+    let known = AreEndings-begins seen log own (subst (λ (x : List LogItem). Begins x log) h begins) endings_of in
+    let low = All-weaker (λ number. (1 ≤ number) × (number ≤ length (endings log))) (λ number. number ≤ length (endings log)) (λ number both. both.1) own known.within in
+    subst (λ (x : List LogItem × List ℕ). All (λ number. number ≤ length (endings x.0)) x.1) (λ i. (l i, o i)) low

@@ -5,3 +5,4 @@ pub mod Views
 pub mod Words
 pub mod Keeping
 pub mod Holding
+pub mod Following

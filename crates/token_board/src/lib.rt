@@ -8,6 +8,7 @@
 #![tactic(auto)]
 
 mod board;
+pub mod laws;
 mod note;
 mod pass;
 mod rule;

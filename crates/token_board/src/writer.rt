@@ -1,6 +1,6 @@
 //! The one who publishes the items of the log.
 
-ghost use Rattle.std.specs.Prelude.{◌≡◌, ◌+◌, ◌<◌, ◌%◌, ◌^◌, [], ◌∷◌, ◌++◌, length, All};
+ghost use Rattle.std.specs.Prelude.{◌≡◌, ◌+◌, ◌<◌, ◌≤◌, ◌%◌, ◌^◌, [], ◌∷◌, ◌++◌, length, All};
 ghost use Rattle.bank_model.specs.declared.log.LogItem.TheVariants.{Effect};
 ghost use Rattle.bank_model.specs.Log.{endings};
 ghost use Rattle.token_board.specs.Tokens.{Begins, numbers_in, IsTokenIn};
@@ -52,7 +52,8 @@ impl Writer {
         requires own { self.old.table ≡ board.now.table }
         requires object { entry.now.object.0 < length board.now.start }
         requires above { All (λ number. number < entry.now.number) (numbers_in board.now.start self.old.log) }
-        ensures { self.new ≡ record self.old { log = self.old.log ++ Effect entry.now ∷ [] } }
+        ensures log { self.new ≡ record self.old { log = self.old.log ++ Effect entry.now ∷ [] } }
+        ensures numbers { numbers_in board.now.start self.new.log ≡ numbers_in board.now.start self.old.log ++ entry.now.number ∷ [] }
     {
         let table = &board.table;
         publish_entry::<Brand>(&table.shared, &mut self.seat, entry);
@@ -66,6 +67,7 @@ impl Writer {
         ensures log { self.new.log ≡ self.old.log ++ item_of ending.now ∷ [] }
         ensures claimed { self.new.claimed ≡ claims_of (item_of ending.now) (length (endings self.new.log)) }
         ensures table { self.new.table ≡ self.old.table }
+        ensures numbers { numbers_in board.now.start self.new.log ≡ numbers_in board.now.start self.old.log }
     {
         let table = &board.table;
         let count = self.ended.wrapping_add(1);
@@ -86,13 +88,14 @@ impl Writer {
         }
     }
 
-    /// Hears what a pass has seen and loaded: what it has seen begins the log, and each token of at least 1 that it has loaded
-    /// is the number of an entry of its object. Takes no memory.
+    /// Hears what a pass has seen and loaded: what it has seen begins the log, each token of at least 1 that it has loaded is the
+    /// number of an entry of its object, and its endings are among the log's. Takes no memory.
     pub fn hear(&mut self, board: &Board, pass: &mut Pass)
         requires own { (self.old.table ≡ board.now.table) × (pass.old.table ≡ board.now.table) }
         ensures same { (self.new ≡ self.old) × (pass.new ≡ pass.old) }
         ensures seen { Begins pass.old.seen self.old.log }
         ensures tokens { All (IsTokenIn board.now.start self.old.log) pass.old.polled }
+        ensures mine { All (λ number. number ≤ length (endings self.old.log)) pass.old.mine }
     {
         let table = &board.table;
         let shared = &table.shared;
