@@ -11,7 +11,7 @@ ghost use Rattle.bank_ledger.specs.Balanced.{AreBalanced};
 ghost use Rattle.bank_invariants.specs.SoundStates.{IsSoundState};
 ghost use Rattle.bank_engine.specs.Calls.{Answers, FailsToCommit, Settles, FailsToSettle, append_of, settling_of};
 ghost use Rattle.bank_engine.specs.Solo.{Sends, AppendsOne};
-ghost use Rattle.bank_engine.specs.Steps.{IsReady};
+ghost use Rattle.bank_engine.specs.Steps.{IsReady, Expects};
 ghost use Rattle.bank_engine.specs.Views.{journal_of};
 
 use crate::applying::{adopt, answer};
@@ -138,6 +138,8 @@ impl<P: Printer> Engine<P> {
         requires unsettled { K.unsettled keeper.old ≡ false }
         requires named { AreHeld held.old (named self.old.setup self.old.state ready.event) }
         requires balanced { AreBalanced self.old.setup self.old.state held.old }
+        requires expected { Expects (L.expects log.old) self.old.setup self.old.state ready.at ready.event }
+        requires free { L.expects log.old [] }
         ensures answers { IfOk result (λ reply. Answers
             (journal_of self.old (record { records = K.records keeper.old; landed = K.landed keeper.old; unsettled = K.unsettled keeper.old; faults = K.faults keeper.old }) (L.log log.old))
             (journal_of self.new (record { records = K.records keeper.new; landed = K.landed keeper.new; unsettled = K.unsettled keeper.new; faults = K.faults keeper.new }) (L.log log.new))
@@ -146,6 +148,7 @@ impl<P: Printer> Engine<P> {
             (journal_of self.old (record { records = K.records keeper.old; landed = K.landed keeper.old; unsettled = K.unsettled keeper.old; faults = K.faults keeper.old }) (L.log log.old))
             (journal_of self.new (record { records = K.records keeper.new; landed = K.landed keeper.new; unsettled = K.unsettled keeper.new; faults = K.faults keeper.new }) (L.log log.new))
             ready.event ready.at) }
+        ensures through { L.through log.new ≡ L.through log.old }
         ensures size { K.size keeper.new ≡ counted (K.size keeper.old) (is_ok result) }
         ensures appends { K.appends keeper.old keeper.new ready.rec (append_of result) }
         ensures numbers { HaveSameNumbers held.new held.old }
@@ -183,6 +186,8 @@ impl<P: Printer> Engine<P> {
         requires unsettled { K.unsettled keeper.old ≡ false }
         requires named { AreHeld held.old (named self.old.setup self.old.state event) }
         requires balanced { AreBalanced self.old.setup self.old.state held.old }
+        requires expected { Expects (L.expects log.old) self.old.setup self.old.state at event }
+        requires free { L.expects log.old [] }
         ensures sends { IfOk result (λ line. Sends (E.sent envelope)
             (journal_of self.old (record { records = K.records keeper.old; landed = K.landed keeper.old; unsettled = K.unsettled keeper.old; faults = K.faults keeper.old }) (L.log log.old))
             (journal_of self.new (record { records = K.records keeper.new; landed = K.landed keeper.new; unsettled = K.unsettled keeper.new; faults = K.faults keeper.new }) (L.log log.new))
@@ -216,12 +221,15 @@ impl<P: Printer> Engine<P> {
         requires unsettled { K.unsettled keeper.old ≡ is_some self.old.pending }
         requires named { IfSome self.old.pending (λ pending. AreHeld held.old (named self.old.setup self.old.state pending.event)) }
         requires balanced { AreBalanced self.old.setup self.old.state held.old }
+        requires expected { IfSome self.old.pending (λ pending. Expects (L.expects log.old) self.old.setup self.old.state pending.at pending.event) }
+        requires free { L.expects log.old [] }
         ensures settled { IfOk result (Settles
             (journal_of self.old (record { records = K.records keeper.old; landed = K.landed keeper.old; unsettled = K.unsettled keeper.old; faults = K.faults keeper.old }) (L.log log.old))
             (journal_of self.new (record { records = K.records keeper.new; landed = K.landed keeper.new; unsettled = K.unsettled keeper.new; faults = K.faults keeper.new }) (L.log log.new))) }
         ensures fails { IfErr result (FailsToSettle
             (journal_of self.old (record { records = K.records keeper.old; landed = K.landed keeper.old; unsettled = K.unsettled keeper.old; faults = K.faults keeper.old }) (L.log log.old))
             (journal_of self.new (record { records = K.records keeper.new; landed = K.landed keeper.new; unsettled = K.unsettled keeper.new; faults = K.faults keeper.new }) (L.log log.new))) }
+        ensures through { L.through log.new ≡ L.through log.old }
         ensures idle { self.old.pending ≡ None → keeper.new ≡ keeper.old }
         ensures settles { self.old.pending ≢ None → K.settles keeper.old keeper.new (settling_of result) }
         ensures numbers { HaveSameNumbers held.new held.old }

@@ -26,3 +26,4 @@ pub mod RunLaws
 pub mod UidLaws
 pub mod UidSteps
 pub mod TakenLemmas
+pub mod BelongingLemmas

@@ -2,7 +2,7 @@
 use Rattle.std.proofs.Common.{◌≡◌, ℕ, ◌+◌, ◌<◌, ◌≤◌, List, [], ◌∷◌, ◌++◌, map, length, sym, ap, ◌∙◌, subst, append_assoc, append-nil, arith}
 use Rattle.std.specs.Prelude.{All}
 use Rattle.std.proofs.lemmas.List.{map-append}
-use Rattle.std.proofs.lemmas.List.Elements.{All-nil, All-cons, All-head, All-tail, All-push, All-weaker}
+use Rattle.std.proofs.lemmas.List.Elements.{All-nil, All-cons, All-push, All-weaker}
 use Rattle.bank_model.specs.declared.entry.Entry.{Entry}
 use Rattle.bank_model.specs.declared.log.LogItem.{LogItem}
 use Rattle.bank_model.specs.declared.log.LogItem.TheVariants.{Effect, Answer, Adopted, Fault}
@@ -40,12 +40,12 @@ follows start log number [] below numbered objects = tt
 follows start log number (e ∷ es) below numbered objects =
     let is = numbered.0 in
     let next = below_next number (numbers_in start log) below in (
-      All-head (λ (x : Entry). x.object.0 < length start) e es objects,
+      objects.0,
       subst (λ (k : ℕ). All (λ n. n < k) (numbers_in start log)) (sym is) below,
       follows start (log ++ Effect e ∷ []) (number + 1) es
           (subst (All (λ n. n < number + 1)) (ap (λ (k : ℕ). numbers_in start log ++ k ∷ []) (sym is) ∙ sym (numbers-effect start log e)) next)
           numbered.1
-          (All-tail (λ (x : Entry). x.object.0 < length start) e es objects),
+          objects.1,
     )
 
 -- ---- endings after others

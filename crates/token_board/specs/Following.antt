@@ -1,5 +1,6 @@
 -- Entries that may be published one after another, and endings that a pass may be told to own.
 use Rattle.std.specs.Prelude.{◌≡◌, ℕ, ◌+◌, ◌<◌, ◌≤◌, List, [], ◌∷◌, ◌++◌, length, All}
+use Rattle.std.specs.List.{AllByRecursion}
 use Rattle.bank_model.specs.declared.entry.Entry.{Entry}
 use Rattle.bank_model.specs.declared.log.LogItem.{LogItem}
 use Rattle.bank_model.specs.declared.log.LogItem.TheVariants.{Effect}
@@ -22,7 +23,7 @@ AreNumbered number (entry ∷ more) = (entry.number ≡ number) × AreNumbered (
 -- Entries of the board's objects that are numbered from above all others may be published one after another.
 abbrev pub NumberedFollow : Type 0
 NumberedFollow = (start : List ℕ) (log : List LogItem) (number : ℕ) (entries : List Entry) → All (λ n. n < number) (numbers_in start log)
-    → AreNumbered number entries → All (λ (entry : Entry). entry.object.0 < length start) entries → MayFollow start log entries
+    → AreNumbered number entries → AllByRecursion (λ (entry : Entry). entry.object.0 < length start) entries → MayFollow start log entries
 
 -- The number of an ending is above those of all endings before it.
 abbrev pub ClaimsAreAbove : Type 0
