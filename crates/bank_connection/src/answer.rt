@@ -8,7 +8,7 @@ ghost use Rattle.bank_model.specs.declared.setup.Setup.{Setup as TheSetup};
 ghost use Rattle.bank_model.specs.Polls.{is_poll};
 ghost use Rattle.bank_model.specs.Sound.{IsSound};
 ghost use Rattle.bank_signon.specs.Signon.{IsSignedOn, IsDenied, IsRefused};
-ghost use Rattle.bank_connection.specs.Offices.{OfficeView, IsRightView};
+ghost use Rattle.bank_callers.specs.Callers.{CallerView, IsRightView};
 ghost use Rattle.http_link.specs.Replies.{line};
 ghost use Rattle.bank_connection.specs.Answering.{answer_code, answer_body, reports_no_memory, Answers};
 
@@ -101,7 +101,7 @@ fn bad_file_line(alloc: Global, offset: u64) -> Result<Vec<u8>, OutOfMemory>
 
 /// The answer to a body that spells no file. Neither the clock nor the office is asked.
 fn misspelled(alloc: Global, offset: u64) -> Answer
-    ensures { (setup : TheSetup) (body : List ℕ) (shown : Option (List TheMoment)) (known : Option OfficeView) →
+    ensures { (setup : TheSetup) (body : List ℕ) (shown : Option (List TheMoment)) (known : Option CallerView) →
         IsRefused body offset → Answers setup body shown shown known known result }
 {
     match bad_file_line(alloc, offset) {
@@ -112,7 +112,7 @@ fn misspelled(alloc: Global, offset: u64) -> Answer
 
 /// The answer to a file whose signon failed. The office isn't asked.
 fn denied<C: Clock>(alloc: Global, clock: &mut C, file: RequestFile) -> Answer
-    ensures { (setup : TheSetup) (body : List ℕ) (known : Option OfficeView) →
+    ensures { (setup : TheSetup) (body : List ℕ) (known : Option CallerView) →
         IsDenied setup body file → Answers setup body (C.shown clock.old) (C.shown clock.new) known known result }
 {
     let at = clock.now();

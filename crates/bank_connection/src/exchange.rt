@@ -4,7 +4,7 @@ ghost use Rattle.std.specs.Prelude.{◌≡◌, ◌<◌, ◌≤◌, ◌||◌, ◌
 ghost use Rattle.ofx_types.specs.declared.number.Moment.{Moment};
 ghost use Rattle.bank_model.specs.declared.setup.Setup.{Setup};
 ghost use Rattle.http_link.specs.Requests.{IsRefusedByHead};
-ghost use Rattle.bank_connection.specs.Offices.{OfficeView, IsRightView};
+ghost use Rattle.bank_callers.specs.Callers.{CallerView, IsRightView};
 ghost use Rattle.http_link.specs.Incoming.{HoldsWhole};
 ghost use Rattle.bank_connection.specs.Answering.{reports_no_memory};
 ghost use Rattle.bank_connection.specs.Connection.{around};
@@ -30,7 +30,7 @@ pub fn refuse<L: Link>(
 ) -> Result<(), ServeError>
     requires request { (size ≤ length incoming.old) × IsRefusedByHead (take size incoming.old) refusal }
     requires room { 512 ≤ vec_capacity room.old }
-    ensures exchange { (setup : Setup) (number : ℕ) (shown : Option (List Moment)) (known : Option OfficeView) →
+    ensures exchange { (setup : Setup) (number : ℕ) (shown : Option (List Moment)) (known : Option CallerView) →
         Exchanges setup number incoming.old incoming.new
         (around (L.left link.old) (L.read_faults link.old) (L.held link.old) (L.write_faults link.old) shown known)
         (around (L.left link.new) (L.read_faults link.new) (L.held link.new) (L.write_faults link.new) shown known)

@@ -6,7 +6,7 @@ ghost use Rattle.bank_model.specs.declared.setup.Setup.{Setup as TheSetup};
 ghost use Rattle.bank_model.specs.SetupForm.{IsWithinLimits};
 ghost use Rattle.bank_model.specs.Sound.{IsSound};
 ghost use Rattle.bank_model.specs.Polls.{is_poll};
-ghost use Rattle.bank_connection.specs.Offices.{OfficeView, IsRightView, Knows, IsCommitted, IsUncommitted, IsLooked, HasLoaded};
+ghost use Rattle.bank_callers.specs.Callers.{CallerView, IsRightView, Knows, IsCommitted, IsUncommitted, IsLooked, HasLoaded};
 
 use bank_model::{Setup, SubmitFault};
 use ofx_types::{Moment, OutOfMemory, RequestFile, UserId};
@@ -18,7 +18,7 @@ pub trait Office {
     ghost setup: { Self → TheSetup };
 
     // what it knows of the bank, where it says so
-    ghost knows: { Self → Option OfficeView };
+    ghost knows: { Self → Option CallerView };
 
     /// The setup of the bank.
     fn setup(&self) -> &Setup

@@ -1,6 +1,7 @@
 //! Steps that are taken once their records are known to be kept. Nothing here takes memory.
 
-ghost use Rattle.std.specs.Prelude.{◌≡◌, ◌++◌};
+ghost use Rattle.std.specs.Prelude.{◌≡◌, List, ◌++◌};
+ghost use Rattle.bank_model.specs.declared.log.LogItem.{LogItem};
 ghost use Rattle.bank_model.specs.declared.log.LogItem.TheVariants.{Answer, Adopted};
 ghost use Rattle.bank_model.specs.LegalLog.{group};
 ghost use Rattle.bank_model.specs.Rules.{named, state_after, answer_to};
@@ -33,6 +34,7 @@ pub(crate) fn answer<L: Publisher, P: Printer>(
     ensures balanced { AreBalanced book.new.setup book.new.state held.new }
     ensures log { L.log log.new ≡ L.log log.old ++ group book.old.setup book.old.state (Answer ready.event ready.at result.items) }
     ensures through { L.through log.new ≡ L.through log.old }
+    ensures since { (before : List LogItem) → L.since log.old before → L.since log.new before }
     ensures reply { result.items ≡ answer_to book.old.setup book.old.state ready.at ready.event }
 {
     let (event, at, prepared) = ready.into_step();
@@ -59,6 +61,7 @@ pub(crate) fn adopt<L: Publisher, P: Printer>(
     ensures balanced { AreBalanced book.new.setup book.new.state held.new }
     ensures log { L.log log.new ≡ L.log log.old ++ group book.old.setup book.old.state (Adopted pending.number pending.event pending.at) }
     ensures through { L.through log.new ≡ L.through log.old }
+    ensures since { (before : List LogItem) → L.since log.old before → L.since log.new before }
 {
     let number = pending.number;
     let (event, at, prepared) = pending.into_step();

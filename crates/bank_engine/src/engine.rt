@@ -1,9 +1,10 @@
 //! The engine of a bank: its book, and what a failed append has left open.
 
-ghost use Rattle.std.specs.Prelude.{◌≡◌, ◌≢◌, None, Some, Ok, true, false, is_ok, is_some, IfOk, IfErr, OnOk, OnErr, IsErrOf};
+ghost use Rattle.std.specs.Prelude.{◌≡◌, ◌≢◌, List, [], None, Some, Ok, true, false, is_ok, is_some, IfOk, IfErr, OnOk, OnErr, IsErrOf};
 ghost use Rattle.std.specs.Option.{IfSome, option_map, option_copied};
 ghost use Rattle.ofx_types.specs.Calendar.{IsMoment};
 ghost use Rattle.ofx_ports.specs.Kept.{counted};
+ghost use Rattle.bank_model.specs.declared.log.LogItem.{LogItem};
 ghost use Rattle.bank_model.specs.Rules.{IsLegal, named};
 ghost use Rattle.bank_model.specs.SetupForm.{IsWithinLimits};
 ghost use Rattle.bank_accounts.specs.HeldAccounts.{AreHeld, HaveSameNumbers};
@@ -149,6 +150,7 @@ impl<P: Printer> Engine<P> {
             (journal_of self.new (record { records = K.records keeper.new; landed = K.landed keeper.new; unsettled = K.unsettled keeper.new; faults = K.faults keeper.new }) (L.log log.new))
             ready.event ready.at) }
         ensures through { L.through log.new ≡ L.through log.old }
+        ensures since { (before : List LogItem) → L.since log.old before → L.since log.new before }
         ensures size { K.size keeper.new ≡ counted (K.size keeper.old) (is_ok result) }
         ensures appends { K.appends keeper.old keeper.new ready.rec (append_of result) }
         ensures numbers { HaveSameNumbers held.new held.old }
@@ -230,6 +232,7 @@ impl<P: Printer> Engine<P> {
             (journal_of self.old (record { records = K.records keeper.old; landed = K.landed keeper.old; unsettled = K.unsettled keeper.old; faults = K.faults keeper.old }) (L.log log.old))
             (journal_of self.new (record { records = K.records keeper.new; landed = K.landed keeper.new; unsettled = K.unsettled keeper.new; faults = K.faults keeper.new }) (L.log log.new))) }
         ensures through { L.through log.new ≡ L.through log.old }
+        ensures since { (before : List LogItem) → L.since log.old before → L.since log.new before }
         ensures idle { self.old.pending ≡ None → keeper.new ≡ keeper.old }
         ensures settles { self.old.pending ≢ None → K.settles keeper.old keeper.new (settling_of result) }
         ensures numbers { HaveSameNumbers held.new held.old }

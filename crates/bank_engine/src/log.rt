@@ -60,6 +60,8 @@ impl Publisher for Log {
 
     ghost through = { λ l. 0 };
 
+    ghost since = { λ l before. ⊤ };
+
     fn next_number(&self) -> u64 {
         self.ended.wrapping_add(1)
     }

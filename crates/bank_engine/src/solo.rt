@@ -1,6 +1,6 @@
 //! An engine with all accounts of its bank.
 
-ghost use Rattle.std.specs.Prelude.{◌≡◌, ◌≢◌, None, true, false, is_ok, is_some, IfOk, IfErr, OnErr};
+ghost use Rattle.std.specs.Prelude.{◌≡◌, ◌≢◌, [], None, true, false, is_ok, is_some, IfOk, IfErr, OnErr};
 ghost use Rattle.std.specs.Option.{IfSome};
 ghost use Rattle.ofx_types.specs.Calendar.{IsMoment};
 ghost use Rattle.ofx_ports.specs.Kept.{counted};

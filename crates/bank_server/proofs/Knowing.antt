@@ -19,9 +19,10 @@ use Rattle.bank_invariants.specs.SoundStates.{IsSoundState}
 use Rattle.bank_replay.specs.Opening.{RecordsGive}
 use Rattle.bank_engine.specs.Views.{JournalView}
 use Rattle.bank_shared.specs.Calls.{AnswersNext, FailsToSubmit}
-use Rattle.bank_connection.specs.Polled.{Load, loads_made}
+use Rattle.token_board.specs.declared.view.Load.{Load}
+use Rattle.bank_callers.specs.Polled.{loads_made}
 use Rattle.bank_connection.specs.NewestTokens.{newest_loads, NewestAreReported}
-use Rattle.bank_connection.specs.Offices.{IsRightView, IsFresh, HoldsIn, IsCommitted, IsUncommitted, IsLooked}
+use Rattle.bank_callers.specs.Callers.{IsRightView, IsFresh, HoldsIn, IsCommitted, IsUncommitted, IsLooked}
 use Rattle.bank_server.specs.OfficeViews.{own_endings, office_view, HasOpened}
 use Rattle.bank_server.proofs.OwnEndings.{own_rise, own_within}
 use Rattle.bank_server.proofs.LockedBankCalls.{committed, refused, grown, hold-grown}

@@ -18,8 +18,8 @@ use Rattle.bank_model.specs.Rules.{state_after}
 use Rattle.bank_engine.specs.Calls.{Answers, SettlesAny}
 use Rattle.bank_engine.specs.Views.{PendingView, JournalView}
 use Rattle.bank_shared.specs.Calls.{AnswersNext, FailsToSubmit}
-use Rattle.bank_connection.specs.Polled.{Load}
-use Rattle.bank_connection.specs.Offices.{GainsEnding, GainsNothing, HoldsIn, IsOfFile, IsCommitted, IsFaulted, IsUncommitted}
+use Rattle.token_board.specs.declared.view.Load.{Load}
+use Rattle.bank_callers.specs.Callers.{GainsEnding, GainsNothing, HoldsIn, IsOfFile, IsCommitted, IsFaulted, IsUncommitted}
 use Rattle.bank_server.specs.OfficeViews.{own_from, own_endings, office_view}
 use Rattle.bank_server.proofs.OwnEndings.{AreNoOnes, IsOwn, no_ones_after, own_after}
 use Rattle.bank_model.proofs.Logs.{entries-grown, endings_of_effects}

@@ -4,7 +4,7 @@ use Rattle.std.proofs.lemmas.List.Elements.{filter-append, All-nil, All-cons, Al
 use Rattle.bank_model.specs.declared.log.LogItem.{LogItem}
 use Rattle.bank_model.specs.declared.log.LogItem.TheVariants.{Effect, Answer, Adopted, Fault}
 use Rattle.bank_model.specs.Log.{is_ending, endings}
-use Rattle.bank_connection.specs.Offices.{Rises}
+use Rattle.token_board.specs.Tokens.{Rises}
 use Rattle.bank_server.specs.OfficeViews.{own_from, own_endings}
 
 -- those of a list and of what is there after it

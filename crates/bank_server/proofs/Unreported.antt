@@ -10,7 +10,7 @@ use Rattle.bank_model.specs.declared.setup.Setup.{Setup}
 use Rattle.bank_model.specs.declared.submit.SubmitFault.{SubmitFault}
 use Rattle.bank_model.specs.declared.submit.SubmitFault.TheVariants.{Keeper, OutOfMemory}
 use Rattle.bank_model.specs.Polls.{poll_reply}
-use Rattle.bank_connection.specs.Offices.{IsCommitted, IsUncommitted, IsLooked}
+use Rattle.bank_callers.specs.Callers.{IsCommitted, IsUncommitted, IsLooked}
 use Rattle.bank_connection.specs.NewestTokens.{newest_loads, NewestAreReported}
 
 pub committed_unreported : {A : Type 0} (bytes : A → List ℕ) (user : UserId) (file : RequestFile) (at : Moment) (result : Result A SubmitFault) → IfOk result (λ reply. IsCommitted user file at (bytes reply) None None)

@@ -8,8 +8,9 @@ use Rattle.bank_model.specs.Log.{endings}
 use Rattle.bank_model.specs.Rules.{opening_state}
 use Rattle.event_codec.specs.Records.{Reopens}
 use Rattle.bank_engine.specs.Views.{JournalView}
-use Rattle.bank_connection.specs.Offices.{OfficeView}
-use Rattle.bank_connection.specs.Polled.{Load, loads_made}
+use Rattle.bank_callers.specs.Callers.{CallerView}
+use Rattle.token_board.specs.declared.view.Load.{Load}
+use Rattle.bank_callers.specs.Polled.{loads_made}
 use Rattle.bank_connection.specs.NewestTokens.{newest_loads}
 use Rattle.bank_server.specs.declared.offices.poll_trace.PollTrace.{PollTrace, Start, After'}
 
@@ -37,7 +38,7 @@ pub record SoloView : Type 0 where
   pub polled : List Load
 
 -- It has seen all of the log, and each ending of a call in it is its own.
-abbrev pub office_view : State → SoloView → OfficeView
+abbrev pub office_view : State → SoloView → CallerView
 office_view opening solo =
     record { opening = opening; seen = solo.locked.log; mine = own_endings solo.locked.log; polled = solo.polled }
 

@@ -1,7 +1,7 @@
 //! The polls that an office has answered, for contracts alone.
 
 ghost use Rattle.std.specs.Prelude.{◌≡◌, ◌++◌};
-ghost use Rattle.bank_connection.specs.Polled.{loads_made};
+ghost use Rattle.bank_callers.specs.Polled.{loads_made};
 ghost use Rattle.bank_connection.specs.NewestTokens.{newest_loads};
 ghost use Rattle.bank_server.specs.OfficeViews.{loads_reported};
 

@@ -7,7 +7,7 @@ ghost use Rattle.bank_model.specs.Polls as polls;
 ghost use Rattle.bank_model.specs.SetupForm.{IsWithinLimits};
 ghost use Rattle.bank_model.specs.Sound.{IsSound};
 ghost use Rattle.bank_connection.specs.Connection.{around, Converses};
-ghost use Rattle.bank_connection.specs.Offices.{IsRightView, Knows, IsCommitted, IsUncommitted, IsLooked, HasLoaded};
+ghost use Rattle.bank_callers.specs.Callers.{IsRightView, Knows, IsCommitted, IsUncommitted, IsLooked, HasLoaded};
 ghost use Rattle.bank_server.specs.OfficeViews.{office_view};
 
 use crate::offices::poll_trace::{PollTrace, with_poll};
@@ -33,7 +33,7 @@ pub struct SoloOffice<N: BankName, K: Keeper, P: Printer> {
 impl<N: BankName, K: Keeper, P: Printer> Model for SoloOffice<N, K, P> {
     ghost use Rattle.std.specs.Prelude.{All};
     ghost use Rattle.bank_model.specs.Log.{entries_in};
-    ghost use Rattle.bank_connection.specs.Offices.{HoldsIn};
+    ghost use Rattle.bank_callers.specs.Callers.{HoldsIn};
     ghost use Rattle.bank_server.specs.OfficeViews.{SoloView, HasOpened, loads_reported};
 
     ghost Value = { SoloView };

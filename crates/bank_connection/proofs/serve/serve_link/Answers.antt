@@ -1,6 +1,6 @@
 use Rattle.std.proofs.Common.{◌≡◌, ◌≤◌, IfSome, arith, refl, ◌∙◌}
 use Rattle.std.proofs.lemmas.Result.{err_from_is_err_and}
-use Rattle.bank_connection.specs.Offices.{IsRightView}
+use Rattle.bank_callers.specs.Callers.{IsRightView}
 use Rattle.bank_connection.proofs.Steps.{start, read_on, goes_on, closes, breaks_so}
 use Rattle.bank_connection.proofs.serve.serve_link.Goals as goal
 

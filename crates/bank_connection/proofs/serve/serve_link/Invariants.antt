@@ -1,5 +1,5 @@
 use Rattle.std.proofs.Common.{◌≡◌, ◌-◌, ◌<◌, ◌≤◌, IfSome}
-use Rattle.bank_connection.specs.Offices.{IsRightView}
+use Rattle.bank_callers.specs.Callers.{IsRightView}
 use Rattle.bank_connection.specs.Connection.{around}
 use Rattle.bank_connection.specs.Steps.{SoFar}
 use Rattle.bank_connection.proofs.serve.serve_link.Given as goal

@@ -14,11 +14,7 @@ use Rattle.ofx_types.specs.declared.reply.ReplyFile.{ReplyFile}
 use Rattle.bank_model.specs.declared.setup.Setup.{Setup}
 use Rattle.bank_model.specs.Objects.{object_named}
 use Rattle.bank_model.specs.Polls.{reported_token}
-
--- A load: an object, and the token that was loaded for it.
-pub record Load : Type 0 where
-  pub object : ObjectId
-  pub token : ℕ
+use Rattle.token_board.specs.declared.view.Load.{Load}
 
 -- the object that an ask of a poll asks about; none where the account isn't the user's
 abbrev pub object_asked : Setup → UserId → Ask → Option ObjectId
@@ -35,10 +31,14 @@ AreLoadsOf setup user file loads =
 abbrev pub loads_made : List (Option Load) → List Load
 loads_made loads = flat_map option_to_list loads
 
+-- An ask is told a token, or that it has none.
+abbrev pub answer_with : Ask → Option ℕ → List AskReply
+answer_with (asks.Statement trnuid account period) token = []
+answer_with (asks.One trnuid deed) token = []
+answer_with (asks.Sync ask) token = replies.Sync (reported_token ask token) ∷ []
+
 abbrev pub answer_told : Ask → Option Load → List AskReply
-answer_told (asks.Statement trnuid account period) load = []
-answer_told (asks.One trnuid deed) load = []
-answer_told (asks.Sync ask) load = replies.Sync (reported_token ask (option_map (λ (l : Load). l.token) load)) ∷ []
+answer_told ask load = answer_with ask (option_map (λ (l : Load). l.token) load)
 
 -- Each ask is told its token, or that the account isn't the user's.
 abbrev pub answers_reported : List Ask → List (Option Load) → List AskReply

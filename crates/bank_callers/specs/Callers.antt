@@ -1,4 +1,4 @@
--- What an office knows of its bank, and what its calls do to that.
+-- What a caller knows of its bank, and what its calls do to that.
 use Rattle.std.specs.Prelude.{◌≡◌, ℕ, ◌+◌, ◌<◌, ◌≤◌, List, [], ◌∷◌, ◌++◌, length, All, Contains, ⊤, Option, None, Some}
 use Rattle.std.specs.Option.{IfSome}
 use Rattle.ofx_types.specs.ReplyForm.{reply_text}
@@ -22,24 +22,21 @@ use Rattle.bank_model.specs.Log.{endings, entries_in}
 use Rattle.bank_model.specs.LegalLog.{ends, IsWholeLog}
 use Rattle.bank_invariants.specs.Books.{AreBooksRight}
 use Rattle.event_codec.specs.Records.{Reopens}
-use Rattle.bank_connection.specs.Polled.{Load, AreLoadsOf, loads_made, poll_reported}
+use Rattle.token_board.specs.declared.view.Load.{Load}
+use Rattle.token_board.specs.Tokens.{Rises}
+use Rattle.bank_callers.specs.Polled.{AreLoadsOf, loads_made, poll_reported}
 
--- What an office knows of its bank: the state that the bank opened in; a prefix of the bank's log, which it has seen; which of
+-- What a caller knows of its bank: the state that the bank opened in; a prefix of the bank's log, which it has seen; which of
 -- the endings in it are its own, by their numbers; and the tokens that it has loaded, in order.
-pub record OfficeView : Type 0 where
+pub record CallerView : Type 0 where
   pub opening : State
   pub seen : List LogItem
   pub mine : List ℕ
   pub polled : List Load
 
--- numbers that rise
-abbrev pub Rises : List ℕ → Type 0
-Rises [] = Unit {0}
-Rises (n ∷ ns) = All (λ later. n < later) ns × Rises ns
-
--- What an office knows is right: the bank opened from records; what was seen of its log is legal from there and ends with no cut
+-- What a caller knows is right: the bank opened from records; what was seen of its log is legal from there and ends with no cut
 -- group; after it the books are right; and its own endings rise and are among those that were seen.
-pub record IsRightView (setup : Setup) (view : OfficeView) : Type 0 where
+pub record IsRightView (setup : Setup) (view : CallerView) : Type 0 where
   pub records : List (List ℕ)
   pub reopened : Reopens setup opening_state records view.opening
   pub legal : IsWholeLog setup view.opening view.seen
@@ -47,9 +44,9 @@ pub record IsRightView (setup : Setup) (view : OfficeView) : Type 0 where
   pub rises : Rises view.mine
   pub own : All (λ number. (1 ≤ number) × (number ≤ length (endings view.seen))) view.mine
 
--- An office that says what it knows before a call says it after the call, and the two are related so. One that doesn't say
+-- A caller who says what it knows before a call says it after the call, and the two are related so. One that doesn't say
 -- never does.
-abbrev pub Knows : Option OfficeView → Option OfficeView → (OfficeView → OfficeView → Type 0) → Type 0
+abbrev pub Knows : Option CallerView → Option CallerView → (CallerView → CallerView → Type 0) → Type 0
 Knows None None P = ⊤
 Knows None (Some w) P = ⊥
 Knows (Some v) None P = ⊥
@@ -58,7 +55,7 @@ Knows (Some v) (Some w) P = P v w
 -- ---- tokens
 
 -- the entries of the bank as far as they were seen
-abbrev pub entries_seen : OfficeView → List Entry
+abbrev pub entries_seen : CallerView → List Entry
 entries_seen view = entries_in view.opening view.seen
 
 -- A token of at least 1 is the number of an entry of its object.
@@ -72,9 +69,9 @@ IsFresh entries load = newest load.object entries ≤ load.token
 
 -- ---- a user's file
 
--- What was seen grows by these items, of which the last is an ending of the office's own: just its number is new to those. After
+-- What was seen grows by these items, of which the last is an ending of the caller's own: just its number is new to those. After
 -- it every token that was loaded before is the number of an entry that was seen.
-pub record GainsEnding (grown : List LogItem) (before after : OfficeView) : Type 0 where
+pub record GainsEnding (grown : List LogItem) (before after : CallerView) : Type 0 where
   pub opening : after.opening ≡ before.opening
   pub seen : after.seen ≡ before.seen ++ grown
   pub mine : after.mine ≡ before.mine ++ length (endings after.seen) ∷ []
@@ -82,7 +79,7 @@ pub record GainsEnding (grown : List LogItem) (before after : OfficeView) : Type
   pub hold : All (HoldsIn (entries_seen after)) before.polled
 
 -- Nothing ended, though more may be seen.
-pub record GainsNothing (before after : OfficeView) : Type 0 where
+pub record GainsNothing (before after : CallerView) : Type 0 where
   pub opening : after.opening ≡ before.opening
   pub grown : List LogItem
   pub seen : after.seen ≡ before.seen ++ grown
@@ -90,7 +87,7 @@ pub record GainsNothing (before after : OfficeView) : Type 0 where
   pub polled : after.polled ≡ before.polled
 
 -- A file's event is committed, and this is the reply. Other items may stand before its ending.
-pub record IsCommitted (user : UserId) (file : RequestFile) (at : Moment) (reply : List ℕ) (old new : Option OfficeView) : Type 0 where
+pub record IsCommitted (user : UserId) (file : RequestFile) (at : Moment) (reply : List ℕ) (old new : Option CallerView) : Type 0 where
   pub others : List LogItem
   pub event : Event
   pub same : IsSameEvent event (File user file)
@@ -101,21 +98,21 @@ abbrev pub IsOfFile : UserId → RequestFile → Moment → Option (Event × Mom
 IsOfFile user file at pending = IfSome pending (λ p. IsSameEvent p.0 (File user file) × (p.1 ≡ at))
 
 -- A call of the keeper failed and raised its count to this number.
-pub record IsFaulted (user : UserId) (file : RequestFile) (at : Moment) (count : ℕ) (old new : Option OfficeView) : Type 0 where
+pub record IsFaulted (user : UserId) (file : RequestFile) (at : Moment) (count : ℕ) (old new : Option CallerView) : Type 0 where
   pub others : List LogItem
   pub pending : Option (Event × Moment)
   pub own : IsOfFile user file at pending
   pub knows : Knows old new (GainsEnding (others ++ Fault count pending ∷ []))
 
 -- What a refused submission leaves.
-abbrev pub IsUncommitted : UserId → RequestFile → Moment → Option OfficeView → Option OfficeView → SubmitFault → Type 0
+abbrev pub IsUncommitted : UserId → RequestFile → Moment → Option CallerView → Option CallerView → SubmitFault → Type 0
 IsUncommitted user file at old new (Keeper count) = IsFaulted user file at count old new
 IsUncommitted user file at old new OutOfMemory = Knows old new GainsNothing
 
 -- ---- a poll
 
 -- These tokens are loaded, none older than what was seen, and nothing else changes.
-pub record HasPolled (loads : List Load) (before after : OfficeView) : Type 0 where
+pub record HasPolled (loads : List Load) (before after : CallerView) : Type 0 where
   pub opening : after.opening ≡ before.opening
   pub seen : after.seen ≡ before.seen
   pub mine : after.mine ≡ before.mine
@@ -123,14 +120,14 @@ pub record HasPolled (loads : List Load) (before after : OfficeView) : Type 0 wh
   pub fresh : All (IsFresh (entries_seen before)) loads
 
 -- A poll is told the tokens that its asks loaded.
-pub record IsLooked (setup : Setup) (user : UserId) (file : RequestFile) (at : Moment) (reply : List ℕ) (old new : Option OfficeView) : Type 0 where
+pub record IsLooked (setup : Setup) (user : UserId) (file : RequestFile) (at : Moment) (reply : List ℕ) (old new : Option CallerView) : Type 0 where
   pub loads : List (Option Load)
   pub are_loads : AreLoadsOf setup user file loads
   pub reported : reply ≡ reply_text (poll_reported file at loads)
   pub knows : Knows old new (HasPolled (loads_made loads))
 
 -- Memory was refused: tokens may have been loaded, and nothing else changes.
-pub record HasLoaded (before after : OfficeView) : Type 0 where
+pub record HasLoaded (before after : CallerView) : Type 0 where
   pub opening : after.opening ≡ before.opening
   pub seen : after.seen ≡ before.seen
   pub mine : after.mine ≡ before.mine
