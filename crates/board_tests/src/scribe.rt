@@ -6,7 +6,7 @@ ghost use Rattle.token_board.specs.Tokens.{numbers_in};
 use bank_model::{Ending, Entry};
 use ofx_types::{Change, ObjectId, TrnUid};
 use std::process::Abort;
-use token_board::laws::claims_are_above;
+use token_board::laws::{endings_are_claimed, heard_passes_meet};
 use token_board::{Board, Pass, Writer};
 
 /// The object whose entries are published.
@@ -64,7 +64,8 @@ impl<'a> Scribe<'a> {
         ensures board { self.new.board.now ≡ self.old.board.now }
         ensures last { self.new.last ≡ number }
     {
-        claims_are_above();
+        endings_are_claimed();
+        heard_passes_meet();
         let Scribe {
             board,
             writer,

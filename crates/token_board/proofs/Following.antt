@@ -1,15 +1,13 @@
--- Entries that are numbered on, and endings after others.
-use Rattle.std.proofs.Common.{◌≡◌, ℕ, ◌+◌, ◌<◌, ◌≤◌, List, [], ◌∷◌, ◌++◌, map, length, sym, ap, ◌∙◌, subst, append_assoc, append-nil, arith}
+-- Entries that are numbered on.
+use Rattle.std.proofs.Common.{◌≡◌, ℕ, ◌+◌, ◌<◌, List, [], ◌∷◌, ◌++◌, map, length, sym, ap, ◌∙◌, subst, append_assoc, append-nil, arith}
 use Rattle.std.specs.Prelude.{All}
 use Rattle.std.proofs.lemmas.List.{map-append}
-use Rattle.std.proofs.lemmas.List.Elements.{All-nil, All-cons, All-push, All-weaker}
+use Rattle.std.proofs.lemmas.List.Elements.{All-push, All-weaker}
 use Rattle.bank_model.specs.declared.entry.Entry.{Entry}
 use Rattle.bank_model.specs.declared.log.LogItem.{LogItem}
-use Rattle.bank_model.specs.declared.log.LogItem.TheVariants.{Effect, Answer, Adopted, Fault}
-use Rattle.bank_model.specs.Log.{endings}
-use Rattle.token_board.specs.Tokens.{added, number_of, numbers_in, AreAbove}
-use Rattle.token_board.specs.Views.{claims_of}
-use Rattle.token_board.specs.Following.{MayFollow, AreNumbered, NumberedFollow, ClaimsAreAbove}
+use Rattle.bank_model.specs.declared.log.LogItem.TheVariants.{Effect}
+use Rattle.token_board.specs.Tokens.{added, number_of, numbers_in}
+use Rattle.token_board.specs.Following.{MayFollow, AreNumbered, NumberedFollow}
 use Rattle.token_board.proofs.Logs.{added-append}
 
 -- ---- the numbers of a log that grows
@@ -47,15 +45,3 @@ follows start log number (e ∷ es) below numbered objects =
           numbered.1
           objects.1,
     )
-
--- ---- endings after others
-
-one_above : (n least : ℕ) (mine : List ℕ) → least < n → All (λ m. m ≤ least) mine → All (λ k. All (λ m. m < k) mine) (n ∷ [])
-one_above n least mine low all =
-    All-cons (λ k. All (λ m. m < k) mine) n [] (All-weaker (λ m. m ≤ least) (λ m. m < n) (λ m le. omega arith) mine all) (All-nil (λ k. All (λ m. m < k) mine))
-
-pub claims_above : ClaimsAreAbove
-claims_above before after (Effect entry) mine low all = All-nil (λ k. All (λ m. m < k) mine)
-claims_above before after (Answer event at reply) mine low all = one_above (length (endings after)) (length (endings before)) mine low all
-claims_above before after (Adopted fault event at) mine low all = All-nil (λ k. All (λ m. m < k) mine)
-claims_above before after (Fault count pending) mine low all = one_above (length (endings after)) (length (endings before)) mine low all

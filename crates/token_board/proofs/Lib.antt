@@ -6,3 +6,4 @@ pub mod Words
 pub mod Keeping
 pub mod Holding
 pub mod Following
+pub mod Publishing

@@ -1,12 +1,10 @@
--- Entries that may be published one after another, and endings that a pass may be told to own.
-use Rattle.std.specs.Prelude.{◌≡◌, ℕ, ◌+◌, ◌<◌, ◌≤◌, List, [], ◌∷◌, ◌++◌, length, All}
+-- Entries that may be published one after another.
+use Rattle.std.specs.Prelude.{◌≡◌, ℕ, ◌+◌, ◌<◌, List, [], ◌∷◌, ◌++◌, length, All}
 use Rattle.std.specs.List.{AllByRecursion}
 use Rattle.bank_model.specs.declared.entry.Entry.{Entry}
 use Rattle.bank_model.specs.declared.log.LogItem.{LogItem}
 use Rattle.bank_model.specs.declared.log.LogItem.TheVariants.{Effect}
-use Rattle.bank_model.specs.Log.{endings}
-use Rattle.token_board.specs.Tokens.{numbers_in, AreAbove}
-use Rattle.token_board.specs.Views.{claims_of}
+use Rattle.token_board.specs.Tokens.{numbers_in}
 
 -- Each entry belongs to one of the board's objects, and its number is above all numbers before it.
 abbrev pub MayFollow : List ℕ → List LogItem → List Entry → Type 0
@@ -24,8 +22,3 @@ AreNumbered number (entry ∷ more) = (entry.number ≡ number) × AreNumbered (
 abbrev pub NumberedFollow : Type 0
 NumberedFollow = (start : List ℕ) (log : List LogItem) (number : ℕ) (entries : List Entry) → All (λ n. n < number) (numbers_in start log)
     → AreNumbered number entries → AllByRecursion (λ (entry : Entry). entry.object.0 < length start) entries → MayFollow start log entries
-
--- The number of an ending is above those of all endings before it.
-abbrev pub ClaimsAreAbove : Type 0
-ClaimsAreAbove = (before after : List LogItem) (item : LogItem) (mine : List ℕ) → length (endings before) < length (endings after)
-    → All (λ number. number ≤ length (endings before)) mine → AreAbove (claims_of item (length (endings after))) mine

@@ -4,3 +4,4 @@ pub mod Rule
 pub mod Steps
 pub mod Holders
 pub mod Following
+pub mod Publishing
