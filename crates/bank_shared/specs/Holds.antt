@@ -1,19 +1,31 @@
 -- The board of a bank, and the passes of those who call the bank.
-use Rattle.std.specs.Prelude.{◌≡◌, ◌<◌, length, slice_index_or}
+use Rattle.std.specs.Prelude.{◌≡◌, ℕ, ◌<◌, ◌⊎◌, List, [], length, slice_index_or}
 use Rattle.ofx_types.specs.declared.number.ObjectId.{ObjectId}
 use Rattle.bank_model.specs.declared.event.State.{State}
+use Rattle.bank_model.specs.declared.log.LogItem.{LogItem}
 use Rattle.bank_model.specs.declared.setup.Setup.{Setup}
 use Rattle.bank_model.specs.LegalLog.{IsWholeLog}
 use Rattle.bank_model.specs.Objects.{newest}
 use Rattle.bank_invariants.specs.Belonging.{object_count}
 use Rattle.token_board.specs.Tokens.{AreEndings}
-use Rattle.token_board.specs.Views.{BoardView, PassView}
+use Rattle.token_board.specs.Views.{BoardView, WriterView, PassView}
+use Rattle.token_board.specs.Publishing.{Meets}
 use Rattle.bank_callers.specs.Callers.{CallerView}
 
--- A board begins with the newest number of each object of a bank in the state that the bank opened in.
-pub record BeginsAt (setup : Setup) (opening : State) (board : BoardView) : Type 0 where
-  pub size : length board.start ≡ object_count setup
-  pub newest : (object : ObjectId) → object.0 < object_count setup → slice_index_or board.start object.0 0 ≡ newest object opening.entries
+-- the newest number of each object of a bank in a state
+pub record AreNewest (setup : Setup) (S : State) (numbers : List ℕ) : Type 0 where
+  pub size : length numbers ≡ object_count setup
+  pub newest : (object : ObjectId) → object.0 < object_count setup → slice_index_or numbers object.0 0 ≡ newest object S.entries
+
+-- A board begins with those of the state that the bank opened in.
+abbrev pub BeginsAt : Setup → State → BoardView → Type 0
+BeginsAt setup opening board = AreNewest setup opening board.start
+
+-- The writer is the board's, claims nothing, and the board begins with the bank's newest numbers.
+pub record IsWriterOf (setup : Setup) (opening : State) (board : BoardView) (writer : WriterView) : Type 0 where
+  pub own : writer.table ≡ board.table
+  pub unclaimed : writer.claimed ≡ []
+  pub begins : BeginsAt setup opening board
 
 -- A pass is of the bank's board. What it has seen of the log is legal from the state that the bank opened in and ends with no cut
 -- group, and its own endings are among those.
@@ -21,6 +33,10 @@ pub record IsPassOf (setup : Setup) (opening : State) (board : BoardView) (pass 
   pub own : pass.table ≡ board.table
   pub legal : IsWholeLog setup opening pass.seen
   pub mine : AreEndings pass.seen pass.mine
+
+-- The pass meets what was published, or it is as before since memory was refused first, and nothing was.
+abbrev pub MeetsOrStays : BoardView → List LogItem → List LogItem → PassView → PassView → Type 0
+MeetsOrStays board before after old new = Meets board before after old new ⊎ ((new ≡ old) × (after ≡ before))
 
 -- what a pass knows of a bank that opened in a state
 abbrev pub caller_of : State → PassView → CallerView

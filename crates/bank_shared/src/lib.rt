@@ -12,7 +12,7 @@ mod journal;
 mod locked_bank;
 mod name;
 mod opened;
-mod pass;
+mod publishing;
 
 pub use advance::Advance;
 pub use bank::Bank;
@@ -21,4 +21,4 @@ pub use journal::Journal;
 pub use locked_bank::LockedBank;
 pub use name::BankName;
 pub use opened::Opened;
-pub use pass::Pass;
+pub use token_board::Pass;

@@ -10,7 +10,9 @@ ghost use Rattle.event_codec.specs.Records.{Reopens};
 ghost use Rattle.bank_solo.specs.Solo.{AreAccountsIn, accounts_in};
 ghost use Rattle.bank_replay.specs.Opening.{RecordsGive, HasNoForm, IsNotLegal, HasCause};
 ghost use Rattle.bank_replay.specs.Replay.{IsOfTheOutside};
+ghost use Rattle.bank_shared.specs.Holds.{BeginsAt, AreNewest, IsPassOf};
 
+use crate::bank::Bank;
 use crate::journal::Journal;
 use crate::locked_bank::LockedBank;
 use crate::name::BankName;
@@ -24,11 +26,12 @@ use std::alloc::Global;
 use std::hash::RandomState;
 use std::marker::Model;
 use std::snapshot::Snapshot;
+use token_board::{Board, Pass, Writer};
 
 /// A bank that has opened from its records.
 ///
 /// It has its accounts twice, in the pool for a bank of many callers and in a list for one caller, so that neither takes memory
-/// when it begins: one of both is used.
+/// when it begins: one of both is used. The board of newest tokens is made here too.
 pub struct Opened<K: Keeper, P: Printer> {
     alloc: Global,
     setup: Setup,
@@ -36,16 +39,21 @@ pub struct Opened<K: Keeper, P: Printer> {
     opened: Snapshot<K>,
     keeper: K,
     book: Book<P>,
+    printer: P,
     accounts: Vec<Account>,
     pool: AccountPool,
+    board: Board,
+    writer: Writer,
+    pass: Pass,
 }
 
 impl<K: Keeper, P: Printer> Model for Opened<K, P> {
-    ghost use Rattle.std.specs.Prelude.{◌≡◌, false};
+    ghost use Rattle.std.specs.Prelude.{◌≡◌, [], false};
     ghost use Rattle.bank_model.specs.SetupForm.{IsWithinLimits};
     ghost use Rattle.bank_solo.specs.Solo.{AreAccountsIn, accounts_in};
     ghost use Rattle.ofx_ports.specs.Known.{Stays};
     ghost use Rattle.bank_replay.specs.Opening.{RecordsGive};
+    ghost use Rattle.bank_shared.specs.Holds.{BeginsAt};
     ghost use Rattle.bank_shared.specs.OpenedView.{OpenedView};
 
     ghost Value = { OpenedView };
@@ -56,11 +64,14 @@ impl<K: Keeper, P: Printer> Model for Opened<K, P> {
       opened = K.records o.opened.value;
       records = K.records o.keeper;
       faults = K.faults o.keeper;
+      board = o.board;
     } };
 
     ghost invariant = { λ o. (o.book.setup ≡ o.setup) × IsWithinLimits o.setup × (K.unsettled o.keeper ≡ false)
         × RecordsGive o.setup (K.records o.opened.value) o.book.state × Stays (K.records o.opened.value) (K.records o.keeper) × AreAccountsIn o.setup o.book.state o.accounts.items
-        × (o.pool ≡ accounts_in o.setup o.book.state) };
+        × (o.pool ≡ accounts_in o.setup o.book.state) × BeginsAt o.setup o.book.state o.board
+        × (o.writer ≡ record { table = o.board.table; log = []; claimed = [] })
+        × (o.pass ≡ record { table = o.board.table; seen = []; mine = []; polled = [] }) };
 }
 
 impl<K: Keeper, P: Printer> Drop for Opened<K, P> {
@@ -71,8 +82,12 @@ impl<K: Keeper, P: Printer> Drop for Opened<K, P> {
             opened: _,
             keeper: _,
             book: _,
+            printer: _,
             accounts: _,
             pool: _,
+            board: _,
+            writer: _,
+            pass: _,
         } = self;
     }
 }
@@ -120,35 +135,32 @@ impl<K: Keeper, P: Printer> Opened<K, P> {
         };
         match reopen(alloc, keys, &mut keeper, setup, printer) {
             Err(fault) => Err((fault, keeper)),
-            Ok((book, accounts)) => match in_pool(alloc, &book, &accounts) {
+            Ok((book, accounts)) => match made_ready(alloc, &own, &book, &accounts) {
                 Err(OutOfMemory) => Err((OpenFault::OutOfMemory, keeper)),
-                Ok(pool) => Ok(Opened {
+                Ok((pool, (board, writer, pass))) => Ok(Opened {
                     alloc,
                     setup: own,
                     opened,
                     keeper,
                     book,
+                    printer,
                     accounts,
                     pool,
+                    board,
+                    writer,
+                    pass,
                 }),
             },
         }
     }
 
-    /// The bank for one caller: its setup, its journal and its accounts in the order of their numbers. Takes no memory.
-    pub fn solo<N: BankName>(self) -> (Setup, Journal<N, K, P>, Vec<Account>)
+    /// The bank that `N` names, and its first pass. Takes no memory.
+    pub(crate) fn into_bank<N: BankName>(self) -> (Bank<N, K, P>, Pass)
         requires setup { self.setup ≡ N.setup }
         requires opening { self.state ≡ N.opening }
         requires first { self.opened ≡ N.first }
-        ensures setup { result.0 ≡ N.setup }
-        ensures of { result.1.setup ≡ N.setup }
-        ensures state { result.1.state ≡ N.opening }
-        ensures log { result.1.log ≡ [] }
-        ensures pending { result.1.pending ≡ None }
-        ensures records { result.1.records ≡ self.records }
-        ensures holds { RecordsGive N.setup N.first N.opening }
-        ensures accounts { AreAccountsIn N.setup N.opening result.2.items }
-        ensures within { IsWithinLimits N.setup }
+        requires board { self.board ≡ N.board }
+        ensures pass { IsPassOf N.setup N.opening N.board result.1 }
     {
         let Opened {
             alloc,
@@ -156,35 +168,56 @@ impl<K: Keeper, P: Printer> Opened<K, P> {
             opened: _,
             keeper,
             book,
-            accounts,
-            pool: _,
-        } = self;
-        let journal = Journal::new(alloc, keeper, book);
-        (setup, journal, accounts)
-    }
-
-    /// The setup, and the locked bank. Takes no memory.
-    pub(crate) fn into_locked<N: BankName>(self) -> (Setup, LockedBank<N, K, P>)
-        requires setup { self.setup ≡ N.setup }
-        requires opening { self.state ≡ N.opening }
-        requires first { self.opened ≡ N.first }
-        ensures setup { result.0 ≡ N.setup }
-        ensures of { result.1.setup ≡ N.setup }
-        ensures pending { result.1.pending ≡ None }
-        ensures within { IsWithinLimits N.setup }
-    {
-        let Opened {
-            alloc,
-            setup,
-            opened: _,
-            keeper,
-            book,
+            printer,
             accounts: _,
             pool,
+            board,
+            writer,
+            pass,
         } = self;
-        let journal = Journal::new(alloc, keeper, book);
-        (setup, LockedBank::new(alloc, journal, pool))
+        let journal = Journal::new(alloc, keeper, book, writer);
+        let locked = LockedBank::new(alloc, journal, pool);
+        (Bank::over(alloc, setup, printer, board, locked), pass)
     }
+}
+
+/// The pool of all accounts, and the board with its writer and its first pass.
+fn made_ready<P: Printer>(
+    alloc: Global,
+    setup: &Setup,
+    book: &Book<P>,
+    accounts: &[Account],
+) -> Result<(AccountPool, (Board, Writer, Pass)), OutOfMemory>
+    requires setup { setup.now ≡ book.now.setup }
+    requires accounts { AreAccountsIn book.now.setup book.now.state accounts.now }
+    ensures pool { IfOk result (λ made. made.0 ≡ accounts_in book.now.setup book.now.state) }
+    ensures begins { IfOk result (λ made. BeginsAt book.now.setup book.now.state made.1.0) }
+    ensures writer { IfOk result (λ made. made.1.1 ≡ record { table = made.1.0.table; log = []; claimed = [] }) }
+    ensures pass { IfOk result (λ made. made.1.2 ≡ record { table = made.1.0.table; seen = []; mine = []; polled = [] }) }
+{
+    let pool = in_pool(alloc, book, accounts)?;
+    let start = newest_numbers(alloc, setup, book)?;
+    let made = Board::new(alloc, &start)?;
+    Ok((pool, made))
+}
+
+/// The newest number of each object.
+fn newest_numbers<P: Printer>(
+    alloc: Global,
+    setup: &Setup,
+    book: &Book<P>,
+) -> Result<Vec<u64>, OutOfMemory>
+    requires { setup.now ≡ book.now.setup }
+    ensures { IfOk result (λ numbers. AreNewest book.now.setup book.now.state numbers.items) }
+{
+    // For the proof alone: its contract says that the setup is within its limits.
+    let _setup = book.setup();
+    let count = 3 * setup.accounts().len() + setup.users().len();
+    let mut numbers = Vec::with_capacity(alloc, count)?;
+    for object in 0..count {
+        numbers.push(book.newest(ObjectId(object as u32)))?;
+    }
+    Ok(numbers)
 }
 
 /// Copies of all accounts of the bank of a book, in the pool.
