@@ -1,1 +1,4 @@
 pub mod Printing
+pub mod Numbering
+pub mod Tokens
+pub mod Following

@@ -5,6 +5,7 @@
 //! has a bank loads them.
 #![tactic(auto)]
 
+pub mod laws;
 mod polls;
 
 pub use polls::{add_answer, poll_reply};

@@ -1,5 +1,5 @@
 -- Whatever a bank does, its entries belong to the objects of its setup.
-use Rattle.std.proofs.Common.{◌≡◌, ℕ, ◌+◌, ◌*◌, ◌<◌, Bool, true, false, cond, List, [], ◌∷◌, ◌++◌, length, Option, None, Some, refl, arith}
+use Rattle.std.proofs.Common.{◌≡◌, ℕ, ◌+◌, ◌*◌, ◌<◌, Bool, true, false, cond, List, [], ◌∷◌, ◌++◌, length, fold, Option, None, Some, refl, arith}
 use Rattle.std.specs.List.{AllByRecursion}
 use Rattle.ofx_types.specs.declared.account.AcctName.{AcctName}
 use Rattle.ofx_types.specs.declared.number.AcctId.{AcctId}
@@ -15,7 +15,11 @@ use Rattle.bank_model.specs.declared.entry.Entry.{Entry}
 use Rattle.bank_model.specs.declared.event.Event.{Event}
 use Rattle.bank_model.specs.declared.event.Event.TheVariants.{File, Post, Spawn, Letter}
 use Rattle.bank_model.specs.declared.event.State.{State}
+use Rattle.bank_model.specs.declared.log.LogItem.{LogItem}
+use Rattle.bank_model.specs.declared.log.LogItem.TheVariants.{Effect, Answer, Adopted, Fault}
 use Rattle.bank_model.specs.declared.setup.Setup.{Setup}
+use Rattle.bank_model.specs.Log.{endings}
+use Rattle.bank_model.specs.LegalLog.{AreLegalEndings, IsWholeLog, after_ending, ends}
 use Rattle.bank_model.specs.SetupForm.{IsWithinLimits}
 use Rattle.bank_model.specs.SetupLookups.{account_of}
 use Rattle.bank_model.specs.Ledger.{row_of}
@@ -143,3 +147,18 @@ pub belong-run : (setup : Setup) (S : State) (run : List Happening) → IsWithin
 belong-run setup S [] within all legal = all
 belong-run setup S (first ∷ more) within all legal =
     belong-run setup (state_after setup S first.at first.event) more within (belong-step setup S first.at first.event within all legal.0.1) legal.1
+
+-- ---- logs
+
+belong_endings : (setup : Setup) (S : State) (before items : List LogItem) → IsWithinLimits setup → AllBelong setup S.entries → AreLegalEndings setup S before items → AllBelong setup (fold (after_ending setup) S items).entries
+belong_endings setup S before [] within all legal = all
+belong_endings setup S before (Effect entry ∷ items) within all legal = absurd legal.0
+belong_endings setup S before (Answer event at reply ∷ items) within all legal =
+    belong_endings setup (state_after setup S at event) (before ++ Answer event at reply ∷ []) items within (belong-step setup S at event within all legal.0.0.1) legal.1
+belong_endings setup S before (Adopted fault event at ∷ items) within all legal =
+    belong_endings setup (state_after setup S at event) (before ++ Adopted fault event at ∷ []) items within (belong-step setup S at event within all legal.0.0.1) legal.1
+belong_endings setup S before (Fault count pending ∷ items) within all legal =
+    belong_endings setup S (before ++ Fault count pending ∷ []) items within all legal.1
+
+pub belong-log : (setup : Setup) (S : State) (log : List LogItem) → IsWithinLimits setup → AllBelong setup S.entries → IsWholeLog setup S log → AllBelong setup (ends setup S log).entries
+belong-log setup S log within all whole = belong_endings setup S [] (endings log) within all whole.may_end

@@ -1,23 +1,16 @@
 -- The board of a bank, and the passes of those who call the bank.
-use Rattle.std.specs.Prelude.{◌≡◌, ℕ, ◌<◌, ◌⊎◌, List, [], length, slice_index_or}
-use Rattle.ofx_types.specs.declared.number.ObjectId.{ObjectId}
+use Rattle.std.specs.Prelude.{◌≡◌, ◌⊎◌, List, []}
 use Rattle.bank_model.specs.declared.event.State.{State}
 use Rattle.bank_model.specs.declared.log.LogItem.{LogItem}
 use Rattle.bank_model.specs.declared.setup.Setup.{Setup}
 use Rattle.bank_model.specs.LegalLog.{IsWholeLog}
-use Rattle.bank_model.specs.Objects.{newest}
-use Rattle.bank_invariants.specs.Belonging.{object_count}
 use Rattle.token_board.specs.Tokens.{AreEndings}
 use Rattle.token_board.specs.Views.{BoardView, WriterView, PassView}
 use Rattle.token_board.specs.Publishing.{Meets}
+use Rattle.bank_callers.specs.Boards.{AreNewest}
 use Rattle.bank_callers.specs.Callers.{CallerView}
 
--- the newest number of each object of a bank in a state
-pub record AreNewest (setup : Setup) (S : State) (numbers : List ℕ) : Type 0 where
-  pub size : length numbers ≡ object_count setup
-  pub newest : (object : ObjectId) → object.0 < object_count setup → slice_index_or numbers object.0 0 ≡ newest object S.entries
-
--- A board begins with those of the state that the bank opened in.
+-- A board begins with the newest number of each object of the bank in the state that it opened in.
 abbrev pub BeginsAt : Setup → State → BoardView → Type 0
 BeginsAt setup opening board = AreNewest setup opening board.start
 

@@ -21,15 +21,15 @@ ghost use Rattle.bank_shared.specs.Holds.{BeginsAt};
 use crate::name::BankName;
 use crate::publishing::{commit_at, settle_at};
 use bank_accounts::Held;
+use bank_callers::laws::steps_follow;
 use bank_core::Book;
 use bank_engine::Engine;
-use bank_invariants::laws::states::entries_belong;
 use bank_model::{Event, Printer, SubmitFault};
 use ofx_ports::Keeper;
 use ofx_types::Moment;
 use std::alloc::Global;
 use std::marker::{Model, PhantomData};
-use token_board::laws::{endings_are_claimed, heard_passes_meet, numbered_follow};
+use token_board::laws::{endings_are_claimed, heard_passes_meet};
 use token_board::{Board, Pass, Writer};
 
 /// The journal of the bank that `N` names.
@@ -146,8 +146,7 @@ impl<N: BankName, K: Keeper, P: Printer> Journal<N, K, P> {
     {
         endings_are_claimed();
         heard_passes_meet();
-        numbered_follow();
-        entries_belong();
+        steps_follow();
         self.writer.hear(board, pass);
         let settled = settle_at(
             &mut self.engine,
@@ -193,8 +192,7 @@ impl<N: BankName, K: Keeper, P: Printer> Journal<N, K, P> {
     {
         endings_are_claimed();
         heard_passes_meet();
-        numbered_follow();
-        entries_belong();
+        steps_follow();
         self.writer.hear(board, pass);
         let committed = commit_at(
             self.alloc,

@@ -10,7 +10,8 @@ ghost use Rattle.event_codec.specs.Records.{Reopens};
 ghost use Rattle.bank_solo.specs.Solo.{AreAccountsIn, accounts_in};
 ghost use Rattle.bank_replay.specs.Opening.{RecordsGive, HasNoForm, IsNotLegal, HasCause};
 ghost use Rattle.bank_replay.specs.Replay.{IsOfTheOutside};
-ghost use Rattle.bank_shared.specs.Holds.{BeginsAt, AreNewest, IsPassOf};
+ghost use Rattle.bank_callers.specs.Boards.{AreNewest};
+ghost use Rattle.bank_shared.specs.Holds.{BeginsAt, IsPassOf};
 
 use crate::bank::Bank;
 use crate::journal::Journal;
