@@ -3,8 +3,8 @@ use Rattle.std.proofs.Common.{◌≡◌, ℕ, ◌+◌, ◌<◌, List, ◌++◌, 
 use Rattle.std.specs.List.{AllByRecursion}
 use Rattle.bank_model.specs.declared.entry.Entry.{Entry}
 use Rattle.bank_model.specs.Rules.{state_after}
-use Rattle.bank_invariants.specs.Belonging.{object_count, BelongsIn}
-use Rattle.bank_invariants.proofs.BelongingLemmas.{belong-step}
+use Rattle.bank_callers.specs.Belonging.{object_count, BelongsIn}
+use Rattle.bank_callers.proofs.Belonging.{belong-step}
 use Rattle.bank_invariants.proofs.StateLemmas.{extends-step}
 use Rattle.token_board.specs.Following.{AreNumbered}
 use Rattle.token_board.proofs.Following.{follows}

@@ -11,7 +11,7 @@ use Rattle.bank_model.specs.declared.log.LogItem.{LogItem}
 use Rattle.bank_model.specs.declared.setup.Setup.{Setup}
 use Rattle.bank_model.specs.Log.{entries_in}
 use Rattle.bank_model.specs.Objects.{belongs_to, history_of, newest}
-use Rattle.bank_invariants.specs.Belonging.{object_count}
+use Rattle.bank_callers.specs.Belonging.{object_count}
 use Rattle.token_board.specs.Following.{AreNumbered}
 use Rattle.token_board.specs.Tokens.{added, number_of, numbers_in}
 use Rattle.bank_callers.specs.Boards.{AreNewest}

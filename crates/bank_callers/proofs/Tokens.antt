@@ -17,7 +17,7 @@ use Rattle.bank_model.specs.Deeds.{intra_of, recurring_of, letters_of, mail_obje
 use Rattle.bank_model.specs.Log.{entries_in}
 use Rattle.bank_model.specs.Objects.{belongs_to, history_of, last_number_from, newest, numbered, object_named}
 use Rattle.bank_model.specs.SetupLookups.{account_of, is_owner, if_owned, own_account}
-use Rattle.bank_invariants.specs.Belonging.{object_count}
+use Rattle.bank_callers.specs.Belonging.{object_count}
 use Rattle.bank_invariants.proofs.AccountIndices.{slice_get-below, line_of-account}
 use Rattle.token_board.specs.declared.view.Load.{Load}
 use Rattle.token_board.specs.Tokens.{added, number_of, opened, numbers_of, newest_in, IsTokenIn, IsFreshIn}

@@ -14,7 +14,7 @@ use Rattle.bank_model.specs.Log.{entries_in}
 use Rattle.bank_model.specs.Objects.{object_named, newest}
 use Rattle.bank_model.specs.Rules.{state_after}
 use Rattle.bank_model.specs.SetupForm.{IsWithinLimits}
-use Rattle.bank_invariants.specs.Belonging.{object_count, AllBelong}
+use Rattle.bank_callers.specs.Belonging.{object_count, AllBelong}
 use Rattle.bank_invariants.specs.SoundStates.{IsSoundState}
 use Rattle.token_board.specs.declared.view.Load.{Load}
 use Rattle.token_board.specs.Following.{MayFollow}

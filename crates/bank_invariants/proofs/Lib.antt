@@ -26,4 +26,3 @@ pub mod RunLaws
 pub mod UidLaws
 pub mod UidSteps
 pub mod TakenLemmas
-pub mod BelongingLemmas

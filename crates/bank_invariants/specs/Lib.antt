@@ -9,4 +9,3 @@ pub mod Series
 pub mod Rising
 pub mod AnsweredAsks
 pub mod DueFirst
-pub mod Belonging

@@ -9,7 +9,6 @@ ghost use Rattle.ofx_types.specs.declared.number.ObjectId.{ObjectId};
 ghost use Rattle.ofx_types.specs.declared.number.UserId.{UserId};
 ghost use Rattle.ofx_types.specs.declared.request.Ask.{Ask};
 ghost use Rattle.ofx_types.specs.declared.transfer.TransferRow.{TransferRow};
-ghost use Rattle.bank_model.specs.LegalLog.{IsWholeLog, ends};
 ghost use Rattle.bank_model.specs.Models.{all_waiting, waiting_of};
 ghost use Rattle.bank_model.specs.Rules.{IsLegal, ask_answer, ask_answers, opening_state, state_after};
 ghost use Rattle.bank_model.specs.SetupForm.{IsWithinLimits};
@@ -18,9 +17,7 @@ ghost use Rattle.bank_model.specs.Sync.{present};
 ghost use Rattle.bank_model.specs.declared.entry.Entry.{Entry};
 ghost use Rattle.bank_model.specs.declared.event.Event.{Event};
 ghost use Rattle.bank_model.specs.declared.event.State.{State};
-ghost use Rattle.bank_model.specs.declared.log.LogItem.{LogItem};
 ghost use Rattle.bank_model.specs.declared.setup.Setup.{Setup};
-ghost use Rattle.bank_invariants.specs.Belonging.{AllBelong};
 ghost use Rattle.bank_invariants.specs.Books.{AreBooksRight};
 ghost use Rattle.bank_invariants.specs.Next.{ExtendsTo};
 ghost use Rattle.bank_invariants.specs.Rising.{ids_reported};
@@ -69,16 +66,6 @@ pub fn entries_are_numbered()
     ensures { (setup : Setup) (run : List Happening) (k : ℕ) (d : Entry) → IsWithinLimits setup → AreLegal setup opening_state run
         → k < length (after_all setup opening_state run).entries
         → (slice_index_or (after_all setup opening_state run).entries k d).number ≡ k + 1 }
-{}
-
-/// Each entry belongs to one of the setup's objects: an account's three, or a user's mail.
-pub fn entries_belong()
-    ensures event { (setup : Setup) (S : State) (at : Moment) (event : Event) → IsWithinLimits setup → AllBelong setup S.entries
-        → IsLegal setup S at event → AllBelong setup (state_after setup S at event).entries }
-    ensures run { (setup : Setup) (run : List Happening) → IsWithinLimits setup → AreLegal setup opening_state run
-        → AllBelong setup (after_all setup opening_state run).entries }
-    ensures log { (setup : Setup) (S : State) (log : List LogItem) → IsWithinLimits setup → AllBelong setup S.entries
-        → IsWholeLog setup S log → AllBelong setup (ends setup S log).entries }
 {}
 
 /// There are no more entries than the setup allows.

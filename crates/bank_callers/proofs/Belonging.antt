@@ -28,7 +28,7 @@ use Rattle.bank_model.specs.Deeds.{intra_of, recurring_of, letters_of, mail_obje
 use Rattle.bank_model.specs.Due.{posts, spawns_on, spawns, occurrence_date}
 use Rattle.bank_model.specs.Rules.{opening_state, state_after, IsLegal}
 use Rattle.bank_model.proofs.Lists.{all_append}
-use Rattle.bank_invariants.specs.Belonging.{object_count, BelongsIn, AllBelong}
+use Rattle.bank_callers.specs.Belonging.{object_count, BelongsIn, AllBelong}
 use Rattle.bank_invariants.specs.Runs.{Happening, after_all, AreLegal}
 use Rattle.bank_invariants.specs.Stages.{Stage, day, deed, names, post, spawn, letter, IsKnownEvent}
 use Rattle.bank_invariants.proofs.AccountIndices.{slice_get-below, line_of-account}
