@@ -75,9 +75,12 @@ pub fn answer_to<O: Office, C: Clock>(
     clock: &mut C,
     body: &[u8],
 ) -> Answer
-    requires { length body.now ≤ 262144 }
+    requires few { length body.now ≤ 262144 }
+    requires ready { O.ready office.old }
     ensures answers { Answers (O.setup office.old) body.now (C.shown clock.old) (C.shown clock.new) (O.knows office.old) (O.knows office.new) result }
     ensures setup { O.setup office.new ≡ O.setup office.old }
+    ensures through { O.through office.new ≡ O.through office.old }
+    ensures ready { O.ready office.new }
     ensures right { IfSome (O.knows office.new) (IsRightView (O.setup office.new)) }
 {
     match judge(alloc, office.setup(), body) {
@@ -129,12 +132,15 @@ fn look<O: Office, C: Clock>(
     user: UserId,
     file: &RequestFile,
 ) -> Answer
+    requires ready { O.ready office.old }
     requires known { user.0 < length (O.setup office.old).users }
     requires sound { IsSound file.now }
     requires poll { is_poll file.now ≡ true }
     ensures answers { (body : List ℕ) → IsSignedOn (O.setup office.old) body file.now user →
         Answers (O.setup office.old) body (C.shown clock.old) (C.shown clock.new) (O.knows office.old) (O.knows office.new) result }
     ensures setup { O.setup office.new ≡ O.setup office.old }
+    ensures through { O.through office.new ≡ O.through office.old }
+    ensures ready { O.ready office.new }
     ensures right { IfSome (O.knows office.new) (IsRightView (O.setup office.new)) }
 {
     let at = clock.now();
@@ -151,12 +157,15 @@ fn ask<O: Office, C: Clock>(
     user: UserId,
     file: &RequestFile,
 ) -> Answer
+    requires ready { O.ready office.old }
     requires known { user.0 < length (O.setup office.old).users }
     requires sound { IsSound file.now }
     requires event { is_poll file.now ≡ false }
     ensures answers { (body : List ℕ) → IsSignedOn (O.setup office.old) body file.now user →
         Answers (O.setup office.old) body (C.shown clock.old) (C.shown clock.new) (O.knows office.old) (O.knows office.new) result }
     ensures setup { O.setup office.new ≡ O.setup office.old }
+    ensures through { O.through office.new ≡ O.through office.old }
+    ensures ready { O.ready office.new }
     ensures right { IfSome (O.knows office.new) (IsRightView (O.setup office.new)) }
 {
     let at = clock.now();

@@ -58,6 +58,7 @@ pub fn exchange<O: Office, L: Link, C: Clock>(
     size: usize,
     number: u32,
 ) -> Result<bool, ServeError>
+    requires ready { O.ready office.old }
     requires few { number ≤ 100 }
     requires request { HoldsWhole incoming.old head size }
     requires room { 512 ≤ vec_capacity room.old }
@@ -67,6 +68,8 @@ pub fn exchange<O: Office, L: Link, C: Clock>(
         result }
     ensures goes_on { result ≡ Ok false → number < 100 }
     ensures setup { O.setup office.new ≡ O.setup office.old }
+    ensures through { O.through office.new ≡ O.through office.old }
+    ensures ready { O.ready office.new }
     ensures right { IfSome (O.knows office.new) (IsRightView (O.setup office.new)) }
     ensures reads { L.read_faults link.new ≡ L.read_faults link.old }
     ensures writes { L.write_faults link.old ≤ L.write_faults link.new }

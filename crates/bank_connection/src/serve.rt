@@ -53,6 +53,7 @@ pub fn serve_link<O: Office, L: Link, C: Clock>(
     link: &mut L,
     clock: &mut C,
 ) -> Result<Served, ServeError>
+    requires ready { O.ready office.old }
     ensures converses { Converses (O.setup office.old)
         (around (L.left link.old) (L.read_faults link.old) (L.held link.old) (L.write_faults link.old) (C.shown clock.old) (O.knows office.old))
         (around (L.left link.new) (L.read_faults link.new) (L.held link.new) (L.write_faults link.new) (C.shown clock.new) (O.knows office.new))
@@ -60,6 +61,8 @@ pub fn serve_link<O: Office, L: Link, C: Clock>(
     ensures reads { L.read_faults link.old ≤ L.read_faults link.new }
     ensures writes { L.write_faults link.old ≤ L.write_faults link.new }
     ensures setup { O.setup office.new ≡ O.setup office.old }
+    ensures through { O.through office.new ≡ O.through office.old }
+    ensures ready { O.ready office.new }
 {
     // For the proof alone: its contract says that what the office knows is right.
     let _setup = office.setup();

@@ -7,17 +7,18 @@ ghost use Rattle.bank_model.specs.Polls as polls;
 ghost use Rattle.bank_model.specs.SetupForm.{IsWithinLimits};
 ghost use Rattle.bank_model.specs.Sound.{IsSound};
 ghost use Rattle.token_board.specs.declared.view.Load.{Load};
-ghost use Rattle.bank_callers.specs.Callers.{IsCommitted, IsUncommitted, IsLooked, HasLoaded, HasPolled};
+ghost use Rattle.bank_callers.specs.Callers.{IsRightView, IsCommitted, IsUncommitted, IsLooked, HasLoaded, HasPolled};
 ghost use Rattle.bank_callers.specs.Polled.{object_asked};
 ghost use Rattle.bank_shared.specs.Advancing.{IsAdvanced, IsUnadvanced};
 ghost use Rattle.bank_shared.specs.Asking.{HasAsked};
-ghost use Rattle.bank_shared.specs.Holds.{BeginsAt, IsPassOf, caller_of};
+ghost use Rattle.bank_shared.specs.Holds.{HasOpened, BeginsAt, IsPassOf, caller_of};
 
 use crate::advance::Advance;
 use crate::locked_bank::LockedBank;
 use crate::name::BankName;
 use crate::opened::Opened;
 use bank_callers::{add_answer, poll_reply};
+use bank_invariants::laws::states::books_are_right;
 use bank_model::{Printer, Setup, SubmitFault};
 use ofx_ports::{Gate, Keeper};
 use ofx_types::{Ask, AskReplies, Moment, OutOfMemory, RequestFile, Sequence, UserId};
@@ -67,13 +68,14 @@ impl<N: BankName, K: Keeper, P: Printer> Model for Bank<N, K, P> {
     ghost use Rattle.std.specs.Prelude.{◌≡◌};
     ghost use Rattle.bank_model.specs.SetupForm.{IsWithinLimits};
     ghost use Rattle.bank_model.specs.declared.setup.Setup.{Setup};
-    ghost use Rattle.bank_shared.specs.Holds.{BeginsAt};
+    ghost use Rattle.bank_shared.specs.Holds.{HasOpened, BeginsAt};
 
     ghost Value = { Setup };
 
     ghost view = { λ b. b.setup };
 
-    ghost invariant = { λ b. (b.setup ≡ N.setup) × (b.board ≡ N.board) × IsWithinLimits N.setup × BeginsAt N.setup N.opening N.board };
+    ghost invariant = { λ b. (b.setup ≡ N.setup) × (b.board ≡ N.board) × IsWithinLimits N.setup
+        × HasOpened N.setup N.opening × BeginsAt N.setup N.opening N.board };
 }
 
 impl<N: BankName, K: Keeper, P: Printer> Drop for Bank<N, K, P> {
@@ -111,6 +113,7 @@ impl<N: BankName, K: Keeper, P: Printer> Bank<N, K, P> {
         requires setup { setup ≡ N.setup }
         requires within { IsWithinLimits N.setup }
         requires board { board ≡ N.board }
+        requires opened { HasOpened N.setup N.opening }
         requires begins { BeginsAt N.setup N.opening N.board }
     {
         Bank {
@@ -138,6 +141,15 @@ impl<N: BankName, K: Keeper, P: Printer> Bank<N, K, P> {
         ensures within { IsWithinLimits N.setup }
     {
         &self.setup
+    }
+
+    /// What a pass knows of the bank is right. It does nothing: proofs call it for what it says.
+    pub fn known(&self, pass: &Pass)
+        requires pass { IsPassOf N.setup N.opening N.board pass.now }
+        ensures { IsRightView N.setup (caller_of N.opening pass.now) }
+    {
+        books_are_right();
+        let _ = (&self.setup, pass);
     }
 
     /// Answers a file of a user, which is sound and no poll. The gate is passed with the user's number before the lock is taken.

@@ -1,18 +1,18 @@
 //! A connection over a bank that many callers share.
 
-ghost use Rattle.std.specs.Prelude.{◌≡◌, ◌≤◌, None};
+ghost use Rattle.std.specs.Prelude.{◌≡◌, ◌≤◌, Some};
 ghost use Rattle.bank_connection.specs.Connection.{around, Converses};
+ghost use Rattle.bank_shared.specs.Holds.{IsPassOf, caller_of};
 
-use bank_connection::laws::newest_are_reported;
 use bank_connection::{Office, ServeError, Served, serve_link};
 use bank_model::{Printer, Setup, SubmitFault};
 use bank_shared::{Bank, BankName, Pass};
-use ofx_ports::{Clock, Gate, Keeper, Link, OpenGate};
+use ofx_ports::{Clock, Gate, Keeper, Link};
 use ofx_types::{Moment, OutOfMemory, RequestFile, UserId};
 use std::alloc::Global;
 use std::sync::Wait;
 
-/// One caller of a bank that is shared. It says nothing of what it knows.
+/// One caller of a bank that is shared. What it knows of the bank is what its pass does.
 #[derive(Drop)]
 struct CallerOffice<'a, N: BankName, K: Keeper, P: Printer, R: Wait, G: Gate> {
     bank: &'a Bank<N, K, P>,
@@ -23,13 +23,19 @@ struct CallerOffice<'a, N: BankName, K: Keeper, P: Printer, R: Wait, G: Gate> {
 
 impl<'a, N: BankName, K: Keeper, P: Printer, R: Wait, G: Gate> Office
     for CallerOffice<'a, N, K, P, R, G> {
-    ghost use Rattle.std.specs.Prelude.{None};
+    ghost use Rattle.std.specs.Prelude.{Some};
+    ghost use Rattle.bank_shared.specs.Holds.{IsPassOf, caller_of};
 
     ghost setup = { λ _. N.setup };
 
-    ghost knows = { λ _. None };
+    ghost knows = { λ o. Some (caller_of N.opening o.pass.now) };
+
+    ghost through = { λ o. o.pass.ghost_name };
+
+    ghost ready = { λ o. IsPassOf N.setup N.opening N.board o.pass.now };
 
     fn setup(&self) -> &Setup {
+        self.bank.known(self.pass);
         self.bank.setup()
     }
 
@@ -39,10 +45,11 @@ impl<'a, N: BankName, K: Keeper, P: Printer, R: Wait, G: Gate> Office
         file: &RequestFile,
         at: Moment,
     ) -> Result<Vec<u8>, SubmitFault> {
-        // The gate is passed here and not by the bank: the prover doesn't cover handing a shared gate on from a trait's method.
-        self.gate.pass(u64::from(user.0));
-        self.bank
-            .submit(self.rt, self.pass, user, file, at, &OpenGate)
+        let answered = self
+            .bank
+            .submit(self.rt, self.pass, user, file, at, self.gate);
+        self.bank.known(self.pass);
+        answered
     }
 
     fn look(
@@ -51,13 +58,14 @@ impl<'a, N: BankName, K: Keeper, P: Printer, R: Wait, G: Gate> Office
         file: &RequestFile,
         at: Moment,
     ) -> Result<Vec<u8>, OutOfMemory> {
-        newest_are_reported();
-        self.bank.poll(self.rt, self.pass, user, file, at)
+        let answered = self.bank.poll(self.pass, user, file, at);
+        self.bank.known(self.pass);
+        answered
     }
 }
 
-/// Serves a connection to its end over the bank that `N` names, as `serve_link` does. What the bank's lock keeps isn't known: the
-/// replies are those over some log.
+/// Serves a connection to its end over the bank that `N` names, as `serve_link` does: the replies are those of the log that the pass
+/// has then seen, and the endings that answer its files are those that the pass has gained.
 pub fn serve_connection<N: BankName, K: Keeper, P: Printer, R: Wait, L: Link, C: Clock, G: Gate>(
     bank: &Bank<N, K, P>,
     rt: &R,
@@ -67,10 +75,14 @@ pub fn serve_connection<N: BankName, K: Keeper, P: Printer, R: Wait, L: Link, C:
     clock: &mut C,
     gate: &G,
 ) -> Result<Served, ServeError>
+    requires pass { IsPassOf N.setup N.opening N.board pass.old }
     ensures converses { Converses N.setup
-        (around (L.left link.old) (L.read_faults link.old) (L.held link.old) (L.write_faults link.old) (C.shown clock.old) None)
-        (around (L.left link.new) (L.read_faults link.new) (L.held link.new) (L.write_faults link.new) (C.shown clock.new) None)
+        (around (L.left link.old) (L.read_faults link.old) (L.held link.old) (L.write_faults link.old) (C.shown clock.old)
+        (Some (caller_of N.opening pass.old)))
+        (around (L.left link.new) (L.read_faults link.new) (L.held link.new) (L.write_faults link.new) (C.shown clock.new)
+        (Some (caller_of N.opening pass.new)))
         result }
+    ensures pass { IsPassOf N.setup N.opening N.board pass.new }
     ensures reads { L.read_faults link.old ≤ L.read_faults link.new }
     ensures writes { L.write_faults link.old ≤ L.write_faults link.new }
 {

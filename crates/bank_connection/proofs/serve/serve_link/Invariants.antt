@@ -12,6 +12,8 @@ invariant-loop-incoming g l = record {
       (around (g.L.Link.left l.link) (g.L.Link.read_faults l.link) (g.L.Link.held l.link) (g.L.Link.write_faults l.link) (g.C.Clock.shown l.clock) (g.O.Office.knows l.office));
   few : l.served < 100;
   setup : g.O.Office.setup l.office ≡ g.O.Office.setup l.fn.office;
+  through : g.O.Office.through l.office ≡ g.O.Office.through l.fn.office;
+  ready : g.O.Office.ready l.office;
   right : IfSome (g.O.Office.knows l.office) (IsRightView (g.O.Office.setup l.fn.office));
   reads : g.L.Link.read_faults l.fn.link ≤ g.L.Link.read_faults l.link;
   writes : g.L.Link.write_faults l.fn.link ≤ g.L.Link.write_faults l.link;
