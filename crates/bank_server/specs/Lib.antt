@@ -4,4 +4,3 @@ pub mod Connected
 pub mod Turns
 pub mod AllTurns
 pub mod Opening
-pub mod OfficeViews

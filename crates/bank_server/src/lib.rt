@@ -5,14 +5,14 @@
 //! `serve_connection`.
 #![tactic(auto)]
 
+mod connection;
 mod numbers;
-mod offices;
 mod open;
 mod plan;
 mod worker;
 mod workers;
 
-pub use offices::{SoloOffice, serve_connection};
+pub use connection::serve_connection;
 pub use open::serve_open;
 pub use plan::{Plan, plan_of};
 pub use worker::{WorkerEnd, serve_worker};
