@@ -69,6 +69,7 @@ fn reported_by_turns<N: BankName, R: Abort + Wait>(
     requires setup { opened.setup ≡ N.setup }
     requires opening { opened.state ≡ N.opening }
     requires first { opened.opened ≡ N.first }
+    requires board { opened.board ≡ N.board }
 {
     let (bank, mut first) = Bank::<N, _, _>::begin(opened);
     let mut second = bank.door(&mut first);

@@ -54,6 +54,7 @@ fn reported_of_runs<N: BankName, R: Abort + Wait>(
     requires setup { opened.setup ≡ N.setup }
     requires opening { opened.state ≡ N.opening }
     requires first { opened.opened ≡ N.first }
+    requires board { opened.board ≡ N.board }
 {
     let (bank, mut pass) = Bank::<N, _, _>::begin(opened);
     runs_at(rt, alloc, &bank, &mut pass)

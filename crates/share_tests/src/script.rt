@@ -51,6 +51,7 @@ fn reported<N: BankName, R: Abort>(
     requires setup { opened.setup ≡ N.setup }
     requires opening { opened.state ≡ N.opening }
     requires first { opened.opened ≡ N.first }
+    requires board { opened.board ≡ N.board }
 {
     let (_setup, journal, accounts) = opened.solo::<N>();
     let locked = LockedBank::with_accounts(alloc, journal, accounts);
