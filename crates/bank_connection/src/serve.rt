@@ -40,7 +40,7 @@ use std::alloc::Global;
 /// let Ok(opened) = Opened::open(alloc, keys, MemKeeper::new(alloc), setup, OfxPrinter) else {
 ///     panic!(rt; "a bank");
 /// };
-/// let mut office = SoloOffice::<Brand, _, _>::new(alloc, opened).expect(&rt, "room");
+/// let mut office = SoloOffice::<Brand, _, _>::new(opened);
 /// let mut clock = MemClock::new(alloc, &[Moment(1_706_702_400)]).expect(&rt, "a clock");
 /// let mut link = MemLink::new(alloc, b"GET /ofx HTTP/1.1\r\n\r\n", 1024).expect(&rt, "a link");
 /// // The method isn't POST, and the connection ends after the reply that says so.

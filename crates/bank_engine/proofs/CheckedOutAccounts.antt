@@ -16,7 +16,7 @@ use Rattle.bank_accounts.specs.Pool.{AreCheckedOut}
 use Rattle.bank_accounts.specs.HeldAccounts.{AreHeld, IsHeld, HaveSameNumbers}
 use Rattle.bank_ledger.specs.Balanced.{AreBalanced}
 use Rattle.bank_solo.specs.Solo.{account_in, accounts_in}
-use Rattle.bank_solo.specs.Unnamed.{UnnamedStay}
+use Rattle.bank_invariants.specs.Unnamed.{UnnamedStay}
 use Rattle.bank_solo.proofs.Accounts.{held_balanced, none_lent, still_lent}
 use Rattle.bank_model.specs.declared.submit.SubmitFault.{SubmitFault}
 use Rattle.bank_model.specs.declared.submit.SubmitFault.TheVariants.{Keeper, OutOfMemory}

@@ -2,6 +2,7 @@
 use Rattle.std.proofs.Common.{◌≡◌, Bool, true, false, cond, List, [], ◌∷◌, ◌++◌, Option, None, Some, ℤ, pos, ◌+ℤ◌, ◌-ℤ◌, ◌≤ℤ◌, refl, sym, ap, ◌∙◌, arith}
 use Rattle.std.proofs.lemmas.List.{append-nil}
 use Rattle.std.proofs.lemmas.List.Sums.{fold-append}
+use Rattle.std.proofs.lemmas.Grind.{flat_map-append}
 use Rattle.std.proofs.lemmas.Int.{ints}
 use Rattle.ofx_types.specs.AccountForm.{same_account}
 use Rattle.ofx_types.specs.declared.account.AcctName.{AcctName}
@@ -17,6 +18,11 @@ use Rattle.bank_invariants.proofs.AccountIndices.{account_of-line}
 use Rattle.bank_transfers.proofs.GrowthLemmas.{moved-push}
 use Rattle.bank_model.proofs.SetupWords.{some_is}
 use Rattle.bank_model.proofs.AccountNames.{same_account-is}
+
+-- what entries move, and what those after them do
+pub moved-append : (entries more : List Entry) → moved (entries ++ more) ≡ moved entries ++ moved more
+unfolding moved
+moved-append entries more = flat_map-append (λ (entry : Entry). posting_of entry.number (row_in entry.change)) entries more
 
 -- ---- an entry that posts nothing
 

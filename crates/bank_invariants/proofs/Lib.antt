@@ -26,3 +26,5 @@ pub mod RunLaws
 pub mod UidLaws
 pub mod UidSteps
 pub mod TakenLemmas
+pub mod Named
+pub mod Unnamed

@@ -9,3 +9,4 @@ pub mod Series
 pub mod Rising
 pub mod AnsweredAsks
 pub mod DueFirst
+pub mod Unnamed

@@ -3,7 +3,6 @@ use Rattle.std.proofs.Common.{◌≡◌, ℕ, Bool, true, false, ◌||◌, ◌&&
 use Rattle.std.proofs.lemmas.List.{append-nil, map-append}
 use Rattle.std.proofs.lemmas.List.Elements.{filter-append}
 use Rattle.std.proofs.lemmas.List.Folds.{list_any-append}
-use Rattle.std.proofs.lemmas.Grind.{flat_map-append}
 use Rattle.std.proofs.lemmas.Bool.{or_from, eq-eqb}
 use Rattle.std.specs.List.{list_any}
 use Rattle.std.specs.Str.{bytes_eq}
@@ -24,6 +23,7 @@ use Rattle.bank_model.specs.Judging.{is_cancelled}
 use Rattle.bank_model.specs.Once.{is_pair, is_used}
 use Rattle.bank_transfers.specs.TransfersView.{TransfersView, Represents, GivesRow}
 use Rattle.bank_transfers.proofs.GrowthLemmas.{moved-push, is_dropped-push}
+use Rattle.bank_invariants.proofs.LedgerSteps.{moved-append}
 use Rattle.bank_ledger.specs.DraftView.{pair_of}
 use Rattle.bank_ledger.specs.Postings.{HoldsPostings}
 
@@ -115,10 +115,6 @@ HoldsPostings-posted old new entries entry row held posts here holds =
     }
 
 -- ---- lines
-
-pub moved-append : (entries more : List Entry) → moved (entries ++ more) ≡ moved entries ++ moved more
-unfolding moved
-moved-append entries more = flat_map-append (λ (entry : Entry). posting_of entry.number (row_in entry.change)) entries more
 
 lines-append : (name : AcctName) (start : Moment) (end : Option Moment) (postings more : List Posting) → lines_of name start end (postings ++ more) ≡ lines_of name start end postings ++ lines_of name start end more
 unfolding lines_of

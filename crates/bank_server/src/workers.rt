@@ -59,7 +59,7 @@ pub fn serve_all<
     L: Link,
     D: Doorway<L>,
     C: Clock + Drop + Send,
-    G: Gate,
+    G: Gate + Sync,
 >(
     rt: &R,
     alloc: Global,
@@ -96,7 +96,7 @@ fn all_run<
     L: Link,
     D: Doorway<L>,
     C: Clock + Drop + Send,
-    G: Gate,
+    G: Gate + Sync,
 >(
     rt: &R,
     alloc: Global,

@@ -17,7 +17,7 @@ use Rattle.bank_frames.specs.Frames.{Content, request, due_work}
 use Rattle.bank_desk.specs.Keeping.{AreRecordsOf}
 use Rattle.bank_session.specs.Answers.{AnswersFile, AnswersFrame, Turn, AreTurns, records_in, BeginsWork, IsPrefixKept, IsKeptWhereRefused}
 use Rattle.bank_signon.specs.Signon.{IsSignedOn}
-use Rattle.bank_solo.proofs.Named.{found_within}
+use Rattle.bank_invariants.proofs.Named.{found_within}
 use Rattle.bank_session.specs.BooksKept.{StoppedRunsReopen}
 use Rattle.bank_desk.proofs.DeskLemmas.{user_within}
 use Rattle.bank_replay.proofs.OneOpening.{ReopeningGoesOn}

@@ -17,7 +17,7 @@ use Rattle.bank_accounts.specs.HeldAccounts.{AreHeld, HaveSameNumbers}
 use Rattle.bank_ledger.specs.Balanced.{AreBalanced}
 use Rattle.bank_model.specs.SetupForm.{IsWithinLimits}
 use Rattle.bank_solo.specs.Solo.{accounts_in}
-use Rattle.bank_solo.specs.Unnamed.{UnnamedStay}
+use Rattle.bank_invariants.specs.Unnamed.{UnnamedStay}
 use Rattle.bank_engine.proofs.CheckedOutAccounts.{lent_settled}
 use Rattle.bank_model.specs.declared.submit.SubmitFault.{SubmitFault}
 use Rattle.bank_model.specs.declared.submit.SubmitFault.TheVariants.{Keeper, OutOfMemory}

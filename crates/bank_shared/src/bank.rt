@@ -16,7 +16,7 @@ ghost use Rattle.bank_shared.specs.Holds.{HasOpened, BeginsAt, IsPassOf, caller_
 use crate::advance::Advance;
 use crate::locked_bank::LockedBank;
 use crate::name::BankName;
-use crate::opened::Opened;
+use crate::opened::{Opened, Parts};
 use bank_callers::{add_answer, poll_reply};
 use bank_invariants::laws::states::books_are_right;
 use bank_model::{Printer, Setup, SubmitFault};
@@ -99,30 +99,22 @@ impl<N: BankName, K: Keeper, P: Printer> Bank<N, K, P> {
         requires board { opened.board ≡ N.board }
         ensures pass { IsPassOf N.setup N.opening N.board result.1 }
     {
-        opened.into_bank()
-    }
-
-    /// The bank over a locked bank and a board. Takes no memory.
-    pub(crate) fn over(
-        alloc: Global,
-        setup: Setup,
-        printer: P,
-        board: Board,
-        locked: LockedBank<N, K, P>,
-    ) -> Bank<N, K, P>
-        requires setup { setup ≡ N.setup }
-        requires within { IsWithinLimits N.setup }
-        requires board { board ≡ N.board }
-        requires opened { HasOpened N.setup N.opening }
-        requires begins { BeginsAt N.setup N.opening N.board }
-    {
-        Bank {
+        let (parts, pass) = opened.into_parts();
+        let Parts {
+            alloc,
+            setup,
+            printer,
+            board,
+            locked,
+        } = parts;
+        let bank = Bank {
             alloc,
             setup,
             printer,
             board,
             locked: Mutex::new(locked),
-        }
+        };
+        (bank, pass)
     }
 
     /// One more caller's pass, which has seen and loaded what this one has. Takes no memory.

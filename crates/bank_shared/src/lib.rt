@@ -20,5 +20,5 @@ pub use bank_model::SubmitFault;
 pub use journal::Journal;
 pub use locked_bank::LockedBank;
 pub use name::BankName;
-pub use opened::Opened;
+pub use opened::{Opened, Parts};
 pub use token_board::Pass;

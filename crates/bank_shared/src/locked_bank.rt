@@ -6,7 +6,7 @@ ghost use Rattle.bank_model.specs.declared.event.Event.TheVariants as events;
 ghost use Rattle.bank_model.specs.Polls as polls;
 ghost use Rattle.bank_model.specs.Rules.{IsLegal};
 ghost use Rattle.bank_model.specs.Sound.{IsSound};
-ghost use Rattle.bank_solo.specs.Solo.{AreAccountsIn, accounts_in};
+ghost use Rattle.bank_solo.specs.Solo.{accounts_in};
 ghost use Rattle.bank_engine.specs.Calls.{Answers, FailsToCommit};
 ghost use Rattle.token_board.specs.Publishing.{Meets};
 ghost use Rattle.bank_callers.specs.Callers.{IsCommitted, IsUncommitted};
@@ -18,10 +18,10 @@ use crate::advance::Advance;
 use crate::checkout::check_out_for_pending;
 use crate::journal::Journal;
 use crate::name::BankName;
-use bank_accounts::{Account, AccountPool, Held};
+use bank_accounts::{AccountPool, Held};
 use bank_engine::check_out;
+use bank_invariants::laws::money::unnamed_accounts_stay;
 use bank_model::{Event, Printer, Setup, SubmitFault};
-use bank_solo::laws::unnamed_accounts_stay;
 use ofx_ports::Keeper;
 use ofx_types::{Duplicate, Moment, OutOfMemory, RequestFile, UserId};
 use std::alloc::Global;
@@ -64,20 +64,6 @@ impl<N: BankName, K: Keeper, P: Printer> LockedBank<N, K, P> {
             journal,
             pool,
         }
-    }
-
-    /// A locked bank with the accounts of the bank in the order of their numbers.
-    pub fn with_accounts(
-        alloc: Global,
-        journal: Journal<N, K, P>,
-        accounts: Vec<Account>,
-    ) -> Result<LockedBank<N, K, P>, OutOfMemory>
-        requires own { journal.setup ≡ N.setup }
-        requires accounts { AreAccountsIn journal.setup journal.state accounts.items }
-        ensures { IfOk result (λ locked. locked ≡ journal) }
-    {
-        let pool = AccountPool::from_vec(alloc, accounts)?;
-        Ok(LockedBank::new(alloc, journal, pool))
     }
 
     /// The setup, lent. Takes no memory.

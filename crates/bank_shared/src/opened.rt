@@ -1,6 +1,6 @@
 //! A bank that has opened from its records, and isn't begun yet.
 
-ghost use Rattle.std.specs.Prelude.{◌≡◌, ℕ, ◌≤◌, ◌⊎◌, [], false, pos, ◌≤ℤ◌, All, None, IsSome, IsSomeAnd, IfOk, IfErr, IsErrAnd, MatchResult};
+ghost use Rattle.std.specs.Prelude.{◌≡◌, ℕ, ◌≤◌, ◌⊎◌, [], false, None, IsSome, IsSomeAnd, IfOk, IfErr, IsErrAnd, MatchResult};
 ghost use Rattle.ofx_ports.specs.Faults.{CountsFaults};
 ghost use Rattle.ofx_ports.specs.Known.{Stays};
 ghost use Rattle.bank_model.specs.declared.event.State.{State};
@@ -11,9 +11,8 @@ ghost use Rattle.bank_solo.specs.Solo.{AreAccountsIn, accounts_in};
 ghost use Rattle.bank_replay.specs.Opening.{RecordsGive, HasNoForm, IsNotLegal, HasCause};
 ghost use Rattle.bank_replay.specs.Replay.{IsOfTheOutside};
 ghost use Rattle.bank_callers.specs.Boards.{AreNewest};
-ghost use Rattle.bank_shared.specs.Holds.{BeginsAt, IsPassOf};
+ghost use Rattle.bank_shared.specs.Holds.{BeginsAt};
 
-use crate::bank::Bank;
 use crate::journal::Journal;
 use crate::locked_bank::LockedBank;
 use crate::name::BankName;
@@ -22,7 +21,7 @@ use bank_core::Book;
 use bank_model::{Printer, Setup};
 use bank_replay::{OpenFault, reopen};
 use ofx_ports::Keeper;
-use ofx_types::{Duplicate, OutOfMemory};
+use ofx_types::{Duplicate, ObjectId, OutOfMemory};
 use std::alloc::Global;
 use std::hash::RandomState;
 use std::marker::Model;
@@ -30,9 +29,6 @@ use std::snapshot::Snapshot;
 use token_board::{Board, Pass, Writer};
 
 /// A bank that has opened from its records.
-///
-/// It has its accounts twice, in the pool for a bank of many callers and in a list for one caller, so that neither takes memory
-/// when it begins: one of both is used. The board of newest tokens is made here too.
 pub struct Opened<K: Keeper, P: Printer> {
     alloc: Global,
     setup: Setup,
@@ -41,7 +37,7 @@ pub struct Opened<K: Keeper, P: Printer> {
     keeper: K,
     book: Book<P>,
     printer: P,
-    accounts: Vec<Account>,
+    // all accounts, and the board with its writer and its first pass, so that a bank takes no memory when it begins
     pool: AccountPool,
     board: Board,
     writer: Writer,
@@ -51,7 +47,7 @@ pub struct Opened<K: Keeper, P: Printer> {
 impl<K: Keeper, P: Printer> Model for Opened<K, P> {
     ghost use Rattle.std.specs.Prelude.{◌≡◌, [], false};
     ghost use Rattle.bank_model.specs.SetupForm.{IsWithinLimits};
-    ghost use Rattle.bank_solo.specs.Solo.{AreAccountsIn, accounts_in};
+    ghost use Rattle.bank_solo.specs.Solo.{accounts_in};
     ghost use Rattle.ofx_ports.specs.Known.{Stays};
     ghost use Rattle.bank_replay.specs.Opening.{RecordsGive};
     ghost use Rattle.bank_shared.specs.Holds.{BeginsAt};
@@ -69,7 +65,7 @@ impl<K: Keeper, P: Printer> Model for Opened<K, P> {
     } };
 
     ghost invariant = { λ o. (o.book.setup ≡ o.setup) × IsWithinLimits o.setup × (K.unsettled o.keeper ≡ false)
-        × RecordsGive o.setup (K.records o.opened.value) o.book.state × Stays (K.records o.opened.value) (K.records o.keeper) × AreAccountsIn o.setup o.book.state o.accounts.items
+        × RecordsGive o.setup (K.records o.opened.value) o.book.state × Stays (K.records o.opened.value) (K.records o.keeper)
         × (o.pool ≡ accounts_in o.setup o.book.state) × BeginsAt o.setup o.book.state o.board
         × (o.writer ≡ record { table = o.board.table; log = []; claimed = [] })
         × (o.pass ≡ record { table = o.board.table; seen = []; mine = []; polled = [] }) };
@@ -84,7 +80,6 @@ impl<K: Keeper, P: Printer> Drop for Opened<K, P> {
             keeper: _,
             book: _,
             printer: _,
-            accounts: _,
             pool: _,
             board: _,
             writer: _,
@@ -136,7 +131,7 @@ impl<K: Keeper, P: Printer> Opened<K, P> {
         };
         match reopen(alloc, keys, &mut keeper, setup, printer) {
             Err(fault) => Err((fault, keeper)),
-            Ok((book, accounts)) => match made_ready(alloc, &own, &book, &accounts) {
+            Ok((book, accounts)) => match made_ready(alloc, &own, &book, accounts) {
                 Err(OutOfMemory) => Err((OpenFault::OutOfMemory, keeper)),
                 Ok((pool, (board, writer, pass))) => Ok(Opened {
                     alloc,
@@ -145,7 +140,6 @@ impl<K: Keeper, P: Printer> Opened<K, P> {
                     keeper,
                     book,
                     printer,
-                    accounts,
                     pool,
                     board,
                     writer,
@@ -155,13 +149,23 @@ impl<K: Keeper, P: Printer> Opened<K, P> {
         }
     }
 
-    /// The bank that `N` names, and its first pass. Takes no memory.
-    pub(crate) fn into_bank<N: BankName>(self) -> (Bank<N, K, P>, Pass)
+    /// What the bank that `N` names is made of, and its first pass. Takes no memory.
+    pub fn into_parts<N: BankName>(self) -> (Parts<N, K, P>, Pass)
         requires setup { self.setup ≡ N.setup }
         requires opening { self.state ≡ N.opening }
         requires first { self.opened ≡ N.first }
         requires board { self.board ≡ N.board }
-        ensures pass { IsPassOf N.setup N.opening N.board result.1 }
+        ensures setup { result.0.setup ≡ N.setup }
+        ensures board { result.0.board ≡ N.board }
+        ensures of { result.0.locked.setup ≡ N.setup }
+        ensures state { result.0.locked.state ≡ N.opening }
+        ensures log { result.0.locked.log ≡ [] }
+        ensures pending { result.0.locked.pending ≡ None }
+        ensures records { result.0.locked.records ≡ self.records }
+        ensures holds { RecordsGive N.setup N.first N.opening }
+        ensures within { IsWithinLimits N.setup }
+        ensures begins { BeginsAt N.setup N.opening N.board }
+        ensures pass { result.1 ≡ record { table = N.board.table; seen = []; mine = []; polled = [] } }
     {
         let Opened {
             alloc,
@@ -170,15 +174,46 @@ impl<K: Keeper, P: Printer> Opened<K, P> {
             keeper,
             book,
             printer,
-            accounts: _,
             pool,
             board,
             writer,
             pass,
         } = self;
         let journal = Journal::new(alloc, keeper, book, writer);
-        let locked = LockedBank::new(alloc, journal, pool);
-        (Bank::over(alloc, setup, printer, board, locked), pass)
+        let parts = Parts {
+            alloc,
+            setup,
+            printer,
+            board,
+            locked: LockedBank::new(alloc, journal, pool),
+        };
+        (parts, pass)
+    }
+}
+
+/// What a bank is made of.
+pub struct Parts<N: BankName, K: Keeper, P: Printer> {
+    /// For its polls.
+    pub alloc: Global,
+    /// Its setup.
+    pub setup: Setup,
+    /// The printer of its polls' replies.
+    pub printer: P,
+    /// The board of its newest tokens.
+    pub board: Board,
+    /// What is behind its lock.
+    pub locked: LockedBank<N, K, P>,
+}
+
+impl<N: BankName, K: Keeper, P: Printer> Drop for Parts<N, K, P> {
+    fn drop(self) {
+        let Parts {
+            alloc: _,
+            setup: _,
+            printer: _,
+            board: _,
+            locked: _,
+        } = self;
     }
 }
 
@@ -187,16 +222,16 @@ fn made_ready<P: Printer>(
     alloc: Global,
     setup: &Setup,
     book: &Book<P>,
-    accounts: &[Account],
+    accounts: Vec<Account>,
 ) -> Result<(AccountPool, (Board, Writer, Pass)), OutOfMemory>
     requires setup { setup.now ≡ book.now.setup }
-    requires accounts { AreAccountsIn book.now.setup book.now.state accounts.now }
+    requires accounts { AreAccountsIn book.now.setup book.now.state accounts.items }
     ensures pool { IfOk result (λ made. made.0 ≡ accounts_in book.now.setup book.now.state) }
     ensures begins { IfOk result (λ made. BeginsAt book.now.setup book.now.state made.1.0) }
     ensures writer { IfOk result (λ made. made.1.1 ≡ record { table = made.1.0.table; log = []; claimed = [] }) }
     ensures pass { IfOk result (λ made. made.1.2 ≡ record { table = made.1.0.table; seen = []; mine = []; polled = [] }) }
 {
-    let pool = in_pool(alloc, book, accounts)?;
+    let pool = AccountPool::from_vec(alloc, accounts)?;
     let start = newest_numbers(alloc, setup, book)?;
     let made = Board::new(alloc, &start)?;
     Ok((pool, made))
@@ -219,31 +254,4 @@ fn newest_numbers<P: Printer>(
         numbers.push(book.newest(ObjectId(object as u32)))?;
     }
     Ok(numbers)
-}
-
-/// Copies of all accounts of the bank of a book, in the pool.
-fn in_pool<P: Printer>(
-    alloc: Global,
-    book: &Book<P>,
-    accounts: &[Account],
-) -> Result<AccountPool, OutOfMemory>
-    requires { AreAccountsIn book.now.setup book.now.state accounts.now }
-    ensures { IfOk result (λ pool. pool ≡ accounts_in book.now.setup book.now.state) }
-{
-    // For the proof alone: its contract says that no balance is below zero.
-    let _setup = book.setup();
-    let copies = copied(alloc, accounts)?;
-    AccountPool::from_vec(alloc, copies)
-}
-
-/// Copies of accounts whose balances aren't below zero.
-fn copied(alloc: Global, accounts: &[Account]) -> Result<Vec<Account>, OutOfMemory>
-    requires { All (λ account. pos 0 ≤ℤ account.balance.0) accounts.now }
-    ensures { IfOk result (λ copies. copies.items ≡ accounts.now) }
-{
-    let mut copies = Vec::with_capacity(alloc, accounts.len())?;
-    for account in accounts {
-        copies.push(Account::new(account.number(), account.balance()))?;
-    }
-    Ok(copies)
 }

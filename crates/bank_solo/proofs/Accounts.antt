@@ -22,8 +22,8 @@ use Rattle.bank_accounts.proofs.HomeLemmas.{lent_none, lent_all_back}
 use Rattle.bank_ledger.specs.Balanced.{AreBalanced}
 use Rattle.bank_core.specs.Opened.{AreOpened}
 use Rattle.bank_solo.specs.Solo.{AreAccountsIn, account_in, accounts_in}
-use Rattle.bank_solo.specs.Unnamed.{UnnamedStay}
-use Rattle.bank_solo.proofs.Named.{named_within}
+use Rattle.bank_invariants.specs.Unnamed.{UnnamedStay}
+use Rattle.bank_invariants.proofs.Named.{named_within}
 
 -- ---- the accounts with which a bank opens
 

@@ -1,3 +1,1 @@
-pub mod Named
-mod Unnamed
 pub mod Accounts

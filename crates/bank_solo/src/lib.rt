@@ -2,7 +2,6 @@
 //! no others; after its step, or where it is given up, all are in the pool again.
 #![tactic(auto)]
 
-pub mod laws;
 mod solo;
 
 pub use solo::SoloBank;

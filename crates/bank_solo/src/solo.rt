@@ -9,9 +9,9 @@ ghost use Rattle.bank_accounts.specs.Pool.{AreCheckedOut};
 ghost use Rattle.bank_core.specs.BookView.{HasRoom};
 ghost use Rattle.bank_solo.specs.Solo.{AreAccountsIn, accounts_in};
 
-use crate::laws::unnamed_accounts_stay;
 use bank_accounts::{Account, AccountPool, Held};
 use bank_core::{Book, Prepared};
+use bank_invariants::laws::money::unnamed_accounts_stay;
 use bank_model::{Event, Printer, Setup};
 use ofx_types::{AcctId, Moment, OutOfMemory};
 use std::alloc::Global;

@@ -1,7 +1,7 @@
 //! Where a call stops on its way, so that a test can hold it there.
 
-/// Stands between taking the accounts and the lock of the journal. Threads share it.
-pub trait Gate: Sync {
+/// Stands between taking the accounts and the lock of the journal.
+pub trait Gate {
     /// Lets a call through: that of a user, by the user's number, or 2^32 for what the bank does by itself.
     fn pass(&self, call: u64);
 }

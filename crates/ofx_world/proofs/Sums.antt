@@ -13,7 +13,7 @@ use Rattle.bank_model.specs.Stores.{Store}
 use Rattle.bank_model.specs.declared.event.State.{State}
 use Rattle.bank_model.specs.declared.setup.Setup.{Setup}
 use Rattle.bank_solo.specs.Solo.{AreAccountsIn}
-use Rattle.bank_solo.proofs.Named.{numbered}
+use Rattle.bank_invariants.proofs.Named.{numbered}
 use Rattle.bank_transfers.specs.Together.{balances}
 use Rattle.ofx_world.specs.Customer.{CustomerView}
 use Rattle.ofx_world.specs.Rehearsal.{files_made, is_lost, lost_among, stores_lost, sum_among}

@@ -100,7 +100,7 @@ pub fn all_served<
     K: Keeper + Send,
     L: Link,
     D: Doorway<L>,
-    G: Gate,
+    G: Gate + Sync,
 >(
     rt: &R,
     alloc: Global,

@@ -53,15 +53,8 @@ fn reported<N: BankName, R: Abort>(
     requires first { opened.opened ≡ N.first }
     requires board { opened.board ≡ N.board }
 {
-    let (_setup, journal, accounts) = opened.solo::<N>();
-    let locked = LockedBank::with_accounts(alloc, journal, accounts);
-    reported_by(
-        rt,
-        alloc,
-        &mut locked.expect(rt, "a locked bank"),
-        clock,
-        calls,
-    )
+    let (mut parts, mut pass) = opened.into_parts::<N>();
+    reported_by(rt, alloc, &mut parts, &mut pass, clock, calls)
 }
 
 /// What the calls of a locked bank tell and leave pending, and the number of the next entry.

@@ -9,6 +9,7 @@ ghost use Rattle.bank_model.specs.declared.setup.Setup.{Setup};
 ghost use Rattle.bank_transfers.specs.Lawful.{PostsOnce};
 ghost use Rattle.bank_transfers.specs.Together.{balances};
 ghost use Rattle.bank_invariants.specs.Runs.{AreLegal, Happening, after_all};
+ghost use Rattle.bank_invariants.specs.Unnamed.{UnnamedStay};
 
 /// All balances together are all openings together.
 pub fn money_stays()
@@ -26,4 +27,9 @@ pub fn no_account_is_overdrawn()
 pub fn transfers_post_once()
     ensures { (setup : Setup) (run : List Happening) → IsWithinLimits setup → AreLegal setup opening_state run
         → PostsOnce (after_all setup opening_state run).entries }
+{}
+
+/// An account that an event doesn't name keeps its balance, so only those that it names need to be held for it.
+pub fn unnamed_accounts_stay()
+    ensures { UnnamedStay }
 {}

@@ -43,7 +43,7 @@ use Rattle.bank_model.specs.Rules.{raised, ask_answer, ask_answers, kept_for, ou
 use Rattle.bank_invariants.proofs.AccountIndices.{account_of-line}
 use Rattle.bank_model.proofs.Lists.{all_append}
 use Rattle.bank_model.proofs.AccountNames.{same_account-is}
-use Rattle.bank_ledger.proofs.PostingLemmas.{moved-append}
+use Rattle.bank_invariants.proofs.LedgerSteps.{moved-append}
 
 -- ---- lists
 
