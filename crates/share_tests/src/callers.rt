@@ -2,6 +2,7 @@
 
 ghost use Rattle.std.specs.Prelude.{◌≡◌};
 ghost use Rattle.ofx_types.specs.Calendar.{IsMoment};
+ghost use Rattle.bank_shared.specs.Holds.{IsPassOf};
 
 use crate::sample::{failing, opened_over, report, request_with, text};
 use crate::script::{advance_line, framed, reply_lines};
@@ -26,7 +27,9 @@ pub fn asked<N: BankName, R: Abort + Wait>(
     file: &str,
     at: Moment,
 ) -> String
-    requires { IsMoment at.0 }
+    requires moment { IsMoment at.0 }
+    requires pass { IsPassOf N.setup N.opening N.board pass.old }
+    ensures { IsPassOf N.setup N.opening N.board pass.new }
 {
     let (_, body) = file.split_once("\n").unwrap_or(("", ""));
     let bytes = body.as_bytes();
@@ -40,7 +43,7 @@ pub fn asked<N: BankName, R: Abort + Wait>(
             reply_lines(rt, alloc, &reply)
         }
         Judgement::Poll(user, file) => {
-            let reply = bank.poll(rt, pass, *user, file, at).expect(rt, "a reply");
+            let reply = bank.poll(pass, *user, file, at).expect(rt, "a reply");
             framed(rt, alloc, &reply)
         }
         Judgement::Denied(_) | Judgement::Refused(_) => text(rt, alloc, "no file\n"),
@@ -55,7 +58,9 @@ fn advanced<N: BankName, R: Abort + Wait>(
     pass: &mut Pass,
     at: Moment,
 ) -> String
-    requires { IsMoment at.0 }
+    requires moment { IsMoment at.0 }
+    requires pass { IsPassOf N.setup N.opening N.board pass.old }
+    ensures { IsPassOf N.setup N.opening N.board pass.new }
 {
     advance_line(rt, alloc, &bank.advance(rt, pass, at, &OpenGate))
 }
@@ -84,7 +89,9 @@ fn reported_to_both<N: BankName, R: Abort + Wait>(
     bank: &Bank<N, MemKeeper, OfxPrinter>,
     first: &mut Pass,
     second: &mut Pass,
-) -> String {
+) -> String
+    requires { IsPassOf N.setup N.opening N.board first.old × IsPassOf N.setup N.opening N.board second.old }
+{
     let waiting = request_with(rt, alloc, &[TRANSFER, DUE_LATER]);
     let poll = request_with(rt, alloc, &POLL);
     let mut reported = asked(rt, alloc, bank, first, &waiting, NOON);
