@@ -131,3 +131,49 @@ fn callers_take_turns_at_one_bank(rt: HostRuntime) {
     assert!(rt; rest.contains("<TOKEN>1\r\n"));
     assert!(rt; rest.strip_suffix("nothing due\n").is_some());
 }
+
+/// What a caller of a bank is told of a transfer whose append fails, of a poll, when due work is looked for, and of a poll again.
+fn reported_while_pending<N: BankName, R: Abort + Wait>(
+    rt: &R,
+    alloc: Global,
+    opened: Opened<MemKeeper, OfxPrinter>,
+) -> String
+    requires setup { opened.setup ≡ N.setup }
+    requires opening { opened.state ≡ N.opening }
+    requires first { opened.opened ≡ N.first }
+    requires board { opened.board ≡ N.board }
+{
+    let (bank, mut pass) = Bank::<N, _, _>::begin(opened);
+    let file = request_with(rt, alloc, &[TRANSFER]);
+    let poll = request_with(rt, alloc, &POLL);
+    let mut reported = asked(rt, alloc, &bank, &mut pass, &file, NOON);
+    report(
+        rt,
+        &mut reported,
+        &asked(rt, alloc, &bank, &mut pass, &poll, NOON),
+    );
+    report(
+        rt,
+        &mut reported,
+        &advanced(rt, alloc, &bank, &mut pass, NOON),
+    );
+    report(
+        rt,
+        &mut reported,
+        &asked(rt, alloc, &bank, &mut pass, &poll, NOON),
+    );
+    reported
+}
+
+/// A poll is answered while a file is pending, as if it never had been, and settles nothing.
+#[test]
+fn a_poll_looks_at_what_was_answered(rt: HostRuntime) {
+    let alloc = rt.alloc();
+    let keeper = failing(&rt, alloc, &[1], &[1]);
+    let opened = opened_over(&rt, alloc, keeper);
+    let reported = reported_while_pending::<Brand, _>(&rt, alloc, opened);
+    let (pending, settled) = reported.split_once("nothing due\n").unwrap_or(("", ""));
+    assert!(rt; pending.starts_with("keeper 1\nFILE "));
+    assert!(rt; pending.contains("<TOKEN>0\r\n"));
+    assert!(rt; settled.contains("<TOKEN>1\r\n"));
+}
