@@ -57,8 +57,14 @@ class Replay:
     def places(self):
         """What comes of each record behind those that were there before, and what stood before them."""
         events = [read_record(one) for one in self.history.records]
+        if not events:
+            return [Place(None, self.tokens(self.answered(0, self.polls, "20240101000000")))]
         found = [Place(None, self.tokens(self.answered(self.history.before, self.polls, text(events[0][1]))))]
-        at = self.history.before
+        # What was due when the server began was done before it let anybody in: only the last tokens of it were told.
+        at = next((n for n in range(self.history.before, len(events)) if isinstance(events[n][0], File)), len(events))
+        if at > self.history.before:
+            last = self.tokens(self.answered(at, self.polls, text(events[at - 1][1])))
+            found += [Place(None, last)] * (at - self.history.before)
         while at < len(events):
             end = self.group(events, at)
             found += self.replayed(events, at, end)
