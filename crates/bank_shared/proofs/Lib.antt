@@ -1,1 +1,3 @@
 pub mod CallLemmas
+pub mod Callers
+pub mod Met

@@ -17,6 +17,7 @@ use crate::advance::Advance;
 use crate::locked_bank::LockedBank;
 use crate::name::BankName;
 use crate::opened::{Opened, Parts};
+use bank_callers::laws::tokens_are_the_banks;
 use bank_callers::{add_answer, poll_reply};
 use bank_invariants::laws::states::books_are_right;
 use bank_model::{Printer, Setup, SubmitFault};
@@ -251,6 +252,7 @@ impl<N: BankName, K: Keeper, P: Printer> Bank<N, K, P> {
             × HasPolled (option_to_list load) (caller_of N.opening pass.old) (caller_of N.opening pass.new) }
         ensures pass { IsPassOf N.setup N.opening N.board pass.new }
     {
+        tokens_are_the_banks();
         match ask {
             Ask::Sync(ask) => match self.setup.object(user, &ask.object) {
                 Some(object) => Some(self.board.newest(pass, object)),

@@ -103,7 +103,7 @@ impl<N: BankName, K: Keeper, P: Printer> Journal<N, K, P> {
         self.engine.book()
     }
 
-    /// What is true of the log whenever the lock is free. It does nothing: proofs call it for what it says.
+    /// What is true of the log whenever the lock is free, and of the board. It does nothing: proofs call it for what it says.
     pub fn log_holds(&self)
         ensures legal { IsWholeLog N.setup N.opening self.now.log }
         ensures ends { self.now.state ≡ ends N.setup N.opening self.now.log }
@@ -111,6 +111,7 @@ impl<N: BankName, K: Keeper, P: Printer> Journal<N, K, P> {
         ensures kept { IfSome N.first (λ first. IsSomeAnd self.now.records
             (AreKept N.setup N.opening first self.now.log self.now.landed self.now.pending)) }
         ensures counts { All (IsUpTo self.now.faults) (endings self.now.log) }
+        ensures begins { BeginsAt N.setup N.opening N.board }
     {
         let _ = &self.writer;
     }

@@ -19,6 +19,7 @@ use crate::checkout::check_out_for_pending;
 use crate::journal::Journal;
 use crate::name::BankName;
 use bank_accounts::{AccountPool, Held};
+use bank_callers::laws::tokens_are_the_banks;
 use bank_engine::check_out;
 use bank_invariants::laws::money::unnamed_accounts_stay;
 use bank_model::{Event, Printer, Setup, SubmitFault};
@@ -109,10 +110,15 @@ impl<N: BankName, K: Keeper, P: Printer> LockedBank<N, K, P> {
             (Some (caller_of N.opening pass.old)) (Some (caller_of N.opening pass.new))) }
         ensures pass { IsPassOf N.setup N.opening N.board pass.new }
     {
+        tokens_are_the_banks();
         // For the proof alone: its contract says whose setup it is.
         let _setup = self.setup();
-        self.settle(board, pass)?;
-        self.answer(board, pass, user, file, at)
+        let settled = self.settle(board, pass);
+        self.journal.log_holds();
+        settled?;
+        let answered = self.answer(board, pass, user, file, at);
+        self.journal.log_holds();
+        answered
     }
 
     /// Makes what is due first at a moment happen. What is pending is settled first.
@@ -134,11 +140,16 @@ impl<N: BankName, K: Keeper, P: Printer> LockedBank<N, K, P> {
         ensures refused { IfErr result (IsUnadvanced N.setup at (caller_of N.opening pass.old) (caller_of N.opening pass.new)) }
         ensures pass { IsPassOf N.setup N.opening N.board pass.new }
     {
-        self.settle(board, pass)?;
+        tokens_are_the_banks();
+        let settled = self.settle(board, pass);
+        self.journal.log_holds();
+        settled?;
         match self.journal.book().due(at) {
             None => Ok(Advance::Nothing),
             Some(event) => {
-                self.commit(board, pass, &event, at)?;
+                let committed = self.commit(board, pass, &event, at);
+                self.journal.log_holds();
+                let _reply = committed?;
                 Ok(Advance::Done(event))
             }
         }

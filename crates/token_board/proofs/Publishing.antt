@@ -27,7 +27,7 @@ claims-append count (Fault faults pending ∷ xs) ys =
     let same : (count + 1) + length (endings xs) ≡ count + length (endings (Fault faults pending ∷ xs)) = omega arith in
     ap (λ (ns : List ℕ). (count + 1) ∷ ns) (claims-append (count + 1) xs ys ∙ ap (λ (n : ℕ). claims_in (count + 1) xs ++ claims_in n ys) same)
 
-claims_entries : (count : ℕ) (entries : List Entry) → claims_in count (map Effect entries) ≡ []
+pub claims_entries : (count : ℕ) (entries : List Entry) → claims_in count (map Effect entries) ≡ []
 claims_entries count [] = refl
 claims_entries count (entry ∷ more) = claims_entries count more
 
@@ -37,7 +37,7 @@ claim_one count number (Answer event at reply) is same = ap (λ (n : ℕ). n ∷
 claim_one count number (Adopted fault event at) is same = refl
 claim_one count number (Fault faults pending) is same = ap (λ (n : ℕ). n ∷ []) (sym same)
 
-one_more : (log : List LogItem) (item : LogItem) → is_ending item ≡ true → length (endings (log ++ item ∷ [])) ≡ length (endings log) + 1
+pub one_more : (log : List LogItem) (item : LogItem) → is_ending item ≡ true → length (endings (log ++ item ∷ [])) ≡ length (endings log) + 1
 one_more log (Effect entry) is = cc
 one_more log (Answer event at reply) is = count-append log (Answer event at reply ∷ [])
 one_more log (Adopted fault event at) is = count-append log (Adopted fault event at ∷ [])
@@ -121,7 +121,7 @@ longer_is xs ys rest is = either (nat_lt (length xs) (length ys)) refl
     either false lt = ap (λ (b : Bool). if b then ys else xs) lt ∙ none_left lt
 
 pub heard_meets : HeardMeets
-heard_meets board writer before old new heard h table seen mine polled = record {
+heard_meets board writer before old new heard h table seen mine polled are_endings = record {
   heard = heard;
   later = h.later;
   grows = h.log;
@@ -129,4 +129,5 @@ heard_meets board writer before old new heard h table seen mine polled = record 
   seen = seen ∙ longer_is old.seen writer.log (heard.seen.0 ++ h.later) (h.log ∙ ap (λ (l : List LogItem). l ++ h.later) heard.seen.1 ∙ append_assoc old.seen heard.seen.0 h.later);
   mine = mine ∙ ap (λ (ns : List ℕ). old.mine ++ ns) h.claimed;
   polled = polled;
+  endings = are_endings;
 }

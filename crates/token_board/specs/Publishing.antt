@@ -4,7 +4,7 @@ use Rattle.bank_model.specs.declared.entry.Entry.{Entry}
 use Rattle.bank_model.specs.declared.log.LogItem.{LogItem}
 use Rattle.bank_model.specs.declared.log.LogItem.TheVariants.{Effect, Answer, Adopted, Fault}
 use Rattle.bank_model.specs.Log.{endings, is_ending}
-use Rattle.token_board.specs.Tokens.{Begins, IsTokenIn, AreAbove}
+use Rattle.token_board.specs.Tokens.{Begins, IsTokenIn, AreAbove, AreEndings}
 use Rattle.token_board.specs.Views.{BoardView, WriterView, PassView, longer, claims_of}
 use Rattle.token_board.specs.Following.{MayFollow}
 
@@ -48,6 +48,7 @@ pub record Meets (board : BoardView) (before after : List LogItem) (old new : Pa
   pub seen : new.seen ≡ after
   pub mine : new.mine ≡ old.mine ++ claims_in (length (endings before)) later
   pub polled : new.polled ≡ old.polled
+  pub endings : AreEndings new.seen new.mine
 
 -- ---- laws
 
@@ -75,4 +76,4 @@ HeardMayMeet = (board : BoardView) (writer : WriterView) (before : List LogItem)
 abbrev pub HeardMeets : Type 0
 HeardMeets = (board : BoardView) (writer : WriterView) (before : List LogItem) (old new : PassView) → IsHeard board before old
     → HasPublished board writer before → new.table ≡ old.table → new.seen ≡ longer old.seen writer.log
-    → new.mine ≡ old.mine ++ writer.claimed → new.polled ≡ old.polled → Meets board before writer.log old new
+    → new.mine ≡ old.mine ++ writer.claimed → new.polled ≡ old.polled → AreEndings new.seen new.mine → Meets board before writer.log old new
