@@ -37,7 +37,7 @@ use Rattle.bank_invariants.proofs.StageLemmas.{Lasts, lasts, leads_step, each_as
 -- ---- objects
 
 account_below : (setup : Setup) (name : AcctName) (a : AcctId) → account_of setup name ≡ Some a → a.0 < length setup.accounts
-account_below setup name a found = let line = line_of-account setup name a found in slice_get-below setup.accounts a.0 line.0 line.1.0
+account_below setup name a found = let line = line_of-account setup name a found in slice_get-below setup.accounts a.0 line.0 line.1
 
 intra_below : (setup : Setup) (name : AcctName) (found : Option AcctId) → IsWithinLimits setup → account_of setup name ≡ found → (intra_of found).0 < object_count setup
 intra_below setup name None within is = let some = within.lines.accounts_low in omega arith

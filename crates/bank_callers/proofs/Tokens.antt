@@ -60,12 +60,12 @@ one_later object first entries number (entry, among, of, is) = (entry, Contains-
 in_history : (object : ObjectId) (entries : List Entry) (number : ℕ) → Contains (map number_of (history_of object entries)) number → IsNumberOf object entries number
 unfolding history_of
 in_history object [] number among = absurd (let less = among.1.0 in omega arith)
-in_history object (first ∷ entries) number among = by_first (belongs_to object first) refl among
+in_history object (first ∷ entries) number among = by_first (λ there. in_history object entries number there) (belongs_to object first) refl among
   where
-    by_first : (b : Bool) → belongs_to object first ≡ b → Contains (map number_of (cond b (first ∷ filter (belongs_to object) entries) (filter (belongs_to object) entries))) number → IsNumberOf object (first ∷ entries) number
-    by_first true is (zero, less, found) = (first, (0, omega arith, refl), same_object first.object object (eqb-true first.object.0 object.0 is), found)
-    by_first true is (suc k, less, found) = one_later object first entries number (in_history object entries number (k, omega arith, found))
-    by_first false is there = one_later object first entries number (in_history object entries number there)
+    by_first : (Contains (map number_of (filter (belongs_to object) entries)) number → IsNumberOf object entries number) → (b : Bool) → belongs_to object first ≡ b → Contains (map number_of (cond b (first ∷ filter (belongs_to object) entries) (filter (belongs_to object) entries))) number → IsNumberOf object (first ∷ entries) number
+    by_first rest true is (zero, less, found) = (first, (0, omega arith, refl), same_object first.object object (eqb-true first.object.0 object.0 is), found)
+    by_first rest true is (suc k, less, found) = one_later object first entries number (rest (k, omega arith, found))
+    by_first rest false is there = one_later object first entries number (rest there)
 
 -- the number of the last entry of an object, where there is one after a number so far
 abbrev last_after : ℕ → ObjectId → List Entry → ℕ
@@ -134,7 +134,7 @@ owned_is setup user (Some b) a is = by_owner (is_owner setup user b) is
 
 own_below : (setup : Setup) (user : UserId) (name : AcctName) (a : AcctId) → own_account setup user name ≡ Some a → a.0 < length setup.accounts
 own_below setup user name a is =
-    let line = line_of-account setup name a (owned_is setup user (account_of setup name) a is) in slice_get-below setup.accounts a.0 line.0 line.1.0
+    let line = line_of-account setup name a (owned_is setup user (account_of setup name) a is) in slice_get-below setup.accounts a.0 line.0 line.1
 
 of_account : (number : Option AcctId → ObjectId) (found : Option AcctId) (object : ObjectId) → numbered number found ≡ Some object → (a : AcctId) × (found ≡ Some a) × (number (Some a) ≡ object)
 of_account number None object is = absurd cc
