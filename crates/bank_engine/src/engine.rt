@@ -5,6 +5,7 @@ ghost use Rattle.std.specs.Option.{IfSome, option_map, option_copied};
 ghost use Rattle.ofx_types.specs.Calendar.{IsMoment};
 ghost use Rattle.ofx_ports.specs.Kept.{counted};
 ghost use Rattle.bank_model.specs.declared.log.LogItem.{LogItem};
+ghost use Rattle.bank_model.specs.LegalLog.{MayHappen};
 ghost use Rattle.bank_model.specs.Rules.{IsLegal, named};
 ghost use Rattle.bank_model.specs.SetupForm.{IsWithinLimits};
 ghost use Rattle.bank_accounts.specs.HeldAccounts.{AreHeld, HaveSameNumbers};
@@ -78,9 +79,10 @@ impl<P: Printer> Engine<P> {
         &self.book
     }
 
-    /// The event whose append failed, until it is settled whether its record is stored. Takes no memory.
+    /// The event whose append failed, until it is settled whether its record is stored. It may still happen. Takes no memory.
     pub fn pending(&self) -> Option<&Event>
-        ensures { option_copied result ≡ option_map (λ pending. pending.event) self.now.pending }
+        ensures event { option_copied result ≡ option_map (λ pending. pending.event) self.now.pending }
+        ensures may { IfSome self.now.pending (λ pending. MayHappen self.now.setup self.now.state pending.at pending.event) }
     {
         match &self.pending {
             Some(pending) => Some(&pending.event),

@@ -21,7 +21,7 @@ ghost use Rattle.bank_shared.specs.Holds.{BeginsAt};
 use crate::name::BankName;
 use crate::publishing::{commit_at, settle_at};
 use bank_accounts::Held;
-use bank_callers::laws::steps_follow;
+use bank_callers::laws::{entries_belong, steps_follow};
 use bank_core::Book;
 use bank_engine::Engine;
 use bank_model::{Event, Printer, SubmitFault};
@@ -148,6 +148,9 @@ impl<N: BankName, K: Keeper, P: Printer> Journal<N, K, P> {
         endings_are_claimed();
         heard_passes_meet();
         steps_follow();
+        entries_belong();
+        // For the proof alone: their contracts say that the state is sound, and that what is pending may happen.
+        let _ = (self.engine.book(), self.engine.pending());
         self.writer.hear(board, pass);
         let settled = settle_at(
             &mut self.engine,
@@ -194,6 +197,9 @@ impl<N: BankName, K: Keeper, P: Printer> Journal<N, K, P> {
         endings_are_claimed();
         heard_passes_meet();
         steps_follow();
+        entries_belong();
+        // For the proof alone: its contract says that the state is sound.
+        let _book = self.engine.book();
         self.writer.hear(board, pass);
         let committed = commit_at(
             self.alloc,
