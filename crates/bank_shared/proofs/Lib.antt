@@ -1,3 +1,4 @@
+pub mod Asked
 pub mod CallLemmas
 pub mod Callers
 pub mod Met
