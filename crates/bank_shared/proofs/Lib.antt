@@ -1,4 +1,5 @@
 pub mod Asked
+pub mod Begun
 pub mod CallLemmas
 pub mod Callers
 pub mod Met

@@ -19,7 +19,7 @@ use crate::name::BankName;
 use crate::opened::{Opened, Parts};
 use bank_callers::laws::tokens_are_the_banks;
 use bank_callers::{add_answer, poll_reply};
-use bank_invariants::laws::states::books_are_right;
+use bank_invariants::laws::states::{books_are_right, every_state_is_sound};
 use bank_model::{Printer, Setup, SubmitFault};
 use ofx_ports::{Gate, Keeper};
 use ofx_types::{Ask, AskReplies, Moment, OutOfMemory, RequestFile, Sequence, UserId};
@@ -141,6 +141,7 @@ impl<N: BankName, K: Keeper, P: Printer> Bank<N, K, P> {
         requires pass { IsPassOf N.setup N.opening N.board pass.now }
         ensures { IsRightView N.setup (caller_of N.opening pass.now) }
     {
+        every_state_is_sound();
         books_are_right();
         let _ = (&self.setup, pass);
     }

@@ -84,6 +84,9 @@ impl<N: BankName, K: Keeper, P: Printer> Journal<N, K, P> {
         ensures pending { result.pending ≡ None }
         ensures records { result.records ≡ K.records keeper }
     {
+        entries_belong();
+        // For the proof alone: its contract says that the setup is within its limits.
+        let _setup = book.setup();
         Journal {
             alloc,
             keeper,

@@ -1,8 +1,8 @@
 //! What one caller of a board is told.
 
+use crate::boards::board_of;
 use crate::scribe::{FIRST, Scribe};
 use ofx_types::ObjectId;
-use token_board::Board;
 
 const SECOND: ObjectId = ObjectId(1);
 /// No object of the board.
@@ -10,7 +10,7 @@ const THIRD: ObjectId = ObjectId(2);
 
 #[test]
 fn a_token_is_the_number_of_the_last_entry(rt: HostRuntime) {
-    let (board, writer, mut pass) = Board::new(rt.alloc(), &[0, 7]).expect(&rt, "room");
+    let (board, writer, mut pass) = board_of(&rt, rt.alloc(), &[0, 7]);
     let before = [FIRST, SECOND, THIRD].map(|object| board.newest(&mut pass, object));
     assert!(rt; before == [0, 7, 0]);
     let mut scribe = Scribe::new(&rt, &board, writer, pass, 7);
@@ -21,7 +21,7 @@ fn a_token_is_the_number_of_the_last_entry(rt: HostRuntime) {
 
 #[test]
 fn a_pass_that_meets_a_note_is_told_no_older_token(rt: HostRuntime) {
-    let (board, writer, mut pass) = Board::new(rt.alloc(), &[0]).expect(&rt, "room");
+    let (board, writer, mut pass) = board_of(&rt, rt.alloc(), &[0]);
     let mut other = pass.split(&board);
     let mut scribe = Scribe::new(&rt, &board, writer, pass, 0);
     scribe.publish(1);

@@ -2,6 +2,7 @@
 
 ghost use Rattle.std.specs.Prelude.{◌≡◌};
 
+use crate::boards::board_of;
 use crate::scribe::{FIRST, Scribe};
 use std::thread;
 use token_board::{Board, Pass};
@@ -37,7 +38,7 @@ fn look_often(board: &Board, mut pass: Pass) -> (Pass, u64, bool)
 
 #[test]
 fn tokens_that_another_thread_publishes_were_the_newest_once(rt: HostRuntime) {
-    let (board, writer, mut pass) = Board::new(rt.alloc(), &[0]).expect(&rt, "room");
+    let (board, writer, mut pass) = board_of(&rt, rt.alloc(), &[0]);
     let other = pass.split(&board);
     let scribe = Scribe::new(&rt, &board, writer, pass, 0);
     let board = &board;
