@@ -1,8 +1,9 @@
 //! What a journal does at the bank's board: its engine publishes the log there.
 
-ghost use Rattle.std.specs.Prelude.{◌≡◌, [], None, IfOk, IfErr, OnErr, is_some};
+ghost use Rattle.std.specs.Prelude.{◌≡◌, List, [], ◌∷◌, ◌++◌, None, IfOk, IfErr, OnErr, is_some};
 ghost use Rattle.std.specs.Option.{IfSome};
 ghost use Rattle.ofx_types.specs.Calendar.{IsMoment};
+ghost use Rattle.bank_model.specs.declared.log.LogItem.{LogItem};
 ghost use Rattle.bank_model.specs.Rules.{IsLegal, named};
 ghost use Rattle.bank_accounts.specs.HeldAccounts.{AreHeld, HaveSameNumbers};
 ghost use Rattle.bank_ledger.specs.Balanced.{AreBalanced};
@@ -10,6 +11,7 @@ ghost use Rattle.bank_engine.specs.Calls.{Answers, FailsToCommit, Settles, Fails
 ghost use Rattle.bank_engine.specs.Steps.{Expects};
 ghost use Rattle.bank_engine.specs.Views.{journal_of};
 ghost use Rattle.token_board.specs.Publishing.{MayPublish, HasPublished};
+ghost use Rattle.token_board.specs.Views.{item_of};
 
 use bank_accounts::Held;
 use bank_engine::{Engine, Publisher};
@@ -17,6 +19,7 @@ use bank_model::{Ending, Entry, Event, Printer, SubmitFault};
 use ofx_ports::Keeper;
 use ofx_types::{Duplicate, Moment};
 use std::alloc::Global;
+use token_board::laws::endings_are_claimed;
 use token_board::{Board, Writer};
 
 /// The writer of a board, borrowed for one hold of a journal.
@@ -24,6 +27,20 @@ use token_board::{Board, Writer};
 struct BoardLog<'a> {
     board: &'a Board,
     writer: &'a mut Writer,
+}
+
+impl<'a> BoardLog<'a> {
+    /// Publishes an ending.
+    fn end(&mut self, ending: &Ending<'_>)
+        requires { MayPublish self.old.board.now self.old.writer.now [] }
+        ensures log { self.new.writer.now.log ≡ self.old.writer.now.log ++ item_of ending.now ∷ [] }
+        ensures through { self.new.writer.ghost_name ≡ self.old.writer.ghost_name }
+        ensures since { (before : List LogItem) → HasPublished self.old.board.now self.old.writer.now before
+            → HasPublished self.new.board.now self.new.writer.now before }
+    {
+        endings_are_claimed();
+        self.writer.publish_answer(self.board, ending);
+    }
 }
 
 impl<'a> Publisher for BoardLog<'a> {
@@ -42,29 +59,26 @@ impl<'a> Publisher for BoardLog<'a> {
     }
 
     fn effects(&mut self, entries: &[Entry]) {
+        endings_are_claimed();
         for entry in entries {
             self.writer.publish_effect(self.board, entry);
         }
     }
 
     fn answer(&mut self, event: &Event, at: Moment, reply: &Vec<u8>) {
-        self.writer
-            .publish_answer(self.board, &Ending::Answer(event, at, reply));
+        self.end(&Ending::Answer(event, at, reply));
     }
 
     fn adopted(&mut self, fault: u64, event: &Event, at: Moment) {
-        self.writer
-            .publish_answer(self.board, &Ending::Adopted(fault, event, at));
+        self.end(&Ending::Adopted(fault, event, at));
     }
 
     fn failed(&mut self, count: u64, event: &Event, at: Moment) {
-        self.writer
-            .publish_answer(self.board, &Ending::Fault(count, Some((event, at))));
+        self.end(&Ending::Fault(count, Some((event, at))));
     }
 
     fn unsettled(&mut self, count: u64) {
-        self.writer
-            .publish_answer(self.board, &Ending::Fault(count, None));
+        self.end(&Ending::Fault(count, None));
     }
 }
 
