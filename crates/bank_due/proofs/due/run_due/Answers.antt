@@ -1,7 +1,5 @@
-use Rattle.std.proofs.Common.{arith, sym, subst, ◌∙◌}
-use Rattle.bank_model.specs.declared.setup.Setup.{Setup}
-use Rattle.bank_shared.specs.Advancing.{IsAdvanced}
-use Rattle.bank_due.proofs.Runs.{begins, done, gone, left}
+use Rattle.std.proofs.Common.{◌∙◌, arith}
+use Rattle.bank_due.proofs.Runs.{done, gone, left}
 use Rattle.bank_due.proofs.due.run_due.Goals.{in-Done+else-count-eq-MAX_EVENTS, in-Gone}
 use Rattle.bank_due.proofs.due.run_due.Goals as goal
 
