@@ -1,5 +1,5 @@
 -- What the engine of a journal may publish at the bank's board.
-use Rattle.std.proofs.Common.{◌≡◌, ℕ, List, [], ◌++◌, Option, None, Some, sym, subst}
+use Rattle.std.proofs.Common.{◌≡◌, ℕ, ◌≤◌, List, [], ◌++◌, length, All, Option, None, Some, sym, subst}
 use Rattle.std.specs.Option.{IfSome}
 use Rattle.ofx_types.specs.declared.number.Moment.{Moment}
 use Rattle.bank_model.specs.declared.entry.Entry.{Entry}
@@ -13,8 +13,10 @@ use Rattle.bank_invariants.specs.SoundStates.{IsSoundState}
 use Rattle.bank_engine.specs.Steps.{Expects}
 use Rattle.bank_engine.specs.Truth.{IsTrue}
 use Rattle.bank_engine.specs.Views.{PendingView, JournalView}
-use Rattle.token_board.specs.Views.{BoardView, WriterView}
-use Rattle.token_board.specs.Publishing.{MayPublish}
+use Rattle.bank_model.specs.Log.{endings}
+use Rattle.token_board.specs.Tokens.{Begins, IsTokenIn}
+use Rattle.token_board.specs.Views.{BoardView, WriterView, PassView}
+use Rattle.token_board.specs.Publishing.{MayPublish, IsHeard}
 use Rattle.bank_callers.specs.Belonging.{AllBelong, LogsBelong}
 use Rattle.bank_callers.specs.Boards.{StepsFollow}
 use Rattle.bank_shared.specs.Holds.{IsWriterOf}
@@ -48,3 +50,17 @@ pub may_settle : (setup : Setup) (opening : State) (first : Option (List (List �
 may_settle setup opening first board writer journal None follow belong true same is within sound may = tt
 may_settle setup opening first board writer journal (Some p) follow belong true same is within sound may =
     may_publish setup opening first board writer journal p.at p.event follow belong true same is within sound may
+
+-- ---- one hold
+
+-- the writer is as it was, at the board that the bank's name has
+pub of_board : (setup : Setup) (opening : State) (name board : BoardView) (before writer : WriterView) → board ≡ name → writer ≡ before → IsWriterOf setup opening name before
+    → IsWriterOf setup opening board writer
+of_board setup opening name board before writer named same is =
+    subst (λ (b : BoardView). IsWriterOf setup opening b writer) (sym named) (subst (λ (w : WriterView). IsWriterOf setup opening name w) (sym same) is)
+
+-- a pass that was heard, and is as it was
+pub heard : (board : BoardView) (before writer : WriterView) (old new : PassView) → (writer ≡ before) × (new ≡ old) → Begins old.seen before.log
+    → All (IsTokenIn board.start before.log) old.polled → All (λ number. number ≤ length (endings before.log)) old.mine → IsHeard board writer.log new
+heard board before writer old new same seen tokens mine =
+    subst (λ (w : WriterView). IsHeard board w.log new) (sym same.0) (subst (λ (p : PassView). IsHeard board before.log p) (sym same.1) (record { seen = seen; tokens = tokens; mine = mine }))
