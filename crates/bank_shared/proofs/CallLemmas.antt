@@ -45,10 +45,10 @@ named_again setup setup' state state' event event' held held' own same is all na
 
 -- what an event adds is expected, where all is the same
 pub expects_again : (may : List Entry → Type 0) (setup setup' : Setup) (state state' : State) (at at' : Moment) (event event' : Event) → setup' ≡ setup → state' ≡ state → at' ≡ at → event' ≡ event → Expects may setup state at event → Expects may setup' state' at' event'
-expects_again may setup setup' state state' at at' event event' own same then is expected =
+expects_again may setup setup' state state' at at' event event' own same moment is expected =
     subst (λ (s : Setup). Expects may s state' at' event') (sym own)
     (subst (λ (S : State). Expects may setup S at' event') (sym same)
-    (subst (λ (m : Moment). Expects may setup state m event') (sym then)
+    (subst (λ (m : Moment). Expects may setup state m event') (sym moment)
     (subst (λ (e : Event). Expects may setup state at e) (sym is) expected)))
 
 -- An engine that has prepared an event has only made room.
