@@ -25,3 +25,7 @@ pub record IsReady (setup : Setup) (S : State) (room : Room) (at : Moment) (even
   pub reply : prepared.reply ≡ answer_to setup S at event
   pub fits : HasRoom room S prepared.after
   pub adds : AddsEntries setup S at event
+
+-- Who publishes the bank's log expects the entries that an event adds.
+abbrev pub Expects : (List Entry → Type 0) → Setup → State → Moment → Event → Type 0
+Expects expects setup S at event = (added : List Entry) → (state_after setup S at event).entries ≡ S.entries ++ added → expects added

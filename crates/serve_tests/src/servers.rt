@@ -75,6 +75,7 @@ fn connected<N: BankName, R: Abort + Wait>(
     requires setup { opened.setup ≡ N.setup }
     requires opening { opened.state ≡ N.opening }
     requires first { opened.opened ≡ N.first }
+    requires board { opened.board ≡ N.board }
 {
     let (bank, mut pass) = Bank::<N, _, _>::begin(opened);
     connected_by(rt, alloc, &bank, &mut pass, link)
