@@ -78,7 +78,16 @@ pub record GainsEnding (grown : List LogItem) (before after : CallerView) : Type
   pub polled : after.polled ≡ before.polled
   pub hold : All (HoldsIn (entries_seen after)) before.polled
 
--- Nothing ended, though more may be seen.
+-- These items more are seen, of which no ending is the caller's own. After it every token that was loaded before is the number of
+-- an entry that was seen.
+pub record SeesMore (grown : List LogItem) (before after : CallerView) : Type 0 where
+  pub opening : after.opening ≡ before.opening
+  pub seen : after.seen ≡ before.seen ++ grown
+  pub mine : after.mine ≡ before.mine
+  pub polled : after.polled ≡ before.polled
+  pub hold : All (HoldsIn (entries_seen after)) before.polled
+
+-- Memory was refused: nothing ended, though more may be seen.
 pub record GainsNothing (before after : CallerView) : Type 0 where
   pub opening : after.opening ≡ before.opening
   pub grown : List LogItem

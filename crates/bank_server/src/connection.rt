@@ -45,11 +45,7 @@ impl<'a, N: BankName, K: Keeper, P: Printer, R: Wait, G: Gate> Office
         file: &RequestFile,
         at: Moment,
     ) -> Result<Vec<u8>, SubmitFault> {
-        let answered = self
-            .bank
-            .submit(self.rt, self.pass, user, file, at, self.gate);
-        self.bank.known(self.pass);
-        answered
+        self.bank.submit(self.rt, self.pass, user, file, at, self.gate)
     }
 
     fn look(

@@ -25,7 +25,7 @@ use Rattle.bank_shared.specs.Calls.{IsSettled, LeavesPending, AnswersNext, Fails
 use Rattle.bank_shared.specs.Holds.{BeginsAt, MeetsOrStays, caller_of}
 use Rattle.bank_shared.specs.declared.advance.Advance.{Advance}
 use Rattle.bank_shared.specs.declared.advance.Advance.TheVariants.{Done, Gone, Nothing}
-use Rattle.bank_shared.proofs.Met.{ClaimsNone, none_of_effects, none_of_both, none_of_adopted, one_of_answer, one_of_fault, gains_ending, gains_nothing, gains_stays, no_longer}
+use Rattle.bank_shared.proofs.Met.{ClaimsNone, none_of_effects, none_of_both, none_of_adopted, one_of_answer, one_of_fault, gains_ending, gains_nothing, gains_stays, sees_more, no_longer}
 
 -- ---- what settling adds to the log, of which nothing is a caller's
 
@@ -147,16 +147,16 @@ done setup opening board old between new before after event at reply law begins 
           (none_before_answer old between event at s) (one_of_answer event at reply);
     }
 
-pub nothing : (setup : Setup) (opening : State) (board : BoardView) (old new : JournalView) (before after : PassView) (at : Moment) → Meets board old.log new.log before after
-    → IsSettled old new → new.setup ≡ setup → new.state ≡ ends setup opening new.log → due new.setup new.state at ≡ None
+pub nothing : (setup : Setup) (opening : State) (board : BoardView) (old new : JournalView) (before after : PassView) (at : Moment) → TokensHold → BeginsAt setup opening board
+    → Meets board old.log new.log before after → IsSettled old new → new.setup ≡ setup → new.state ≡ ends setup opening new.log → due new.setup new.state at ≡ None
     → IsAdvanced setup at (caller_of opening before) (caller_of opening after) Nothing
-nothing setup opening board old new before after at m settles own in_state due_is =
+nothing setup opening board old new before after at law begins m settles own in_state due_is =
     let s = settled old new settles in
     record {
       look = m.heard.seen.0 ++ s.added;
       due_is = due_at setup new.setup new.state (state_at setup (caller_of opening before) (m.heard.seen.0 ++ s.added)) at None own
           (look_state setup opening board old new new.log before after m s in_state) due_is;
-      gains = gains_nothing opening board old.log new.log s.added before after m s.log s.none;
+      sees = sees_more setup opening board old.log new.log s.added before after law begins m s.log s.none;
     }
 
 -- it couldn't be settled

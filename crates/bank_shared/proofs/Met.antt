@@ -21,7 +21,7 @@ use Rattle.token_board.specs.Publishing.{claims_in, Meets}
 use Rattle.token_board.proofs.Numbers.{count-append}
 use Rattle.token_board.proofs.Publishing.{claims-append, claims_entries, one_more}
 use Rattle.bank_callers.specs.Boards.{TokensHold}
-use Rattle.bank_callers.specs.Callers.{GainsEnding, GainsNothing, HoldsIn}
+use Rattle.bank_callers.specs.Callers.{GainsEnding, GainsNothing, SeesMore, HoldsIn}
 use Rattle.bank_shared.specs.Holds.{BeginsAt, IsPassOf, MeetsOrStays, caller_of}
 
 -- ---- two steps of one hold
@@ -142,6 +142,25 @@ gains_ending setup opening board before after others grown item old new law begi
       hold = subst (λ (l : List LogItem). All (HoldsIn (entries_in opening l)) old.polled) (sym m.seen) (tokens_hold setup opening board before m.later after old.polled law begins m.grows m.heard.tokens);
     }
 
+-- the endings of its own stay where nobody's items came
+mine_stays : (board : BoardView) (before after others : List LogItem) (old new : PassView) → Meets board before after old new → after ≡ before ++ others → ClaimsNone others
+    → new.mine ≡ old.mine
+mine_stays board before after others old new m log none =
+    m.mine
+    ∙ (ap (λ (l : List LogItem). old.mine ++ claims_in (length (endings before)) l) (later_is before m.later others after m.grows log)
+    ∙ (ap (λ (ns : List ℕ). old.mine ++ ns) (none (length (endings before))) ∙ append-nil old.mine))
+
+-- nothing of its own, and its tokens hold
+pub sees_more : (setup : Setup) (opening : State) (board : BoardView) (before after others : List LogItem) (old new : PassView) → TokensHold → BeginsAt setup opening board
+    → (m : Meets board before after old new) → after ≡ before ++ others → ClaimsNone others → SeesMore (m.heard.seen.0 ++ others) (caller_of opening old) (caller_of opening new)
+sees_more setup opening board before after others old new law begins m log none = record {
+  opening = refl;
+  seen = seen_is board before after others (m.heard.seen.0 ++ others) old new m log refl;
+  mine = mine_stays board before after others old new m log none;
+  polled = m.polled;
+  hold = subst (λ (l : List LogItem). All (HoldsIn (entries_in opening l)) old.polled) (sym m.seen) (tokens_hold setup opening board before m.later after old.polled law begins m.grows m.heard.tokens);
+}
+
 -- nothing of its own
 pub gains_nothing : (opening : State) (board : BoardView) (before after others : List LogItem) (old new : PassView) → Meets board before after old new → after ≡ before ++ others
     → ClaimsNone others → GainsNothing (caller_of opening old) (caller_of opening new)
@@ -149,10 +168,7 @@ gains_nothing opening board before after others old new m log none = record {
   opening = refl;
   grown = m.heard.seen.0 ++ others;
   seen = seen_is board before after others (m.heard.seen.0 ++ others) old new m log refl;
-  mine =
-      m.mine
-      ∙ (ap (λ (l : List LogItem). old.mine ++ claims_in (length (endings before)) l) (later_is before m.later others after m.grows log)
-      ∙ (ap (λ (ns : List ℕ). old.mine ++ ns) (none (length (endings before))) ∙ append-nil old.mine));
+  mine = mine_stays board before after others old new m log none;
   polled = m.polled;
 }
 

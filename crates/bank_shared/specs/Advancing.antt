@@ -13,7 +13,7 @@ use Rattle.bank_model.specs.declared.submit.SubmitFault.{SubmitFault}
 use Rattle.bank_model.specs.declared.submit.SubmitFault.TheVariants.{Keeper, OutOfMemory}
 use Rattle.bank_model.specs.LegalLog.{ends}
 use Rattle.bank_model.specs.Rules.{IsLegal, due}
-use Rattle.bank_callers.specs.Callers.{CallerView, GainsEnding, GainsNothing}
+use Rattle.bank_callers.specs.Callers.{CallerView, GainsEnding, GainsNothing, SeesMore}
 use Rattle.bank_shared.specs.declared.advance.Advance.{Advance}
 use Rattle.bank_shared.specs.declared.advance.Advance.TheVariants.{Done, Gone, Nothing}
 
@@ -44,16 +44,13 @@ pub record HasGone (setup : Setup) (at : Moment) (event : Event) (before after :
   pub between : List LogItem
   pub happened : HasHappened between
   pub illegal : IsLegal setup (state_at setup before (look ++ between)) at event → ⊥
-  pub opening : after.opening ≡ before.opening
-  pub seen : after.seen ≡ before.seen ++ look ++ between
-  pub mine : after.mine ≡ before.mine
-  pub polled : after.polled ≡ before.polled
+  pub sees : SeesMore (look ++ between) before after
 
--- Nothing was due at the look.
+-- Nothing was due at the look, which is all that was seen.
 pub record HasNothing (setup : Setup) (at : Moment) (before after : CallerView) : Type 0 where
   pub look : List LogItem
   pub due_is : due setup (state_at setup before look) at ≡ None
-  pub gains : GainsNothing before after
+  pub sees : SeesMore look before after
 
 abbrev pub IsAdvanced : Setup → Moment → CallerView → CallerView → Advance → Type 0
 IsAdvanced setup at before after (Done event) = HasDone setup at event before after

@@ -149,7 +149,9 @@ impl<N: BankName, K: Keeper, P: Printer> Bank<N, K, P> {
     /// Answers a file of a user, which is sound and no poll. The gate is passed with the user's number before the lock is taken.
     ///
     /// What the pass has seen then ends with the file's ending, which is its own: the answer with this reply, or a fault of the
-    /// keeper. Other callers' endings may come before it. Each token that the pass had loaded stands in what it has seen.
+    /// keeper. Other callers' endings may come before it. Each token of at least 1 that the pass had loaded is the number of an
+    /// entry of its object there. What it knows is right: in the state after it no user's TRNUID is used twice, and the balances
+    /// add up to the opening ones.
     ///
     /// - `Keeper(n)`: the keeper's count of faults rose to n in this call, and the log has this fault.
     /// - `OutOfMemory`: the pass owns nothing new.
@@ -172,11 +174,15 @@ impl<N: BankName, K: Keeper, P: Printer> Bank<N, K, P> {
         ensures refused { IfErr result (IsUncommitted user file.now at
             (Some (caller_of N.opening pass.old)) (Some (caller_of N.opening pass.new))) }
         ensures pass { IsPassOf N.setup N.opening N.board pass.new }
+        ensures right { IsRightView N.setup (caller_of N.opening pass.new) }
     {
         gate.pass(u64::from(user.0));
-        self.locked
+        let answered = self
+            .locked
             .lock(rt)
-            .submit(&self.board, pass, user, file, at)
+            .submit(&self.board, pass, user, file, at);
+        self.known(pass);
+        answered
     }
 
     /// Makes what is due first at a moment happen. The gate is passed with 2^32 before the lock is taken.
@@ -195,9 +201,12 @@ impl<N: BankName, K: Keeper, P: Printer> Bank<N, K, P> {
         ensures advanced { IfOk result (IsAdvanced N.setup at (caller_of N.opening pass.old) (caller_of N.opening pass.new)) }
         ensures refused { IfErr result (IsUnadvanced N.setup at (caller_of N.opening pass.old) (caller_of N.opening pass.new)) }
         ensures pass { IsPassOf N.setup N.opening N.board pass.new }
+        ensures right { IsRightView N.setup (caller_of N.opening pass.new) }
     {
         gate.pass(ADVANCE);
-        self.locked.lock(rt).advance(&self.board, pass, at)
+        let advanced = self.locked.lock(rt).advance(&self.board, pass, at);
+        self.known(pass);
+        advanced
     }
 
     /// Answers a poll file of a user by one load for each object, in the order of its asks. It waits for nobody.

@@ -5,6 +5,7 @@ mod posts;
 mod sockets;
 
 ghost use Rattle.std.specs.Prelude.{◌≡◌, false, is_some};
+ghost use Rattle.bank_shared.specs.Holds.{IsPassOf};
 
 use crate::connections::{at_noon, posted, sample_reply, sample_request, sample_times};
 use crate::one_thread::written_over;
@@ -88,7 +89,10 @@ fn connected_by<N: BankName, R: Abort + Wait>(
     bank: &Bank<N, MemKeeper, OfxPrinter>,
     pass: &mut Pass,
     link: &mut MemLink,
-) -> Served {
+) -> Served
+    requires { IsPassOf N.setup N.opening N.board pass.old }
+    ensures { IsPassOf N.setup N.opening N.board pass.new }
+{
     let mut clock = at_noon(rt, alloc);
     let served = serve_connection(bank, rt, alloc, pass, link, &mut clock, &OpenGate);
     served.expect(rt, "a connection to its end")
