@@ -27,5 +27,5 @@ pub record IsReady (setup : Setup) (S : State) (room : Room) (at : Moment) (even
   pub adds : AddsEntries setup S at event
 
 -- Who publishes the bank's log expects the entries that an event adds.
-abbrev pub Expects : (List Entry → Type 0) → Setup → State → Moment → Event → Type 0
-Expects expects setup S at event = (added : List Entry) → (state_after setup S at event).entries ≡ S.entries ++ added → expects added
+pub record Expects (expects : List Entry → Type 0) (setup : Setup) (S : State) (at : Moment) (event : Event) : Type 0 where
+  pub entries : (added : List Entry) → (state_after setup S at event).entries ≡ S.entries ++ added → expects added

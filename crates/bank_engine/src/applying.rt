@@ -34,6 +34,7 @@ pub(crate) fn answer<L: Publisher, P: Printer>(
     ensures balanced { AreBalanced book.new.setup book.new.state held.new }
     ensures log { L.log log.new ≡ L.log log.old ++ group book.old.setup book.old.state (Answer ready.event ready.at result.items) }
     ensures through { L.through log.new ≡ L.through log.old }
+    ensures target { L.target log.new ≡ L.target log.old }
     ensures since { (before : List LogItem) → L.since log.old before → L.since log.new before }
     ensures reply { result.items ≡ answer_to book.old.setup book.old.state ready.at ready.event }
 {
@@ -61,6 +62,7 @@ pub(crate) fn adopt<L: Publisher, P: Printer>(
     ensures balanced { AreBalanced book.new.setup book.new.state held.new }
     ensures log { L.log log.new ≡ L.log log.old ++ group book.old.setup book.old.state (Adopted pending.number pending.event pending.at) }
     ensures through { L.through log.new ≡ L.through log.old }
+    ensures target { L.target log.new ≡ L.target log.old }
     ensures since { (before : List LogItem) → L.since log.old before → L.since log.new before }
 {
     let number = pending.number;

@@ -152,6 +152,7 @@ impl<P: Printer> Engine<P> {
             (journal_of self.new (record { records = K.records keeper.new; landed = K.landed keeper.new; unsettled = K.unsettled keeper.new; faults = K.faults keeper.new }) (L.log log.new))
             ready.event ready.at) }
         ensures through { L.through log.new ≡ L.through log.old }
+        ensures target { L.target log.new ≡ L.target log.old }
         ensures since { (before : List LogItem) → L.since log.old before → L.since log.new before }
         ensures size { K.size keeper.new ≡ counted (K.size keeper.old) (is_ok result) }
         ensures appends { K.appends keeper.old keeper.new ready.rec (append_of result) }
@@ -234,6 +235,7 @@ impl<P: Printer> Engine<P> {
             (journal_of self.old (record { records = K.records keeper.old; landed = K.landed keeper.old; unsettled = K.unsettled keeper.old; faults = K.faults keeper.old }) (L.log log.old))
             (journal_of self.new (record { records = K.records keeper.new; landed = K.landed keeper.new; unsettled = K.unsettled keeper.new; faults = K.faults keeper.new }) (L.log log.new))) }
         ensures through { L.through log.new ≡ L.through log.old }
+        ensures target { L.target log.new ≡ L.target log.old }
         ensures since { (before : List LogItem) → L.since log.old before → L.since log.new before }
         ensures idle { self.old.pending ≡ None → keeper.new ≡ keeper.old }
         ensures settles { self.old.pending ≢ None → K.settles keeper.old keeper.new (settling_of result) }

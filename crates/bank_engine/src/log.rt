@@ -60,6 +60,10 @@ impl Publisher for Log {
 
     ghost through = { λ l. 0 };
 
+    ghost Target = { ⊤ };
+
+    ghost target = { λ l. tt };
+
     ghost since = { λ l before. ⊤ };
 
     fn next_number(&self) -> u64 {

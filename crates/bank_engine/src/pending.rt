@@ -56,6 +56,7 @@ pub(crate) fn put_off<L: Publisher>(log: &mut L, ready: Ready, count: u64) -> Pe
     requires expected { L.expects log.old [] }
     ensures log { L.log log.new ≡ L.log log.old ++ Fault count (Some (ready.event, ready.at)) ∷ [] }
     ensures through { L.through log.new ≡ L.through log.old }
+    ensures target { L.target log.new ≡ L.target log.old }
     ensures since { (before : List LogItem) → L.since log.old before → L.since log.new before }
     ensures event { result.event ≡ ready.event }
     ensures at { result.at ≡ ready.at }

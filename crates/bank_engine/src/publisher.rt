@@ -21,6 +21,10 @@ pub trait Publisher {
     // the borrow that it publishes through, if it has one: it stays the same
     ghost through: { Self → ℕ };
 
+    // what it publishes to: it stays the same too
+    ghost Target: { Type 0 };
+    ghost target: { Self → Target };
+
     // what is true of it, whatever it has published, since its log was this one
     ghost since: { Self → List LogItem → Type 0 };
 
@@ -34,6 +38,7 @@ pub trait Publisher {
         ensures log { log self.new ≡ log self.old ++ map Effect entries.now }
         ensures next { expects self.new [] }
         ensures through { through self.new ≡ through self.old }
+        ensures target { target self.new ≡ target self.old }
         ensures since { (before : List LogItem) → since self.old before → since self.new before };
 
     /// The event has happened at that moment, and this is its reply.
@@ -41,6 +46,7 @@ pub trait Publisher {
         requires { expects self.old [] }
         ensures log { log self.new ≡ log self.old ++ Answer event.now at reply.now.items ∷ [] }
         ensures through { through self.new ≡ through self.old }
+        ensures target { target self.new ≡ target self.old }
         ensures since { (before : List LogItem) → since self.old before → since self.new before };
 
     /// The event whose append failed in the ending of this number has happened at its moment after all.
@@ -48,6 +54,7 @@ pub trait Publisher {
         requires { expects self.old [] }
         ensures log { log self.new ≡ log self.old ++ Adopted fault event.now at ∷ [] }
         ensures through { through self.new ≡ through self.old }
+        ensures target { target self.new ≡ target self.old }
         ensures since { (before : List LogItem) → since self.old before → since self.new before };
 
     /// The append of an event failed, and raised the keeper's count of faults to this one.
@@ -55,6 +62,7 @@ pub trait Publisher {
         requires { expects self.old [] }
         ensures log { log self.new ≡ log self.old ++ Fault count (Some (event.now, at)) ∷ [] }
         ensures through { through self.new ≡ through self.old }
+        ensures target { target self.new ≡ target self.old }
         ensures since { (before : List LogItem) → since self.old before → since self.new before };
 
     /// The settling of an append that had failed did so too, and raised the keeper's count of faults to this one.
@@ -62,5 +70,6 @@ pub trait Publisher {
         requires { expects self.old [] }
         ensures log { log self.new ≡ log self.old ++ Fault count None ∷ [] }
         ensures through { through self.new ≡ through self.old }
+        ensures target { target self.new ≡ target self.old }
         ensures since { (before : List LogItem) → since self.old before → since self.new before };
 }

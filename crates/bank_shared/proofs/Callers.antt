@@ -197,3 +197,21 @@ undone setup opening board old between new before after event at (Keeper count) 
     }
 undone setup opening board old between new before after event at OutOfMemory law begins m settles own in_state due_is fails =
     let s = settled old between settles in gains_nothing opening board old.log new.log s.added before after m (fails.log ∙ s.log) s.none
+
+-- ---- what a call answered
+
+pub committed_if : {A : Type 0} (items : A → List ℕ) (result : Result A SubmitFault) (setup : Setup) (opening : State) (board : BoardView) (old new : JournalView) (before after : PassView)
+    (user : UserId) (file : RequestFile) (at : Moment) → TokensHold → BeginsAt setup opening board → Meets board old.log new.log before after
+    → IfOk result (λ (reply : A). AnswersNext old new (File user file) at (items reply))
+    → IfOk result (λ (reply : A). IsCommitted user file at (items reply) (Some (caller_of opening before)) (Some (caller_of opening after)))
+committed_if items (Ok reply) setup opening board old new before after user file at law begins m answers =
+    committed setup opening board old new before after user file at (items reply) law begins m answers
+committed_if items (Err fault) setup opening board old new before after user file at law begins m answers = tt
+
+pub uncommitted_if : {A : Type 0} (result : Result A SubmitFault) (setup : Setup) (opening : State) (board : BoardView) (old between new : JournalView) (before after : PassView)
+    (user : UserId) (file : RequestFile) (at : Moment) → TokensHold → BeginsAt setup opening board → Meets board old.log new.log before after → IsSettled old between
+    → IfErr result (FailsToCommit between new (File user file) at)
+    → IfErr result (IsUncommitted user file at (Some (caller_of opening before)) (Some (caller_of opening after)))
+uncommitted_if (Ok reply) setup opening board old between new before after user file at law begins m settles fails = tt
+uncommitted_if (Err fault) setup opening board old between new before after user file at law begins m settles fails =
+    uncommitted setup opening board old between new before after user file at fault law begins m settles fails

@@ -35,6 +35,7 @@ impl<'a> BoardLog<'a> {
         requires { MayPublish self.old.board.now self.old.writer.now [] }
         ensures log { self.new.writer.now.log ≡ self.old.writer.now.log ++ item_of ending.now ∷ [] }
         ensures through { self.new.writer.ghost_name ≡ self.old.writer.ghost_name }
+        ensures target { self.new.board.now ≡ self.old.board.now }
         ensures since { (before : List LogItem) → HasPublished self.old.board.now self.old.writer.now before
             → HasPublished self.new.board.now self.new.writer.now before }
     {
@@ -45,12 +46,17 @@ impl<'a> BoardLog<'a> {
 
 impl<'a> Publisher for BoardLog<'a> {
     ghost use Rattle.token_board.specs.Publishing.{MayPublish, HasPublished};
+    ghost use Rattle.token_board.specs.Views.{BoardView};
 
     ghost log = { λ l. l.writer.now.log };
 
     ghost expects = { λ l entries. MayPublish l.board.now l.writer.now entries };
 
     ghost through = { λ l. l.writer.ghost_name };
+
+    ghost Target = { BoardView };
+
+    ghost target = { λ l. l.board.now };
 
     ghost since = { λ l before. HasPublished l.board.now l.writer.now before };
 

@@ -82,7 +82,7 @@ fn reported_by_turns<N: BankName, R: Abort + Wait>(
 }
 
 /// What both callers get: for a transfer that is due on the next day, for a poll, for the work due on that day, for a poll again,
-/// and for due work once more.
+/// and for due work once more. Then a third one, that has seen what the second one has, polls.
 fn reported_to_both<N: BankName, R: Abort + Wait>(
     rt: &R,
     alloc: Global,
@@ -115,6 +115,12 @@ fn reported_to_both<N: BankName, R: Abort + Wait>(
         &mut reported,
         &advanced(rt, alloc, bank, second, NEXT_DAY),
     );
+    let mut child = bank.door(second);
+    report(
+        rt,
+        &mut reported,
+        &asked(rt, alloc, bank, &mut child, &poll, NEXT_DAY),
+    );
     reported
 }
 
@@ -128,8 +134,9 @@ fn callers_take_turns_at_one_bank(rt: HostRuntime) {
     let (before, rest) = reported.split_once("keeper 1\n").unwrap_or(("", ""));
     assert!(rt; before.contains("<SRVRTID>1\r\n"));
     assert!(rt; before.contains("<TOKEN>1\r\n"));
-    assert!(rt; rest.contains("<TOKEN>1\r\n"));
-    assert!(rt; rest.strip_suffix("nothing due\n").is_some());
+    let (settled, child) = rest.split_once("nothing due\n").unwrap_or(("", ""));
+    assert!(rt; settled.contains("<TOKEN>1\r\n"));
+    assert!(rt; child.contains("<TOKEN>2\r\n"));
 }
 
 /// What a caller of a bank is told of a transfer whose append fails, of a poll, when due work is looked for, and of a poll again.
