@@ -23,6 +23,7 @@ pub trait Publisher {
 
     // what it publishes to: it stays the same too
     ghost Target: { Type 0 };
+
     ghost target: { Self → Target };
 
     // what is true of it, whatever it has published, since its log was this one

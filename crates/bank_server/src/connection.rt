@@ -45,7 +45,8 @@ impl<'a, N: BankName, K: Keeper, P: Printer, R: Wait, G: Gate> Office
         file: &RequestFile,
         at: Moment,
     ) -> Result<Vec<u8>, SubmitFault> {
-        self.bank.submit(self.rt, self.pass, user, file, at, self.gate)
+        self.bank
+            .submit(self.rt, self.pass, user, file, at, self.gate)
     }
 
     fn look(
