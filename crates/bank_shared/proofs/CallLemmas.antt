@@ -1,5 +1,5 @@
 -- Calls that settle first, put together of their parts.
-use Rattle.std.proofs.Common.{◌≡◌, ℕ, List, inr, Option, None, Result, Ok, Err, IfOk, IfErr, OnOk, sym, ap, ◌∙◌, subst}
+use Rattle.std.proofs.Common.{◌≡◌, ℕ, List, [], inr, Option, None, Result, Ok, Err, IfOk, IfErr, OnOk, sym, ap, ◌∙◌, subst}
 use Rattle.std.specs.Option.{IfSome}
 use Rattle.ofx_types.specs.declared.number.Moment.{Moment}
 use Rattle.bank_model.specs.declared.entry.Entry.{Entry}
@@ -23,6 +23,7 @@ use Rattle.bank_engine.specs.Steps.{Expects}
 use Rattle.bank_engine.specs.Truth.{IsTrue}
 use Rattle.bank_engine.specs.Views.{PendingView, EngineView, KeeperView, JournalView, journal_of}
 use Rattle.bank_engine.proofs.Truth.{true_answered, true_uncommitted}
+use Rattle.token_board.specs.Views.{WriterView}
 use Rattle.bank_shared.specs.Calls.{IsSettled, LeavesPending, AnswersNext, FailsToSubmit}
 
 pub answers_next : {A : Type 0} (items : A → List ℕ) (result : Result A SubmitFault) (old between new : JournalView) (event : Event) (at : Moment) → IsSettled old between → IfOk result (λ (reply : A). Answers between new event at (items reply)) → IfOk result (λ (reply : A). AnswersNext old new event at (items reply))
@@ -78,6 +79,26 @@ pub true_committed : {A : Type 0} (items : A → List ℕ) (result : Result A Su
 true_committed items (Ok reply) setup opening first old new event at none answers fails = true_answered setup opening first old new event at (items reply) none answers
 true_committed items (Err fault) setup opening first old new event at none answers fails = true_uncommitted setup opening first old new event at fault none fails
 
+-- ---- one hold of a journal
+
+-- what a call did between hearing the pass and making the note, as done between before and after these
+pub carried : (P : JournalView → JournalView → Type 0) (engine engine' : EngineView) (keeper keeper' : KeeperView) (before writer later last : WriterView) (old : JournalView)
+    → journal_of engine keeper before.log ≡ old → writer ≡ before → last ≡ (record { table = later.table; log = later.log; claimed = [] })
+    → P (journal_of engine keeper writer.log) (journal_of engine' keeper' later.log) → P old (journal_of engine' keeper' last.log)
+carried P engine engine' keeper keeper' before writer later last old view same kept done =
+    subst (λ (v : JournalView). P v (journal_of engine' keeper' last.log)) view
+    (subst (λ (w : WriterView). P (journal_of engine keeper w.log) (journal_of engine' keeper' last.log)) same
+    (subst (λ (w : WriterView). P (journal_of engine keeper writer.log) (journal_of engine' keeper' w.log)) (sym kept) done))
+
+-- what is true goes on in between
+pub true_held : (setup : Setup) (opening : State) (first : Option (List (List ℕ))) (engine engine' : EngineView) (keeper keeper' : KeeperView) (before writer later last : WriterView)
+    → writer ≡ before → last ≡ (record { table = later.table; log = later.log; claimed = [] })
+    → (IsTrue setup opening first (journal_of engine keeper writer.log) → IsTrue setup opening first (journal_of engine' keeper' later.log))
+    → IsTrue setup opening first (journal_of engine keeper before.log) → IsTrue setup opening first (journal_of engine' keeper' last.log)
+true_held setup opening first engine engine' keeper keeper' before writer later last same kept goes is =
+    subst (λ (w : WriterView). IsTrue setup opening first (journal_of engine' keeper' w.log)) (sym kept)
+    (goes (subst (λ (w : WriterView). IsTrue setup opening first (journal_of engine keeper w.log)) (sym same) is))
+
 -- ---- a locked bank's settling
 
 -- what couldn't be settled is pending still
@@ -96,3 +117,9 @@ settled_lent (Ok done) old new pool held other unnamed within names same balance
     lent_settled (Ok settles.0) old new pool held other unnamed within names same balanced settles.1 tt checked_out
 settled_lent (Err fault) old new pool held other unnamed within names same balanced settles fails checked_out =
     lent_settled (Err fault) old new pool held other unnamed within names same balanced tt fails checked_out
+
+-- ---- answers
+
+pub on_ok : {A E P : Type 0} (result : Result A E) → P → OnOk result P
+on_ok (Ok value) p = p
+on_ok (Err fault) p = tt

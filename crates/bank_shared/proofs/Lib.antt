@@ -4,3 +4,4 @@ pub mod CallLemmas
 pub mod Callers
 pub mod Met
 pub mod Publishes
+pub mod Starting

@@ -20,9 +20,9 @@ use Rattle.bank_model.specs.declared.log.LogItem.TheVariants.{Effect}
 use Rattle.bank_model.specs.Log.{endings, is_ending}
 use Rattle.bank_model.proofs.Lists.{rest_is}
 use Rattle.token_board.specs.Following.{MayFollow}
-use Rattle.token_board.specs.Tokens.{Begins, IsTokenIn, numbers_in}
-use Rattle.token_board.specs.Views.{BoardView, WriterView, PassView, item_of}
-use Rattle.token_board.specs.Publishing.{MayPublish, HasPublished, IsHeard}
+use Rattle.token_board.specs.Tokens.{Begins, IsTokenIn, AreEndings, numbers_in}
+use Rattle.token_board.specs.Views.{BoardView, WriterView, PassView, NoteView, item_of, longer}
+use Rattle.token_board.specs.Publishing.{MayPublish, HasPublished, IsHeard, Meets, HeardMeets}
 use Rattle.bank_callers.specs.Belonging.{AllBelong, LogsBelong}
 use Rattle.bank_callers.specs.Boards.{StepsFollow}
 use Rattle.bank_shared.specs.Holds.{IsWriterOf}
@@ -112,3 +112,20 @@ pub heard : (board : BoardView) (before writer : WriterView) (old new : PassView
     → All (IsTokenIn board.start before.log) old.polled → All (λ number. number ≤ length (endings before.log)) old.mine → IsHeard board writer.log new
 heard board before writer old new same seen tokens mine =
     subst (λ (w : WriterView). IsHeard board w.log new) (sym same.0) (subst (λ (p : PassView). IsHeard board before.log p) (sym same.1) (record { seen = seen; tokens = tokens; mine = mine }))
+
+-- it meets a note of what was published since, at the board that the bank's name has
+pub meets : (name board : BoardView) (before writer later : WriterView) (old mid new : PassView) (note : NoteView) (first last : List LogItem) → HeardMeets → board ≡ name
+    → (writer ≡ before) × (mid ≡ old) → Begins old.seen before.log → All (IsTokenIn board.start before.log) old.polled → All (λ number. number ≤ length (endings before.log)) old.mine
+    → HasPublished board later writer.log → note ≡ (record { table = later.table; log = later.log; claimed = later.claimed }) → new.seen ≡ longer mid.seen note.log
+    → new.mine ≡ mid.mine ++ note.claimed → AreEndings new.seen new.mine → (new.table ≡ mid.table) × (new.polled ≡ mid.polled) → first ≡ before.log → last ≡ later.log
+    → Meets name first last old new
+meets name board before writer later old mid new note first last law named same seen tokens mine published noted seen_is mine_is endings_are kept begins ends_so =
+    let note_log : note.log ≡ later.log = ap (λ (n : NoteView). n.log) noted in
+    let note_claims : note.claimed ≡ later.claimed = ap (λ (n : NoteView). n.claimed) noted in
+    let met : Meets board writer.log later.log mid new = law board later writer.log mid new (heard board before writer old mid same seen tokens mine) published
+    kept.0 (seen_is ∙ ap (longer mid.seen) note_log) (mine_is ∙ ap (λ (ns : List ℕ). mid.mine ++ ns) note_claims) kept.1 endings_are in
+    let first_is : writer.log ≡ first = ap (λ (w : WriterView). w.log) same.0 ∙ sym begins in
+    subst (λ (b : BoardView). Meets b first last old new) named
+    (subst (λ (p : PassView). Meets board first last p new) same.1
+    (subst (λ (l : List LogItem). Meets board first l mid new) (sym ends_so)
+    (subst (λ (l : List LogItem). Meets board l later.log mid new) first_is met)))

@@ -1,6 +1,7 @@
 //! The bank as a server: how it opens, and its connections and workers, over links and doorways in memory and over a socket.
 
 mod both;
+mod crowd;
 mod posts;
 mod sockets;
 
@@ -211,12 +212,12 @@ fn kept_by_one(rt: &impl Abort, alloc: Global) -> MemKeeper
 fn what_is_due_is_done_before_a_link_is_served(rt: HostRuntime) {
     let alloc = rt.alloc();
     let kept = kept_by_one(&rt, alloc);
-    let (keeper, first) = PostKeeper::over(alloc, kept).expect(&rt, "a keeper");
+    let (keeper, noted) = PostKeeper::over(alloc, kept).expect(&rt, "a keeper");
     let opened = opened_from(&rt, alloc, keeper);
     let clock = MemClock::new(alloc, &[FEBRUARY]).expect(&rt, "a clock");
     let all = served_twice(&rt, alloc, opened, clock, 1);
     same(&rt, all.status, Status(0));
-    assert!(rt; first.is_post());
+    assert!(rt; noted.begin_with_post());
     for worked in &all.ends {
         same(&rt, worked.end.served, 1);
         for link in worked.door.back() {
