@@ -167,7 +167,8 @@ fn jobs_for<N: BankName, K: Keeper, P: Printer, D: Drop, C: Drop>(
     pass: &mut Pass,
     workers: Vec<(D, C)>,
 ) -> Result<Vec<Job<D, C>>, OutOfMemory>
-    requires pass { pass.old ≡ record { table = N.board.table; seen = []; mine = []; polled = [] } }
+    requires pass { IsPassOf N.setup N.opening N.board pass.old }
+    requires fresh { pass.old ≡ record { table = N.board.table; seen = []; mine = []; polled = [] } }
     ensures passes { IfOk result (λ jobs. All (λ job. job.pass ≡ record { table = N.board.table; seen = []; mine = []; polled = [] }) jobs.items) }
     ensures doors { IfOk result (λ jobs. map (λ job. job.door) jobs.items ≡ map (λ worker. worker.0) workers.items) }
     ensures clocks { IfOk result (λ jobs. map (λ job. job.clock) jobs.items ≡ map (λ worker. worker.1) workers.items) }

@@ -1,5 +1,6 @@
 -- What holds of a bank since it opened from records.
-use Rattle.std.proofs.Common.{◌≡◌, ℕ, List, [], ◌∷◌, ◌++◌, fold, sym, subst}
+use Rattle.std.proofs.Common.{◌≡◌, ℕ, ◌≤◌, List, [], ◌∷◌, ◌++◌, length, fold, refl, sym, subst}
+use Rattle.std.proofs.lemmas.List.Elements.{All-nil}
 use Rattle.ofx_types.specs.Calendar.{IsMoment}
 use Rattle.ofx_types.specs.declared.number.Moment.{Moment}
 use Rattle.bank_model.specs.declared.event.Event.{Event}
@@ -70,3 +71,23 @@ known_right setup opening board pass extend books first within (records, reopens
       rises = is.mine.rises;
       own = is.mine.within;
     }
+
+-- a pass that has seen nothing
+pub first_pass : (setup : Setup) (opening : State) (board : BoardView) (pass : PassView) → pass ≡ (record { table = board.table; seen = []; mine = []; polled = [] })
+    → IsPassOf setup opening board pass
+first_pass setup opening board pass fresh =
+    subst (IsPassOf setup opening board) (sym fresh) (record {
+      own = refl;
+      legal = record { may_end = tt; grouped = refl };
+      mine = record { rises = tt; within = All-nil (λ (number : ℕ). (1 ≤ number) × (number ≤ 0)) };
+    })
+
+-- what a pass and its parent know but for the parent's endings
+pub child_pass : (setup : Setup) (opening : State) (board : BoardView) (parent child : PassView) → child ≡ (record { table = parent.table; seen = parent.seen; mine = []; polled = parent.polled })
+    → IsPassOf setup opening board parent → IsPassOf setup opening board child
+child_pass setup opening board parent child is of =
+    subst (IsPassOf setup opening board) (sym is) (record {
+      own = of.own;
+      legal = of.legal;
+      mine = record { rises = tt; within = All-nil (λ (number : ℕ). (1 ≤ number) × (number ≤ length (endings parent.seen))) };
+    })

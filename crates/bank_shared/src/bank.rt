@@ -1,6 +1,6 @@
 //! A bank that many callers share: its locked bank behind a lock, and before it the board of its newest tokens.
 
-ghost use Rattle.std.specs.Prelude.{◌≡◌, ◌<◌, ◌++◌, true, false, Some, length, IfOk, IfErr, OnErr};
+ghost use Rattle.std.specs.Prelude.{◌≡◌, ◌<◌, ◌++◌, [], true, false, Some, length, IfOk, IfErr, OnErr};
 ghost use Rattle.std.specs.Option.{option_map, option_to_list};
 ghost use Rattle.ofx_types.specs.Calendar.{IsMoment};
 ghost use Rattle.bank_model.specs.Polls as polls;
@@ -98,6 +98,7 @@ impl<N: BankName, K: Keeper, P: Printer> Bank<N, K, P> {
         requires opening { opened.state ≡ N.opening }
         requires first { opened.opened ≡ N.first }
         requires board { opened.board ≡ N.board }
+        ensures fresh { result.1 ≡ record { table = N.board.table; seen = []; mine = []; polled = [] } }
         ensures pass { IsPassOf N.setup N.opening N.board result.1 }
     {
         let (parts, pass) = opened.into_parts();
