@@ -59,7 +59,7 @@ one_later object first entries number (entry, among, of, is) = (entry, Contains-
 -- each number of an object's history is that of one of its entries
 in_history : (object : ObjectId) (entries : List Entry) (number : ℕ) → Contains (map number_of (history_of object entries)) number → IsNumberOf object entries number
 unfolding history_of
-in_history object [] number among = absurd (let less = among.1.0 in omega arith)
+in_history object [] number among = absurd (let less = among.1 in omega arith)
 in_history object (first ∷ entries) number among = by_first (λ there. in_history object entries number there) (belongs_to object first) refl among
   where
     by_first : (Contains (map number_of (filter (belongs_to object) entries)) number → IsNumberOf object entries number) → (b : Bool) → belongs_to object first ≡ b → Contains (map number_of (cond b (first ∷ filter (belongs_to object) entries) (filter (belongs_to object) entries))) number → IsNumberOf object (first ∷ entries) number

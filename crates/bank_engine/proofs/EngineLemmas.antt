@@ -1,5 +1,6 @@
 -- What an engine knows of what is ready and of what is pending.
 use Rattle.std.proofs.Common.{◌≡◌, ◌++◌, List, Option, None, Some, sym, ap, ◌∙◌, subst}
+use Rattle.std.specs.Bool.{⊤}
 use Rattle.std.specs.Option.{IfSome, option_map}
 use Rattle.ofx_types.specs.Calendar.{IsMoment}
 use Rattle.ofx_types.specs.declared.number.Moment.{Moment}
@@ -31,6 +32,11 @@ names_held setup state held pending here some names =
 pub expected_held : (may : List Entry → Type 0) (setup : Setup) (state : State) (pending : Option Pending) (here : Pending) → pending ≡ Some here → IfSome (option_map pending_of pending) (λ (p : PendingView). Expects may setup state p.at p.event) → Expects may setup state here.at here.event
 expected_held may setup state pending here some expected =
     subst (λ (q : Option Pending). IfSome (option_map pending_of q) (λ (p : PendingView). Expects may setup state p.at p.event)) some expected
+
+-- a log that is only remembered expects anything
+pub nothing_asked : (setup : Setup) (S : State) (pending : Option PendingView) → IfSome pending (λ (p : PendingView). Expects (λ entries. ⊤) setup S p.at p.event)
+nothing_asked setup S None = tt
+nothing_asked setup S (Some p) = record { entries = λ added grows. tt }
 
 -- the entries of a step that is ready are those that its event adds
 pub entries_expected : (may : List Entry → Type 0) (setup : Setup) (S : State) (room : Room) (at : Moment) (event : Event) (ready prepared : PreparedView) (entries : List Entry) → Expects may setup S at event → IsReady setup S room at event ready → prepared ≡ ready → prepared.after.entries ≡ prepared.before.entries ++ entries → may entries

@@ -16,7 +16,7 @@ ghost use Rattle.bank_shared.specs.Holds.{HasOpened, BeginsAt, IsPassOf, caller_
 use crate::advance::Advance;
 use crate::locked_bank::LockedBank;
 use crate::name::BankName;
-use crate::opened::{Opened, Parts};
+use crate::opened::Opened;
 use bank_callers::laws::tokens_are_the_banks;
 use bank_callers::{add_answer, poll_reply};
 use bank_invariants::laws::states::{books_are_right, every_state_is_sound};
@@ -102,13 +102,7 @@ impl<N: BankName, K: Keeper, P: Printer> Bank<N, K, P> {
         ensures pass { IsPassOf N.setup N.opening N.board result.1 }
     {
         let (parts, pass) = opened.into_parts();
-        let Parts {
-            alloc,
-            setup,
-            printer,
-            board,
-            locked,
-        } = parts;
+        let (alloc, setup, printer, board, locked) = parts.into_fields();
         let bank = Bank {
             alloc,
             setup,

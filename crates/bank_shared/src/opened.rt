@@ -205,6 +205,24 @@ pub struct Parts<N: BankName, K: Keeper, P: Printer> {
     pub locked: LockedBank<N, K, P>,
 }
 
+impl<N: BankName, K: Keeper, P: Printer> Parts<N, K, P> {
+    /// Its fields, in their order. Takes no memory.
+    pub(crate) fn into_fields(self) -> (Global, Setup, P, Board, LockedBank<N, K, P>)
+        ensures setup { result.1 ≡ self.setup }
+        ensures board { result.3 ≡ self.board }
+        ensures locked { result.4 ≡ self.locked }
+    {
+        let Parts {
+            alloc,
+            setup,
+            printer,
+            board,
+            locked,
+        } = self;
+        (alloc, setup, printer, board, locked)
+    }
+}
+
 impl<N: BankName, K: Keeper, P: Printer> Drop for Parts<N, K, P> {
     fn drop(self) {
         let Parts {
@@ -248,7 +266,7 @@ fn newest_numbers<P: Printer>(
 {
     // For the proof alone: its contract says that the setup is within its limits.
     let _setup = book.setup();
-    let count = 3 * setup.accounts().len() + setup.users().len();
+    let count = 3 * setup.accounts.items().len() + setup.users.items().len();
     let mut numbers = Vec::with_capacity(alloc, count)?;
     for object in 0..count {
         numbers.push(book.newest(ObjectId(object as u32)))?;
