@@ -15,8 +15,9 @@ use Rattle.bank_model.specs.Log.{is_ending, endings, ending}
 use Rattle.bank_model.specs.Polls.{is_poll}
 use Rattle.bank_model.specs.Rules.{denial}
 use Rattle.bank_signon.specs.Signon.{IsSignedOn, IsDenied, IsRefused}
-use Rattle.bank_connection.specs.Polled.{Load, loads_made}
-use Rattle.bank_connection.specs.Offices.{OfficeView, Knows, GainsEnding, GainsNothing, IsCommitted, IsFaulted, HasPolled, IsLooked, HasLoaded}
+use Rattle.token_board.specs.declared.view.Load.{Load}
+use Rattle.bank_callers.specs.Polled.{loads_made}
+use Rattle.bank_callers.specs.Callers.{CallerView, Knows, GainsEnding, GainsNothing, IsCommitted, IsFaulted, HasPolled, IsLooked, HasLoaded}
 use Rattle.bank_connection.specs.Exchanges.{Outcome, misspelled, denied, polled, ended, no_memory, EndsFile, endings_of}
 use Rattle.http_link.specs.Replies.{line, reply_of}
 use Rattle.bank_connection.specs.ReplyText.{ending_reply, outcome_reply}
@@ -36,13 +37,13 @@ HasAnswer answer code body = (answer_code answer ≡ code) × (answer_body answe
 
 -- ---- answers for which the office isn't asked
 
-knows-same : (office : Option OfficeView) (P : OfficeView → OfficeView → Type 0) → ((v : OfficeView) → P v v) → Knows office office P
+knows-same : (office : Option CallerView) (P : CallerView → CallerView → Type 0) → ((v : CallerView) → P v v) → Knows office office P
 knows-same None P p = tt
 knows-same (Some v) P p = p v
 
 -- an outcome of no ending and no tokens sees nothing new
-pub watches-same : (outcome : Outcome) → endings_of outcome ≡ [] → loads_of outcome ≡ [] → ((v : OfficeView) → SeesAt v.opening v.seen outcome v.seen)
-    → (office : Option OfficeView) → Knows office office (Watches [] outcome)
+pub watches-same : (outcome : Outcome) → endings_of outcome ≡ [] → loads_of outcome ≡ [] → ((v : CallerView) → SeesAt v.opening v.seen outcome v.seen)
+    → (office : Option CallerView) → Knows office office (Watches [] outcome)
 watches-same outcome no_endings no_loads sees office = knows-same office (Watches [] outcome) (λ v. record {
   opening = refl;
   seen = sym (append-nil v.seen);
@@ -54,7 +55,7 @@ watches-same outcome no_endings no_loads sees office = knows-same office (Watche
   hold = λ some. absurd (some no_endings);
 })
 
-pub misspelled_is : (setup : Setup) (body : List ℕ) (offset : ℕ) (shown : Option (List Moment)) (known : Option OfficeView) (answer : Answer)
+pub misspelled_is : (setup : Setup) (body : List ℕ) (offset : ℕ) (shown : Option (List Moment)) (known : Option CallerView) (answer : Answer)
     → IsRefused body offset → HasAnswer answer 400 (line (codes "bad file at " ++ decimal offset)) → Answers setup body shown shown known known answer
 unfolding outcome_reply
 misspelled_is setup body offset shown known answer is says log seen = record {
@@ -67,7 +68,7 @@ misspelled_is setup body offset shown known answer is says log seen = record {
   watches = watches-same (misspelled offset) refl refl (λ v. ([], sym (append-nil v.seen))) known;
 }
 
-pub denied_is : (setup : Setup) (body : List ℕ) (file : RequestFile) (at : Moment) (shown shown' : Option (List Moment)) (known : Option OfficeView) (answer : Answer)
+pub denied_is : (setup : Setup) (body : List ℕ) (file : RequestFile) (at : Moment) (shown shown' : Option (List Moment)) (known : Option CallerView) (answer : Answer)
     → IsDenied setup body file → Grows shown shown' (at ∷ []) → HasAnswer answer 200 (reply_text (denial file at)) → Answers setup body shown shown' known known answer
 unfolding outcome_reply
 denied_is setup body file at shown shown' known answer is moments says log seen = record {
@@ -81,7 +82,7 @@ denied_is setup body file at shown shown' known answer is moments says log seen 
 }
 
 -- want of memory, with what the office knows then
-no_memory_with : (setup : Setup) (body : List ℕ) (at : Option Moment) (shown shown' : Option (List Moment)) (old new : Option OfficeView) (log grown : List LogItem)
+no_memory_with : (setup : Setup) (body : List ℕ) (at : Option Moment) (shown shown' : Option (List Moment)) (old new : Option CallerView) (log grown : List LogItem)
     → IfSome at (λ moment. (file : RequestFile) × SpellsFile body file) → Grows shown shown' (option_to_list at)
     → Knows old new (Watches grown (no_memory at)) → IsAnswerTo setup log body shown shown' old new NoMemory
 unfolding outcome_reply
@@ -95,14 +96,14 @@ no_memory_with setup body at shown shown' old new log grown is moments watches =
   watches = watches;
 }
 
-pub no_memory_is : (setup : Setup) (body : List ℕ) (at : Option Moment) (shown shown' : Option (List Moment)) (known : Option OfficeView)
+pub no_memory_is : (setup : Setup) (body : List ℕ) (at : Option Moment) (shown shown' : Option (List Moment)) (known : Option CallerView)
     → IfSome at (λ moment. (file : RequestFile) × SpellsFile body file) → Grows shown shown' (option_to_list at) → Answers setup body shown shown' known known NoMemory
 no_memory_is setup body at shown shown' known is moments log seen =
     no_memory_with setup body at shown shown' known known log [] is moments (watches-same (no_memory at) refl refl (λ v. ([], sym (append-nil v.seen))) known)
 
 -- ---- polls
 
-polled_watches : (old new : Option OfficeView) (user : UserId) (file : RequestFile) (at : Moment) (loads : List (Option Load))
+polled_watches : (old new : Option CallerView) (user : UserId) (file : RequestFile) (at : Moment) (loads : List (Option Load))
     → Knows old new (HasPolled (loads_made loads)) → Knows old new (Watches [] (polled user file at loads))
 polled_watches None None user file at loads p = tt
 polled_watches None (Some w) user file at loads p = absurd p
@@ -118,7 +119,7 @@ polled_watches (Some v) (Some w) user file at loads p = record {
   hold = λ some. absurd (some refl);
 }
 
-pub looked_is : (setup : Setup) (body : List ℕ) (user : UserId) (file : RequestFile) (at : Moment) (reply : List ℕ) (shown shown' : Option (List Moment)) (old new : Option OfficeView) (answer : Answer)
+pub looked_is : (setup : Setup) (body : List ℕ) (user : UserId) (file : RequestFile) (at : Moment) (reply : List ℕ) (shown shown' : Option (List Moment)) (old new : Option CallerView) (answer : Answer)
     → IsSignedOn setup body file user → is_poll file ≡ true → IsLooked setup user file at reply old new → Grows shown shown' (at ∷ []) → HasAnswer answer 200 reply
     → Answers setup body shown shown' old new answer
 unfolding outcome_reply
@@ -132,7 +133,7 @@ looked_is setup body user file at reply shown shown' old new answer signed poll 
   watches = polled_watches old new user file at looked.loads looked.knows;
 }
 
-loaded_watches : (old new : Option OfficeView) (at : Option Moment) → Knows old new HasLoaded → Knows old new (Watches [] (no_memory at))
+loaded_watches : (old new : Option CallerView) (at : Option Moment) → Knows old new HasLoaded → Knows old new (Watches [] (no_memory at))
 loaded_watches None None at p = tt
 loaded_watches None (Some w) at p = absurd p
 loaded_watches (Some v) None at p = absurd p
@@ -147,7 +148,7 @@ loaded_watches (Some v) (Some w) at p = record {
   hold = λ some. absurd (some refl);
 }
 
-pub look_refused : (setup : Setup) (body : List ℕ) (user : UserId) (file : RequestFile) (at : Moment) (shown shown' : Option (List Moment)) (old new : Option OfficeView)
+pub look_refused : (setup : Setup) (body : List ℕ) (user : UserId) (file : RequestFile) (at : Moment) (shown shown' : Option (List Moment)) (old new : Option CallerView)
     → IsSignedOn setup body file user → Knows old new HasLoaded → Grows shown shown' (at ∷ []) → Answers setup body shown shown' old new NoMemory
 look_refused setup body user file at shown shown' old new signed knows moments log seen =
     no_memory_with setup body (Some at) shown shown' old new log [] (file, signed.spelled) moments (loaded_watches old new (Some at) knows)
@@ -160,7 +161,7 @@ own_ending : (log others : List LogItem) (item : LogItem) → is_ending item ≡
 own_ending log others item is =
     subst (λ (l : List LogItem). (1 ≤ length (endings l)) × (ending l (length (endings l)) ≡ Some item)) (append_assoc log others (item ∷ [])) (last_ending (log ++ others) item is)
 
-gains_watches : (old new : Option OfficeView) (log grown : List LogItem) (user : UserId) (file : RequestFile) (at : Moment) → HasSeen log old
+gains_watches : (old new : Option CallerView) (log grown : List LogItem) (user : UserId) (file : RequestFile) (at : Moment) → HasSeen log old
     → Knows old new (GainsEnding grown) → Knows old new (Watches grown (ended user file at (length (endings (log ++ grown)))))
 gains_watches None None log grown user file at seen g = tt
 gains_watches None (Some w) log grown user file at seen g = absurd g
@@ -181,7 +182,7 @@ gains_watches (Some v) (Some w) log grown user file at seen g =
 
 -- a file that an ending of its own answers
 ended_is : (setup : Setup) (body : List ℕ) (user : UserId) (file : RequestFile) (at : Moment) (others : List LogItem) (item : LogItem) (code : ℕ) (reply : List ℕ)
-    (shown shown' : Option (List Moment)) (old new : Option OfficeView) (answer : Answer)
+    (shown shown' : Option (List Moment)) (old new : Option CallerView) (answer : Answer)
     → IsSignedOn setup body file user → is_poll file ≡ false → is_ending item ≡ true → EndsFile user file at (Some item)
     → ((closes : Bool) → ending_reply (Some item) closes ≡ reply_of code reply closes) → Grows shown shown' (at ∷ [])
     → Knows old new (GainsEnding (others ++ item ∷ [])) → HasAnswer answer code reply → Answers setup body shown shown' old new answer
@@ -198,23 +199,23 @@ ended_is setup body user file at others item code reply shown shown' old new ans
       watches = gains_watches old new log (others ++ item ∷ []) user file at seen knows;
     }
 
-pub committed_is : (setup : Setup) (body : List ℕ) (user : UserId) (file : RequestFile) (at : Moment) (reply : List ℕ) (shown shown' : Option (List Moment)) (old new : Option OfficeView) (answer : Answer)
+pub committed_is : (setup : Setup) (body : List ℕ) (user : UserId) (file : RequestFile) (at : Moment) (reply : List ℕ) (shown shown' : Option (List Moment)) (old new : Option CallerView) (answer : Answer)
     → IsSignedOn setup body file user → is_poll file ≡ false → IsCommitted user file at reply old new → Grows shown shown' (at ∷ []) → HasAnswer answer 200 reply
     → Answers setup body shown shown' old new answer
 committed_is setup body user file at reply shown shown' old new answer signed event c moments says =
     ended_is setup body user file at c.others (AnswerItem c.event at reply) 200 reply shown shown' old new answer signed event refl (c.same, refl) (λ closes. refl) moments c.knows says
 
-pub faulted_is : (setup : Setup) (body : List ℕ) (user : UserId) (file : RequestFile) (at : Moment) (count : ℕ) (shown shown' : Option (List Moment)) (old new : Option OfficeView) (answer : Answer)
+pub faulted_is : (setup : Setup) (body : List ℕ) (user : UserId) (file : RequestFile) (at : Moment) (count : ℕ) (shown shown' : Option (List Moment)) (old new : Option CallerView) (answer : Answer)
     → IsSignedOn setup body file user → is_poll file ≡ false → IsFaulted user file at count old new → Grows shown shown' (at ∷ []) → HasAnswer answer 503 (line (codes "keeper failed"))
     → Answers setup body shown shown' old new answer
 faulted_is setup body user file at count shown shown' old new answer signed event c moments says =
     ended_is setup body user file at c.others (Fault count c.pending) 503 (line (codes "keeper failed")) shown shown' old new answer signed event refl c.own (λ closes. refl) moments c.knows says
 
 -- nothing ended, though more was seen
-abbrev seen_more : Option OfficeView → Option OfficeView → List LogItem → Type 0
+abbrev seen_more : Option CallerView → Option CallerView → List LogItem → Type 0
 seen_more old new grown = (at : Option Moment) → Knows old new (Watches grown (no_memory at))
 
-nothing_watches : (old new : Option OfficeView) → Knows old new GainsNothing → (grown : List LogItem) × seen_more old new grown
+nothing_watches : (old new : Option CallerView) → Knows old new GainsNothing → (grown : List LogItem) × seen_more old new grown
 nothing_watches None None p = ([], λ at. tt)
 nothing_watches None (Some w) p = absurd p
 nothing_watches (Some v) None p = absurd p
@@ -232,7 +233,7 @@ nothing_watches (Some v) (Some w) p = (
   },
 )
 
-pub ask_refused : (setup : Setup) (body : List ℕ) (user : UserId) (file : RequestFile) (at : Moment) (shown shown' : Option (List Moment)) (old new : Option OfficeView)
+pub ask_refused : (setup : Setup) (body : List ℕ) (user : UserId) (file : RequestFile) (at : Moment) (shown shown' : Option (List Moment)) (old new : Option CallerView)
     → IsSignedOn setup body file user → Knows old new GainsNothing → Grows shown shown' (at ∷ []) → Answers setup body shown shown' old new NoMemory
 ask_refused setup body user file at shown shown' old new signed knows moments log seen =
     let n = nothing_watches old new knows in

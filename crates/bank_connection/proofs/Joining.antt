@@ -7,8 +7,8 @@ use Rattle.bank_model.specs.declared.entry.Entry.{Entry}
 use Rattle.bank_model.specs.declared.event.State.{State}
 use Rattle.bank_model.specs.declared.setup.Setup.{Setup}
 use Rattle.bank_model.specs.declared.log.LogItem.{LogItem}
-use Rattle.bank_connection.specs.Polled.{Load}
-use Rattle.bank_connection.specs.Offices.{HoldsIn}
+use Rattle.token_board.specs.declared.view.Load.{Load}
+use Rattle.bank_callers.specs.Callers.{HoldsIn}
 use Rattle.bank_connection.specs.Exchanges.{Outcome, Exchange, IsExchange, AreExchanges, endings_of, endings_in}
 use Rattle.bank_connection.specs.Watched.{SeesAt, SeesIn, loads_of, loads_in, HasEnding, TokensHold}
 use Rattle.bank_connection.proofs.Logs.{holds-kept}

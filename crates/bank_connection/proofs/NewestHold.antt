@@ -9,9 +9,10 @@ use Rattle.bank_model.specs.declared.setup.Setup.{Setup}
 use Rattle.bank_model.specs.declared.entry.Entry.{Entry}
 use Rattle.bank_model.specs.declared.event.State.{State}
 use Rattle.bank_model.specs.Objects.{belongs_to, history_of, newest}
-use Rattle.bank_connection.specs.Polled.{Load, object_asked, loads_made}
+use Rattle.token_board.specs.declared.view.Load.{Load}
+use Rattle.bank_callers.specs.Polled.{object_asked, loads_made}
 use Rattle.bank_connection.specs.NewestTokens.{newest_load, newest_loads}
-use Rattle.bank_connection.specs.Offices.{HoldsIn}
+use Rattle.bank_callers.specs.Callers.{HoldsIn}
 
 -- the number of the last entry of an object, where there is one after a number so far
 abbrev last_after : ℕ → ObjectId → List Entry → ℕ

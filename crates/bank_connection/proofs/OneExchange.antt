@@ -9,7 +9,7 @@ use Rattle.bank_model.specs.declared.setup.Setup.{Setup}
 use Rattle.bank_model.specs.declared.log.LogItem.{LogItem}
 use Rattle.http_link.specs.Requests.{IsRefusedByHead}
 use Rattle.http_link.specs.Incoming.{HoldsWhole}
-use Rattle.bank_connection.specs.Offices.{OfficeView}
+use Rattle.bank_callers.specs.Callers.{CallerView}
 use Rattle.bank_connection.specs.Exchanges.{Outcome, refused, misspelled, denied, polled, ended, no_memory, Exchange, ComesTo, IsAnswered, IsOutcome}
 use Rattle.http_link.specs.Replies.{reply_of, refusal_code, refusal_body}
 use Rattle.bank_connection.specs.ReplyText.{outcome_reply}
@@ -23,7 +23,7 @@ use Rattle.bank_connection.proofs.Answered.{watches-same}
 
 -- a request that its head refuses
 pub refused_exchange : (setup : Setup) (number : ℕ) (ahead : List ℕ) (size : ℕ) (refusal : Refusal) (left left' : Option (List ℕ)) (reads reads' : ℕ) (held held' : Option (List ℕ)) (writes writes' : ℕ)
-    (shown : Option (List Moment)) (known : Option OfficeView) (result : Result Bool ServeError) → IsRefusedByHead (take size ahead) refusal → Keeps left left'
+    (shown : Option (List Moment)) (known : Option CallerView) (result : Result Bool ServeError) → IsRefusedByHead (take size ahead) refusal → Keeps left left'
     → SendsReply (around left reads held writes shown known) (around left' reads' held' writes' shown known) (reply_of (refusal_code refusal) (refusal_body refusal) true) true result
     → Exchanges setup number ahead (drop size ahead) (around left reads held writes shown known) (around left' reads' held' writes' shown known) result
 unfolding outcome_reply

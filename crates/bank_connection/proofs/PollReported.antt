@@ -14,9 +14,10 @@ use Rattle.bank_model.specs.declared.setup.Setup.{Setup}
 use Rattle.bank_model.specs.declared.event.State.{State}
 use Rattle.bank_model.specs.Objects.{object_named, newest}
 use Rattle.bank_model.specs.Polls.{reported_token, newest_if_any, poll_answer, poll_reply}
-use Rattle.bank_connection.specs.Polled.{Load, object_asked, AreLoadsOf, loads_made, answer_told, answers_reported, poll_reported}
+use Rattle.token_board.specs.declared.view.Load.{Load}
+use Rattle.bank_callers.specs.Polled.{object_asked, AreLoadsOf, loads_made, answer_told, answers_reported, poll_reported}
 use Rattle.bank_connection.specs.NewestTokens.{newest_load, newest_loads}
-use Rattle.bank_connection.specs.Offices.{IsFresh}
+use Rattle.bank_callers.specs.Callers.{IsFresh}
 
 one_object : (S : State) (object : Option ObjectId) → option_map (λ (load : Load). load.object) (newest_load S object) ≡ object
 one_object S None = refl

@@ -12,8 +12,8 @@ use Rattle.bank_model.specs.declared.entry.Entry.{Entry}
 use Rattle.bank_model.specs.declared.event.State.{State}
 use Rattle.bank_model.specs.declared.log.LogItem.{LogItem}
 use Rattle.bank_model.specs.Log.{entry_of, entries_in}
-use Rattle.bank_connection.specs.Polled.{Load}
-use Rattle.bank_connection.specs.Offices.{OfficeView, Knows, IsRightView, HoldsIn, entries_seen}
+use Rattle.token_board.specs.declared.view.Load.{Load}
+use Rattle.bank_callers.specs.Callers.{CallerView, Knows, IsRightView, HoldsIn, entries_seen}
 use Rattle.bank_connection.specs.Exchanges.{Exchange, IsExchange, AreExchanges, requests_in, moments_of, moments_in, endings_of, endings_in, GoOn}
 use Rattle.bank_connection.specs.ReplyText.{outcome_reply, out}
 use Rattle.bank_connection.specs.Watched.{SeesAt, loads_of, loads_in, TokensHold, HasWatched}
@@ -40,11 +40,11 @@ hold_among entries polled loads hold among k d below =
 
 -- ---- the start
 
-abbrev seen_of : Option OfficeView → List LogItem
+abbrev seen_of : Option CallerView → List LogItem
 seen_of None = []
 seen_of (Some v) = v.seen
 
-start_watched : (office : Option OfficeView) → Knows office office (HasWatched (seen_of office) [])
+start_watched : (office : Option CallerView) → Knows office office (HasWatched (seen_of office) [])
 start_watched None = tt
 start_watched (Some v) = record {
   opening = refl;
@@ -97,7 +97,7 @@ consumes-ahead (Some xs) (Some ys) ahead bytes c = c ∙ sym (append_assoc bytes
 
 -- ---- one exchange more
 
-pub has_seen : (old new : Option OfficeView) (log : List LogItem) (xs : List Exchange) → Knows old new (HasWatched log xs) → HasSeen log new
+pub has_seen : (old new : Option CallerView) (log : List LogItem) (xs : List Exchange) → Knows old new (HasWatched log xs) → HasSeen log new
 has_seen None None log xs w = tt
 has_seen None (Some v) log xs w = absurd w
 has_seen (Some u) None log xs w = tt
@@ -109,7 +109,7 @@ request_read None b ahead ahead' request e kept = tt
 request_read (Some xs) None ahead ahead' request e kept = absurd kept
 request_read (Some xs) (Some ys) ahead ahead' request e kept = rw (e, kept) (append_assoc request ahead' xs)
 
-joined_watch : (log grown : List LogItem) (xs : List Exchange) (x : Exchange) (u v w : OfficeView) → HasWatched log xs u v → Watches grown x.outcome v w
+joined_watch : (log grown : List LogItem) (xs : List Exchange) (x : Exchange) (u v w : CallerView) → HasWatched log xs u v → Watches grown x.outcome v w
     → HasWatched (log ++ grown) (xs ++ x ∷ []) u w
 joined_watch log grown xs x u v w h s =
     let opening : w.opening ≡ u.opening = s.opening ∙ h.opening in
@@ -129,7 +129,7 @@ joined_watch log grown xs x u v w h s =
           (λ some. hold_among (entries_seen w) v.polled (loads_in xs) (s.hold some) h.polled);
     }
 
-joined_watches : (log grown : List LogItem) (xs : List Exchange) (x : Exchange) (a b c : Option OfficeView) → Knows a b (HasWatched log xs) → Knows b c (Watches grown x.outcome)
+joined_watches : (log grown : List LogItem) (xs : List Exchange) (x : Exchange) (a b c : Option CallerView) → Knows a b (HasWatched log xs) → Knows b c (Watches grown x.outcome)
     → Knows a c (HasWatched (log ++ grown) (xs ++ x ∷ []))
 joined_watches log grown xs x None None None h s = tt
 joined_watches log grown xs x None None (Some w) h s = absurd s

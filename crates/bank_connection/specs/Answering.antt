@@ -6,8 +6,8 @@ use Rattle.ofx_ports.specs.Known.{Grows}
 use Rattle.ofx_types.specs.declared.number.Moment.{Moment}
 use Rattle.bank_model.specs.declared.setup.Setup.{Setup}
 use Rattle.bank_model.specs.declared.log.LogItem.{LogItem}
-use Rattle.bank_connection.specs.Polled.{Load}
-use Rattle.bank_connection.specs.Offices.{OfficeView, Knows, HoldsIn, entries_seen}
+use Rattle.token_board.specs.declared.view.Load.{Load}
+use Rattle.bank_callers.specs.Callers.{CallerView, Knows, HoldsIn, entries_seen}
 use Rattle.bank_connection.specs.Exchanges.{Outcome, Exchange, ComesTo, IsExchange, is_no_memory, moments_of, endings_of}
 use Rattle.http_link.specs.Replies.{line, reply_of}
 use Rattle.bank_connection.specs.ReplyText.{outcome_reply}
@@ -35,12 +35,12 @@ reports_no_memory KeeperFailed = false
 reports_no_memory NoMemory = true
 
 -- An office has seen this log, where it says what it has seen.
-abbrev pub HasSeen : List LogItem → Option OfficeView → Type 0
+abbrev pub HasSeen : List LogItem → Option CallerView → Type 0
 HasSeen log office = IfSome office (λ view. view.seen ≡ log)
 
 -- What an exchange does to what an office knows: it has seen these items more, and the endings that are its own and the tokens
 -- that it loaded are those of the outcome.
-pub record Watches (grown : List LogItem) (outcome : Outcome) (before after : OfficeView) : Type 0 where
+pub record Watches (grown : List LogItem) (outcome : Outcome) (before after : CallerView) : Type 0 where
   pub opening : after.opening ≡ before.opening
   pub seen : after.seen ≡ before.seen ++ grown
   pub sees : SeesAt before.opening before.seen outcome after.seen
@@ -51,7 +51,7 @@ pub record Watches (grown : List LogItem) (outcome : Outcome) (before after : Of
   pub hold : endings_of outcome ≢ [] → All (HoldsIn (entries_seen after)) before.polled
 
 -- An answer to the body of a request, after this log.
-pub record IsAnswerTo (setup : Setup) (log : List LogItem) (body : List ℕ) (shown shown' : Option (List Moment)) (old new : Option OfficeView) (answer : Answer) : Type 0 where
+pub record IsAnswerTo (setup : Setup) (log : List LogItem) (body : List ℕ) (shown shown' : Option (List Moment)) (old new : Option CallerView) (answer : Answer) : Type 0 where
   pub grown : List LogItem
   pub outcome : Outcome
   pub comes_to : ComesTo setup (log ++ grown) body outcome
@@ -60,6 +60,6 @@ pub record IsAnswerTo (setup : Setup) (log : List LogItem) (body : List ℕ) (sh
   pub moments : Grows shown shown' (moments_of outcome)
   pub watches : Knows old new (Watches grown outcome)
 
-abbrev pub Answers : Setup → List ℕ → Option (List Moment) → Option (List Moment) → Option OfficeView → Option OfficeView → Answer → Type 0
+abbrev pub Answers : Setup → List ℕ → Option (List Moment) → Option (List Moment) → Option CallerView → Option CallerView → Answer → Type 0
 Answers setup body shown shown' old new answer =
     (log : List LogItem) → HasSeen log old → IsAnswerTo setup log body shown shown' old new answer

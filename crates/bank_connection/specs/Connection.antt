@@ -8,7 +8,7 @@ use Rattle.ofx_types.specs.declared.number.Moment.{Moment}
 use Rattle.bank_model.specs.declared.setup.Setup.{Setup}
 use Rattle.bank_model.specs.declared.log.LogItem.{LogItem}
 use Rattle.http_link.specs.Requests.{IsUnfinished}
-use Rattle.bank_connection.specs.Offices.{OfficeView, Knows, IsRightView}
+use Rattle.bank_callers.specs.Callers.{CallerView, Knows, IsRightView}
 use Rattle.bank_connection.specs.Exchanges.{Exchange, AreExchanges, requests_in, moments_in, GoOn}
 use Rattle.bank_connection.specs.ReplyText.{out}
 use Rattle.bank_connection.specs.Watched.{HasWatched}
@@ -25,9 +25,9 @@ pub record LinkView : Type 0 where
   pub held : Option (List ℕ)
   pub writes : ℕ
   pub shown : Option (List Moment)
-  pub office : Option OfficeView
+  pub office : Option CallerView
 
-abbrev pub around : Option (List ℕ) → ℕ → Option (List ℕ) → ℕ → Option (List Moment) → Option OfficeView → LinkView
+abbrev pub around : Option (List ℕ) → ℕ → Option (List ℕ) → ℕ → Option (List Moment) → Option CallerView → LinkView
 around left reads held writes shown office =
     record { left = left; reads = reads; held = held; writes = writes; shown = shown; office = office }
 

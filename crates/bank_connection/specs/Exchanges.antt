@@ -16,8 +16,9 @@ use Rattle.bank_model.specs.Log.{ending}
 use Rattle.bank_model.specs.Polls.{is_poll}
 use Rattle.bank_signon.specs.Signon.{IsSignedOn, IsDenied, IsRefused}
 use Rattle.http_link.specs.Requests.{IsRefusedByHead, IsWhole}
-use Rattle.bank_connection.specs.Polled.{Load, AreLoadsOf}
-use Rattle.bank_connection.specs.Offices.{IsOfFile}
+use Rattle.token_board.specs.declared.view.Load.{Load}
+use Rattle.bank_callers.specs.Polled.{AreLoadsOf}
+use Rattle.bank_callers.specs.Callers.{IsOfFile}
 use Rattle.http_link.specs.declared.refusal.Refusal.{Refusal}
 
 -- What a request comes to.

@@ -1,5 +1,3 @@
-pub mod Polled
-pub mod Offices
 pub mod Exchanges
 pub mod ReplyText
 pub mod Watched

@@ -9,8 +9,9 @@ use Rattle.bank_model.specs.declared.setup.Setup.{Setup}
 use Rattle.bank_model.specs.declared.event.State.{State}
 use Rattle.bank_model.specs.Objects.{newest}
 use Rattle.bank_model.specs.Polls.{poll_reply}
-use Rattle.bank_connection.specs.Polled.{Load, object_asked, AreLoadsOf, loads_made, poll_reported}
-use Rattle.bank_connection.specs.Offices.{IsFresh, HoldsIn}
+use Rattle.token_board.specs.declared.view.Load.{Load}
+use Rattle.bank_callers.specs.Polled.{object_asked, AreLoadsOf, loads_made, poll_reported}
+use Rattle.bank_callers.specs.Callers.{IsFresh, HoldsIn}
 
 abbrev pub newest_load : State → Option ObjectId → Option Load
 newest_load S None = None

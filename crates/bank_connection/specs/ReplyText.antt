@@ -8,7 +8,7 @@ use Rattle.bank_model.specs.declared.log.LogItem.{LogItem}
 use Rattle.bank_model.specs.declared.log.LogItem.TheVariants.{Effect, Answer, Adopted, Fault}
 use Rattle.bank_model.specs.Log.{ending}
 use Rattle.bank_model.specs.Rules.{denial}
-use Rattle.bank_connection.specs.Polled.{poll_reported}
+use Rattle.bank_callers.specs.Polled.{poll_reported}
 use Rattle.bank_connection.specs.Exchanges.{Outcome, refused, misspelled, denied, polled, ended, no_memory, Exchange}
 
 -- An answer is the reply of its event. A fault of the keeper is 503.

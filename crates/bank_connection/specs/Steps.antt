@@ -6,7 +6,7 @@ use Rattle.ofx_ports.specs.Faults.{Rose}
 use Rattle.ofx_ports.specs.Known.{Grows}
 use Rattle.bank_model.specs.declared.setup.Setup.{Setup}
 use Rattle.bank_model.specs.declared.log.LogItem.{LogItem}
-use Rattle.bank_connection.specs.Offices.{OfficeView, Knows, IsRightView}
+use Rattle.bank_callers.specs.Callers.{CallerView, Knows, IsRightView}
 use Rattle.bank_connection.specs.Exchanges.{Exchange, IsExchange, AreExchanges, requests_in, moments_of, moments_in, GoOn}
 use Rattle.bank_connection.specs.ReplyText.{outcome_reply, out}
 use Rattle.bank_connection.specs.Watched.{HasWatched}

@@ -5,8 +5,9 @@ use Rattle.bank_model.specs.declared.entry.Entry.{Entry}
 use Rattle.bank_model.specs.declared.event.State.{State}
 use Rattle.bank_model.specs.declared.log.LogItem.{LogItem}
 use Rattle.bank_model.specs.Log.{endings, entries_in}
-use Rattle.bank_connection.specs.Polled.{Load, loads_made}
-use Rattle.bank_connection.specs.Offices.{OfficeView, entries_seen, IsFresh, HoldsIn}
+use Rattle.token_board.specs.declared.view.Load.{Load}
+use Rattle.bank_callers.specs.Polled.{loads_made}
+use Rattle.bank_callers.specs.Callers.{CallerView, entries_seen, IsFresh, HoldsIn}
 use Rattle.bank_connection.specs.Exchanges.{Outcome, refused, misspelled, denied, polled, ended, no_memory, Exchange, endings_in}
 
 -- A list begins with another one.
@@ -52,7 +53,7 @@ TokensHold entries (x ∷ xs) = (HasEnding xs → All (HoldsIn entries) (loads_o
 -- What an office knows after a connection: it has seen this log, which begins with what it had seen; the endings of its own that
 -- are new are just those of the exchanges, in order; the tokens of polls are among those loaded, none was too old, and none
 -- before a file's ending was made up.
-pub record HasWatched (log : List LogItem) (xs : List Exchange) (before after : OfficeView) : Type 0 where
+pub record HasWatched (log : List LogItem) (xs : List Exchange) (before after : CallerView) : Type 0 where
   pub opening : after.opening ≡ before.opening
   pub log_is : log ≡ after.seen
   pub sees : SeesIn before.opening before.seen xs after.seen

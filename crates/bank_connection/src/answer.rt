@@ -8,7 +8,7 @@ ghost use Rattle.bank_model.specs.declared.setup.Setup.{Setup as TheSetup};
 ghost use Rattle.bank_model.specs.Polls.{is_poll};
 ghost use Rattle.bank_model.specs.Sound.{IsSound};
 ghost use Rattle.bank_signon.specs.Signon.{IsSignedOn, IsDenied, IsRefused};
-ghost use Rattle.bank_connection.specs.Offices.{OfficeView, IsRightView};
+ghost use Rattle.bank_callers.specs.Callers.{CallerView, IsRightView};
 ghost use Rattle.http_link.specs.Replies.{line};
 ghost use Rattle.bank_connection.specs.Answering.{answer_code, answer_body, reports_no_memory, Answers};
 
@@ -75,9 +75,12 @@ pub fn answer_to<O: Office, C: Clock>(
     clock: &mut C,
     body: &[u8],
 ) -> Answer
-    requires { length body.now ≤ 262144 }
+    requires few { length body.now ≤ 262144 }
+    requires ready { O.ready office.old }
     ensures answers { Answers (O.setup office.old) body.now (C.shown clock.old) (C.shown clock.new) (O.knows office.old) (O.knows office.new) result }
     ensures setup { O.setup office.new ≡ O.setup office.old }
+    ensures through { O.through office.new ≡ O.through office.old }
+    ensures ready { O.ready office.new }
     ensures right { IfSome (O.knows office.new) (IsRightView (O.setup office.new)) }
 {
     match judge(alloc, office.setup(), body) {
@@ -101,7 +104,7 @@ fn bad_file_line(alloc: Global, offset: u64) -> Result<Vec<u8>, OutOfMemory>
 
 /// The answer to a body that spells no file. Neither the clock nor the office is asked.
 fn misspelled(alloc: Global, offset: u64) -> Answer
-    ensures { (setup : TheSetup) (body : List ℕ) (shown : Option (List TheMoment)) (known : Option OfficeView) →
+    ensures { (setup : TheSetup) (body : List ℕ) (shown : Option (List TheMoment)) (known : Option CallerView) →
         IsRefused body offset → Answers setup body shown shown known known result }
 {
     match bad_file_line(alloc, offset) {
@@ -112,7 +115,7 @@ fn misspelled(alloc: Global, offset: u64) -> Answer
 
 /// The answer to a file whose signon failed. The office isn't asked.
 fn denied<C: Clock>(alloc: Global, clock: &mut C, file: RequestFile) -> Answer
-    ensures { (setup : TheSetup) (body : List ℕ) (known : Option OfficeView) →
+    ensures { (setup : TheSetup) (body : List ℕ) (known : Option CallerView) →
         IsDenied setup body file → Answers setup body (C.shown clock.old) (C.shown clock.new) known known result }
 {
     let at = clock.now();
@@ -129,12 +132,15 @@ fn look<O: Office, C: Clock>(
     user: UserId,
     file: &RequestFile,
 ) -> Answer
+    requires ready { O.ready office.old }
     requires known { user.0 < length (O.setup office.old).users }
     requires sound { IsSound file.now }
     requires poll { is_poll file.now ≡ true }
     ensures answers { (body : List ℕ) → IsSignedOn (O.setup office.old) body file.now user →
         Answers (O.setup office.old) body (C.shown clock.old) (C.shown clock.new) (O.knows office.old) (O.knows office.new) result }
     ensures setup { O.setup office.new ≡ O.setup office.old }
+    ensures through { O.through office.new ≡ O.through office.old }
+    ensures ready { O.ready office.new }
     ensures right { IfSome (O.knows office.new) (IsRightView (O.setup office.new)) }
 {
     let at = clock.now();
@@ -151,12 +157,15 @@ fn ask<O: Office, C: Clock>(
     user: UserId,
     file: &RequestFile,
 ) -> Answer
+    requires ready { O.ready office.old }
     requires known { user.0 < length (O.setup office.old).users }
     requires sound { IsSound file.now }
     requires event { is_poll file.now ≡ false }
     ensures answers { (body : List ℕ) → IsSignedOn (O.setup office.old) body file.now user →
         Answers (O.setup office.old) body (C.shown clock.old) (C.shown clock.new) (O.knows office.old) (O.knows office.new) result }
     ensures setup { O.setup office.new ≡ O.setup office.old }
+    ensures through { O.through office.new ≡ O.through office.old }
+    ensures ready { O.ready office.new }
     ensures right { IfSome (O.knows office.new) (IsRightView (O.setup office.new)) }
 {
     let at = clock.now();

@@ -4,7 +4,7 @@ ghost use Rattle.std.specs.Prelude.{◌≡◌, ◌<◌, ◌≤◌, ◌||◌, ◌
 ghost use Rattle.ofx_types.specs.declared.number.Moment.{Moment};
 ghost use Rattle.bank_model.specs.declared.setup.Setup.{Setup};
 ghost use Rattle.http_link.specs.Requests.{IsRefusedByHead};
-ghost use Rattle.bank_connection.specs.Offices.{OfficeView, IsRightView};
+ghost use Rattle.bank_callers.specs.Callers.{CallerView, IsRightView};
 ghost use Rattle.http_link.specs.Incoming.{HoldsWhole};
 ghost use Rattle.bank_connection.specs.Answering.{reports_no_memory};
 ghost use Rattle.bank_connection.specs.Connection.{around};
@@ -30,7 +30,7 @@ pub fn refuse<L: Link>(
 ) -> Result<(), ServeError>
     requires request { (size ≤ length incoming.old) × IsRefusedByHead (take size incoming.old) refusal }
     requires room { 512 ≤ vec_capacity room.old }
-    ensures exchange { (setup : Setup) (number : ℕ) (shown : Option (List Moment)) (known : Option OfficeView) →
+    ensures exchange { (setup : Setup) (number : ℕ) (shown : Option (List Moment)) (known : Option CallerView) →
         Exchanges setup number incoming.old incoming.new
         (around (L.left link.old) (L.read_faults link.old) (L.held link.old) (L.write_faults link.old) shown known)
         (around (L.left link.new) (L.read_faults link.new) (L.held link.new) (L.write_faults link.new) shown known)
@@ -58,6 +58,7 @@ pub fn exchange<O: Office, L: Link, C: Clock>(
     size: usize,
     number: u32,
 ) -> Result<bool, ServeError>
+    requires ready { O.ready office.old }
     requires few { number ≤ 100 }
     requires request { HoldsWhole incoming.old head size }
     requires room { 512 ≤ vec_capacity room.old }
@@ -67,6 +68,8 @@ pub fn exchange<O: Office, L: Link, C: Clock>(
         result }
     ensures goes_on { result ≡ Ok false → number < 100 }
     ensures setup { O.setup office.new ≡ O.setup office.old }
+    ensures through { O.through office.new ≡ O.through office.old }
+    ensures ready { O.ready office.new }
     ensures right { IfSome (O.knows office.new) (IsRightView (O.setup office.new)) }
     ensures reads { L.read_faults link.new ≡ L.read_faults link.old }
     ensures writes { L.write_faults link.old ≤ L.write_faults link.new }

@@ -22,12 +22,12 @@ use std::alloc::Global;
 /// | `OutOfMemory` | memory was refused between two exchanges |
 ///
 /// ```rust
-/// use bank_connection::{Served, serve_link};
+/// use bank_connection::Served;
 /// use bank_model::Setup;
-/// use bank_server::SoloOffice;
-/// use bank_shared::Opened;
+/// use bank_server::serve_connection;
+/// use bank_shared::{Bank, Opened};
 /// use ofx_file::OfxPrinter;
-/// use ofx_ports::{MemClock, MemKeeper, MemLink};
+/// use ofx_ports::{MemClock, MemKeeper, MemLink, OpenGate};
 /// use ofx_types::Moment;
 /// use std::hash::RandomState;
 /// use std::marker::Brand;
@@ -40,11 +40,12 @@ use std::alloc::Global;
 /// let Ok(opened) = Opened::open(alloc, keys, MemKeeper::new(alloc), setup, OfxPrinter) else {
 ///     panic!(rt; "a bank");
 /// };
-/// let mut office = SoloOffice::<Brand, _, _>::new(opened);
+/// let (bank, mut pass) = Bank::<Brand, _, _>::begin(opened);
 /// let mut clock = MemClock::new(alloc, &[Moment(1_706_702_400)]).expect(&rt, "a clock");
 /// let mut link = MemLink::new(alloc, b"GET /ofx HTTP/1.1\r\n\r\n", 1024).expect(&rt, "a link");
 /// // The method isn't POST, and the connection ends after the reply that says so.
-/// let served = serve_link(alloc, &mut office, &mut link, &mut clock);
+/// // `serve_connection` serves it by `serve_link`, with the office of a caller of the bank.
+/// let served = serve_connection(&bank, &rt, alloc, &mut pass, &mut link, &mut clock, &OpenGate);
 /// assert!(rt; served == Ok(Served::Closed(1)) && link.held().starts_with(b"HTTP/1.1 405 "));
 /// ```
 pub fn serve_link<O: Office, L: Link, C: Clock>(
@@ -53,6 +54,7 @@ pub fn serve_link<O: Office, L: Link, C: Clock>(
     link: &mut L,
     clock: &mut C,
 ) -> Result<Served, ServeError>
+    requires ready { O.ready office.old }
     ensures converses { Converses (O.setup office.old)
         (around (L.left link.old) (L.read_faults link.old) (L.held link.old) (L.write_faults link.old) (C.shown clock.old) (O.knows office.old))
         (around (L.left link.new) (L.read_faults link.new) (L.held link.new) (L.write_faults link.new) (C.shown clock.new) (O.knows office.new))
@@ -60,6 +62,8 @@ pub fn serve_link<O: Office, L: Link, C: Clock>(
     ensures reads { L.read_faults link.old ≤ L.read_faults link.new }
     ensures writes { L.write_faults link.old ≤ L.write_faults link.new }
     ensures setup { O.setup office.new ≡ O.setup office.old }
+    ensures through { O.through office.new ≡ O.through office.old }
+    ensures ready { O.ready office.new }
 {
     // For the proof alone: its contract says that what the office knows is right.
     let _setup = office.setup();

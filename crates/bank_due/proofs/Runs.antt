@@ -1,69 +1,110 @@
 -- A run of due work so far, one look more, and each of its ends.
-use Rattle.std.proofs.Common.{◌≡◌, ℕ, ◌+◌, ◌<◌, List, [], ◌∷◌, ◌++◌, length, Option, None, Some, Err, refl, sym, ap, ◌∙◌, subst, arith, length-append}
+use Rattle.std.proofs.Common.{◌≡◌, ℕ, ◌+◌, ◌<◌, List, [], ◌∷◌, ◌++◌, length, Ok, Err, refl, ◌∙◌, subst, arith, length-append}
 use Rattle.ofx_types.specs.declared.number.Moment.{Moment}
 use Rattle.bank_model.specs.DueRun.{run_length}
 use Rattle.bank_model.specs.declared.event.Event.{Event}
+use Rattle.bank_model.specs.declared.setup.Setup.{Setup}
 use Rattle.bank_model.specs.declared.submit.SubmitFault.{SubmitFault}
 use Rattle.bank_model.specs.declared.submit.SubmitFault.TheVariants as refused
-use Rattle.bank_shared.specs.Calls.{DoesDue, Advances, FailsToAdvance}
-use Rattle.bank_engine.specs.Views.{JournalView}
-use Rattle.bank_shared.specs.declared.advance.Advance.TheVariants.{Done, Gone}
-use Rattle.bank_due.specs.DueRuns.{Knows, DoesEach, id_in, fault_of, RunsDue}
+use Rattle.bank_callers.specs.Callers.{CallerView}
+use Rattle.bank_shared.specs.Advancing.{HasDone, HasGone, HasNothing, IsUnadvanced}
+use Rattle.bank_due.specs.DueRuns.{Loses, DoesEach, id_in, fault_of, RunsDue}
 use Rattle.bank_due.specs.declared.fault.DueFault.TheVariants as faults
 
--- so many events have happened
-pub record HasDone (at : Moment) (count : ℕ) (old now : JournalView) : Type 0 where
+-- so many events have happened, and since then some that were due have gone
+pub record SoFar (setup : Setup) (at : Moment) (count : ℕ) (old now : CallerView) : Type 0 where
   pub events : List Event
+  pub gone : List Event
+  pub done : CallerView
   pub counted : length events ≡ count
-  pub does : DoesEach old now at events
+  pub does : DoesEach setup at old done events
+  pub loses : Loses setup at done now gone
 
--- two steps that a journal knows make one
-through : (P Q R : JournalView → JournalView → Type 0) (a b c : Option JournalView) → ((u v w : JournalView) → P u v → Q v w → R u w) → Knows a b P → Knows b c Q → Knows a c R
-through P Q R None None None f p q = tt
-through P Q R None None (Some w) f p q = absurd q
-through P Q R None (Some v) c f p q = absurd p
-through P Q R (Some u) None c f p q = absurd p
-through P Q R (Some u) (Some v) None f p q = absurd q
-through P Q R (Some u) (Some v) (Some w) f p q = f u v w p q
+pub begins : (setup : Setup) (at : Moment) (caller : CallerView) → SoFar setup at 0 caller caller
+begins setup at caller = record { events = []; gone = []; done = caller; counted = refl; does = refl; loses = refl }
 
-each-more : (old between new : JournalView) (at : Moment) (events : List Event) (event : Event) → DoesEach old between at events → DoesDue between new event at → DoesEach old new at (events ++ event ∷ [])
-each-more old between new at [] event does due = (new, subst (λ (v : JournalView). DoesDue v new event at) does due, refl)
-each-more old between new at (first ∷ events) event does due = (does.0, does.1, each-more does.0 between new at events event does.2 due)
+each-more : (setup : Setup) (at : Moment) (old between look new : CallerView) (events gone : List Event) (event : Event) → DoesEach setup at old between events
+    → Loses setup at between look gone → HasDone setup at event look new → DoesEach setup at old new (events ++ event ∷ [])
+each-more setup at old between look new [] gone event does loses due = (gone, look, new, subst (λ (v : CallerView). Loses setup at v look gone) does loses, due, refl)
+each-more setup at old between look new (first ∷ events) gone event does loses due =
+    (does.0, does.1, does.2, does.3, does.4, each-more setup at does.2 between look new events gone event does.5 loses due)
+
+loses-more : (setup : Setup) (at : Moment) (before look new : CallerView) (gone : List Event) (event : Event) → Loses setup at before look gone → HasGone setup at event look new
+    → Loses setup at before new (gone ++ event ∷ [])
+loses-more setup at before look new [] event loses went = (new, subst (λ (v : CallerView). HasGone setup at event v new) loses went, refl)
+loses-more setup at before look new (first ∷ gone) event loses went = (loses.0, loses.1, loses-more setup at loses.0 look new gone event loses.2 went)
 
 one_more : (events : List Event) (event : Event) (n : ℕ) → length events ≡ n → length (events ++ event ∷ []) ≡ n + 1
 one_more events event n counted = omega (arith, length-append events (event ∷ []), counted)
 
 -- one event more
-pub done : (at : Moment) (n : ℕ) (event : Event) (a b c : Option JournalView) → Knows a b (HasDone at n) → Knows b c (λ old new. Advances old new at (Done event)) → Knows a c (HasDone at (n + 1))
-done at n event a b c p q = through (HasDone at n) (λ old new. Advances old new at (Done event)) (HasDone at (n + 1)) a b c (λ u v w had due. record {
-  events = had.events ++ event ∷ [];
-  counted = one_more had.events event n had.counted;
-  does = each-more u v w at had.events event had.does due;
-}) p q
+pub done : (setup : Setup) (at : Moment) (n : ℕ) (event : Event) (u v w : CallerView) → SoFar setup at n u v → HasDone setup at event v w → SoFar setup at (n + 1) u w
+done setup at n event u v w so due = record {
+  events = so.events ++ event ∷ [];
+  gone = [];
+  done = w;
+  counted = one_more so.events event n so.counted;
+  does = each-more setup at u so.done v w so.events so.gone event so.does so.loses due;
+  loses = refl;
+}
 
--- where the journal is known, no event that was due is gone
-pub gone : (at : Moment) (n : ℕ) (event : Event) (a b c : Option JournalView) → Knows a b (HasDone at n) → Knows b c (λ old new. Advances old new at (Gone event)) → Knows a c (HasDone at n)
-gone at n event a b c p q = through (HasDone at n) (λ old new. Advances old new at (Gone event)) (HasDone at n) a b c (λ u v w had no. absurd no) p q
+-- an event that was due is gone
+pub gone : (setup : Setup) (at : Moment) (n : ℕ) (event : Event) (u v w : CallerView) → SoFar setup at n u v → HasGone setup at event v w → SoFar setup at n u w
+gone setup at n event u v w so went = record {
+  events = so.events;
+  gone = so.gone ++ event ∷ [];
+  done = so.done;
+  counted = so.counted;
+  does = so.does;
+  loses = loses-more setup at so.done v w so.gone event so.loses went;
+}
+
+-- nothing is due any more
+pub all : (setup : Setup) (at : Moment) (n : ℕ) (u v w : CallerView) → SoFar setup at n u v → HasNothing setup at v w → RunsDue setup at u w (Ok n)
+all setup at n u v w so none = record {
+  events = so.events;
+  gone = so.gone;
+  done = so.done;
+  look = v;
+  counted = so.counted;
+  does = so.does;
+  loses = so.loses;
+  nothing = none;
+}
 
 -- the last event that a run may have
-pub left : (at : Moment) (n : ℕ) (event : Event) (a b c : Option JournalView) → n + 1 ≡ 100000 → Knows a b (HasDone at n) → Knows b c (λ old new. Advances old new at (Done event))
-    → Knows a c (λ old new. RunsDue old new at (Err (faults.Left (id_in event))))
+pub left : (setup : Setup) (at : Moment) (n : ℕ) (event : Event) (u v w : CallerView) → n + 1 ≡ 100000 → SoFar setup at n u v → HasDone setup at event v w
+    → RunsDue setup at u w (Err (faults.Left (id_in event)))
 unfolding run_length
-left at n event a b c last p q = through (HasDone at n) (λ old new. Advances old new at (Done event)) (λ old new. RunsDue old new at (Err (faults.Left (id_in event)))) a b c (λ u v w had due. record {
-  earlier = had.events;
+left setup at n event u v w last so due = record {
+  earlier = so.events;
   last = event;
-  counted = one_more had.events event n had.counted ∙ last;
-  does = each-more u v w at had.events event had.does due;
+  counted = one_more so.events event n so.counted ∙ last;
+  does = each-more setup at u so.done v w so.events so.gone event so.does so.loses due;
   id_is = refl;
-}) p q
-
-breaks : (at : Moment) (n : ℕ) (fault : SubmitFault) (u v w : JournalView) → n < 100000 → HasDone at n u v → FailsToAdvance v w at fault → RunsDue u w at (Err (fault_of fault))
-unfolding run_length
-breaks at n (refused.Keeper count) u v w few had fails = record { events = had.events; between = v; few = omega (arith, had.counted, few); does = had.does; fails = fails }
-breaks at n refused.OutOfMemory u v w few had fails = record { events = had.events; between = v; few = omega (arith, had.counted, few); does = had.does; fails = fails }
+}
 
 -- a look that fails
-pub fails : (at : Moment) (n : ℕ) (fault : SubmitFault) (a b c : Option JournalView) → n < 100000 → Knows a b (HasDone at n) → Knows b c (λ old new. FailsToAdvance old new at fault)
-    → Knows a c (λ old new. RunsDue old new at (Err (fault_of fault)))
-fails at n fault a b c few p q = through (HasDone at n) (λ old new. FailsToAdvance old new at fault) (λ old new. RunsDue old new at (Err (fault_of fault))) a b c
-    (λ u v w had no. breaks at n fault u v w few had no) p q
+pub fails : (setup : Setup) (at : Moment) (n : ℕ) (fault : SubmitFault) (u v w : CallerView) → n < 100000 → SoFar setup at n u v → IsUnadvanced setup at v w fault
+    → RunsDue setup at u w (Err (fault_of fault))
+unfolding run_length
+fails setup at n (refused.Keeper count) u v w few so no = record {
+  events = so.events;
+  gone = so.gone;
+  done = so.done;
+  look = v;
+  few = omega (arith, so.counted, few);
+  does = so.does;
+  loses = so.loses;
+  fails = no;
+}
+fails setup at n refused.OutOfMemory u v w few so no = record {
+  events = so.events;
+  gone = so.gone;
+  done = so.done;
+  look = v;
+  few = omega (arith, so.counted, few);
+  does = so.does;
+  loses = so.loses;
+  fails = no;
+}

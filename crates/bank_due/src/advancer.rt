@@ -1,20 +1,28 @@
 //! Who makes what is due first happen.
 
-ghost use Rattle.std.specs.Prelude.{◌≡◌, Option, Some, IfOk, IfErr};
+ghost use Rattle.std.specs.Prelude.{◌≡◌, ℕ, IfOk, IfErr};
 ghost use Rattle.ofx_types.specs.Calendar.{IsMoment};
-ghost use Rattle.bank_shared.specs.Calls.{Advances, FailsToAdvance};
-ghost use Rattle.bank_engine.specs.Views.{JournalView};
-ghost use Rattle.bank_due.specs.DueRuns.{Knows};
+ghost use Rattle.bank_model.specs.declared.setup.Setup.{Setup as TheSetup};
+ghost use Rattle.bank_callers.specs.Callers.{CallerView};
+ghost use Rattle.bank_shared.specs.Advancing.{IsAdvanced, IsUnadvanced};
 
-use bank_model::{Printer, SubmitFault};
-use bank_shared::{Advance, BankName, LockedBank};
-use ofx_ports::Keeper;
+use bank_model::SubmitFault;
+use bank_shared::Advance;
 use ofx_types::Moment;
 
 /// Who makes what is due first at a moment happen, one event in a call.
 pub trait Advancer {
-    // the journal of the bank, where it is known
-    ghost knows: { Self → Option JournalView };
+    // the setup of its bank
+    ghost setup: { Self → TheSetup };
+
+    // what it knows of its bank
+    ghost knows: { Self → CallerView };
+
+    // the borrow through which it calls the bank, if it has one: it stays the same
+    ghost through: { Self → ℕ };
+
+    // whether it may be called: so it is before and after each call
+    ghost ready: { Self → Type 0 };
 
     /// Makes what is due first at a moment happen.
     ///
@@ -22,15 +30,10 @@ pub trait Advancer {
     /// - `OutOfMemory`.
     fn advance(&mut self, at: Moment) -> Result<Advance, SubmitFault>
         requires moment { IsMoment at.0 }
-        ensures advances { IfOk result (λ what. Knows (knows self.old) (knows self.new) (λ old new. Advances old new at what)) }
-        ensures fails { IfErr result (λ fault. Knows (knows self.old) (knows self.new) (λ old new. FailsToAdvance old new at fault)) };
-}
-
-/// The journal of a locked bank is known.
-impl<N: BankName, K: Keeper, P: Printer> Advancer for LockedBank<N, K, P> {
-    ghost knows = { λ locked. Some locked };
-
-    fn advance(&mut self, at: Moment) -> Result<Advance, SubmitFault> {
-        LockedBank::advance(self, at)
-    }
+        requires ready { ready self.old }
+        ensures setup { setup self.new ≡ setup self.old }
+        ensures through { through self.new ≡ through self.old }
+        ensures ready { ready self.new }
+        ensures advanced { IfOk result (IsAdvanced (setup self.old) at (knows self.old) (knows self.new)) }
+        ensures refused { IfErr result (IsUnadvanced (setup self.old) at (knows self.old) (knows self.new)) };
 }

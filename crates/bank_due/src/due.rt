@@ -3,7 +3,8 @@
 ghost use Rattle.std.specs.Prelude.{◌≡◌, ◌<◌, IfOk};
 ghost use Rattle.ofx_types.specs.Calendar.{IsMoment};
 ghost use Rattle.bank_model.specs.DueRun.{run_length};
-ghost use Rattle.bank_due.specs.DueRuns.{Knows, RunsDue, id_in};
+ghost use Rattle.bank_due.specs.DueRuns.{RunsDue, id_in};
+ghost use Rattle.bank_shared.specs.Holds.{IsPassOf, caller_of};
 
 use crate::advancer::Advancer;
 use crate::caller::Caller;
@@ -22,8 +23,7 @@ use std::sync::Wait;
 /// - `Keeper(n)`: the keeper's count of faults rose to n in the last look of this call.
 /// - `OutOfMemory`.
 ///
-/// Only the bound of the number is proved here: other callers' calls may come between two events. Which events happened and why
-/// the run ended is proved where the journal is known, as over a locked bank (`run_due`).
+/// Other callers' calls may come between two events.
 ///
 /// ```rust
 /// use bank_due::due_run;
@@ -54,6 +54,9 @@ pub fn due_run<R: Wait, N: BankName, K: Keeper, P: Printer, G: Gate>(
     gate: &G,
 ) -> Result<u32, DueFault>
     requires moment { IsMoment at.0 }
+    requires pass { IsPassOf N.setup N.opening N.board pass.old }
+    ensures runs { RunsDue N.setup at (caller_of N.opening pass.old) (caller_of N.opening pass.new) result }
+    ensures pass { IsPassOf N.setup N.opening N.board pass.new }
     ensures few { IfOk result (λ count. count < run_length) }
 {
     let mut caller = Caller {
@@ -71,7 +74,11 @@ pub fn due_run<R: Wait, N: BankName, K: Keeper, P: Printer, G: Gate>(
 #[tactic(auto, unfolding(bank_model::specs::DueRun::run_length))]
 pub fn run_due<R: Wait, A: Advancer>(rt: &R, advancer: &mut A, at: Moment) -> Result<u32, DueFault>
     requires moment { IsMoment at.0 }
-    ensures runs { Knows (A.knows advancer.old) (A.knows advancer.new) (λ old new. RunsDue old new at result) }
+    requires ready { A.ready advancer.old }
+    ensures runs { RunsDue (A.setup advancer.old) at (A.knows advancer.old) (A.knows advancer.new) result }
+    ensures setup { A.setup advancer.new ≡ A.setup advancer.old }
+    ensures through { A.through advancer.new ≡ A.through advancer.old }
+    ensures ready { A.ready advancer.new }
     ensures few { IfOk result (λ count. count < run_length) }
 {
     let mut count = 0;

@@ -1,8 +1,7 @@
 //! Due work of a bank that many callers share: one event after another, until nothing is due.
 //!
-//! `due_run` does it over a bank. Its rule is stated once, over whoever makes what is due first happen (`Advancer`). Over a
-//! locked bank, whose journal is known, it says which events happened and why the run ended; over a bank it says how many they
-//! may be.
+//! `due_run` does it over a bank, and says which events happened and why the run ended, as far as its caller has seen the log. Its
+//! rule is stated once, over whoever makes what is due first happen (`Advancer`).
 #![tactic(auto)]
 
 mod advancer;

@@ -1,5 +1,6 @@
 -- What an engine knows of what is ready and of what is pending.
-use Rattle.std.proofs.Common.{◌≡◌, ◌++◌, List, Option, None, Some, sym, subst}
+use Rattle.std.proofs.Common.{◌≡◌, ◌++◌, List, Option, None, Some, sym, ap, ◌∙◌, subst}
+use Rattle.std.specs.Bool.{⊤}
 use Rattle.std.specs.Option.{IfSome, option_map}
 use Rattle.ofx_types.specs.Calendar.{IsMoment}
 use Rattle.ofx_types.specs.declared.number.Moment.{Moment}
@@ -14,7 +15,7 @@ use Rattle.bank_core.specs.BookView.{PreparedView, ReservedBook, HasRoom}
 use Rattle.bank_ledger.specs.LedgerView.{Room}
 use Rattle.bank_engine.specs.declared.pending.Pending.{Pending}
 use Rattle.bank_engine.specs.Pending.{pending_of, IsReadyStill}
-use Rattle.bank_engine.specs.Steps.{IsReady}
+use Rattle.bank_engine.specs.Steps.{IsReady, Expects}
 use Rattle.bank_engine.specs.Views.{PendingView}
 
 -- nothing is pending
@@ -26,6 +27,22 @@ idle book (Some pending) is = absurd (let none : Some (pending_of pending) ≡ N
 pub names_held : (setup : Setup) (state : State) (held : List AccountView) (pending : Option Pending) (here : Pending) → pending ≡ Some here → IfSome (option_map pending_of pending) (λ (p : PendingView). AreHeld held (named setup state p.event)) → AreHeld held (named setup state here.event)
 names_held setup state held pending here some names =
     subst (λ (q : Option Pending). IfSome (option_map pending_of q) (λ (p : PendingView). AreHeld held (named setup state p.event))) some names
+
+-- what the pending event adds is expected
+pub expected_held : (may : List Entry → Type 0) (setup : Setup) (state : State) (pending : Option Pending) (here : Pending) → pending ≡ Some here → IfSome (option_map pending_of pending) (λ (p : PendingView). Expects may setup state p.at p.event) → Expects may setup state here.at here.event
+expected_held may setup state pending here some expected =
+    subst (λ (q : Option Pending). IfSome (option_map pending_of q) (λ (p : PendingView). Expects may setup state p.at p.event)) some expected
+
+-- a log that is only remembered expects anything
+pub nothing_asked : (setup : Setup) (S : State) (pending : Option PendingView) → IfSome pending (λ (p : PendingView). Expects (λ entries. ⊤) setup S p.at p.event)
+nothing_asked setup S None = tt
+nothing_asked setup S (Some p) = record { entries = λ added grows. tt }
+
+-- the entries of a step that is ready are those that its event adds
+pub entries_expected : (may : List Entry → Type 0) (setup : Setup) (S : State) (room : Room) (at : Moment) (event : Event) (ready prepared : PreparedView) (entries : List Entry) → Expects may setup S at event → IsReady setup S room at event ready → prepared ≡ ready → prepared.after.entries ≡ prepared.before.entries ++ entries → may entries
+entries_expected may setup S room at event ready prepared entries expected is same adds =
+    let grown : ready.after.entries ≡ ready.before.entries ++ entries = subst (λ (p : PreparedView). p.after.entries ≡ p.before.entries ++ entries) same adds in
+    expected.entries entries (ap (λ (T : State). T.entries) (sym is.after) ∙ (grown ∙ ap (λ (T : State). T.entries ++ entries) is.before))
 
 -- what a book has prepared is ready
 pub ready_now : (setup setup' : Setup) (S S' : State) (room : Room) (at : Moment) (event : Event) (prepared : PreparedView) (added : List Entry) → setup' ≡ setup → S' ≡ S → IsMoment at.0 → IsLegal setup S at event → prepared.setup ≡ setup → prepared.before ≡ S → prepared.event ≡ event → prepared.after ≡ state_after setup S at event → prepared.reply ≡ answer_to setup S at event → HasRoom room S prepared.after → prepared.after.entries ≡ prepared.before.entries ++ added → IsReady setup' S' room at event prepared

@@ -25,3 +25,7 @@ pub record IsReady (setup : Setup) (S : State) (room : Room) (at : Moment) (even
   pub reply : prepared.reply ≡ answer_to setup S at event
   pub fits : HasRoom room S prepared.after
   pub adds : AddsEntries setup S at event
+
+-- Who publishes the bank's log expects the entries that an event adds.
+pub record Expects (expects : List Entry → Type 0) (setup : Setup) (S : State) (at : Moment) (event : Event) : Type 0 where
+  pub entries : (added : List Entry) → (state_after setup S at event).entries ≡ S.entries ++ added → expects added

@@ -1,9 +1,11 @@
 //! The engine of a bank: its book, and what a failed append has left open.
 
-ghost use Rattle.std.specs.Prelude.{◌≡◌, ◌≢◌, None, Some, Ok, true, false, is_ok, is_some, IfOk, IfErr, OnOk, OnErr, IsErrOf};
+ghost use Rattle.std.specs.Prelude.{◌≡◌, ◌≢◌, List, [], None, Some, Ok, true, false, is_ok, is_some, IfOk, IfErr, OnOk, OnErr, IsErrOf};
 ghost use Rattle.std.specs.Option.{IfSome, option_map, option_copied};
 ghost use Rattle.ofx_types.specs.Calendar.{IsMoment};
 ghost use Rattle.ofx_ports.specs.Kept.{counted};
+ghost use Rattle.bank_model.specs.declared.log.LogItem.{LogItem};
+ghost use Rattle.bank_model.specs.LegalLog.{MayHappen};
 ghost use Rattle.bank_model.specs.Rules.{IsLegal, named};
 ghost use Rattle.bank_model.specs.SetupForm.{IsWithinLimits};
 ghost use Rattle.bank_accounts.specs.HeldAccounts.{AreHeld, HaveSameNumbers};
@@ -11,7 +13,7 @@ ghost use Rattle.bank_ledger.specs.Balanced.{AreBalanced};
 ghost use Rattle.bank_invariants.specs.SoundStates.{IsSoundState};
 ghost use Rattle.bank_engine.specs.Calls.{Answers, FailsToCommit, Settles, FailsToSettle, append_of, settling_of};
 ghost use Rattle.bank_engine.specs.Solo.{Sends, AppendsOne};
-ghost use Rattle.bank_engine.specs.Steps.{IsReady};
+ghost use Rattle.bank_engine.specs.Steps.{IsReady, Expects};
 ghost use Rattle.bank_engine.specs.Views.{journal_of};
 
 use crate::applying::{adopt, answer};
@@ -77,9 +79,10 @@ impl<P: Printer> Engine<P> {
         &self.book
     }
 
-    /// The event whose append failed, until it is settled whether its record is stored. Takes no memory.
+    /// The event whose append failed, until it is settled whether its record is stored. It may still happen. Takes no memory.
     pub fn pending(&self) -> Option<&Event>
-        ensures { option_copied result ≡ option_map (λ pending. pending.event) self.now.pending }
+        ensures event { option_copied result ≡ option_map (λ pending. pending.event) self.now.pending }
+        ensures may { IfSome self.now.pending (λ pending. MayHappen self.now.setup self.now.state pending.at pending.event) }
     {
         match &self.pending {
             Some(pending) => Some(&pending.event),
@@ -138,6 +141,8 @@ impl<P: Printer> Engine<P> {
         requires unsettled { K.unsettled keeper.old ≡ false }
         requires named { AreHeld held.old (named self.old.setup self.old.state ready.event) }
         requires balanced { AreBalanced self.old.setup self.old.state held.old }
+        requires expected { Expects (L.expects log.old) self.old.setup self.old.state ready.at ready.event }
+        requires free { L.expects log.old [] }
         ensures answers { IfOk result (λ reply. Answers
             (journal_of self.old (record { records = K.records keeper.old; landed = K.landed keeper.old; unsettled = K.unsettled keeper.old; faults = K.faults keeper.old }) (L.log log.old))
             (journal_of self.new (record { records = K.records keeper.new; landed = K.landed keeper.new; unsettled = K.unsettled keeper.new; faults = K.faults keeper.new }) (L.log log.new))
@@ -146,6 +151,9 @@ impl<P: Printer> Engine<P> {
             (journal_of self.old (record { records = K.records keeper.old; landed = K.landed keeper.old; unsettled = K.unsettled keeper.old; faults = K.faults keeper.old }) (L.log log.old))
             (journal_of self.new (record { records = K.records keeper.new; landed = K.landed keeper.new; unsettled = K.unsettled keeper.new; faults = K.faults keeper.new }) (L.log log.new))
             ready.event ready.at) }
+        ensures through { L.through log.new ≡ L.through log.old }
+        ensures target { L.target log.new ≡ L.target log.old }
+        ensures since { (before : List LogItem) → L.since log.old before → L.since log.new before }
         ensures size { K.size keeper.new ≡ counted (K.size keeper.old) (is_ok result) }
         ensures appends { K.appends keeper.old keeper.new ready.rec (append_of result) }
         ensures numbers { HaveSameNumbers held.new held.old }
@@ -183,6 +191,8 @@ impl<P: Printer> Engine<P> {
         requires unsettled { K.unsettled keeper.old ≡ false }
         requires named { AreHeld held.old (named self.old.setup self.old.state event) }
         requires balanced { AreBalanced self.old.setup self.old.state held.old }
+        requires expected { Expects (L.expects log.old) self.old.setup self.old.state at event }
+        requires free { L.expects log.old [] }
         ensures sends { IfOk result (λ line. Sends (E.sent envelope)
             (journal_of self.old (record { records = K.records keeper.old; landed = K.landed keeper.old; unsettled = K.unsettled keeper.old; faults = K.faults keeper.old }) (L.log log.old))
             (journal_of self.new (record { records = K.records keeper.new; landed = K.landed keeper.new; unsettled = K.unsettled keeper.new; faults = K.faults keeper.new }) (L.log log.new))
@@ -216,12 +226,17 @@ impl<P: Printer> Engine<P> {
         requires unsettled { K.unsettled keeper.old ≡ is_some self.old.pending }
         requires named { IfSome self.old.pending (λ pending. AreHeld held.old (named self.old.setup self.old.state pending.event)) }
         requires balanced { AreBalanced self.old.setup self.old.state held.old }
+        requires expected { IfSome self.old.pending (λ pending. Expects (L.expects log.old) self.old.setup self.old.state pending.at pending.event) }
+        requires free { L.expects log.old [] }
         ensures settled { IfOk result (Settles
             (journal_of self.old (record { records = K.records keeper.old; landed = K.landed keeper.old; unsettled = K.unsettled keeper.old; faults = K.faults keeper.old }) (L.log log.old))
             (journal_of self.new (record { records = K.records keeper.new; landed = K.landed keeper.new; unsettled = K.unsettled keeper.new; faults = K.faults keeper.new }) (L.log log.new))) }
         ensures fails { IfErr result (FailsToSettle
             (journal_of self.old (record { records = K.records keeper.old; landed = K.landed keeper.old; unsettled = K.unsettled keeper.old; faults = K.faults keeper.old }) (L.log log.old))
             (journal_of self.new (record { records = K.records keeper.new; landed = K.landed keeper.new; unsettled = K.unsettled keeper.new; faults = K.faults keeper.new }) (L.log log.new))) }
+        ensures through { L.through log.new ≡ L.through log.old }
+        ensures target { L.target log.new ≡ L.target log.old }
+        ensures since { (before : List LogItem) → L.since log.old before → L.since log.new before }
         ensures idle { self.old.pending ≡ None → keeper.new ≡ keeper.old }
         ensures settles { self.old.pending ≢ None → K.settles keeper.old keeper.new (settling_of result) }
         ensures numbers { HaveSameNumbers held.new held.old }

@@ -1,6 +1,7 @@
 //! The log of a bank.
 
-ghost use Rattle.std.specs.Prelude.{◌≡◌, []};
+ghost use Rattle.std.specs.Prelude.{◌≡◌, [], ◌∷◌, ◌++◌};
+ghost use Rattle.bank_model.specs.declared.log.LogItem.TheVariants.{Effect};
 
 use crate::log_trace::LogTrace;
 use crate::publisher::Publisher;
@@ -41,17 +42,38 @@ impl Log {
             ended: 0,
         }
     }
+
+    /// One entry more.
+    fn effect(&mut self, entry: &Entry)
+        ensures { self.new ≡ self.old ++ Effect entry.now ∷ [] }
+    {
+        self.past = LogTrace::Effect(Snapshot::of(&self.past), Snapshot::of(entry));
+    }
 }
 
 impl Publisher for Log {
+    ghost use Rattle.std.specs.Prelude.{⊤};
+
     ghost log = { λ l. l };
+
+    ghost expects = { λ l entries. ⊤ };
+
+    ghost through = { λ l. 0 };
+
+    ghost Target = { ⊤ };
+
+    ghost target = { λ l. tt };
+
+    ghost since = { λ l before. ⊤ };
 
     fn next_number(&self) -> u64 {
         self.ended.wrapping_add(1)
     }
 
-    fn effect(&mut self, entry: &Entry) {
-        self.past = LogTrace::Effect(Snapshot::of(&self.past), Snapshot::of(entry));
+    fn effects(&mut self, entries: &[Entry]) {
+        for entry in entries {
+            self.effect(entry);
+        }
     }
 
     fn answer(&mut self, event: &Event, at: Moment, reply: &Vec<u8>) {

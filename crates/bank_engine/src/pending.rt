@@ -1,6 +1,7 @@
 //! An event whose append failed.
 
-ghost use Rattle.std.specs.Prelude.{◌≡◌, ◌+◌, ◌%◌, ◌^◌, [], ◌∷◌, ◌++◌, Some, length};
+ghost use Rattle.std.specs.Prelude.{◌≡◌, ◌+◌, ◌%◌, ◌^◌, List, [], ◌∷◌, ◌++◌, Some, length};
+ghost use Rattle.bank_model.specs.declared.log.LogItem.{LogItem};
 ghost use Rattle.bank_model.specs.declared.log.LogItem.TheVariants.{Fault};
 ghost use Rattle.bank_model.specs.Log.{endings};
 
@@ -52,7 +53,11 @@ impl Drop for Pending {
 
 /// Publishes that an append failed, to whose fault the keeper's count rose, and gives what is pending since.
 pub(crate) fn put_off<L: Publisher>(log: &mut L, ready: Ready, count: u64) -> Pending
+    requires expected { L.expects log.old [] }
     ensures log { L.log log.new ≡ L.log log.old ++ Fault count (Some (ready.event, ready.at)) ∷ [] }
+    ensures through { L.through log.new ≡ L.through log.old }
+    ensures target { L.target log.new ≡ L.target log.old }
+    ensures since { (before : List LogItem) → L.since log.old before → L.since log.new before }
     ensures event { result.event ≡ ready.event }
     ensures at { result.at ≡ ready.at }
     ensures number { result.number ≡ (length (endings (L.log log.old)) + 1) % 2 ^ 64 }

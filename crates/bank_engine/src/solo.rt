@@ -1,6 +1,7 @@
 //! An engine with all accounts of its bank.
 
-ghost use Rattle.std.specs.Prelude.{◌≡◌, ◌≢◌, None, true, false, is_ok, is_some, IfOk, IfErr, OnErr};
+ghost use Rattle.std.specs.Prelude.{◌≡◌, ◌≢◌, [], None, true, false, is_ok, is_some, IfOk, IfErr, OnErr};
+ghost use Rattle.std.specs.Option.{IfSome};
 ghost use Rattle.ofx_types.specs.Calendar.{IsMoment};
 ghost use Rattle.ofx_ports.specs.Kept.{counted};
 ghost use Rattle.bank_model.specs.Rules.{IsLegal};
@@ -9,6 +10,7 @@ ghost use Rattle.bank_invariants.specs.SoundStates.{IsSoundState};
 ghost use Rattle.bank_solo.specs.Solo.{AreAccountsIn};
 ghost use Rattle.bank_engine.specs.Calls.{FailsToCommit, Settles, FailsToSettle, settling_of};
 ghost use Rattle.bank_engine.specs.Solo.{Sends, AppendsOne};
+ghost use Rattle.bank_engine.specs.Steps.{Expects};
 ghost use Rattle.bank_engine.specs.Views.{journal_of};
 
 use crate::checkout::check_out;
@@ -122,6 +124,8 @@ impl<P: Printer> SoloEngine<P> {
         requires legal { IsLegal self.old.setup self.old.state at event }
         requires settled { self.old.pending ≡ None }
         requires unsettled { K.unsettled keeper.old ≡ false }
+        requires expected { Expects (L.expects log.old) self.old.setup self.old.state at event }
+        requires free { L.expects log.old [] }
         ensures answers { IfOk result (λ line. Sends (E.sent envelope)
             (journal_of self.old (record { records = K.records keeper.old; landed = K.landed keeper.old; unsettled = K.unsettled keeper.old; faults = K.faults keeper.old }) (L.log log.old))
             (journal_of self.new (record { records = K.records keeper.new; landed = K.landed keeper.new; unsettled = K.unsettled keeper.new; faults = K.faults keeper.new }) (L.log log.new))
@@ -161,6 +165,8 @@ impl<P: Printer> SoloEngine<P> {
         log: &mut L,
     ) -> Result<bool, SubmitFault>
         requires unsettled { K.unsettled keeper.old ≡ is_some self.old.pending }
+        requires expected { IfSome self.old.pending (λ pending. Expects (L.expects log.old) self.old.setup self.old.state pending.at pending.event) }
+        requires free { L.expects log.old [] }
         ensures settled { IfOk result (Settles
             (journal_of self.old (record { records = K.records keeper.old; landed = K.landed keeper.old; unsettled = K.unsettled keeper.old; faults = K.faults keeper.old }) (L.log log.old))
             (journal_of self.new (record { records = K.records keeper.new; landed = K.landed keeper.new; unsettled = K.unsettled keeper.new; faults = K.faults keeper.new }) (L.log log.new))) }

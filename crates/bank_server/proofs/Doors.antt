@@ -1,11 +1,17 @@
 -- Workers and their jobs, place by place.
-use Rattle.std.proofs.Common.{◌≡◌, ℕ, List, length, map, Option, None, Some, refl, sym, ap, ◌∙◌, subst}
+use Rattle.std.proofs.Common.{◌≡◌, ℕ, List, [], ◌∷◌, ◌++◌, All, length, map, Option, None, Some, refl, sym, ap, ◌∙◌, subst}
 use Rattle.std.specs.List.{slice_get}
 use Rattle.std.specs.Fn.{Shared, FnReturns}
 use Rattle.std.specs.Fork.{GivesJobs}
 use Rattle.std.proofs.lemmas.List.{length-map}
+use Rattle.std.proofs.lemmas.List.Elements.{All-append, All-cons, All-nil, All-weaker}
 use Rattle.std.specs.Option.{option_map}
 use Rattle.std.proofs.lemmas.Option.{slice_get-map, slice_get_within, get_or_from_slice_get}
+use Rattle.atomic_table.specs.Seated.{TableId}
+use Rattle.bank_model.specs.declared.event.State.{State}
+use Rattle.bank_model.specs.declared.setup.Setup.{Setup}
+use Rattle.token_board.specs.Views.{BoardView, PassView}
+use Rattle.bank_shared.specs.Holds.{IsPassOf}
 use Rattle.bank_server.specs.declared.workers.Job.{Job}
 
 same_some : {A B : Type 0} (f : A → B) (o : Option A) (b : B) → option_map f o ≡ Some b → (a : A) × (o ≡ Some a) × (f a ≡ b)
@@ -41,6 +47,25 @@ as_many {D} {C} jobs workers doors =
     let door_of : Job D C → D = λ job. job.door in
     let first : (D × C) → D = λ w. w.0 in
     sym (length-map jobs door_of) ∙ (ap length doors ∙ length-map workers first)
+
+-- ---- what all have
+
+pub all_more : {X : Type 0} (P : X → Type 0) (xs ys : List X) (x : X) → ys ≡ xs ++ x ∷ [] → P x → All P xs → All P ys
+all_more P xs ys x more one all = subst (All P) (sym more) (All-append P xs (x ∷ []) all (All-cons P x [] one (All-nil P)))
+
+pub one_of_all : {X : Type 0} (P : X → Type 0) (xs : List X) (i : ℕ) (x : X) → slice_get xs i ≡ Some x → All P xs → P x
+one_of_all P xs i x at all = subst P (get_or_from_slice_get xs i x x at) (all i x (slice_get_within xs i x at))
+
+-- a pass that has seen nothing, and one like it
+pub like_first : (first child : PassView) (table : TableId) → first ≡ (record { table = table; seen = []; mine = []; polled = [] }) → child ≡ (record { table = first.table; seen = first.seen; mine = []; polled = first.polled })
+    → child ≡ (record { table = table; seen = []; mine = []; polled = [] })
+like_first first child table fresh like =
+    like ∙ ap (λ (p : PassView). record { table = p.table; seen = p.seen; mine = []; polled = p.polled }) fresh
+
+pub all_may : {D C : Type 0} (setup : Setup) (opening : State) (board : BoardView) (first : PassView) (jobs : List (Job D C)) → IsPassOf setup opening board first
+    → All (λ (job : Job D C). job.pass ≡ first) jobs → All (λ (job : Job D C). IsPassOf setup opening board job.pass) jobs
+all_may {D} {C} setup opening board first jobs may all =
+    All-weaker (λ (job : Job D C). job.pass ≡ first) (λ (job : Job D C). IsPassOf setup opening board job.pass) (λ job same. subst (IsPassOf setup opening board) (sym same) may) jobs all
 
 -- the call at each place is that of the job there, and gave what is there
 pub each_call : {F J R : Type 0} (g : Shared F (J × Unit {0}) R) (f : F) (js : List J) (rs : List R) → GivesJobs g f js rs

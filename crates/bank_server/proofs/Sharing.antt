@@ -4,7 +4,7 @@ use denote.Ref.{NamedLft, ShrRef}
 use denote.Struct.Field.{row_field, u32-field}
 use denote.Struct.Tuple.{type_at, TupleAt}
 use denote.Param.Send.{IsSend, IsSync, sendable, view_send, view_sync, shr_sync}
-use denote.Param.SendFields.{declared_send, declared_sync, as_row_send, as_row_sync, variants_send}
+use denote.Param.SendFields.{declared_send, declared_sync, as_row_send, as_row_sync}
 use Rattle.std.proofs.Common.{List, [], ◌∷◌}
 use Rattle.std.proofs.Crossing.{crosses}
 use Rattle.std.specs.contracts.alloc.Global as heap
@@ -23,9 +23,8 @@ use Rattle.bank_shared.specs.declared.name.BankName as named
 use Rattle.bank_shared.below.bank_engine.specs.contracts.pending.Pending as pending
 use Rattle.bank_shared.below.bank_engine.specs.contracts.engine.Engine as engine
 use Rattle.bank_shared.below.bank_engine.specs.contracts.engine.Engine.TheInside as engine_inside
-use Rattle.bank_shared.below.bank_engine.specs.contracts.log_trace.LogTrace as past
-use Rattle.bank_shared.below.bank_engine.specs.contracts.log.Log as log
-use Rattle.bank_shared.below.bank_engine.specs.contracts.log.Log.TheInside as log_inside
+use Rattle.token_board.proofs.board.Board.TheSendSync as board
+use Rattle.token_board.proofs.writer.Writer.TheSendSync as writer
 use Rattle.bank_shared.specs.contracts.journal.Journal as journal
 use Rattle.bank_shared.specs.contracts.journal.Journal.TheInside as journal_inside
 use Rattle.bank_shared.specs.contracts.locked_bank.LockedBank as locked
@@ -54,44 +53,27 @@ pending_send = declared_send pending.the_type (event.the_send, (moment.the_send,
 engine_send : (P : RattleType) → IsSend P → IsSend (engine.the_row P)
 engine_send P sp = view_send _ _ _ _ _ (declared_send (engine_inside.the_type P) (book_send _ sp, (option.the_send _ pending_send, tt)))
 
--- the log's items, of which it has no bytes
-past_send : IsSend past.the_row
-past_send = variants_send past.enum (
-  tt,
-  (
-    (search (sendable, crosses), (search (sendable, crosses), tt)),
-    (
-      (search (sendable, crosses), (search (sendable, crosses), (search (sendable, crosses), (search (sendable, crosses), tt)))),
-      (
-        (search (sendable, crosses), (search (sendable, crosses), (search (sendable, crosses), (search (sendable, crosses), tt)))),
-        (
-          (search (sendable, crosses), (search (sendable, crosses), (search (sendable, crosses), (search (sendable, crosses), tt)))),
-          ((search (sendable, crosses), (search (sendable, crosses), tt)), tt),
-        ),
-      ),
-    ),
-  ),
-)
-
-log_send : IsSend log.the_row
-log_send = view_send _ _ _ _ _ (declared_send log_inside.the_type (past_send, (search (sendable, crosses), tt)))
-
 module _ (N K P : RattleType) (n : named.Ghosts N.Denot) (k : kept.Ghosts K.Denot) where
   journal_send : IsSend K → IsSend P → IsSend (journal.the_row N K P n k)
   journal_send sk sp = view_send _ _ _ _ _ (
       declared_send (journal_inside.the_type N K P n k) (
         handle.the_send,
-        (as_row_send (row_field K) sk, (engine_send _ sp, (log_send, (search (sendable, crosses), tt)))),
+        (as_row_send (row_field K) sk, (engine_send _ sp, (writer.the_send, (search (sendable, crosses), tt)))),
       )
       )
 
   locked_send : IsSend K → IsSend P → IsSend (locked.the_row N K P n k)
   locked_send sk sp = view_send _ _ _ _ _ (declared_send (locked_inside.the_type N K P n k) (handle.the_send, (journal_send sk sp, (pool.the_send, tt))))
 
-  pub bank_sync : IsSend K → IsSend P → IsSync (bank.the_row N K P n k)
-  bank_sync sk sp =
+  pub bank_sync : IsSend K → IsSend P → IsSync P → IsSync (bank.the_row N K P n k)
+  bank_sync sk sp shared =
       let inside = locked_send sk sp in
-      view_sync _ _ _ _ _ (declared_sync (bank_inside.the_type N K P n k) (setup.the_sync, (search (sendable, crosses, inside), tt)))
+      view_sync _ _ _ _ _ (
+      declared_sync (bank_inside.the_type N K P n k) (
+        handle.the_sync,
+        (setup.the_sync, (as_row_sync (row_field P) shared, (board.the_sync, (search (sendable, crosses, inside), tt)))),
+      )
+      )
 
 -- a reference may be shared where what it refers to may
 lent_sync : (a : NamedLft) (T : RattleType) → IsSync T → IsSync (ShrRef a.mir a.lft T)

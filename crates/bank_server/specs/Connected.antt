@@ -1,6 +1,7 @@
 -- Links and doorways, as contracts see those of a worker.
-use Rattle.std.specs.Prelude.{ℕ, List, Option, None}
+use Rattle.std.specs.Prelude.{ℕ, List, Option, Some}
 use Rattle.ofx_types.specs.declared.number.Moment.{Moment}
+use Rattle.bank_callers.specs.Callers.{CallerView}
 use Rattle.bank_connection.specs.Connection.{LinkView, around}
 
 -- What is seen of a link: the bytes that it has left, its count of reads' faults, the bytes that it holds, and its count of writes'
@@ -14,9 +15,9 @@ pub record Faces (L : Type 0) : Type 0 where
 abbrev pub faces : {L : Type 0} → (L → Option (List ℕ)) → (L → ℕ) → (L → Option (List ℕ)) → (L → ℕ) → Faces L
 faces left reads held writes = record { left = left; reads = reads; held = held; writes = writes }
 
--- a link beside what the clock has shown
-abbrev pub around_link : {L : Type 0} → Faces L → L → Option (List Moment) → LinkView
-around_link faces link shown = around (faces.left link) (faces.reads link) (faces.held link) (faces.writes link) shown None
+-- a link beside what the clock has shown and what the caller who serves it knows
+abbrev pub around_link : {L : Type 0} → Faces L → L → Option (List Moment) → CallerView → LinkView
+around_link faces link shown caller = around (faces.left link) (faces.reads link) (faces.held link) (faces.writes link) shown (Some caller)
 
 -- What is seen of a doorway: the links that it gave and took back, if they are known, and its counts of faults and of closings.
 pub record DoorView (L : Type 0) : Type 0 where

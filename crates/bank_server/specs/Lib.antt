@@ -2,4 +2,3 @@ pub mod Connected
 pub mod Turns
 pub mod AllTurns
 pub mod Opening
-pub mod OfficeViews

@@ -5,12 +5,12 @@
 //! connection after another, each by `serve_connection`.
 #![tactic(auto)]
 
-mod offices;
+mod connection;
 mod open;
 mod worker;
 mod workers;
 
-pub use offices::{SoloOffice, serve_connection};
+pub use connection::serve_connection;
 pub use open::{open_shared, serve_open};
 pub use worker::{WorkerEnd, serve_worker};
 pub use workers::{AllEnd, Worked, serve_all};

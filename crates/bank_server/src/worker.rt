@@ -1,6 +1,6 @@
 //! A worker: one connection after another.
 
-ghost use Rattle.std.specs.Prelude.{◌≡◌, ◌≤◌, ◌⊎◌, ℕ, [], ◌∷◌, None, Result};
+ghost use Rattle.std.specs.Prelude.{◌≡◌, ◌≤◌, ◌⊎◌, ℕ, [], ◌∷◌, Some, Result};
 ghost use Rattle.ofx_ports.specs.Faults.{Rose};
 ghost use Rattle.ofx_types.specs.declared.number.Moment.{Moment as TheMoment};
 ghost use Rattle.bank_connection.specs.Connection.{around, Converses};
@@ -9,8 +9,9 @@ ghost use Rattle.http_link.specs.declared.served.Served.{Served as Ended};
 ghost use Rattle.http_link.specs.declared.served.ServeError.{ServeError as WhyUnserved};
 ghost use Rattle.bank_server.specs.Connected.{faces, door_view};
 ghost use Rattle.bank_server.specs.Turns.{Works, DoesDueAt, missed_in, greatest};
+ghost use Rattle.bank_shared.specs.Holds.{IsPassOf, caller_of};
 
-use crate::offices::serve_connection;
+use crate::connection::serve_connection;
 use bank_due::{DueFault, due_run};
 use bank_model::Printer;
 use bank_shared::{Bank, BankName, Pass};
@@ -54,10 +55,12 @@ pub fn serve_worker<
     gate: &G,
     most: u32,
 ) -> WorkerEnd
+    requires pass { IsPassOf N.setup N.opening N.board pass.old }
     ensures works { Works (faces L.left L.read_faults L.held L.write_faults) N.setup most
         (door_view (D.given door.old) (D.back door.old) (D.faults door.old) (D.closings door.old))
         (door_view (D.given door.new) (D.back door.new) (D.faults door.new) (D.closings door.new))
-        (C.shown clock.old) (C.shown clock.new) result }
+        (C.shown clock.old) (C.shown clock.new) (caller_of N.opening pass.old) (caller_of N.opening pass.new) result }
+    ensures pass { IsPassOf N.setup N.opening N.board pass.new }
     ensures status { (result.status.0 ≡ 0) ⊎ (result.status.0 ≡ 5) }
     ensures full { result.status.0 ≡ 0 → (result.served ≡ greatest most) ⊎ Rose (D.closings door.old) (D.closings door.new) }
     ensures failed { result.status.0 ≡ 5 → Rose (D.faults door.old) (D.faults door.new) }
@@ -95,7 +98,11 @@ fn missed_due<R: Wait, N: BankName, K: Keeper, P: Printer, C: Clock, G: Gate>(
     clock: &mut C,
     gate: &G,
 ) -> u32
-    ensures does { (at : TheMoment) × (due : Result ℕ WhyLeft) × DoesDueAt (C.shown clock.old) (C.shown clock.new) at due × (result ≡ missed_in (due ∷ [])) }
+    requires pass { IsPassOf N.setup N.opening N.board pass.old }
+    ensures does { (at : TheMoment) × (due : Result ℕ WhyLeft)
+        × DoesDueAt N.setup (C.shown clock.old) (C.shown clock.new) (caller_of N.opening pass.old) (caller_of N.opening pass.new) at due
+        × (result ≡ missed_in (due ∷ [])) }
+    ensures pass { IsPassOf N.setup N.opening N.board pass.new }
     ensures one { result ≤ 1 }
 {
     let at = clock.now();
@@ -115,10 +122,12 @@ fn served_link<R: Wait, N: BankName, K: Keeper, P: Printer, L: Link, C: Clock, G
     clock: &mut C,
     gate: &G,
 ) -> L
-    ensures { (answer : Result Ended WhyUnserved) × Converses N.setup
-        (around (L.left link) (L.read_faults link) (L.held link) (L.write_faults link) (C.shown clock.old) None)
-        (around (L.left result) (L.read_faults result) (L.held result) (L.write_faults result) (C.shown clock.new) None)
+    requires pass { IsPassOf N.setup N.opening N.board pass.old }
+    ensures serves { (answer : Result Ended WhyUnserved) × Converses N.setup
+        (around (L.left link) (L.read_faults link) (L.held link) (L.write_faults link) (C.shown clock.old) (Some (caller_of N.opening pass.old)))
+        (around (L.left result) (L.read_faults result) (L.held result) (L.write_faults result) (C.shown clock.new) (Some (caller_of N.opening pass.new)))
         answer }
+    ensures pass { IsPassOf N.setup N.opening N.board pass.new }
 {
     let mut link = link;
     // How the connection ended is for its peer alone: the next one is served all the same.

@@ -1,10 +1,11 @@
 //! All workers of a server, each in a thread of its own.
 
-ghost use Rattle.std.specs.Prelude.{◌≡◌, ℕ, IfOk, length, map, slice_get, Some};
+ghost use Rattle.std.specs.Prelude.{◌≡◌, ℕ, [], IfOk, length, map, slice_get, Some, All};
 ghost use Rattle.bank_server.specs.Connected.{faces, door_view};
 ghost use Rattle.bank_server.specs.Turns.{Works};
 ghost use Rattle.bank_server.specs.AllTurns.{first_other};
 ghost use Rattle.bank_server.specs.declared.workers.Job.{Job as OneJob};
+ghost use Rattle.bank_shared.specs.Holds.{IsPassOf, caller_of};
 ghost use Rattle.bank_server.specs.declared.workers.Worked.{Worked as OneEnded};
 
 use crate::worker::{WorkerEnd, serve_worker};
@@ -70,12 +71,13 @@ pub fn serve_all<
     requires setup { opened.setup ≡ N.setup }
     requires opening { opened.state ≡ N.opening }
     requires first { opened.opened ≡ N.first }
+    requires board { opened.board ≡ N.board }
     ensures count { IfOk result (λ all. length all.ends.items ≡ length workers.items) }
     ensures each { IfOk result (λ all. (i : ℕ) (worker : (D × C)) (worked : OneEnded D C) → slice_get workers.items i ≡ Some worker → slice_get all.ends.items i ≡ Some worked
         → Works (faces L.left L.read_faults L.held L.write_faults) N.setup most
         (door_view (D.given worker.0) (D.back worker.0) (D.faults worker.0) (D.closings worker.0))
         (door_view (D.given worked.door) (D.back worked.door) (D.faults worked.door) (D.closings worked.door))
-        (C.shown worker.1) (C.shown worked.clock) worked.end) }
+        (C.shown worker.1) (C.shown worked.clock) (record { opening = N.opening; seen = []; mine = []; polled = [] }) (caller_of N.opening worked.pass) worked.end) }
     ensures status { IfOk result (λ all. all.status.0 ≡ first_other (map (λ worked. worked.end.status.0) all.ends.items)) }
 {
     let (bank, mut pass) = Bank::<N, K, P>::begin(opened);
@@ -103,18 +105,20 @@ fn all_run<
     gate: &G,
     most: u32,
 ) -> Result<Vec<Worked<D, C>>, OutOfMemory>
+    requires passes { All (λ job. IsPassOf N.setup N.opening N.board job.pass) jobs.items }
     ensures count { IfOk result (λ ends. length ends.items ≡ length jobs.items) }
     ensures each { IfOk result (λ ends. (i : ℕ) (job : OneJob D C) (worked : OneEnded D C) → slice_get jobs.items i ≡ Some job → slice_get ends.items i ≡ Some worked
         → Works (faces L.left L.read_faults L.held L.write_faults) N.setup most
         (door_view (D.given job.door) (D.back job.door) (D.faults job.door) (D.closings job.door))
         (door_view (D.given worked.door) (D.back worked.door) (D.faults worked.door) (D.closings worked.door))
-        (C.shown job.clock) (C.shown worked.clock) worked.end) }
+        (C.shown job.clock) (C.shown worked.clock) (caller_of N.opening job.pass) (caller_of N.opening worked.pass) worked.end) }
 {
     let run = |job: Job<D, C>| -> Worked<D, C>
+        requires { IsPassOf N.setup N.opening N.board job.pass }
         ensures { Works (faces L.left L.read_faults L.held L.write_faults) N.setup most
             (door_view (D.given job.door) (D.back job.door) (D.faults job.door) (D.closings job.door))
             (door_view (D.given result.door) (D.back result.door) (D.faults result.door) (D.closings result.door))
-            (C.shown job.clock) (C.shown result.clock) result.end }
+            (C.shown job.clock) (C.shown result.clock) (caller_of N.opening job.pass) (caller_of N.opening result.pass) result.end }
     { run_job(bank, rt, alloc, job, gate, most) };
     let ends = map_vec(rt, jobs, &run)?;
     Ok(ends)
@@ -131,10 +135,11 @@ fn run_job<
     C: Clock + Drop,
     G: Gate,
 >(bank: &Bank<N, K, P>, rt: &R, alloc: Global, job: Job<D, C>, gate: &G, most: u32) -> Worked<D, C>
+    requires { IsPassOf N.setup N.opening N.board job.pass }
     ensures { Works (faces L.left L.read_faults L.held L.write_faults) N.setup most
         (door_view (D.given job.door) (D.back job.door) (D.faults job.door) (D.closings job.door))
         (door_view (D.given result.door) (D.back result.door) (D.faults result.door) (D.closings result.door))
-        (C.shown job.clock) (C.shown result.clock) result.end }
+        (C.shown job.clock) (C.shown result.clock) (caller_of N.opening job.pass) (caller_of N.opening result.pass) result.end }
 {
     let mut job = job;
     let end = serve_worker(
@@ -162,6 +167,9 @@ fn jobs_for<N: BankName, K: Keeper, P: Printer, D: Drop, C: Drop>(
     pass: &mut Pass,
     workers: Vec<(D, C)>,
 ) -> Result<Vec<Job<D, C>>, OutOfMemory>
+    requires pass { IsPassOf N.setup N.opening N.board pass.old }
+    requires fresh { pass.old ≡ record { table = N.board.table; seen = []; mine = []; polled = [] } }
+    ensures passes { IfOk result (λ jobs. All (λ job. job.pass ≡ record { table = N.board.table; seen = []; mine = []; polled = [] }) jobs.items) }
     ensures doors { IfOk result (λ jobs. map (λ job. job.door) jobs.items ≡ map (λ worker. worker.0) workers.items) }
     ensures clocks { IfOk result (λ jobs. map (λ job. job.clock) jobs.items ≡ map (λ worker. worker.1) workers.items) }
 {

@@ -1,15 +1,12 @@
 -- Calls that settle first, put together of their parts.
-use Rattle.std.proofs.Common.{◌≡◌, ℕ, List, inr, Option, None, Result, Ok, Err, IfOk, IfErr, OnOk, sym, ap, ◌∙◌, subst}
+use Rattle.std.proofs.Common.{◌≡◌, ℕ, List, [], inr, Option, None, Result, Ok, Err, IfOk, IfErr, OnOk, sym, ap, ◌∙◌, subst}
 use Rattle.std.specs.Option.{IfSome}
-use Rattle.ofx_types.specs.ReplyForm.{reply_text}
 use Rattle.ofx_types.specs.declared.number.Moment.{Moment}
-use Rattle.ofx_types.specs.declared.number.UserId.{UserId}
-use Rattle.ofx_types.specs.declared.request.RequestFile.{RequestFile}
+use Rattle.bank_model.specs.declared.entry.Entry.{Entry}
 use Rattle.bank_model.specs.declared.event.Event.{Event}
 use Rattle.bank_model.specs.declared.event.State.{State}
 use Rattle.bank_model.specs.declared.setup.Setup.{Setup}
 use Rattle.bank_model.specs.declared.log.LogItem.{LogItem}
-use Rattle.bank_model.specs.Polls.{poll_reply}
 use Rattle.bank_model.specs.Rules.{named}
 use Rattle.bank_accounts.specs.AccountView.{AccountView}
 use Rattle.bank_accounts.specs.Pool.{AreCheckedOut}
@@ -22,9 +19,11 @@ use Rattle.bank_engine.proofs.CheckedOutAccounts.{lent_settled}
 use Rattle.bank_model.specs.declared.submit.SubmitFault.{SubmitFault}
 use Rattle.bank_model.specs.declared.submit.SubmitFault.TheVariants.{Keeper, OutOfMemory}
 use Rattle.bank_engine.specs.Calls.{Answers, FailsToCommit, FailsToSettle}
+use Rattle.bank_engine.specs.Steps.{Expects}
 use Rattle.bank_engine.specs.Truth.{IsTrue}
 use Rattle.bank_engine.specs.Views.{PendingView, EngineView, KeeperView, JournalView, journal_of}
 use Rattle.bank_engine.proofs.Truth.{true_answered, true_uncommitted}
+use Rattle.token_board.specs.Views.{WriterView}
 use Rattle.bank_shared.specs.Calls.{IsSettled, LeavesPending, AnswersNext, FailsToSubmit}
 
 pub answers_next : {A : Type 0} (items : A → List ℕ) (result : Result A SubmitFault) (old between new : JournalView) (event : Event) (at : Moment) → IsSettled old between → IfOk result (λ (reply : A). Answers between new event at (items reply)) → IfOk result (λ (reply : A). AnswersNext old new event at (items reply))
@@ -35,11 +34,6 @@ pub fails_next : {A : Type 0} (result : Result A SubmitFault) (old between new :
 fails_next (Ok reply) old between new event at settles fails = tt
 fails_next (Err fault) old between new event at settles fails = inr (record { between = between; settles = settles; fails = fails })
 
--- the reply to a poll is that of some state
-pub some_state : {A E : Type 0} (items : A → List ℕ) (setup own : Setup) (state : State) (user : UserId) (file : RequestFile) (at : Moment) (result : Result A E) → own ≡ setup → IfOk result (λ (reply : A). items reply ≡ reply_text (poll_reply own state user at file)) → IfOk result (λ (reply : A). (S : State) × (items reply ≡ reply_text (poll_reply setup S user at file)))
-some_state items setup own state user file at (Ok reply) whose is = (state, subst (λ (s : Setup). items reply ≡ reply_text (poll_reply s state user at file)) whose is)
-some_state items setup own state user file at (Err fault) whose is = tt
-
 -- ---- a journal's commit
 
 -- the accounts that an event names are held, where all is the same
@@ -49,6 +43,14 @@ named_again setup setup' state state' event event' held held' own same is all na
     (subst (λ (S : State). AreHeld held' (named setup S event')) (sym same)
     (subst (λ (e : Event). AreHeld held' (named setup state e)) (sym is)
     (subst (λ (h : List AccountView). AreHeld h (named setup state event)) (sym all) names)))
+
+-- what an event adds is expected, where all is the same
+pub expects_again : (may : List Entry → Type 0) (setup setup' : Setup) (state state' : State) (at at' : Moment) (event event' : Event) → setup' ≡ setup → state' ≡ state → at' ≡ at → event' ≡ event → Expects may setup state at event → Expects may setup' state' at' event'
+expects_again may setup setup' state state' at at' event event' own same moment is expected =
+    subst (λ (s : Setup). Expects may s state' at' event') (sym own)
+    (subst (λ (S : State). Expects may setup S at' event') (sym same)
+    (subst (λ (m : Moment). Expects may setup state m event') (sym moment)
+    (subst (λ (e : Event). Expects may setup state at e) (sym is) expected)))
 
 -- An engine that has prepared an event has only made room.
 pub true_prepared : (setup : Setup) (opening : State) (first : Option (List (List ℕ))) (engine engine' : EngineView) (keeper : KeeperView) (log : List LogItem) → engine'.setup ≡ engine.setup → engine'.state ≡ engine.state → engine.pending ≡ None → engine'.pending ≡ None → IsTrue setup opening first (journal_of engine keeper log) → IsTrue setup opening first (journal_of engine' keeper log)
@@ -77,6 +79,26 @@ pub true_committed : {A : Type 0} (items : A → List ℕ) (result : Result A Su
 true_committed items (Ok reply) setup opening first old new event at none answers fails = true_answered setup opening first old new event at (items reply) none answers
 true_committed items (Err fault) setup opening first old new event at none answers fails = true_uncommitted setup opening first old new event at fault none fails
 
+-- ---- one hold of a journal
+
+-- what a call did between hearing the pass and making the note, as done between before and after these
+pub carried : (P : JournalView → JournalView → Type 0) (engine engine' : EngineView) (keeper keeper' : KeeperView) (before writer later last : WriterView) (old : JournalView)
+    → journal_of engine keeper before.log ≡ old → writer ≡ before → last ≡ (record { table = later.table; log = later.log; claimed = [] })
+    → P (journal_of engine keeper writer.log) (journal_of engine' keeper' later.log) → P old (journal_of engine' keeper' last.log)
+carried P engine engine' keeper keeper' before writer later last old view same kept done =
+    subst (λ (v : JournalView). P v (journal_of engine' keeper' last.log)) view
+    (subst (λ (w : WriterView). P (journal_of engine keeper w.log) (journal_of engine' keeper' last.log)) same
+    (subst (λ (w : WriterView). P (journal_of engine keeper writer.log) (journal_of engine' keeper' w.log)) (sym kept) done))
+
+-- what is true goes on in between
+pub true_held : (setup : Setup) (opening : State) (first : Option (List (List ℕ))) (engine engine' : EngineView) (keeper keeper' : KeeperView) (before writer later last : WriterView)
+    → writer ≡ before → last ≡ (record { table = later.table; log = later.log; claimed = [] })
+    → (IsTrue setup opening first (journal_of engine keeper writer.log) → IsTrue setup opening first (journal_of engine' keeper' later.log))
+    → IsTrue setup opening first (journal_of engine keeper before.log) → IsTrue setup opening first (journal_of engine' keeper' last.log)
+true_held setup opening first engine engine' keeper keeper' before writer later last same kept goes is =
+    subst (λ (w : WriterView). IsTrue setup opening first (journal_of engine' keeper' w.log)) (sym kept)
+    (goes (subst (λ (w : WriterView). IsTrue setup opening first (journal_of engine keeper w.log)) (sym same) is))
+
 -- ---- a locked bank's settling
 
 -- what couldn't be settled is pending still
@@ -95,3 +117,9 @@ settled_lent (Ok done) old new pool held other unnamed within names same balance
     lent_settled (Ok settles.0) old new pool held other unnamed within names same balanced settles.1 tt checked_out
 settled_lent (Err fault) old new pool held other unnamed within names same balanced settles fails checked_out =
     lent_settled (Err fault) old new pool held other unnamed within names same balanced tt fails checked_out
+
+-- ---- answers
+
+pub on_ok : {A E P : Type 0} (result : Result A E) → P → OnOk result P
+on_ok (Ok value) p = p
+on_ok (Err fault) p = tt

@@ -1,1 +1,7 @@
+pub mod Asked
+pub mod Begun
 pub mod CallLemmas
+pub mod Callers
+pub mod Met
+pub mod Publishes
+pub mod Starting

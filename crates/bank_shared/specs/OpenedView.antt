@@ -2,6 +2,7 @@
 use Rattle.std.specs.Prelude.{◌≡◌, ℕ, List, Option}
 use Rattle.bank_model.specs.declared.event.State.{State}
 use Rattle.bank_model.specs.declared.setup.Setup.{Setup}
+use Rattle.token_board.specs.Views.{BoardView}
 
 pub record OpenedView : Type 0 where
   pub setup : Setup
@@ -13,3 +14,5 @@ pub record OpenedView : Type 0 where
   pub records : Option (List (List ℕ))
   -- the keeper's count of faults
   pub faults : ℕ
+  -- the board of its newest tokens
+  pub board : BoardView

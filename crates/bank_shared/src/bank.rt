@@ -1,28 +1,38 @@
-//! A bank that many callers share: its locked bank behind a lock.
+//! A bank that many callers share: its locked bank behind a lock, and before it the board of its newest tokens.
 
-ghost use Rattle.std.specs.Prelude.{◌≡◌, ◌<◌, true, false, length, IfOk};
+ghost use Rattle.std.specs.Prelude.{◌≡◌, ◌<◌, ◌++◌, [], true, false, Some, length, IfOk, IfErr, OnErr};
+ghost use Rattle.std.specs.Option.{option_map, option_to_list};
 ghost use Rattle.ofx_types.specs.Calendar.{IsMoment};
-ghost use Rattle.ofx_types.specs.ReplyForm.{reply_text};
-ghost use Rattle.bank_model.specs.declared.event.State.{State};
 ghost use Rattle.bank_model.specs.Polls as polls;
 ghost use Rattle.bank_model.specs.SetupForm.{IsWithinLimits};
 ghost use Rattle.bank_model.specs.Sound.{IsSound};
+ghost use Rattle.token_board.specs.declared.view.Load.{Load};
+ghost use Rattle.bank_callers.specs.Callers.{IsRightView, IsCommitted, IsUncommitted, IsLooked, HasLoaded, HasPolled};
+ghost use Rattle.bank_callers.specs.Polled.{object_asked};
+ghost use Rattle.bank_shared.specs.Advancing.{IsAdvanced, IsUnadvanced};
+ghost use Rattle.bank_shared.specs.Asking.{HasAsked};
+ghost use Rattle.bank_shared.specs.Holds.{HasOpened, BeginsAt, IsPassOf, caller_of};
 
 use crate::advance::Advance;
 use crate::locked_bank::LockedBank;
 use crate::name::BankName;
 use crate::opened::Opened;
-use crate::pass::Pass;
+use bank_callers::laws::tokens_are_the_banks;
+use bank_callers::{add_answer, poll_reply};
+use bank_invariants::laws::states::{books_are_right, every_state_is_sound};
 use bank_model::{Printer, Setup, SubmitFault};
 use ofx_ports::{Gate, Keeper};
-use ofx_types::{Moment, OutOfMemory, RequestFile, UserId};
+use ofx_types::{Ask, AskReplies, Moment, OutOfMemory, RequestFile, Sequence, UserId};
+use std::alloc::Global;
 use std::marker::Model;
 use std::sync::{Mutex, Wait};
+use token_board::{Board, Pass};
 
 /// The call of a gate before due work is looked for.
 const ADVANCE: u64 = 1 << 32;
 
-/// The bank that `N` names. Its calls take turns at its locked bank, and each makes the locked bank's call of that name.
+/// The bank that `N` names. Files and due work take turns at its locked bank. Polls are answered from the board of newest tokens,
+/// and wait for nobody.
 ///
 /// ```rust
 /// use bank_model::Setup;
@@ -48,7 +58,10 @@ const ADVANCE: u64 = 1 << 32;
 /// };
 /// ```
 pub struct Bank<N: BankName, K: Keeper, P: Printer> {
+    alloc: Global,
     setup: Setup,
+    printer: P,
+    board: Board,
     locked: Mutex<LockedBank<N, K, P>>,
 }
 
@@ -56,41 +69,58 @@ impl<N: BankName, K: Keeper, P: Printer> Model for Bank<N, K, P> {
     ghost use Rattle.std.specs.Prelude.{◌≡◌};
     ghost use Rattle.bank_model.specs.SetupForm.{IsWithinLimits};
     ghost use Rattle.bank_model.specs.declared.setup.Setup.{Setup};
+    ghost use Rattle.bank_shared.specs.Holds.{HasOpened, BeginsAt};
 
     ghost Value = { Setup };
 
     ghost view = { λ b. b.setup };
 
-    ghost invariant = { λ b. (b.setup ≡ N.setup) × IsWithinLimits N.setup };
+    ghost invariant = { λ b. (b.setup ≡ N.setup) × (b.board ≡ N.board) × IsWithinLimits N.setup
+        × HasOpened N.setup N.opening × BeginsAt N.setup N.opening N.board };
 }
 
 impl<N: BankName, K: Keeper, P: Printer> Drop for Bank<N, K, P> {
     fn drop(self) {
         let Bank {
+            alloc: _,
             setup: _,
+            printer: _,
+            board: _,
             locked: _,
         } = self;
     }
 }
 
 impl<N: BankName, K: Keeper, P: Printer> Bank<N, K, P> {
-    /// Begins the bank that has opened, and gives its first caller. Takes no memory.
+    /// Begins the bank that has opened, and gives its first caller's pass, which has seen nothing. Takes no memory.
     pub fn begin(opened: Opened<K, P>) -> (Bank<N, K, P>, Pass)
         requires setup { opened.setup ≡ N.setup }
         requires opening { opened.state ≡ N.opening }
         requires first { opened.opened ≡ N.first }
+        requires board { opened.board ≡ N.board }
+        ensures fresh { result.1 ≡ record { table = N.board.table; seen = []; mine = []; polled = [] } }
+        ensures pass { IsPassOf N.setup N.opening N.board result.1 }
     {
-        let (setup, locked) = opened.into_locked();
+        let (parts, pass) = opened.into_parts();
+        let (alloc, setup, printer, board, locked) = parts.into_fields();
         let bank = Bank {
+            alloc,
             setup,
+            printer,
+            board,
             locked: Mutex::new(locked),
         };
-        (bank, Pass::new())
+        (bank, pass)
     }
 
-    /// One more caller. Takes no memory.
-    pub fn door(&self, _pass: &mut Pass) -> Pass {
-        Pass::new()
+    /// One more caller's pass, which has seen and loaded what this one has. Takes no memory.
+    pub fn door(&self, pass: &mut Pass) -> Pass
+        requires pass { IsPassOf N.setup N.opening N.board pass.old }
+        ensures same { pass.new ≡ pass.old }
+        ensures child { result ≡ record pass.old { mine = [] } }
+        ensures door { IsPassOf N.setup N.opening N.board result }
+    {
+        pass.split(&self.board)
     }
 
     /// The setup, lent. Takes no memory.
@@ -101,69 +131,140 @@ impl<N: BankName, K: Keeper, P: Printer> Bank<N, K, P> {
         &self.setup
     }
 
+    /// What a pass knows of the bank is right. It does nothing: proofs call it for what it says.
+    pub fn known(&self, pass: &Pass)
+        requires pass { IsPassOf N.setup N.opening N.board pass.now }
+        ensures { IsRightView N.setup (caller_of N.opening pass.now) }
+    {
+        every_state_is_sound();
+        books_are_right();
+        let _ = (&self.setup, pass);
+    }
+
     /// Answers a file of a user, which is sound and no poll. The gate is passed with the user's number before the lock is taken.
     ///
-    /// That the journal keeps its rule is proved of this call, and no more: other callers' calls come before and after it. What it
-    /// answers is proved of `LockedBank::submit`, which it makes.
+    /// What the pass has seen then ends with the file's ending, which is its own: the answer with this reply, or a fault of the
+    /// keeper. Other callers' endings may come before it. Each token of at least 1 that the pass had loaded is the number of an
+    /// entry of its object there. What it knows is right: in the state after it no user's TRNUID is used twice, and the balances
+    /// add up to the opening ones.
     ///
     /// - `Keeper(n)`: the keeper's count of faults rose to n in this call, and the log has this fault.
-    /// - `OutOfMemory`.
+    /// - `OutOfMemory`: the pass owns nothing new.
     pub fn submit<R: Wait, G: Gate>(
         &self,
         rt: &R,
-        _pass: &mut Pass,
+        pass: &mut Pass,
         user: UserId,
         file: &RequestFile,
         at: Moment,
         gate: &G,
     ) -> Result<Vec<u8>, SubmitFault>
+        requires pass { IsPassOf N.setup N.opening N.board pass.old }
         requires moment { IsMoment at.0 }
         requires known { user.0 < length N.setup.users }
         requires sound { IsSound file.now }
         requires event { polls.is_poll file.now ≡ false }
+        ensures answered { IfOk result (λ reply. IsCommitted user file.now at reply.items
+            (Some (caller_of N.opening pass.old)) (Some (caller_of N.opening pass.new))) }
+        ensures refused { IfErr result (IsUncommitted user file.now at
+            (Some (caller_of N.opening pass.old)) (Some (caller_of N.opening pass.new))) }
+        ensures pass { IsPassOf N.setup N.opening N.board pass.new }
+        ensures right { IsRightView N.setup (caller_of N.opening pass.new) }
     {
         gate.pass(u64::from(user.0));
-        self.locked.lock(rt).submit(user, file, at)
+        let answered = self
+            .locked
+            .lock(rt)
+            .submit(&self.board, pass, user, file, at);
+        self.known(pass);
+        answered
     }
 
     /// Makes what is due first at a moment happen. The gate is passed with 2^32 before the lock is taken.
     ///
-    /// That the journal keeps its rule is proved of this call, and no more, as of `submit`. What it answers is proved of
-    /// `LockedBank::advance`, which it makes.
-    ///
     /// - `Keeper(n)`: the keeper's count of faults rose to n in this call, and the log has this fault.
-    /// - `OutOfMemory`.
+    /// - `OutOfMemory`: the pass owns nothing new.
     pub fn advance<R: Wait, G: Gate>(
         &self,
         rt: &R,
-        _pass: &mut Pass,
+        pass: &mut Pass,
         at: Moment,
         gate: &G,
     ) -> Result<Advance, SubmitFault>
-        requires { IsMoment at.0 }
+        requires pass { IsPassOf N.setup N.opening N.board pass.old }
+        requires moment { IsMoment at.0 }
+        ensures advanced { IfOk result (IsAdvanced N.setup at (caller_of N.opening pass.old) (caller_of N.opening pass.new)) }
+        ensures refused { IfErr result (IsUnadvanced N.setup at (caller_of N.opening pass.old) (caller_of N.opening pass.new)) }
+        ensures pass { IsPassOf N.setup N.opening N.board pass.new }
+        ensures right { IsRightView N.setup (caller_of N.opening pass.new) }
     {
         gate.pass(ADVANCE);
-        self.locked.lock(rt).advance(at)
+        let advanced = self.locked.lock(rt).advance(&self.board, pass, at);
+        self.known(pass);
+        advanced
     }
 
-    /// Answers a poll file of a user, with the newest tokens of some state.
-    pub fn poll<R: Wait>(
+    /// Answers a poll file of a user by one load for each object, in the order of its asks. It waits for nobody.
+    ///
+    /// No token is older than the newest one of its object in what the pass has seen.
+    pub fn poll(
         &self,
-        rt: &R,
-        _pass: &mut Pass,
+        pass: &mut Pass,
         user: UserId,
         file: &RequestFile,
         at: Moment,
     ) -> Result<Vec<u8>, OutOfMemory>
+        requires pass { IsPassOf N.setup N.opening N.board pass.old }
         requires moment { IsMoment at.0 }
         requires known { user.0 < length N.setup.users }
         requires poll { polls.is_poll file.now ≡ true }
-        ensures { IfOk result (λ reply. (S : State) × (reply.items ≡ reply_text (polls.poll_reply N.setup S user at file.now))) }
+        ensures answered { IfOk result (λ reply. IsLooked N.setup user file.now at reply.items
+            (Some (caller_of N.opening pass.old)) (Some (caller_of N.opening pass.new))) }
+        ensures refused { OnErr result (HasLoaded (caller_of N.opening pass.old) (caller_of N.opening pass.new)) }
+        ensures pass { IsPassOf N.setup N.opening N.board pass.new }
     {
-        let lock = self.locked.lock(rt);
-        let locked = &*lock;
-        // For the proof alone: its contract says whose setup it is.
-        let _setup = locked.setup();
-        locked.poll(user, file, at)
+        let replies = self.poll_answers(pass, user, file.asks.items())?;
+        poll_reply(self.alloc, &self.printer, at, file, replies)
+    }
+
+    /// The answers to the asks of a poll.
+    fn poll_answers(
+        &self,
+        pass: &mut Pass,
+        user: UserId,
+        asks: &[Ask],
+    ) -> Result<AskReplies, OutOfMemory>
+        requires pass { IsPassOf N.setup N.opening N.board pass.old }
+        requires known { user.0 < length N.setup.users }
+        ensures answers { IfOk result (λ replies. HasAsked N.setup user asks.now replies (caller_of N.opening pass.old) (caller_of N.opening pass.new)) }
+        ensures refused { OnErr result (HasLoaded (caller_of N.opening pass.old) (caller_of N.opening pass.new)) }
+        ensures pass { IsPassOf N.setup N.opening N.board pass.new }
+    {
+        let mut replies = Vec::with_capacity(self.alloc, asks.len())?;
+        for ask in asks {
+            let token = self.token_asked(pass, user, ask);
+            add_answer(self.alloc, &mut replies, ask, token)?;
+        }
+        Ok(Sequence::from_vec(replies))
+    }
+
+    /// Loads the newest token of the object that an ask asks about. None where the account isn't the user's. Takes no memory.
+    fn token_asked(&self, pass: &mut Pass, user: UserId, ask: &Ask) -> Option<u64>
+        requires pass { IsPassOf N.setup N.opening N.board pass.old }
+        requires known { user.0 < length N.setup.users }
+        ensures load { (load : Option Load) × (option_map (λ l. l.object) load ≡ object_asked N.setup user ask.now)
+            × (result ≡ option_map (λ l. l.token) load)
+            × HasPolled (option_to_list load) (caller_of N.opening pass.old) (caller_of N.opening pass.new) }
+        ensures pass { IsPassOf N.setup N.opening N.board pass.new }
+    {
+        tokens_are_the_banks();
+        match ask {
+            Ask::Sync(ask) => match self.setup.object(user, &ask.object) {
+                Some(object) => Some(self.board.newest(pass, object)),
+                None => None,
+            },
+            Ask::Statement(_, _, _) => None,
+            Ask::One(_, _) => None,
+        }
     }
 }

@@ -1,4 +1,4 @@
-//! The journal of a bank: its engine, the keeper of its records, and its log.
+//! The journal of a bank: its engine, the keeper of its records, and the writer of its log.
 
 ghost use Rattle.std.specs.Prelude.{◌≡◌, false, [], None, All, OnOk, OnErr, IfOk, IfErr};
 ghost use Rattle.std.specs.Option.{IfSome, IsSomeAnd, option_map, option_copied};
@@ -14,17 +14,23 @@ ghost use Rattle.bank_replay.specs.Opening.{RecordsGive};
 ghost use Rattle.bank_engine.specs.Kept.{AreKept};
 ghost use Rattle.bank_engine.specs.Truth.{IsUpTo};
 ghost use Rattle.bank_engine.specs.Calls.{Answers, FailsToCommit, FailsToSettle};
+ghost use Rattle.token_board.specs.Publishing.{Meets};
 ghost use Rattle.bank_shared.specs.Calls.{IsOfKeeper, IsSettled};
+ghost use Rattle.bank_shared.specs.Holds.{BeginsAt};
 
 use crate::name::BankName;
+use crate::publishing::{commit_at, settle_at};
 use bank_accounts::Held;
+use bank_callers::laws::{entries_belong, steps_follow};
 use bank_core::Book;
-use bank_engine::{Engine, Log};
+use bank_engine::Engine;
 use bank_model::{Event, Printer, SubmitFault};
 use ofx_ports::Keeper;
-use ofx_types::{Duplicate, Moment};
+use ofx_types::Moment;
 use std::alloc::Global;
 use std::marker::{Model, PhantomData};
+use token_board::laws::{endings_are_claimed, heard_passes_meet};
+use token_board::{Board, Pass, Writer};
 
 /// The journal of the bank that `N` names.
 ///
@@ -35,13 +41,14 @@ pub struct Journal<N: BankName, K: Keeper, P: Printer> {
     alloc: Global,
     keeper: K,
     engine: Engine<P>,
-    log: Log,
+    writer: Writer,
     name: PhantomData<N>,
 }
 
 impl<N: BankName, K: Keeper, P: Printer> Model for Journal<N, K, P> {
     ghost use Rattle.bank_engine.specs.Truth.{IsTrue};
     ghost use Rattle.bank_engine.specs.Views.{JournalView, journal_of};
+    ghost use Rattle.bank_shared.specs.Holds.{IsWriterOf};
 
     ghost Value = { JournalView };
 
@@ -50,35 +57,41 @@ impl<N: BankName, K: Keeper, P: Printer> Model for Journal<N, K, P> {
       landed = K.landed j.keeper;
       unsettled = K.unsettled j.keeper;
       faults = K.faults j.keeper;
-    }) j.log };
+    }) j.writer.log };
 
     ghost invariant = { λ j. IsTrue N.setup N.opening N.first (journal_of j.engine (record {
       records = K.records j.keeper;
       landed = K.landed j.keeper;
       unsettled = K.unsettled j.keeper;
       faults = K.faults j.keeper;
-    }) j.log) };
+    }) j.writer.log) × IsWriterOf N.setup N.opening N.board j.writer };
 }
 
 impl<N: BankName, K: Keeper, P: Printer> Journal<N, K, P> {
-    /// The journal of a bank that has opened from a keeper with the records that `N` names. Its log is empty. Takes no memory.
-    pub(crate) fn new(alloc: Global, keeper: K, book: Book<P>) -> Journal<N, K, P>
+    /// The journal of a bank that has opened from a keeper with the records that `N` names, with the writer of its board. Its log is
+    /// empty. Takes no memory.
+    pub(crate) fn new(alloc: Global, keeper: K, book: Book<P>, writer: Writer) -> Journal<N, K, P>
         requires setup { book.setup ≡ N.setup }
         requires state { book.state ≡ N.opening }
         requires holds { RecordsGive N.setup N.first N.opening }
         requires kept { Stays N.first (K.records keeper) }
         requires settled { K.unsettled keeper ≡ false }
+        requires writer { writer ≡ record { table = N.board.table; log = []; claimed = [] } }
+        requires begins { BeginsAt N.setup N.opening N.board }
         ensures setup { result.setup ≡ N.setup }
         ensures state { result.state ≡ N.opening }
         ensures log { result.log ≡ [] }
         ensures pending { result.pending ≡ None }
         ensures records { result.records ≡ K.records keeper }
     {
+        entries_belong();
+        // For the proof alone: its contract says that the setup is within its limits.
+        let _setup = book.setup();
         Journal {
             alloc,
             keeper,
             engine: Engine::new(book),
-            log: Log::new(),
+            writer,
             name: PhantomData,
         }
     }
@@ -93,7 +106,7 @@ impl<N: BankName, K: Keeper, P: Printer> Journal<N, K, P> {
         self.engine.book()
     }
 
-    /// What is true of the log whenever the lock is free. It does nothing: proofs call it for what it says.
+    /// What is true of the log whenever the lock is free, and of the board. It does nothing: proofs call it for what it says.
     pub fn log_holds(&self)
         ensures legal { IsWholeLog N.setup N.opening self.now.log }
         ensures ends { self.now.state ≡ ends N.setup N.opening self.now.log }
@@ -101,8 +114,9 @@ impl<N: BankName, K: Keeper, P: Printer> Journal<N, K, P> {
         ensures kept { IfSome N.first (λ first. IsSomeAnd self.now.records
             (AreKept N.setup N.opening first self.now.log self.now.landed self.now.pending)) }
         ensures counts { All (IsUpTo self.now.faults) (endings self.now.log) }
+        ensures begins { BeginsAt N.setup N.opening N.board }
     {
-        let _ = &self.log;
+        let _ = &self.writer;
     }
 
     /// The event whose append failed, until it is settled whether its record is stored. Takes no memory.
@@ -113,35 +127,64 @@ impl<N: BankName, K: Keeper, P: Printer> Journal<N, K, P> {
     }
 
     /// Settles whether the record of the pending event is stored. Where it is, the event is adopted: it has happened at its moment.
-    /// Afterwards nothing is pending. The accounts that the event names are held. Takes no memory.
+    /// Afterwards nothing is pending. The accounts that the event names are held. The pass is heard first, and has then seen the
+    /// log. Takes no memory.
     ///
-    /// - `Keeper(n)`: the keeper's count of faults rose to n in this call. The event is still pending.
-    pub fn settle(&mut self, held: &mut Held) -> Result<(), SubmitFault>
+    /// - `Keeper(n)`: the keeper's count of faults rose to n in this call. The event is still pending, and the pass owns this fault.
+    pub fn settle(
+        &mut self,
+        board: &Board,
+        held: &mut Held,
+        pass: &mut Pass,
+    ) -> Result<(), SubmitFault>
+        requires board { board.now ≡ N.board }
+        requires pass { pass.old.table ≡ N.board.table }
         requires named { IfSome self.old.pending (λ pending. AreHeld held.old (named self.old.setup self.old.state pending.event)) }
         requires balanced { AreBalanced self.old.setup self.old.state held.old }
         ensures settled { OnOk result (IsSettled self.old self.new) }
         ensures fails { IfErr result (FailsToSettle self.old self.new) }
         ensures keeper { IfErr result IsOfKeeper }
+        ensures pass { Meets N.board self.old.log self.new.log pass.old pass.new }
         ensures numbers { HaveSameNumbers held.new held.old }
         ensures balanced { AreBalanced self.new.setup self.new.state held.new }
     {
-        let _adopted = self.engine.settle(&mut self.keeper, &mut self.log, held)?;
+        endings_are_claimed();
+        heard_passes_meet();
+        steps_follow();
+        entries_belong();
+        // For the proof alone: their contracts say that the state is sound, and that what is pending may happen.
+        let _ = (self.engine.book(), self.engine.pending());
+        self.writer.hear(board, pass);
+        let settled = settle_at(
+            &mut self.engine,
+            &mut self.keeper,
+            board,
+            &mut self.writer,
+            held,
+        );
+        pass.meet(board, self.writer.note(board));
+        let _adopted = settled?;
         Ok(())
     }
 
     /// Makes an event happen at that moment, keeps its record, and gives its reply. The accounts that it names are held, and
-    /// nothing is pending.
+    /// nothing is pending. The pass is heard first, and has then seen the log; the event's ending is its own.
     ///
     /// All memory is taken before the record is appended, and the book takes the step after it.
     ///
-    /// - `Keeper(n)`: the append failed, and the keeper's count of faults rose to n in this call. The event is pending.
+    /// - `Keeper(n)`: the append failed, and the keeper's count of faults rose to n in this call. The event is pending, and the pass
+    ///   owns this fault.
     /// - `OutOfMemory`: nothing has happened.
     pub fn commit(
         &mut self,
+        board: &Board,
         held: &mut Held,
+        pass: &mut Pass,
         event: &Event,
         at: Moment,
     ) -> Result<Vec<u8>, SubmitFault>
+        requires board { board.now ≡ N.board }
+        requires pass { pass.old.table ≡ N.board.table }
         requires moment { IsMoment at.0 }
         requires legal { IsLegal self.old.setup self.old.state at event.now }
         requires settled { self.old.pending ≡ None }
@@ -149,14 +192,30 @@ impl<N: BankName, K: Keeper, P: Printer> Journal<N, K, P> {
         requires balanced { AreBalanced self.old.setup self.old.state held.old }
         ensures answers { IfOk result (λ reply. Answers self.old self.new event.now at reply.items) }
         ensures fails { IfErr result (FailsToCommit self.old self.new event.now at) }
+        ensures pass { Meets N.board self.old.log self.new.log pass.old pass.new }
         ensures numbers { HaveSameNumbers held.new held.old }
         ensures balanced { AreBalanced self.new.setup self.new.state held.new }
         ensures accounts { OnErr result (held.new ≡ held.old) }
     {
-        let event = event.copy()?;
-        let ready = self.engine.prepare(self.alloc, held, event, at)?;
-        self.engine
-            .commit(&mut self.keeper, &mut self.log, held, ready)
+        endings_are_claimed();
+        heard_passes_meet();
+        steps_follow();
+        entries_belong();
+        // For the proof alone: its contract says that the state is sound.
+        let _book = self.engine.book();
+        self.writer.hear(board, pass);
+        let committed = commit_at(
+            self.alloc,
+            &mut self.engine,
+            &mut self.keeper,
+            board,
+            &mut self.writer,
+            held,
+            event,
+            at,
+        );
+        pass.meet(board, self.writer.note(board));
+        committed
     }
 }
 
@@ -166,7 +225,7 @@ impl<N: BankName, K: Keeper, P: Printer> Drop for Journal<N, K, P> {
             alloc: _,
             keeper: _,
             engine: _,
-            log: _,
+            writer: _,
             name: _,
         } = self;
     }

@@ -12,7 +12,7 @@ mod journal;
 mod locked_bank;
 mod name;
 mod opened;
-mod pass;
+mod publishing;
 
 pub use advance::Advance;
 pub use bank::Bank;
@@ -20,5 +20,5 @@ pub use bank_model::SubmitFault;
 pub use journal::Journal;
 pub use locked_bank::LockedBank;
 pub use name::BankName;
-pub use opened::Opened;
-pub use pass::Pass;
+pub use opened::{Opened, Parts};
+pub use token_board::Pass;

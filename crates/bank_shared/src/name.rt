@@ -3,6 +3,7 @@
 ghost use Rattle.std.specs.Prelude.{ℕ, List, Option};
 ghost use Rattle.bank_model.specs.declared.event.State.{State};
 ghost use Rattle.bank_model.specs.declared.setup.Setup.{Setup};
+ghost use Rattle.token_board.specs.Views.{BoardView};
 
 use std::marker::Brand;
 
@@ -19,15 +20,21 @@ pub trait BankName {
 
     // the records from which it opened, where the keeper reported them
     ghost first: { Option (List (List ℕ)) };
+
+    // the board of its newest tokens
+    ghost board: { BoardView };
 }
 
 impl BankName for Brand {
     ghost use Rattle.std.specs.Prelude.{[], None};
     ghost use Rattle.bank_model.specs.Rules.{opening_state};
+    ghost use Rattle.token_board.specs.Views.{no_table};
 
     ghost setup = { record { bank = []; users = []; accounts = []; lead = 0; window = 0; entries = 0 } };
 
     ghost opening = { opening_state };
 
     ghost first = { None };
+
+    ghost board = { record { table = no_table; start = [] } };
 }

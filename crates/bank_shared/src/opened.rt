@@ -10,6 +10,8 @@ ghost use Rattle.event_codec.specs.Records.{Reopens};
 ghost use Rattle.bank_solo.specs.Solo.{AreAccountsIn, accounts_in};
 ghost use Rattle.bank_replay.specs.Opening.{RecordsGive, HasNoForm, IsNotLegal, HasCause};
 ghost use Rattle.bank_replay.specs.Replay.{IsOfTheOutside};
+ghost use Rattle.bank_callers.specs.Boards.{AreNewest};
+ghost use Rattle.bank_shared.specs.Holds.{BeginsAt};
 
 use crate::journal::Journal;
 use crate::locked_bank::LockedBank;
@@ -19,11 +21,12 @@ use bank_core::Book;
 use bank_model::{Printer, Setup};
 use bank_replay::{OpenFault, reopen};
 use ofx_ports::Keeper;
-use ofx_types::{Duplicate, OutOfMemory};
+use ofx_types::{Duplicate, ObjectId, OutOfMemory};
 use std::alloc::Global;
 use std::hash::RandomState;
 use std::marker::Model;
 use std::snapshot::Snapshot;
+use token_board::{Board, Pass, Writer};
 
 /// A bank that has opened from its records.
 pub struct Opened<K: Keeper, P: Printer> {
@@ -33,16 +36,21 @@ pub struct Opened<K: Keeper, P: Printer> {
     opened: Snapshot<K>,
     keeper: K,
     book: Book<P>,
-    // all accounts, so that a bank takes no memory when it begins
+    printer: P,
+    // all accounts, and the board with its writer and its first pass, so that a bank takes no memory when it begins
     pool: AccountPool,
+    board: Board,
+    writer: Writer,
+    pass: Pass,
 }
 
 impl<K: Keeper, P: Printer> Model for Opened<K, P> {
-    ghost use Rattle.std.specs.Prelude.{◌≡◌, false};
+    ghost use Rattle.std.specs.Prelude.{◌≡◌, [], false};
     ghost use Rattle.bank_model.specs.SetupForm.{IsWithinLimits};
     ghost use Rattle.bank_solo.specs.Solo.{accounts_in};
     ghost use Rattle.ofx_ports.specs.Known.{Stays};
     ghost use Rattle.bank_replay.specs.Opening.{RecordsGive};
+    ghost use Rattle.bank_shared.specs.Holds.{BeginsAt};
     ghost use Rattle.bank_shared.specs.OpenedView.{OpenedView};
 
     ghost Value = { OpenedView };
@@ -53,11 +61,14 @@ impl<K: Keeper, P: Printer> Model for Opened<K, P> {
       opened = K.records o.opened.value;
       records = K.records o.keeper;
       faults = K.faults o.keeper;
+      board = o.board;
     } };
 
     ghost invariant = { λ o. (o.book.setup ≡ o.setup) × IsWithinLimits o.setup × (K.unsettled o.keeper ≡ false)
         × RecordsGive o.setup (K.records o.opened.value) o.book.state × Stays (K.records o.opened.value) (K.records o.keeper)
-        × (o.pool ≡ accounts_in o.setup o.book.state) };
+        × (o.pool ≡ accounts_in o.setup o.book.state) × BeginsAt o.setup o.book.state o.board
+        × (o.writer ≡ record { table = o.board.table; log = []; claimed = [] })
+        × (o.pass ≡ record { table = o.board.table; seen = []; mine = []; polled = [] }) };
 }
 
 impl<K: Keeper, P: Printer> Drop for Opened<K, P> {
@@ -68,7 +79,11 @@ impl<K: Keeper, P: Printer> Drop for Opened<K, P> {
             opened: _,
             keeper: _,
             book: _,
+            printer: _,
             pool: _,
+            board: _,
+            writer: _,
+            pass: _,
         } = self;
     }
 }
@@ -116,33 +131,41 @@ impl<K: Keeper, P: Printer> Opened<K, P> {
         };
         match reopen(alloc, keys, &mut keeper, setup, printer) {
             Err(fault) => Err((fault, keeper)),
-            Ok((book, accounts)) => match in_pool(alloc, &book, accounts) {
+            Ok((book, accounts)) => match made_ready(alloc, &own, &book, accounts) {
                 Err(OutOfMemory) => Err((OpenFault::OutOfMemory, keeper)),
-                Ok(pool) => Ok(Opened {
+                Ok((pool, (board, writer, pass))) => Ok(Opened {
                     alloc,
                     setup: own,
                     opened,
                     keeper,
                     book,
+                    printer,
                     pool,
+                    board,
+                    writer,
+                    pass,
                 }),
             },
         }
     }
 
-    /// The setup, and the locked bank. Takes no memory.
-    pub fn into_locked<N: BankName>(self) -> (Setup, LockedBank<N, K, P>)
+    /// What the bank that `N` names is made of, and its first pass. Takes no memory.
+    pub fn into_parts<N: BankName>(self) -> (Parts<N, K, P>, Pass)
         requires setup { self.setup ≡ N.setup }
         requires opening { self.state ≡ N.opening }
         requires first { self.opened ≡ N.first }
-        ensures setup { result.0 ≡ N.setup }
-        ensures of { result.1.setup ≡ N.setup }
-        ensures state { result.1.state ≡ N.opening }
-        ensures log { result.1.log ≡ [] }
-        ensures pending { result.1.pending ≡ None }
-        ensures records { result.1.records ≡ self.records }
+        requires board { self.board ≡ N.board }
+        ensures setup { result.0.setup ≡ N.setup }
+        ensures board { result.0.board ≡ N.board }
+        ensures of { result.0.locked.setup ≡ N.setup }
+        ensures state { result.0.locked.state ≡ N.opening }
+        ensures log { result.0.locked.log ≡ [] }
+        ensures pending { result.0.locked.pending ≡ None }
+        ensures records { result.0.locked.records ≡ self.records }
         ensures holds { RecordsGive N.setup N.first N.opening }
         ensures within { IsWithinLimits N.setup }
+        ensures begins { BeginsAt N.setup N.opening N.board }
+        ensures pass { result.1 ≡ record { table = N.board.table; seen = []; mine = []; polled = [] } }
     {
         let Opened {
             alloc,
@@ -150,22 +173,103 @@ impl<K: Keeper, P: Printer> Opened<K, P> {
             opened: _,
             keeper,
             book,
+            printer,
             pool,
+            board,
+            writer,
+            pass,
         } = self;
-        let journal = Journal::new(alloc, keeper, book);
-        (setup, LockedBank::new(alloc, journal, pool))
+        let journal = Journal::new(alloc, keeper, book, writer);
+        let parts = Parts {
+            alloc,
+            setup,
+            printer,
+            board,
+            locked: LockedBank::new(alloc, journal, pool),
+        };
+        (parts, pass)
     }
 }
 
-/// The accounts of the bank of a book, all of them in the pool.
-fn in_pool<P: Printer>(
+/// What a bank is made of.
+pub struct Parts<N: BankName, K: Keeper, P: Printer> {
+    /// For its polls.
+    pub alloc: Global,
+    /// Its setup.
+    pub setup: Setup,
+    /// The printer of its polls' replies.
+    pub printer: P,
+    /// The board of its newest tokens.
+    pub board: Board,
+    /// What is behind its lock.
+    pub locked: LockedBank<N, K, P>,
+}
+
+impl<N: BankName, K: Keeper, P: Printer> Parts<N, K, P> {
+    /// Its fields, in their order. Takes no memory.
+    pub(crate) fn into_fields(self) -> (Global, Setup, P, Board, LockedBank<N, K, P>)
+        ensures setup { result.1 ≡ self.setup }
+        ensures board { result.3 ≡ self.board }
+        ensures locked { result.4 ≡ self.locked }
+    {
+        let Parts {
+            alloc,
+            setup,
+            printer,
+            board,
+            locked,
+        } = self;
+        (alloc, setup, printer, board, locked)
+    }
+}
+
+impl<N: BankName, K: Keeper, P: Printer> Drop for Parts<N, K, P> {
+    fn drop(self) {
+        let Parts {
+            alloc: _,
+            setup: _,
+            printer: _,
+            board: _,
+            locked: _,
+        } = self;
+    }
+}
+
+/// The pool of all accounts, and the board with its writer and its first pass.
+fn made_ready<P: Printer>(
     alloc: Global,
+    setup: &Setup,
     book: &Book<P>,
     accounts: Vec<Account>,
-) -> Result<AccountPool, OutOfMemory>
-    requires { AreAccountsIn book.now.setup book.now.state accounts.items }
-    ensures { IfOk result (λ pool. pool ≡ accounts_in book.now.setup book.now.state) }
+) -> Result<(AccountPool, (Board, Writer, Pass)), OutOfMemory>
+    requires setup { setup.now ≡ book.now.setup }
+    requires accounts { AreAccountsIn book.now.setup book.now.state accounts.items }
+    ensures pool { IfOk result (λ made. made.0 ≡ accounts_in book.now.setup book.now.state) }
+    ensures begins { IfOk result (λ made. BeginsAt book.now.setup book.now.state made.1.0) }
+    ensures writer { IfOk result (λ made. made.1.1 ≡ record { table = made.1.0.table; log = []; claimed = [] }) }
+    ensures pass { IfOk result (λ made. made.1.2 ≡ record { table = made.1.0.table; seen = []; mine = []; polled = [] }) }
 {
-    let _ = book;
-    AccountPool::from_vec(alloc, accounts)
+    let pool = AccountPool::from_vec(alloc, accounts)?;
+    let start = newest_numbers(alloc, setup, book)?;
+    let made = Board::new(alloc, &start)?;
+    Ok((pool, made))
+}
+
+/// The newest number of each object.
+fn newest_numbers<P: Printer>(
+    alloc: Global,
+    setup: &Setup,
+    book: &Book<P>,
+) -> Result<Vec<u64>, OutOfMemory>
+    requires { setup.now ≡ book.now.setup }
+    ensures { IfOk result (λ numbers. AreNewest book.now.setup book.now.state numbers.items) }
+{
+    // For the proof alone: its contract says that the setup is within its limits.
+    let _setup = book.setup();
+    let count = 3 * setup.accounts.items().len() + setup.users.items().len();
+    let mut numbers = Vec::with_capacity(alloc, count)?;
+    for object in 0..count {
+        numbers.push(book.newest(ObjectId(object as u32)))?;
+    }
+    Ok(numbers)
 }

@@ -146,6 +146,7 @@ fn all_served<N: BankName + Send + Sync, R: Threads + Wait + Sync, K: Keeper + S
     requires setup { opened.setup ≡ N.setup }
     requires opening { opened.state ≡ N.opening }
     requires first { opened.opened ≡ N.first }
+    requires board { opened.board ≡ N.board }
 {
     match serve_all::<N, _, _, _, _, _, _, _>(
         threads,

@@ -1,10 +1,12 @@
 //! The bank as a server: how it opens, and its connections and workers, over links and doorways in memory and over a socket.
 
 mod both;
+mod crowd;
 mod posts;
 mod sockets;
 
 ghost use Rattle.std.specs.Prelude.{◌≡◌, false, is_some};
+ghost use Rattle.bank_shared.specs.Holds.{IsPassOf};
 
 use crate::connections::{at_noon, posted, sample_reply, sample_request, sample_times};
 use crate::one_thread::written_over;
@@ -75,6 +77,7 @@ fn connected<N: BankName, R: Abort + Wait>(
     requires setup { opened.setup ≡ N.setup }
     requires opening { opened.state ≡ N.opening }
     requires first { opened.opened ≡ N.first }
+    requires board { opened.board ≡ N.board }
 {
     let (bank, mut pass) = Bank::<N, _, _>::begin(opened);
     connected_by(rt, alloc, &bank, &mut pass, link)
@@ -87,7 +90,10 @@ fn connected_by<N: BankName, R: Abort + Wait>(
     bank: &Bank<N, MemKeeper, OfxPrinter>,
     pass: &mut Pass,
     link: &mut MemLink,
-) -> Served {
+) -> Served
+    requires { IsPassOf N.setup N.opening N.board pass.old }
+    ensures { IsPassOf N.setup N.opening N.board pass.new }
+{
     let mut clock = at_noon(rt, alloc);
     let served = serve_connection(bank, rt, alloc, pass, link, &mut clock, &OpenGate);
     served.expect(rt, "a connection to its end")
@@ -206,12 +212,12 @@ fn kept_by_one(rt: &impl Abort, alloc: Global) -> MemKeeper
 fn what_is_due_is_done_before_a_link_is_served(rt: HostRuntime) {
     let alloc = rt.alloc();
     let kept = kept_by_one(&rt, alloc);
-    let (keeper, first) = PostKeeper::over(alloc, kept).expect(&rt, "a keeper");
+    let (keeper, noted) = PostKeeper::over(alloc, kept).expect(&rt, "a keeper");
     let opened = opened_from(&rt, alloc, keeper);
     let clock = MemClock::new(alloc, &[FEBRUARY]).expect(&rt, "a clock");
     let all = served_twice(&rt, alloc, opened, clock, 1);
     same(&rt, all.status, Status(0));
-    assert!(rt; first.is_post());
+    assert!(rt; noted.begin_with_post());
     for worked in &all.ends {
         same(&rt, worked.end.served, 1);
         for link in worked.door.back() {

@@ -2,6 +2,7 @@
 
 ghost use Rattle.std.specs.Prelude.{◌≡◌, false, is_some};
 ghost use Rattle.ofx_types.specs.Calendar.{IsMoment};
+ghost use Rattle.bank_shared.specs.Holds.{IsPassOf};
 
 use crate::callers::asked;
 use crate::same::same;
@@ -35,7 +36,9 @@ fn run_at<N: BankName, R: Abort + Wait>(
     pass: &mut Pass,
     at: Moment,
 ) -> String
-    requires { IsMoment at.0 }
+    requires moment { IsMoment at.0 }
+    requires pass { IsPassOf N.setup N.opening N.board pass.old }
+    ensures { IsPassOf N.setup N.opening N.board pass.new }
 {
     match due_run(bank, rt, pass, at, &OpenGate) {
         Ok(count) => numbered(rt, alloc, "did", u64::from(count)),
@@ -54,6 +57,7 @@ fn reported_of_runs<N: BankName, R: Abort + Wait>(
     requires setup { opened.setup ≡ N.setup }
     requires opening { opened.state ≡ N.opening }
     requires first { opened.opened ≡ N.first }
+    requires board { opened.board ≡ N.board }
 {
     let (bank, mut pass) = Bank::<N, _, _>::begin(opened);
     runs_at(rt, alloc, &bank, &mut pass)
@@ -65,7 +69,9 @@ fn runs_at<N: BankName, R: Abort + Wait>(
     alloc: Global,
     bank: &Bank<N, MemKeeper, OfxPrinter>,
     pass: &mut Pass,
-) -> (String, String) {
+) -> (String, String)
+    requires { IsPassOf N.setup N.opening N.board pass.old }
+{
     let waiting = [TRANSFER, DUE_LATER, RENAMED, TRANSFER, DUE_LATER_TOO];
     let file = request_with(rt, alloc, &waiting);
     let _waits = asked(rt, alloc, bank, pass, &file, NOON);

@@ -5,7 +5,7 @@ use crate::same::same;
 use crate::sample::{failing, keys, reply_with, report, request_with, setup};
 use crate::script::{Call, reported_over};
 use bank_replay::OpenFault;
-use bank_samples::changes::{DUE_LATER, NAMED, NEXT_DAY, NOON, POLL};
+use bank_samples::changes::{DUE_LATER, NAMED, NEXT_DAY, NOON};
 use bank_samples::transfer::{PAID, POSTED, SOURCE_BALANCE, TRANSFER};
 use bank_shared::Opened;
 use ofx_file::OfxPrinter;
@@ -212,28 +212,6 @@ fn what_is_due_happens_once(rt: HostRuntime) {
         let reported = reported_over(&rt, alloc, keeper, &[NOON, NEXT_DAY], &calls);
         assert!(rt; reported.strip_suffix(lines).is_some());
     }
-}
-
-/// A poll is answered while a file is pending, as if it never had been, and settles nothing.
-#[test]
-fn a_poll_looks_at_what_was_answered(rt: HostRuntime) {
-    let alloc = rt.alloc();
-    let file = request_with(&rt, alloc, &[TRANSFER]);
-    let poll = request_with(&rt, alloc, &POLL);
-    let keeper = failing(&rt, alloc, &[1], &[1]);
-    let calls = [
-        Call::File(&file),
-        Call::File(&poll),
-        Call::Due,
-        Call::File(&poll),
-    ];
-    let reported = reported_over(&rt, alloc, keeper, &[NOON], &calls);
-    let (pending, settled) = reported.split_once("nothing due\n").unwrap_or(("", ""));
-    assert!(rt; pending.starts_with("keeper 1\npending file\nFILE "));
-    assert!(rt; pending.contains("<TOKEN>0\r\n"));
-    assert!(rt; pending.ends_with("pending file\n"));
-    assert!(rt; settled.contains("<TOKEN>1\r\n"));
-    assert!(rt; settled.ends_with("next entry 2\n"));
 }
 
 /// The keeper comes back with what it keeps.

@@ -3,10 +3,11 @@
 
 ghost use Rattle.std.specs.Prelude.{◌≡◌, ◌<◌, false, is_some, length, All};
 ghost use Rattle.ofx_types.specs.Calendar.{IsMoment};
+ghost use Rattle.bank_shared.specs.Holds.{IsPassOf};
 
 use crate::sample::{numbered, opened_over, report, text};
 use bank_model::{Event, SubmitFault};
-use bank_shared::{Advance, BankName, LockedBank, Opened};
+use bank_shared::{Advance, BankName, LockedBank, Opened, Parts, Pass};
 use bank_signon::{Judgement, judge};
 use ofx_file::OfxPrinter;
 use ofx_ports::{Clock, MemClock, MemKeeper};
@@ -51,26 +52,31 @@ fn reported<N: BankName, R: Abort>(
     requires setup { opened.setup ≡ N.setup }
     requires opening { opened.state ≡ N.opening }
     requires first { opened.opened ≡ N.first }
+    requires board { opened.board ≡ N.board }
 {
-    let (_setup, mut locked) = opened.into_locked::<N>();
-    reported_by(rt, alloc, &mut locked, clock, calls)
+    let (mut parts, mut pass) = opened.into_parts::<N>();
+    reported_by(rt, alloc, &mut parts, &mut pass, clock, calls)
 }
 
-/// What the calls of a locked bank tell and leave pending, and the number of the next entry.
+/// What the calls of a bank behind its lock tell and leave pending, and the number of the next entry.
 fn reported_by<N: BankName, R: Abort>(
     rt: &R,
     alloc: Global,
-    locked: &mut LockedBank<N, MemKeeper, OfxPrinter>,
+    parts: &mut Parts<N, MemKeeper, OfxPrinter>,
+    pass: &mut Pass,
     clock: &mut MemClock,
     calls: &[Call<'_>],
-) -> String {
+) -> String
+    requires board { parts.old.board ≡ N.board }
+    requires pass { IsPassOf N.setup N.opening N.board pass.old }
+{
     let mut reported = String::new(alloc);
     for call in calls {
         let at = clock.now();
-        report(rt, &mut reported, &answer(rt, alloc, locked, call, at));
-        report(rt, &mut reported, &pending(rt, alloc, locked));
+        report(rt, &mut reported, &answer(rt, alloc, parts, pass, call, at));
+        report(rt, &mut reported, &pending(rt, alloc, &parts.locked));
     }
-    report(rt, &mut reported, &next_entry(rt, alloc, locked));
+    report(rt, &mut reported, &next_entry(rt, alloc, &parts.locked));
     reported
 }
 
@@ -78,18 +84,26 @@ fn reported_by<N: BankName, R: Abort>(
 fn answer<N: BankName, R: Abort>(
     rt: &R,
     alloc: Global,
-    locked: &mut LockedBank<N, MemKeeper, OfxPrinter>,
+    parts: &mut Parts<N, MemKeeper, OfxPrinter>,
+    pass: &mut Pass,
     call: &Call<'_>,
     at: Moment,
 ) -> String
-    requires { IsMoment at.0 }
+    requires moment { IsMoment at.0 }
+    requires board { parts.old.board ≡ N.board }
+    requires pass { IsPassOf N.setup N.opening N.board pass.old }
+    ensures board { parts.new.board ≡ N.board }
+    ensures pass { IsPassOf N.setup N.opening N.board pass.new }
 {
     match call {
         Call::File(framed) => {
             let (_, text) = framed.split_once("\n").unwrap_or(("", ""));
-            file_answer(rt, alloc, locked, text.as_bytes(), at)
+            file_answer(rt, alloc, parts, pass, text.as_bytes(), at)
         }
-        Call::Due => advance_line(rt, alloc, &locked.advance(at)),
+        Call::Due => {
+            let advanced = parts.locked.advance(&parts.board, pass, at);
+            advance_line(rt, alloc, &advanced)
+        }
     }
 }
 
@@ -108,27 +122,32 @@ pub fn advance_line(
     }
 }
 
-/// The answer to a file, in a frame.
+/// The answer to a file that is no poll, in a frame.
 fn file_answer<N: BankName, R: Abort>(
     rt: &R,
     alloc: Global,
-    locked: &mut LockedBank<N, MemKeeper, OfxPrinter>,
+    parts: &mut Parts<N, MemKeeper, OfxPrinter>,
+    pass: &mut Pass,
     bytes: &[u8],
     at: Moment,
 ) -> String
-    requires { IsMoment at.0 }
+    requires moment { IsMoment at.0 }
+    requires board { parts.old.board ≡ N.board }
+    requires pass { IsPassOf N.setup N.opening N.board pass.old }
+    ensures board { parts.new.board ≡ N.board }
+    ensures pass { IsPassOf N.setup N.opening N.board pass.new }
 {
     if bytes.len() > 262_144 {
         return text(rt, alloc, "too long\n");
     }
-    let judged = judge(alloc, locked.journal().book().setup(), bytes);
+    let judged = judge(alloc, parts.locked.journal().book().setup(), bytes);
     let judged = judged.expect(rt, "a judgement");
     match &judged {
-        Judgement::Event(user, file) => reply_lines(rt, alloc, &locked.submit(*user, file, at)),
-        Judgement::Poll(user, file) => {
-            let reply = locked.poll(*user, file, at).expect(rt, "a reply");
-            framed(rt, alloc, &reply)
+        Judgement::Event(user, file) => {
+            let reply = parts.locked.submit(&parts.board, pass, *user, file, at);
+            reply_lines(rt, alloc, &reply)
         }
+        Judgement::Poll(_, _) => text(rt, alloc, "a poll\n"),
         Judgement::Denied(_) => text(rt, alloc, "denied\n"),
         Judgement::Refused(offset) => numbered(rt, alloc, "refused at", *offset),
     }

@@ -1,4 +1,4 @@
-//! Connections over a bank of one caller whose keeper fails.
+//! Connections over a bank whose keeper fails.
 
 ghost use Rattle.std.specs.Prelude.{◌≡◌, false, is_some};
 
@@ -8,14 +8,15 @@ use crate::sample::{put, reply_with, request_with};
 use crate::servers::opened_from;
 use bank_connection::Served;
 use bank_samples::transfer::{PAID, POSTED, SOURCE_BALANCE, TRANSFER};
-use bank_server::SoloOffice;
-use bank_shared::{BankName, Opened};
+use bank_server::serve_connection;
+use bank_shared::{Bank, BankName, Opened};
 use ofx_file::OfxPrinter;
-use ofx_ports::{MemClock, MemKeeper, MemLink};
+use ofx_ports::{MemClock, MemKeeper, MemLink, OpenGate};
 use ofx_types::Moment;
 use std::alloc::Global;
 use std::marker::Brand;
 use std::process::Abort;
+use std::sync::Wait;
 
 /// 31 January 2024, 13:00:00.
 const AN_HOUR_LATER: Moment = Moment(1_706_706_000);
@@ -41,47 +42,34 @@ fn link(rt: &impl Abort, alloc: Global, bytes: &[u8]) -> MemLink {
     MemLink::of(source(rt, alloc, bytes), sink(rt, alloc, ROOM))
 }
 
-/// What becomes of a link whose peer sends these bytes, over a bank of one caller, the first of whose files comes at noon and
-/// the second an hour later; and the number of the entry that would come next.
-fn alone<N: BankName, R: Abort>(
+/// What becomes of a link whose peer sends these bytes, over a bank of which the first file comes at noon and the second an hour
+/// later.
+fn served_by<N: BankName, R: Abort + Wait>(
     rt: &R,
     alloc: Global,
     opened: Opened<MemKeeper, OfxPrinter>,
     bytes: &[u8],
-) -> (Outcome, Option<u64>)
+) -> Outcome
     requires setup { opened.setup ≡ N.setup }
     requires opening { opened.state ≡ N.opening }
     requires first { opened.opened ≡ N.first }
+    requires board { opened.board ≡ N.board }
 {
-    let mut office = SoloOffice::<N, _, _>::new(opened);
-    served_alone(rt, alloc, &mut office, bytes)
-}
-
-/// The same by the bank's office.
-fn served_alone<N: BankName, R: Abort>(
-    rt: &R,
-    alloc: Global,
-    office: &mut SoloOffice<N, MemKeeper, OfxPrinter>,
-    bytes: &[u8],
-) -> (Outcome, Option<u64>) {
+    let (bank, mut pass) = Bank::<N, _, _>::begin(opened);
     let mut clock = MemClock::new(alloc, &[NOON, AN_HOUR_LATER]).expect(rt, "a clock");
     let mut link = link(rt, alloc, bytes);
-    let served = office.serve(alloc, &mut link, &mut clock);
-    let next = office.locked().journal().book().next_number();
+    let served = serve_connection(
+        &bank, rt, alloc, &mut pass, &mut link, &mut clock, &OpenGate,
+    );
     let written = link.held().to_vec(alloc).expect(rt, "room");
-    ((served, written), next)
+    (served, written)
 }
 
-/// The same over a bank of one caller with this keeper, and the number of the entry that would come next.
-fn over_one<R: Abort>(
-    rt: &R,
-    alloc: Global,
-    keeper: MemKeeper,
-    bytes: &[u8],
-) -> (Outcome, Option<u64>)
+/// The same over a bank with this keeper.
+fn over<R: Abort + Wait>(rt: &R, alloc: Global, keeper: MemKeeper, bytes: &[u8]) -> Outcome
     requires { is_some keeper.landed ≡ false }
 {
-    alone::<Brand, _>(rt, alloc, opened_from(rt, alloc, keeper), bytes)
+    served_by::<Brand, _>(rt, alloc, opened_from(rt, alloc, keeper), bytes)
 }
 
 /// The named file with the transfer, twice.
@@ -114,8 +102,8 @@ fn a_file_whose_append_failed_happens_once(rt: HostRuntime) {
     let bytes = named_twice(&rt, alloc);
     for (landing, moment) in LANDINGS {
         let keeper = MemKeeper::failing(alloc, &[1], landing).expect(&rt, "a keeper");
-        let ((end, written), next) = over_one(&rt, alloc, keeper, &bytes);
-        same(&rt, (end, next), (Ok(Served::End(2)), Some(2)));
+        let (end, written) = over(&rt, alloc, keeper, &bytes);
+        same(&rt, end, Ok(Served::End(2)));
         assert!(rt; written == answered_second(&rt, alloc, moment));
     }
 }

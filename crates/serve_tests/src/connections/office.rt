@@ -1,6 +1,6 @@
 //! An office over a bank without records, which says nothing of what it knows.
 
-ghost use Rattle.std.specs.Prelude.{◌≡◌, ◌<◌, [], None, IfOk, IfErr, IfSome, OnErr, true, false, length};
+ghost use Rattle.std.specs.Prelude.{◌≡◌, ◌<◌, [], None, IfOk, IfErr, IfSome, OnErr, true, false, length, ⊤};
 
 use crate::sample::{keys, setup};
 use bank_connection::Office;
@@ -35,6 +35,10 @@ impl Office for BookOffice {
     ghost setup = { λ o. o.bank.setup };
 
     ghost knows = { λ _. None };
+
+    ghost through = { λ _. 0 };
+
+    ghost ready = { λ _. ⊤ };
 
     fn setup(&self) -> &Setup {
         self.bank.book().setup()

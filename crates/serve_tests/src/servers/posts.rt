@@ -1,4 +1,4 @@
-//! A keeper that tells of its first new record, to who made it, whether it is that of a post.
+//! A keeper that tells who made it how many records are new, and whether the first of them is that of a post.
 
 ghost use Rattle.std.specs.Prelude.{◌≡◌, Some, IfOk, false, is_some};
 ghost use Rattle.ofx_ports.specs.States.{settled_size};
@@ -22,34 +22,45 @@ const POSTED: u64 = 1;
 /// It was another one.
 const OTHER: u64 = 2;
 
-/// A keeper in memory that notes what its first new record is, for all who share the note.
+/// A keeper in memory that notes its new records, for all who share the note.
 #[derive(Drop)]
 pub struct PostKeeper {
     pub kept: MemKeeper,
     first: Arc<AtomicU64, Global>,
+    count: Arc<AtomicU64, Global>,
 }
 
-/// What a keeper noted of its first new record.
+/// What a keeper noted of its new records.
 #[derive(Drop)]
-pub struct FirstRecord {
+pub struct NewRecords {
     first: Arc<AtomicU64, Global>,
+    count: Arc<AtomicU64, Global>,
 }
 
-impl FirstRecord {
-    /// Whether it was that of the post.
-    pub fn is_post(&self) -> bool {
+impl NewRecords {
+    /// Whether the first one was that of the post.
+    pub fn begin_with_post(&self) -> bool {
         self.first.load(Ordering::SeqCst) == POSTED
+    }
+
+    /// How many there are.
+    pub fn count(&self) -> u64 {
+        self.count.load(Ordering::SeqCst)
     }
 }
 
 impl PostKeeper {
     /// A keeper that goes on from these records, and its note.
-    pub fn over(alloc: Global, kept: MemKeeper) -> Result<(PostKeeper, FirstRecord), AllocError>
+    pub fn over(alloc: Global, kept: MemKeeper) -> Result<(PostKeeper, NewRecords), AllocError>
         ensures { IfOk result (λ both. both.0.kept ≡ kept) }
     {
         let first = Arc::new(alloc, AtomicU64::new(NONE))?;
-        let again = Arc::try_clone(&first)?;
-        Ok((PostKeeper { kept, first }, FirstRecord { first: again }))
+        let count = Arc::new(alloc, AtomicU64::new(0))?;
+        let noted = NewRecords {
+            first: Arc::try_clone(&first)?,
+            count: Arc::try_clone(&count)?,
+        };
+        Ok((PostKeeper { kept, first, count }, noted))
     }
 }
 
@@ -69,6 +80,7 @@ impl Keeper for PostKeeper {
             let note = if rec == POST { POSTED } else { OTHER };
             self.first.store(note, Ordering::SeqCst);
         }
+        self.count.fetch_add(1, Ordering::SeqCst);
         self.kept.append(rec)
     }
 

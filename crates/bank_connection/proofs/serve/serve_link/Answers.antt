@@ -1,6 +1,6 @@
 use Rattle.std.proofs.Common.{◌≡◌, ◌≤◌, IfSome, arith, refl, ◌∙◌}
 use Rattle.std.proofs.lemmas.Result.{err_from_is_err_and}
-use Rattle.bank_connection.specs.Offices.{IsRightView}
+use Rattle.bank_callers.specs.Callers.{IsRightView}
 use Rattle.bank_connection.proofs.Steps.{start, read_on, goes_on, closes, breaks_so}
 use Rattle.bank_connection.proofs.serve.serve_link.Goals as goal
 
@@ -9,6 +9,8 @@ loop-incoming-init g c = record {
   so_far = rw c.new-incoming.ensures (start _ _);
   few = omega arith;
   setup = refl;
+  through = refl;
+  ready = c.requires;
   right = c.setup-setup.ensures.right;
   reads = omega arith;
   writes = omega arith;
@@ -52,6 +54,8 @@ loop-incoming-preserved g c =
       so_far = goes_on _ c.loop-incoming.served _ _ _ _ _ s (rw (i.setup, c.if-closes.false) at c.in_ok-closes-in-Whole.ensures.exchange);
       few = c.in_ok-closes-in-Whole.ensures.goes_on (rw c.if-closes.false refl);
       setup = c.exchange.ensures.setup ∙ i.setup;
+      through = c.exchange.ensures.through ∙ i.through;
+      ready = c.exchange.ensures.ready;
       right = rw (c.exchange.ensures.setup, i.setup) at c.exchange.ensures.right;
       reads = omega (arith, i.reads, c.next_request.ensures.reads, c.exchange.ensures.reads);
       writes = omega (arith, i.writes, c.next_request.ensures.writes, c.exchange.ensures.writes);

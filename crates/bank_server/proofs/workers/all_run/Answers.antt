@@ -19,7 +19,7 @@ pub map_vec-requires-sync-F : goal.map_vec-requires-sync-F
 map_vec-requires-sync-F g c κs within =
     let b = c.type_bounds in
     let mark : IsSync (lts.of-0 g.row.N g.row.R g.row.K g.row.P g.row.L g.row.D g.row.C g.row.G g.N.laws g.R.laws g.K.laws g.P.laws g.L.laws g.D.laws g.C.laws g.G.laws g.P.copy g.N.BankName g.N.BankName-dict g.R.Threads g.R.Threads-dict g.R.Wait g.R.Wait-dict g.K.Keeper g.K.Keeper-dict g.P.Printer g.P.Printer-dict g.P.Clone g.P.Clone-dict g.L.Link g.L.Link-dict g.D.Doorway g.D.Doorway-dict g.C.Clock g.C.Clock-dict g.G.Gate g.G.Gate-dict g.K.Destruct-dict g.L.Destruct-dict g.D.Destruct-dict g.C.Destruct-dict) = search (sendable, crosses) in
-    let shared = bank_sync (param 0 g.row.N) (param 2 g.row.K) (copied 3 g.row.P) g.N.BankName g.K.Keeper b.send-K b.send-P in
+    let shared = bank_sync (param 0 g.row.N) (param 2 g.row.K) (copied 3 g.row.P) g.N.BankName g.K.Keeper b.send-K b.send-P b.sync-P in
     let runtime : IsSync (param 1 g.row.R) = b.sync-R in
     let gate : IsSync (param 7 g.row.G) = search (b.sync-G) in
     record {

@@ -31,7 +31,7 @@ pub invariant_of-self-in-None : goal.invariant_of-self-in-None
 invariant_of-self-in-None g c =
     let engine = c.self.inside.engine in
     let after = c.send-sent.new.self in
-    let free : after.pending ≡ None = none_event after.pending (sym c.pending.ensures ∙ ap option_copied c.in-None.is) in
+    let free : after.pending ≡ None = none_event after.pending (sym c.pending.ensures.event ∙ ap option_copied c.in-None.is) in
     all_back after.setup after.state c.check_out.new.pool c.check_in.new.self c.send-sent.new.held c.check_in.new.held after.pending
     (lent_sent _ (λ line. line.items) c.send-sent.result _ _ c.args.event c.args.at c.check_out.new.pool c.check_out.new.held c.send-sent.new.held
     c.unnamed_accounts_stay.ensures c.book.ensures.within

@@ -1,9 +1,11 @@
-use Rattle.std.proofs.Common.{◌≡◌, ◌∙◌, refl, sym, ap, subst, Option, List}
+use Rattle.std.proofs.Common.{◌≡◌, ◌∙◌, inl, inr, refl, sym, ap, subst, Option, List}
 use Rattle.bank_accounts.specs.AccountView.{AccountView}
 use Rattle.bank_accounts.specs.Pool.{AreCheckedOut}
 use Rattle.bank_solo.specs.Solo.{accounts_in}
 use Rattle.bank_solo.proofs.Accounts.{held_balanced, same_known}
 use Rattle.bank_engine.proofs.CheckedOutAccounts.{lent_at, lent_committed, commit_setup}
+use Rattle.bank_engine.specs.Views.{JournalView}
+use Rattle.token_board.specs.Publishing.{Meets}
 use Rattle.bank_shared.proofs.CallLemmas.{named_again}
 use Rattle.bank_shared.proofs.locked_bank.LockedBank.commit.Goals as goal
 
@@ -37,3 +39,10 @@ invariant_of-self-2 g c =
           c.commit-committed.ensures.numbers c.commit-committed.ensures.balanced c.commit-committed.ensures.answers c.commit-committed.ensures.fails
           (lent_at old.setup c.book.result.now.setup old.state c.book.result.now.state c.check_out.new.pool c.check_out.new.held c.book.ensures.setup c.book.ensures.state c.in_ok-check_out.ensures.checked_out)),
     )
+
+pub returns-in_err-check_out-clause-pass : goal.returns-in_err-check_out-clause-pass
+returns-in_err-check_out-clause-pass g c = inr (refl, ap (λ (v : JournalView). v.log) c.self.view_is)
+
+pub returns-clause-pass : goal.returns-clause-pass
+returns-clause-pass g c =
+    inl (subst (λ (v : JournalView). Meets g.N.BankName.board v.log c.commit-committed.new.self.log c.args.pass.now c.commit-committed.new.pass) c.self.view_is c.commit-committed.ensures.pass)

@@ -1,7 +1,9 @@
-use Rattle.std.proofs.Common.{◌≡◌, ◌∙◌}
+use Rattle.std.proofs.Common.{◌≡◌, ◌∙◌, inl, inr, refl, ap, subst}
 use Rattle.bank_solo.specs.Solo.{accounts_in}
 use Rattle.bank_solo.proofs.Accounts.{held_balanced, same_known}
-use Rattle.bank_shared.proofs.CallLemmas.{settled_lent, settled_setup}
+use Rattle.bank_engine.specs.Views.{JournalView}
+use Rattle.token_board.specs.Publishing.{Meets}
+use Rattle.bank_shared.proofs.CallLemmas.{on_ok, settled_lent, settled_setup}
 use Rattle.bank_shared.proofs.locked_bank.LockedBank.settle.Goals as goal
 
 pub settle-settled-requires-clause-balanced : goal.settle-settled-requires-clause-balanced
@@ -26,3 +28,15 @@ invariant_of-self-2 g c =
           c.settle-settled.ensures.numbers c.settle-settled.ensures.balanced c.settle-settled.ensures.settled c.settle-settled.ensures.fails
           c.in_ok-check_out_for_pending.ensures.checked_out),
     )
+
+pub returns-in_err-check_out_for_pending-clause-pass : goal.returns-in_err-check_out_for_pending-clause-pass
+returns-in_err-check_out_for_pending-clause-pass g c = inr (refl, ap (λ (v : JournalView). v.log) c.self.view_is)
+
+pub returns-clause-pass : goal.returns-clause-pass
+returns-clause-pass g c =
+    inl (subst (λ (v : JournalView). Meets g.N.BankName.board v.log c.settle-settled.new.self.log c.args.pass.now c.settle-settled.new.pass) c.self.view_is c.settle-settled.ensures.pass)
+
+pub returns-clause-met : goal.returns-clause-met
+returns-clause-met g c =
+    on_ok c.settle-settled.result
+    (subst (λ (v : JournalView). Meets g.N.BankName.board v.log c.settle-settled.new.self.log c.args.pass.now c.settle-settled.new.pass) c.self.view_is c.settle-settled.ensures.pass)

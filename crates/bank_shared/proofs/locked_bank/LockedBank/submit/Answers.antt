@@ -1,17 +1,47 @@
-use Rattle.std.proofs.Common.{◌<◌, ◌∙◌, sym, subst, length}
+use Rattle.std.proofs.Common.{◌<◌, ◌∙◌, inl, sym, subst, length}
 use Rattle.bank_model.specs.declared.setup.Setup.{Setup}
 use Rattle.bank_model.specs.declared.event.Event.TheVariants.{File}
 use Rattle.bank_shared.proofs.CallLemmas.{answers_next, fails_next}
+use Rattle.bank_shared.proofs.Callers.{committed_if, uncommitted_if, unsettled}
+use Rattle.bank_shared.proofs.Met.{is_pass, then_meets}
 use Rattle.bank_shared.proofs.locked_bank.LockedBank.submit.Goals as goal
 
-pub answer-requires-clause-legal : goal.answer-requires-clause-legal
-answer-requires-clause-legal g c =
-    (subst (λ (s : Setup). c.args.user.0 < length s.users) (sym (c.in_ok-settle.ensures.settled.1.setup ∙ c.setup-setup.ensures.own)) c.requires.known, c.requires.sound, c.requires.event)
+pub answer-answered-requires-clause-legal : goal.answer-answered-requires-clause-legal
+answer-answered-requires-clause-legal g c =
+    (subst (λ (s : Setup). c.args.user.0 < length s.users) (sym (c.in_ok-settled.ensures.settled.1.setup ∙ c.setup-setup.ensures.own)) c.requires.known, c.requires.sound, c.requires.event)
+
+pub returns-in_err-settled-clause-refused : goal.returns-in_err-settled-clause-refused
+returns-in_err-settled-clause-refused g c =
+    unsettled g.N.BankName.setup g.N.BankName.opening g.N.BankName.board c.args.self.now c.settle-settled.new.self c.args.pass.now c.settle-settled.new.pass c.args.user c.args.file.now c.args.at c.in_err-settled.field-0.0
+    c.tokens_are_the_banks.ensures.hold c.log_holds.ensures.begins c.settle-settled.ensures.pass c.in_err-settled.ensures.fails
+
+pub returns-in_err-settled-clause-pass : goal.returns-in_err-settled-clause-pass
+returns-in_err-settled-clause-pass g c =
+    is_pass g.N.BankName.setup g.N.BankName.opening g.N.BankName.board c.args.self.now.log c.settle-settled.new.self.log c.args.pass.now c.settle-settled.new.pass c.requires.pass c.log_holds.ensures.legal c.settle-settled.ensures.pass
 
 pub returns-clause-answers : goal.returns-clause-answers
 returns-clause-answers g c =
-    answers_next (λ reply. reply.items) c.answer.result c.args.self.now c.settle.new.self c.answer.new.self (File c.args.user c.args.file.now) c.args.at c.in_ok-settle.ensures.settled c.answer.ensures.answers
+    answers_next (λ reply. reply.items) c.answer-answered.result c.args.self.now c.settle-settled.new.self c.answer-answered.new.self (File c.args.user c.args.file.now) c.args.at c.in_ok-settled.ensures.settled c.answer-answered.ensures.answers
 
 pub returns-clause-fails : goal.returns-clause-fails
 returns-clause-fails g c =
-    fails_next c.answer.result c.args.self.now c.settle.new.self c.answer.new.self (File c.args.user c.args.file.now) c.args.at c.in_ok-settle.ensures.settled c.answer.ensures.fails
+    fails_next c.answer-answered.result c.args.self.now c.settle-settled.new.self c.answer-answered.new.self (File c.args.user c.args.file.now) c.args.at c.in_ok-settled.ensures.settled c.answer-answered.ensures.fails
+
+pub returns-clause-answered : goal.returns-clause-answered
+returns-clause-answered g c =
+    committed_if (λ reply. reply.items) c.answer-answered.result g.N.BankName.setup g.N.BankName.opening g.N.BankName.board c.args.self.now c.answer-answered.new.self c.args.pass.now c.answer-answered.new.pass c.args.user c.args.file.now c.args.at
+    c.tokens_are_the_banks.ensures.hold c.log_holds.ensures.begins
+    (then_meets g.N.BankName.board c.args.self.now.log c.settle-settled.new.self.log c.answer-answered.new.self.log c.args.pass.now c.settle-settled.new.pass c.answer-answered.new.pass c.in_ok-settled.ensures.met c.answer-answered.ensures.pass)
+    (answers_next (λ reply. reply.items) c.answer-answered.result c.args.self.now c.settle-settled.new.self c.answer-answered.new.self (File c.args.user c.args.file.now) c.args.at c.in_ok-settled.ensures.settled c.answer-answered.ensures.answers)
+
+pub returns-clause-refused : goal.returns-clause-refused
+returns-clause-refused g c =
+    uncommitted_if c.answer-answered.result g.N.BankName.setup g.N.BankName.opening g.N.BankName.board c.args.self.now c.settle-settled.new.self c.answer-answered.new.self c.args.pass.now c.answer-answered.new.pass c.args.user c.args.file.now c.args.at
+    c.tokens_are_the_banks.ensures.hold c.log_holds.ensures.begins
+    (then_meets g.N.BankName.board c.args.self.now.log c.settle-settled.new.self.log c.answer-answered.new.self.log c.args.pass.now c.settle-settled.new.pass c.answer-answered.new.pass c.in_ok-settled.ensures.met c.answer-answered.ensures.pass)
+    c.in_ok-settled.ensures.settled c.answer-answered.ensures.fails
+
+pub returns-clause-pass : goal.returns-clause-pass
+returns-clause-pass g c =
+    is_pass g.N.BankName.setup g.N.BankName.opening g.N.BankName.board c.args.self.now.log c.answer-answered.new.self.log c.args.pass.now c.answer-answered.new.pass c.requires.pass c.log_holds-2.ensures.legal
+    (inl (then_meets g.N.BankName.board c.args.self.now.log c.settle-settled.new.self.log c.answer-answered.new.self.log c.args.pass.now c.settle-settled.new.pass c.answer-answered.new.pass c.in_ok-settled.ensures.met c.answer-answered.ensures.pass))

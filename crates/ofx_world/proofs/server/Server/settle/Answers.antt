@@ -1,5 +1,9 @@
+use Rattle.bank_engine.proofs.EngineLemmas.{nothing_asked}
 use Rattle.ofx_world.proofs.Serving.{settles_so}
 use Rattle.ofx_world.proofs.server.Server.settle.Goals as goal
+
+pub settle-requires-clause-expected : goal.settle-requires-clause-expected
+settle-requires-clause-expected c = nothing_asked c.self.inside.engine.setup c.self.inside.engine.state c.self.inside.engine.pending
 
 pub returns-clause-settled : goal.returns-clause-settled
 returns-clause-settled c =

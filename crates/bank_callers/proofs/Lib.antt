@@ -1,0 +1,5 @@
+pub mod Printing
+pub mod Belonging
+pub mod Numbering
+pub mod Tokens
+pub mod Following

@@ -1,0 +1,4 @@
+pub mod Belonging
+pub mod Polled
+pub mod Callers
+pub mod Boards

@@ -1,0 +1,24 @@
+use Rattle.std.proofs.Common.{rules}
+use Rattle.bank_shared.proofs.Publishes.{first_of, may_next}
+use Rattle.bank_shared.proofs.publishing.BoardLogPublisher.effects.Goals as goal
+
+pub publish_effect-requires-clause-object : goal.publish_effect-requires-clause-object
+publish_effect-requires-clause-object c =
+    (first_of c.loop-entry.self.board.now c.loop-entry.self.writer.now c.args.entries.now c.loop-entry.entry-index c.entry-item.result
+    c.loop-entry-test.true c.entry-item.is c.loop-entry.invariant.may).0
+
+pub publish_effect-requires-clause-above : goal.publish_effect-requires-clause-above
+publish_effect-requires-clause-above c =
+    (first_of c.loop-entry.self.board.now c.loop-entry.self.writer.now c.args.entries.now c.loop-entry.entry-index c.entry-item.result
+    c.loop-entry-test.true c.entry-item.is c.loop-entry.invariant.may).1
+
+pub loop-entry-preserved : goal.loop-entry-preserved
+loop-entry-preserved c = record {
+  log = search rules;
+  claimed = search rules;
+  table = search rules;
+  through = search rules;
+  board = search rules;
+  may = may_next c.loop-entry.self.board.now c.loop-entry.self.writer.now c.publish_effect.new.self c.args.entries.now c.loop-entry.entry-index c.entry-item.result
+      c.loop-entry-test.true c.entry-item.is c.publish_effect.ensures.log c.loop-entry.invariant.may;
+}
