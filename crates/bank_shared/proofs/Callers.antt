@@ -25,7 +25,7 @@ use Rattle.bank_shared.specs.Calls.{IsSettled, LeavesPending, AnswersNext, Fails
 use Rattle.bank_shared.specs.Holds.{BeginsAt, MeetsOrStays, caller_of}
 use Rattle.bank_shared.specs.declared.advance.Advance.{Advance}
 use Rattle.bank_shared.specs.declared.advance.Advance.TheVariants.{Done, Gone, Nothing}
-use Rattle.bank_shared.proofs.Met.{ClaimsNone, none_of_effects, none_of_both, none_of_adopted, one_of_answer, one_of_fault, gains_ending, gains_nothing, gains_stays, sees_more, no_longer}
+use Rattle.bank_shared.proofs.Meeting.{ClaimsNone, none_of_effects, none_of_both, none_of_adopted, one_of_answer, one_of_fault, gains_ending, gains_nothing, gains_stays, sees_more, no_longer}
 
 -- ---- what settling adds to the log, of which nothing is a caller's
 

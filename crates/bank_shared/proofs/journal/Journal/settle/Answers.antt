@@ -20,7 +20,7 @@ settle_at-settled-requires-clause-expected g c =
     let writer = of_board g.N.BankName.setup g.N.BankName.opening g.N.BankName.board c.args.board.now c.self.inside.writer c.hear.new.self c.requires.board c.hear.ensures.same.0 c.self.invariant.1 in
     may_settle g.N.BankName.setup g.N.BankName.opening g.N.BankName.first c.args.board.now c.hear.new.self _ c.self.inside.engine.pending
     c.steps_follow.ensures c.entries_belong.ensures.logs c.self.invariant.0 (ap (λ (w : WriterView). w.log) (sym c.hear.ensures.same.0)) writer
-    c.book.ensures.within c.book.ensures.sound c.pending.ensures.may
+    c.book-book.ensures.within c.book-book.ensures.sound c.pending-pending.ensures.may
 
 pub settle_at-settled-requires-clause-free : goal.settle_at-settled-requires-clause-free
 settle_at-settled-requires-clause-free g c =

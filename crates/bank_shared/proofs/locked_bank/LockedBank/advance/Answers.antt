@@ -1,6 +1,6 @@
 use Rattle.std.proofs.Common.{◌∙◌, inl, sym, ap}
 use Rattle.bank_shared.proofs.Callers.{done, idle, nothing, undone}
-use Rattle.bank_shared.proofs.Met.{is_pass, then_meets}
+use Rattle.bank_shared.proofs.Meeting.{is_pass, then_meets}
 use Rattle.bank_shared.proofs.locked_bank.LockedBank.advance.Goals as goal
 
 pub returns-in_err-settled-clause-refused : goal.returns-in_err-settled-clause-refused

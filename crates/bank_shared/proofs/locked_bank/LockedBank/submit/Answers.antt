@@ -3,7 +3,7 @@ use Rattle.bank_model.specs.declared.setup.Setup.{Setup}
 use Rattle.bank_model.specs.declared.event.Event.TheVariants.{File}
 use Rattle.bank_shared.proofs.CallLemmas.{answers_next, fails_next}
 use Rattle.bank_shared.proofs.Callers.{committed_if, uncommitted_if, unsettled}
-use Rattle.bank_shared.proofs.Met.{is_pass, then_meets}
+use Rattle.bank_shared.proofs.Meeting.{is_pass, then_meets}
 use Rattle.bank_shared.proofs.locked_bank.LockedBank.submit.Goals as goal
 
 pub answer-answered-requires-clause-legal : goal.answer-answered-requires-clause-legal
