@@ -162,6 +162,16 @@ looked setup user file at reply replies before after so is = record { loads = so
 pub loaded_none : (caller : CallerView) → HasLoaded caller caller
 loaded_none caller = record { opening = refl; seen = refl; mine = refl; loads = []; polled = sym (append-nil caller.polled) }
 
+-- the same asks, lent
+pub all_asked : (setup : Setup) (user : UserId) (lent all : List Ask) (replies : List AskReply) (before after : CallerView) → lent ≡ all → HasAsked setup user lent replies before after
+    → HasAsked setup user all replies before after
+all_asked setup user lent all replies before after same so = record {
+  loads = so.loads;
+  are_loads = so.are_loads ∙ ap (map (object_asked setup user)) same;
+  answers = so.answers ∙ ap (λ (l : List Ask). answers_reported l so.loads) same;
+  polled = so.polled;
+}
+
 -- ---- what a poll answered
 
 pub looked_if : {A E : Type 0} (items : A → List ℕ) (result : Result A E) (setup : Setup) (user : UserId) (file : RequestFile) (at : Moment) (replies : List AskReply) (before after : CallerView)

@@ -127,6 +127,12 @@ due_at : (setup own : Setup) (state look : State) (at : Moment) (answer : Option
 due_at setup own state look at answer whose is due_is =
     subst (λ (S : State). due setup S at ≡ answer) is (subst (λ (s : Setup). due s state at ≡ answer) whose due_is)
 
+-- as the book's look has found it
+pub due_seen : (setup own : Setup) (state held : State) (at : Moment) (found answer : Option Event) → own ≡ setup → held ≡ state → found ≡ due own held at → found ≡ answer
+    → due setup state at ≡ answer
+due_seen setup own state held at found answer whose is seen answered =
+    subst (λ (s : Setup). due s state at ≡ answer) whose (subst (λ (S : State). due own S at ≡ answer) is (sym seen ∙ answered))
+
 pub done : (setup : Setup) (opening : State) (board : BoardView) (old between new : JournalView) (before after : PassView) (event : Event) (at : Moment) (reply : List ℕ)
     → TokensHold → BeginsAt setup opening board → Meets board old.log new.log before after → IsSettled old between → between.setup ≡ setup
     → between.state ≡ ends setup opening between.log → due between.setup between.state at ≡ Some event → Answers between new event at reply
