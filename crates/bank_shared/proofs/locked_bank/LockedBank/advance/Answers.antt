@@ -43,11 +43,11 @@ returns-in_err-_reply-in-Some-clause-refused g c =
 pub returns-in_err-_reply-in-Some-clause-pass : goal.returns-in_err-_reply-in-Some-clause-pass
 returns-in_err-_reply-in-Some-clause-pass g c =
     is_pass g.N.BankName.setup g.N.BankName.opening g.N.BankName.board c.args.self.now.log c.commit-committed.new.self.log c.args.pass.now c.commit-committed.new.pass c.requires.pass
-    (subst (λ (v : JournalView). IsWholeLog g.N.BankName.setup g.N.BankName.opening v.log) c.self-2.view_is c.log_holds-in-Some.ensures.legal)
+    (subst (λ (v : JournalView). IsWholeLog g.N.BankName.setup g.N.BankName.opening v.log) c.self-in-Some.view_is c.log_holds-in-Some.ensures.legal)
     (inl (then_meets g.N.BankName.board c.args.self.now.log c.settle-settled.new.self.log c.commit-committed.new.self.log c.args.pass.now c.settle-settled.new.pass c.commit-committed.new.pass c.in_ok-settled.ensures.met c.commit-committed.ensures.pass))
 
-pub returns-in-Some-clause-advanced : goal.returns-in-Some-clause-advanced
-returns-in-Some-clause-advanced g c =
+pub returns-in_ok-_reply-in-Some-clause-advanced : goal.returns-in_ok-_reply-in-Some-clause-advanced
+returns-in_ok-_reply-in-Some-clause-advanced g c =
     done g.N.BankName.setup g.N.BankName.opening g.N.BankName.board c.args.self.now c.settle-settled.new.self c.commit-committed.new.self c.args.pass.now c.commit-committed.new.pass c.in-Some.event c.args.at c.in_ok-_reply-in-Some._reply.items
     c.tokens_are_the_banks.ensures.hold c.log_holds.ensures.begins
     (then_meets g.N.BankName.board c.args.self.now.log c.settle-settled.new.self.log c.commit-committed.new.self.log c.args.pass.now c.settle-settled.new.pass c.commit-committed.new.pass c.in_ok-settled.ensures.met c.commit-committed.ensures.pass)
@@ -55,8 +55,8 @@ returns-in-Some-clause-advanced g c =
     (subst (λ (v : JournalView). v.state ≡ ends g.N.BankName.setup g.N.BankName.opening v.log) c.self.view_is c.log_holds.ensures.ends) (due_seen c.settle-settled.new.self.setup c.book.result.now.setup c.settle-settled.new.self.state c.book.result.now.state c.args.at c.due.result (Some c.in-Some.event)
     (c.book.ensures.setup ∙ ap (λ (v : JournalView). v.setup) c.self.view_is) (c.book.ensures.state ∙ ap (λ (v : JournalView). v.state) c.self.view_is) c.due.ensures.first c.in-Some.is) c.in_ok-_reply-in-Some.ensures.answers
 
-pub returns-in-Some-clause-pass : goal.returns-in-Some-clause-pass
-returns-in-Some-clause-pass g c =
+pub returns-in_ok-_reply-in-Some-clause-pass : goal.returns-in_ok-_reply-in-Some-clause-pass
+returns-in_ok-_reply-in-Some-clause-pass g c =
     is_pass g.N.BankName.setup g.N.BankName.opening g.N.BankName.board c.args.self.now.log c.commit-committed.new.self.log c.args.pass.now c.commit-committed.new.pass c.requires.pass
-    (subst (λ (v : JournalView). IsWholeLog g.N.BankName.setup g.N.BankName.opening v.log) c.self-2.view_is c.log_holds-in-Some.ensures.legal)
+    (subst (λ (v : JournalView). IsWholeLog g.N.BankName.setup g.N.BankName.opening v.log) c.self-in-Some.view_is c.log_holds-in-Some.ensures.legal)
     (inl (then_meets g.N.BankName.board c.args.self.now.log c.settle-settled.new.self.log c.commit-committed.new.self.log c.args.pass.now c.settle-settled.new.pass c.commit-committed.new.pass c.in_ok-settled.ensures.met c.commit-committed.ensures.pass))
