@@ -20,6 +20,25 @@ use std::alloc::Global;
 const SIGNED_ON: u16 = 0;
 
 /// Answers an ask of a poll by the newest token of its object. There is none where the account isn't the user's.
+///
+/// ```rust
+/// use bank_callers::add_answer;
+/// use ofx_types::{Ask, AskReply, ObjectName, Sequence, SyncAsk, SyncKind};
+///
+/// let alloc = rt.alloc();
+/// let ask = Ask::Sync(SyncAsk {
+///     object: ObjectName::Mail,
+///     kind: SyncKind::TokenOnly,
+///     reject: false,
+///     deeds: Sequence::new(alloc),
+/// });
+/// let mut replies = Vec::new(alloc);
+/// add_answer(alloc, &mut replies, &ask, Some(7)).expect(&rt, "room");
+/// let [AskReply::Sync(reply)] = replies.as_slice() else {
+///     panic!(rt; "one reply");
+/// };
+/// assert!(rt; reply.token.as_bytes() == b"7" && !reply.lost);
+/// ```
 pub fn add_answer(
     alloc: Global,
     replies: &mut Vec<AskReply>,

@@ -88,7 +88,7 @@ left setup at n event u v w last so due = record {
 pub fails : (setup : Setup) (at : Moment) (n : ℕ) (fault : SubmitFault) (u v w : CallerView) → n < 100000 → SoFar setup at n u v → IsUnadvanced setup at v w fault
     → RunsDue setup at u w (Err (fault_of fault))
 unfolding run_length
-fails setup at n (refused.Keeper count) u v w few so no = record {
+fails setup at n (refused.Keeper count) u v w few so breaks = record {
   events = so.events;
   gone = so.gone;
   done = so.done;
@@ -96,9 +96,9 @@ fails setup at n (refused.Keeper count) u v w few so no = record {
   few = omega (arith, so.counted, few);
   does = so.does;
   loses = so.loses;
-  fails = no;
+  fails = breaks;
 }
-fails setup at n refused.OutOfMemory u v w few so no = record {
+fails setup at n refused.OutOfMemory u v w few so breaks = record {
   events = so.events;
   gone = so.gone;
   done = so.done;
@@ -106,5 +106,5 @@ fails setup at n refused.OutOfMemory u v w few so no = record {
   few = omega (arith, so.counted, few);
   does = so.does;
   loses = so.loses;
-  fails = no;
+  fails = breaks;
 }

@@ -162,13 +162,25 @@ looked setup user file at reply replies before after so is = record { loads = so
 pub loaded_none : (caller : CallerView) → HasLoaded caller caller
 loaded_none caller = record { opening = refl; seen = refl; mine = refl; loads = []; polled = sym (append-nil caller.polled) }
 
+-- the same asks, lent
+all_asked : (setup : Setup) (user : UserId) (lent all : List Ask) (replies : List AskReply) (before after : CallerView) → lent ≡ all → HasAsked setup user lent replies before after
+    → HasAsked setup user all replies before after
+all_asked setup user lent all replies before after same so = record {
+  loads = so.loads;
+  are_loads = so.are_loads ∙ ap (map (object_asked setup user)) same;
+  answers = so.answers ∙ ap (λ (l : List Ask). answers_reported l so.loads) same;
+  polled = so.polled;
+}
+
 -- ---- what a poll answered
 
-pub looked_if : {A E : Type 0} (items : A → List ℕ) (result : Result A E) (setup : Setup) (user : UserId) (file : RequestFile) (at : Moment) (replies : List AskReply) (before after : CallerView)
-    → (so : HasAsked setup user file.asks replies before after) → IfOk result (λ (reply : A). items reply ≡ reply_text (poll_reported file at so.loads))
+pub looked_if : {A E : Type 0} (items : A → List ℕ) (result : Result A E) (setup : Setup) (user : UserId) (file : RequestFile) (at : Moment) (lent : List Ask) (replies : List AskReply) (before after : CallerView)
+    → lent ≡ file.asks → (so : HasAsked setup user lent replies before after) → IfOk result (λ (reply : A). items reply ≡ reply_text (poll_reported file at so.loads))
     → IfOk result (λ (reply : A). IsLooked setup user file at (items reply) (Some before) (Some after))
-looked_if items (Ok reply) setup user file at replies before after so is = looked setup user file at (items reply) replies before after so is
-looked_if items (Err fault) setup user file at replies before after so is = tt
+unfolding all_asked
+looked_if items (Ok reply) setup user file at lent replies before after same so is =
+    looked setup user file at (items reply) replies before after (all_asked setup user lent file.asks replies before after same so) is
+looked_if items (Err fault) setup user file at lent replies before after same so is = tt
 
 pub loaded_if : {A E : Type 0} (result : Result A E) (setup : Setup) (user : UserId) (asks : List Ask) (replies : List AskReply) (before after : CallerView)
     → HasAsked setup user asks replies before after → OnErr result (HasLoaded before after)

@@ -1,5 +1,5 @@
 -- Calls that settle first, put together of their parts.
-use Rattle.std.proofs.Common.{◌≡◌, ℕ, List, [], inr, Option, None, Result, Ok, Err, IfOk, IfErr, OnOk, sym, ap, ◌∙◌, subst}
+use Rattle.std.proofs.Common.{◌≡◌, ℕ, List, [], inr, Option, None, Result, Ok, Err, IfOk, IfErr, OnOk, OnErr, sym, ap, ◌∙◌, subst}
 use Rattle.std.specs.Option.{IfSome}
 use Rattle.ofx_types.specs.declared.number.Moment.{Moment}
 use Rattle.bank_model.specs.declared.entry.Entry.{Entry}
@@ -119,6 +119,10 @@ settled_lent (Err fault) old new pool held other unnamed within names same balan
     lent_settled (Err fault) old new pool held other unnamed within names same balanced tt fails checked_out
 
 -- ---- answers
+
+pub on_err : {A E P : Type 0} (result : Result A E) → P → OnErr result P
+on_err (Ok value) p = tt
+on_err (Err fault) p = p
 
 pub on_ok : {A E P : Type 0} (result : Result A E) → P → OnOk result P
 on_ok (Ok value) p = p

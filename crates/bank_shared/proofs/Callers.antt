@@ -25,7 +25,7 @@ use Rattle.bank_shared.specs.Calls.{IsSettled, LeavesPending, AnswersNext, Fails
 use Rattle.bank_shared.specs.Holds.{BeginsAt, MeetsOrStays, caller_of}
 use Rattle.bank_shared.specs.declared.advance.Advance.{Advance}
 use Rattle.bank_shared.specs.declared.advance.Advance.TheVariants.{Done, Gone, Nothing}
-use Rattle.bank_shared.proofs.Met.{ClaimsNone, none_of_effects, none_of_both, none_of_adopted, one_of_answer, one_of_fault, gains_ending, gains_nothing, gains_stays, sees_more, no_longer}
+use Rattle.bank_shared.proofs.Meeting.{ClaimsNone, none_of_effects, none_of_both, none_of_adopted, one_of_answer, one_of_fault, gains_ending, gains_nothing, gains_stays, sees_more, no_longer}
 
 -- ---- what settling adds to the log, of which nothing is a caller's
 
@@ -126,6 +126,12 @@ look_state setup opening board old between last before after m s is =
 due_at : (setup own : Setup) (state look : State) (at : Moment) (answer : Option Event) → own ≡ setup → state ≡ look → due own state at ≡ answer → due setup look at ≡ answer
 due_at setup own state look at answer whose is due_is =
     subst (λ (S : State). due setup S at ≡ answer) is (subst (λ (s : Setup). due s state at ≡ answer) whose due_is)
+
+-- as the book's look has found it
+pub due_seen : (setup own : Setup) (state held : State) (at : Moment) (found answer : Option Event) → own ≡ setup → held ≡ state → found ≡ due own held at → found ≡ answer
+    → due setup state at ≡ answer
+due_seen setup own state held at found answer whose is seen answered =
+    subst (λ (s : Setup). due s state at ≡ answer) whose (subst (λ (S : State). due own S at ≡ answer) is (sym seen ∙ answered))
 
 pub done : (setup : Setup) (opening : State) (board : BoardView) (old between new : JournalView) (before after : PassView) (event : Event) (at : Moment) (reply : List ℕ)
     → TokensHold → BeginsAt setup opening board → Meets board old.log new.log before after → IsSettled old between → between.setup ≡ setup

@@ -2,6 +2,6 @@ pub mod Asked
 pub mod Begun
 pub mod CallLemmas
 pub mod Callers
-pub mod Met
+pub mod Meeting
 pub mod Publishes
 pub mod Starting

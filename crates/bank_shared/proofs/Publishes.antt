@@ -1,5 +1,6 @@
 -- What the engine of a journal may publish at the bank's board.
-use Rattle.std.proofs.Common.{◌≡◌, ℕ, ◌+◌, ◌<◌, ◌≤◌, true, List, [], ◌∷◌, ◌++◌, length, drop, get_or, All, Option, None, Some, refl, sym, ap, ◌∙◌, subst, append-nil}
+use Rattle.std.proofs.Common.{◌≡◌, ℕ, ◌+◌, ◌<◌, ◌≤◌, true, List, [], ◌∷◌, ◌++◌, length, map, take, drop, get_or, All, Option, None, Some, refl, sym, ap, ◌∙◌, subst, append_assoc, append-nil}
+use Rattle.std.proofs.lemmas.List.{map-append, take_more}
 use Rattle.std.specs.Option.{IfSome}
 use Rattle.ofx_types.specs.declared.number.Moment.{Moment}
 use Rattle.bank_model.specs.declared.entry.Entry.{Entry}
@@ -50,6 +51,17 @@ may_next board writer new entries k entry below is same may = record {
   unclaimed = ap (λ (w : WriterView). w.claimed) same ∙ may.unclaimed;
   follow = subst (λ (w : WriterView). MayFollow board.start w.log (drop (k + 1) entries)) (sym same) (first_of board writer entries k entry below is may).2;
 }
+
+-- so the log has one entry more
+pub log_next : (before : List LogItem) (writer new : WriterView) (entries : List Entry) (k : ℕ) (entry : Entry) → k < length entries → entry ≡ get_or entries k entry
+    → new ≡ record { table = writer.table; log = writer.log ++ Effect entry ∷ []; claimed = writer.claimed } → writer.log ≡ before ++ map Effect (take k entries)
+    → new.log ≡ before ++ map Effect (take (k + 1) entries)
+log_next before writer new entries k entry below is same so =
+    let more : take k entries ++ entry ∷ [] ≡ take (k + 1) entries = ap (λ (e : Entry). take k entries ++ e ∷ []) is ∙ sym (take_more entries k entry below) in
+    ap (λ (w : WriterView). w.log) same
+    ∙ (ap (λ (l : List LogItem). l ++ Effect entry ∷ []) so
+    ∙ (append_assoc before (map Effect (take k entries)) (Effect entry ∷ [])
+    ∙ ap (λ (l : List LogItem). before ++ l) (sym (map-append Effect (take k entries) (entry ∷ [])) ∙ ap (map Effect) more)))
 
 -- nothing is published yet
 pub nothing_yet : (board : BoardView) (writer : WriterView) → MayPublish board writer [] → HasPublished board writer writer.log

@@ -1,6 +1,6 @@
 //! A bank that many callers share: its locked bank behind a lock, and before it the board of its newest tokens.
 
-ghost use Rattle.std.specs.Prelude.{◌≡◌, ◌<◌, ◌++◌, [], true, false, Some, length, IfOk, IfErr, OnErr};
+ghost use Rattle.std.specs.Prelude.{◌≡◌, ◌<◌, ◌++◌, [], true, false, Option, Some, length, IfOk, IfErr, OnErr};
 ghost use Rattle.std.specs.Option.{option_map, option_to_list};
 ghost use Rattle.ofx_types.specs.Calendar.{IsMoment};
 ghost use Rattle.bank_model.specs.Polls as polls;
@@ -138,7 +138,8 @@ impl<N: BankName, K: Keeper, P: Printer> Bank<N, K, P> {
     {
         every_state_is_sound();
         books_are_right();
-        let _ = (&self.setup, pass);
+        let _ = &self.setup;
+        let _ = pass;
     }
 
     /// Answers a file of a user, which is sound and no poll. The gate is passed with the user's number before the lock is taken.

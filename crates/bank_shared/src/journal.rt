@@ -153,7 +153,8 @@ impl<N: BankName, K: Keeper, P: Printer> Journal<N, K, P> {
         steps_follow();
         entries_belong();
         // For the proof alone: their contracts say that the state is sound, and that what is pending may happen.
-        let _ = (self.engine.book(), self.engine.pending());
+        let _book = self.engine.book();
+        let _pending = self.engine.pending();
         self.writer.hear(board, pass);
         let settled = settle_at(
             &mut self.engine,

@@ -1,6 +1,7 @@
-use Rattle.std.proofs.Common.{◌∙◌}
+use Rattle.std.proofs.Common.{◌∙◌, rules}
 use Rattle.token_board.specs.Publishing.{MayPublish}
 use Rattle.bank_shared.proofs.CallLemmas.{named_again, expects_again}
+use Rattle.bank_shared.proofs.Publishes.{has_published}
 use Rattle.bank_shared.proofs.publishing.commit_at.Goals as goal
 
 pub commit-requires-clause-named : goal.commit-requires-clause-named
@@ -13,3 +14,8 @@ commit-requires-clause-expected g c =
     expects_again (MayPublish c.args.board.now c.args.writer.now) c.args.engine.now.setup c.prepare.new.self.setup c.args.engine.now.state c.prepare.new.self.state
     c.args.at c.in_ok-ready.ready.at c.args.event.now c.in_ok-ready.ready.event
     c.prepare.ensures.setup c.prepare.ensures.state c.in_ok-ready.ensures.at (c.in_ok-ready.ensures.event ∙ c.in_ok-event.ensures) c.requires.expected
+
+pub returns-clause-published : goal.returns-clause-published
+returns-clause-published g c =
+    let published = has_published c.args.board.now c.commit.new.log.board.now c.args.writer.now c.commit.new.log.writer.now c.requires.free c.commit.ensures.target
+    (c.commit.ensures.since c.args.writer.now.log) in search (rules, published)

@@ -1,14 +1,15 @@
+use Rattle.std.proofs.Common.{◌∙◌}
 use Rattle.bank_shared.proofs.Begun.{first_pass}
 use Rattle.bank_shared.proofs.bank.Bank.begin.Goals as goal
 
 pub invariant_of-bank : goal.invariant_of-bank
 invariant_of-bank g c = (
-  c.into_parts.ensures.setup,
-  c.into_parts.ensures.board,
-  c.into_parts.ensures.within,
-  (c.into_parts.ensures.holds.records, c.into_parts.ensures.holds.reopens),
-  c.into_parts.ensures.begins,
+  c.into_fields-setup.ensures.setup ∙ c.into_parts-parts.ensures.setup,
+  c.into_fields-setup.ensures.board ∙ c.into_parts-parts.ensures.board,
+  c.into_parts-parts.ensures.within,
+  (c.into_parts-parts.ensures.holds.records, c.into_parts-parts.ensures.holds.reopens),
+  c.into_parts-parts.ensures.begins,
 )
 
 pub returns-clause-pass : goal.returns-clause-pass
-returns-clause-pass g c = first_pass g.N.BankName.setup g.N.BankName.opening g.N.BankName.board _ c.into_parts.ensures.pass
+returns-clause-pass g c = first_pass g.N.BankName.setup g.N.BankName.opening g.N.BankName.board _ c.into_parts-parts.ensures.pass

@@ -1,9 +1,10 @@
 use Rattle.bank_shared.specs.Holds.{caller_of}
 use Rattle.bank_shared.proofs.Asked.{asked_none, asked_next, asked_all, loaded_none, loaded_more}
+use Rattle.bank_shared.proofs.CallLemmas.{on_err}
 use Rattle.bank_shared.proofs.bank.Bank.poll_answers.Goals as goal
 
 pub returns-in_err-replies-clause-refused : goal.returns-in_err-replies-clause-refused
-returns-in_err-replies-clause-refused g c = loaded_none (caller_of g.N.BankName.opening c.args.pass.now)
+returns-in_err-replies-clause-refused g c = on_err c.from_residual.result (loaded_none (caller_of g.N.BankName.opening c.args.pass.now))
 
 pub loop-ask-init : goal.loop-ask-init
 loop-ask-init g c = record {
@@ -14,8 +15,8 @@ loop-ask-init g c = record {
 pub returns-in_err-add_answer-clause-refused : goal.returns-in_err-add_answer-clause-refused
 returns-in_err-add_answer-clause-refused g c =
     let load = c.token_asked-token.ensures.load in
-    loaded_more g.N.BankName.setup c.args.user _ c.loop-ask.replies.items (caller_of g.N.BankName.opening c.args.pass.now) (caller_of g.N.BankName.opening c.loop-ask.pass)
-    (caller_of g.N.BankName.opening c.token_asked-token.new.pass) load.0 c.loop-ask.invariant.asked load.3
+    on_err c.from_residual-in_err-add_answer.result (loaded_more g.N.BankName.setup c.args.user _ c.loop-ask.replies.items (caller_of g.N.BankName.opening c.args.pass.now) (caller_of g.N.BankName.opening c.loop-ask.pass)
+    (caller_of g.N.BankName.opening c.token_asked-token.new.pass) load.0 c.loop-ask.invariant.asked load.3)
 
 pub loop-ask-preserved : goal.loop-ask-preserved
 loop-ask-preserved g c =

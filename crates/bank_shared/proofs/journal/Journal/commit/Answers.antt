@@ -19,7 +19,7 @@ commit_at-committed-requires-clause-expected g c =
     let writer = of_board g.N.BankName.setup g.N.BankName.opening g.N.BankName.board c.args.board.now c.self.inside.writer c.hear.new.self c.requires.board c.hear.ensures.same.0 c.self.invariant.1 in
     may_publish g.N.BankName.setup g.N.BankName.opening g.N.BankName.first c.args.board.now c.hear.new.self _ c.args.at c.args.event.now
     c.steps_follow.ensures c.entries_belong.ensures.logs c.self.invariant.0 (ap (λ (w : WriterView). w.log) (sym c.hear.ensures.same.0)) writer
-    c.engine-book.ensures.within c.engine-book.ensures.sound (c.requires.moment, rw (sym c.self.view_is) at c.requires.legal)
+    c.book-book.ensures.within c.book-book.ensures.sound (c.requires.moment, rw (sym c.self.view_is) at c.requires.legal)
 
 pub commit_at-committed-requires-clause-free : goal.commit_at-committed-requires-clause-free
 commit_at-committed-requires-clause-free g c =

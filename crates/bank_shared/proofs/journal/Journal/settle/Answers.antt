@@ -1,4 +1,5 @@
 use Rattle.std.proofs.Common.{ap, sym, subst, ◌∙◌}
+use Rattle.std.proofs.lemmas.Result.{err_from_is_err_and}
 use Rattle.std.specs.Option.{IfSome}
 use Rattle.bank_model.specs.Rules.{named}
 use Rattle.bank_accounts.specs.HeldAccounts.{AreHeld}
@@ -20,7 +21,7 @@ settle_at-settled-requires-clause-expected g c =
     let writer = of_board g.N.BankName.setup g.N.BankName.opening g.N.BankName.board c.args.board.now c.self.inside.writer c.hear.new.self c.requires.board c.hear.ensures.same.0 c.self.invariant.1 in
     may_settle g.N.BankName.setup g.N.BankName.opening g.N.BankName.first c.args.board.now c.hear.new.self _ c.self.inside.engine.pending
     c.steps_follow.ensures c.entries_belong.ensures.logs c.self.invariant.0 (ap (λ (w : WriterView). w.log) (sym c.hear.ensures.same.0)) writer
-    c.book.ensures.within c.book.ensures.sound c.pending.ensures.may
+    c.book-book.ensures.within c.book-book.ensures.sound c.pending-pending.ensures.may
 
 pub settle_at-settled-requires-clause-free : goal.settle_at-settled-requires-clause-free
 settle_at-settled-requires-clause-free g c =
@@ -66,11 +67,12 @@ invariant_of-self-2 g c = (
 
 pub returns-in_err-_adopted-clause-fails : goal.returns-in_err-_adopted-clause-fails
 returns-in_err-_adopted-clause-fails g c =
-    carried (λ (old new : JournalView). FailsToSettle old new c.in_err-_adopted.field-0.0) c.self.inside.engine c.settle_at-settled.new.engine
+    let p = err_from_is_err_and c.from_residual.result c.from_residual.ensures.1 in
+    rw (p.1, p.2) (carried (λ (old new : JournalView). FailsToSettle old new c.in_err-_adopted.field-0.0) c.self.inside.engine c.settle_at-settled.new.engine
     (record { records = g.K.Keeper.records c.self.inside.keeper; landed = g.K.Keeper.landed c.self.inside.keeper; unsettled = g.K.Keeper.unsettled c.self.inside.keeper; faults = g.K.Keeper.faults c.self.inside.keeper })
     (record { records = g.K.Keeper.records c.settle_at-settled.new.keeper; landed = g.K.Keeper.landed c.settle_at-settled.new.keeper; unsettled = g.K.Keeper.unsettled c.settle_at-settled.new.keeper; faults = g.K.Keeper.faults c.settle_at-settled.new.keeper })
     c.self.inside.writer c.hear.new.self c.settle_at-settled.new.writer c.note.new.self
-    c.args.self.now c.self.view_is c.hear.ensures.same.0 c.note.ensures.kept c.in_err-_adopted.ensures.fails
+    c.args.self.now c.self.view_is c.hear.ensures.same.0 c.note.ensures.kept c.in_err-_adopted.ensures.fails)
 
 pub returns-clause-settled : goal.returns-clause-settled
 returns-clause-settled g c =

@@ -1,9 +1,12 @@
 use Rattle.std.proofs.Common.{◌<◌, ◌∙◌, inl, sym, subst, length}
+use Rattle.std.proofs.lemmas.Result.{err_from_is_err_and}
 use Rattle.bank_model.specs.declared.setup.Setup.{Setup}
+use Rattle.bank_model.specs.LegalLog.{IsWholeLog}
 use Rattle.bank_model.specs.declared.event.Event.TheVariants.{File}
+use Rattle.bank_engine.specs.Views.{JournalView}
 use Rattle.bank_shared.proofs.CallLemmas.{answers_next, fails_next}
 use Rattle.bank_shared.proofs.Callers.{committed_if, uncommitted_if, unsettled}
-use Rattle.bank_shared.proofs.Met.{is_pass, then_meets}
+use Rattle.bank_shared.proofs.Meeting.{is_pass, then_meets}
 use Rattle.bank_shared.proofs.locked_bank.LockedBank.submit.Goals as goal
 
 pub answer-answered-requires-clause-legal : goal.answer-answered-requires-clause-legal
@@ -12,12 +15,14 @@ answer-answered-requires-clause-legal g c =
 
 pub returns-in_err-settled-clause-refused : goal.returns-in_err-settled-clause-refused
 returns-in_err-settled-clause-refused g c =
-    unsettled g.N.BankName.setup g.N.BankName.opening g.N.BankName.board c.args.self.now c.settle-settled.new.self c.args.pass.now c.settle-settled.new.pass c.args.user c.args.file.now c.args.at c.in_err-settled.field-0.0
-    c.tokens_are_the_banks.ensures.hold c.log_holds.ensures.begins c.settle-settled.ensures.pass c.in_err-settled.ensures.fails
+    let p = err_from_is_err_and c.from_residual.result c.from_residual.ensures.1 in
+    rw (p.1, p.2) (unsettled g.N.BankName.setup g.N.BankName.opening g.N.BankName.board c.args.self.now c.settle-settled.new.self c.args.pass.now c.settle-settled.new.pass c.args.user c.args.file.now c.args.at c.in_err-settled.field-0.0
+    c.tokens_are_the_banks.ensures.hold c.log_holds.ensures.begins c.settle-settled.ensures.pass c.in_err-settled.ensures.fails)
 
 pub returns-in_err-settled-clause-pass : goal.returns-in_err-settled-clause-pass
 returns-in_err-settled-clause-pass g c =
-    is_pass g.N.BankName.setup g.N.BankName.opening g.N.BankName.board c.args.self.now.log c.settle-settled.new.self.log c.args.pass.now c.settle-settled.new.pass c.requires.pass c.log_holds.ensures.legal c.settle-settled.ensures.pass
+    is_pass g.N.BankName.setup g.N.BankName.opening g.N.BankName.board c.args.self.now.log c.settle-settled.new.self.log c.args.pass.now c.settle-settled.new.pass c.requires.pass
+    (subst (λ (v : JournalView). IsWholeLog g.N.BankName.setup g.N.BankName.opening v.log) c.self.view_is c.log_holds.ensures.legal) c.settle-settled.ensures.pass
 
 pub returns-clause-answers : goal.returns-clause-answers
 returns-clause-answers g c =
@@ -43,5 +48,6 @@ returns-clause-refused g c =
 
 pub returns-clause-pass : goal.returns-clause-pass
 returns-clause-pass g c =
-    is_pass g.N.BankName.setup g.N.BankName.opening g.N.BankName.board c.args.self.now.log c.answer-answered.new.self.log c.args.pass.now c.answer-answered.new.pass c.requires.pass c.log_holds-2.ensures.legal
+    is_pass g.N.BankName.setup g.N.BankName.opening g.N.BankName.board c.args.self.now.log c.answer-answered.new.self.log c.args.pass.now c.answer-answered.new.pass c.requires.pass
+    (subst (λ (v : JournalView). IsWholeLog g.N.BankName.setup g.N.BankName.opening v.log) c.self-2.view_is c.log_holds-2.ensures.legal)
     (inl (then_meets g.N.BankName.board c.args.self.now.log c.settle-settled.new.self.log c.answer-answered.new.self.log c.args.pass.now c.settle-settled.new.pass c.answer-answered.new.pass c.in_ok-settled.ensures.met c.answer-answered.ensures.pass))

@@ -1,5 +1,5 @@
 use Rattle.std.proofs.Common.{rules}
-use Rattle.bank_shared.proofs.Publishes.{first_of, may_next}
+use Rattle.bank_shared.proofs.Publishes.{first_of, log_next, may_next}
 use Rattle.bank_shared.proofs.publishing.BoardLogPublisher.effects.Goals as goal
 
 pub publish_effect-requires-clause-object : goal.publish_effect-requires-clause-object
@@ -14,7 +14,8 @@ publish_effect-requires-clause-above c =
 
 pub loop-entry-preserved : goal.loop-entry-preserved
 loop-entry-preserved c = record {
-  log = search rules;
+  log = log_next c.args.self.now.writer.now.log c.loop-entry.self.writer.now c.publish_effect.new.self c.args.entries.now c.loop-entry.entry-index c.entry-item.result
+      c.loop-entry-test.true c.entry-item.is c.publish_effect.ensures.log c.loop-entry.invariant.log;
   claimed = search rules;
   table = search rules;
   through = search rules;
