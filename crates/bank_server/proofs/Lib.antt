@@ -3,7 +3,3 @@ mod Working
 mod Doors
 mod Books
 mod Sharing
-mod OwnEndings
-mod LockedBankCalls
-mod Knowing
-mod Unreported
