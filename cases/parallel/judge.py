@@ -5,7 +5,7 @@ loads of tokens can be given moments such that
 
 - records come in their order, each between the sending of its file and the end of its reply;
 - each token of a poll is loaded between the poll's sending and the end of its reply, one after another, while it was the
-  object's newest.
+  object's newest. The entries of a record become an object's newest one after another, before the record's moment.
 
 So no file stands before one whose reply had come when it was sent, and no token is older than what any customer was answered
 before the poll.
@@ -45,7 +45,15 @@ class Load(NamedTuple):
     poll: int  # the number of its exchange
     object: tuple
     token: int
-    most: int  # records that may have come
+    most: int  # steps that may have come
+
+
+class Step(NamedTuple):
+    """The last entry of a record, or one before it; or the record itself where it makes none."""
+
+    record: int
+    bounds: Bounds
+    tokens: dict  # after it
 
 
 def judge(replay):
@@ -55,8 +63,10 @@ def judge(replay):
     for number, some in senders(replay, places).items():
         found = [history.exchanges[one] for one in some]
         bounds[number] = Bounds(min(one.sent for one in found), max(one.got for one in found))
-    polls = polls_of(replay)
-    in_order(history, bounds, loads_of(history, places, polls))
+    steps = [Step(number, bounds[number], tokens) for number, place in enumerate(places[1:])
+             for tokens in (*place.within, place.tokens)]
+    tokens = [places[0].tokens] + [one.tokens for one in steps]
+    in_order(history, steps, loads_of(tokens, polls_of(replay)))
     return places
 
 
@@ -137,13 +147,13 @@ def polls_of(replay):
                  [int(token) for token in TOKEN.findall(history.exchanges[i].reply)]) for i, file in zip(numbers, files)]
 
 
-def loads_of(history, places, polls):
-    """The loads of polls, by how many records have come at least."""
+def loads_of(tokens, polls):
+    """The loads of polls, by how many steps have come at least, where these are the tokens before and after each step."""
     loads = defaultdict(list)
     for poll in polls:
         least = 0
         for object, token in zip(poll.objects, poll.tokens, strict=True):
-            newest = [one.tokens[poll.user, object] for one in places]
+            newest = [one[poll.user, object] for one in tokens]
             if token not in newest:
                 raise Wrong("a poll of %r got %d, which was never the newest token" % (object, token))
             least = max(least, newest.index(token))
@@ -157,19 +167,19 @@ def loads_of(history, places, polls):
 # ---- the order
 
 
-def in_order(history, bounds, loads):
-    """Gives each record and load the least moment that it may have. None is above its greatest."""
+def in_order(history, steps, loads):
+    """Gives each step and load the least moment that it may have. None is above its greatest."""
     last = (ALWAYS, "the first file")  # the least moment so far, and what was sent then
     after, done = defaultdict(lambda: last), {}
-    for number in range(len(bounds) + 1):
+    for number in range(len(steps) + 1):
         for load in loads[number]:
             poll, name = history.exchanges[load.poll], "a poll of %r that got %d" % (load.object, load.token)
             done[load.poll] = max(last, (poll.sent, name), done.get(load.poll, last))
             if done[load.poll][0] > poll.got:
                 raise Wrong("the reply to %s had come before %s was sent" % (name, done[load.poll][1]))
             after[load.most] = max(after[load.most], done[load.poll])
-        if number < len(bounds):
-            name = "record %d" % (history.before + number + 1)
-            last = max(last, (bounds[number].least, "the file of " + name), after[number])
-            if last[0] > bounds[number].most:
+        if number < len(steps):
+            name = "record %d" % (history.before + steps[number].record + 1)
+            last = max(last, (steps[number].bounds.least, "the file of " + name), after[number])
+            if last[0] > steps[number].bounds.most:
                 raise Wrong("the reply of %s had come before %s was sent" % (name, last[1]))

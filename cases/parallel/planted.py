@@ -97,7 +97,9 @@ class Planter:
     def invented_token(self):
         """a token that no entry of its object has"""
         for poll, index, newest in self.tokens():
-            numbers = [n for n in range(1, max(newest) + 1) if n not in newest]
+            object = poll.user, poll.objects[index]
+            made = {tokens[object] for one in self.places for tokens in (*one.within, one.tokens)}
+            numbers = [n for n in range(1, max(newest) + 1) if n not in made]
             if numbers:
                 return self.with_token(poll, index, self.r.choice(numbers))
         return None

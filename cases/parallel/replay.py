@@ -5,7 +5,9 @@ import subprocess
 from typing import NamedTuple, Optional
 
 from parallel.history import content_in, content_of, is_poll_file, user_of
+from reference.bank import Bank, Object
 from reference.events import File
+from reference.happening import happen
 from reference.recorded import read_record
 from reference.setup import read_setup
 from served.server import Wrong
@@ -26,6 +28,7 @@ class Place(NamedTuple):
 
     reply: Optional[bytes]
     tokens: dict  # the newest one of an object, as a user is told it
+    within: tuple = ()  # where the record makes several entries, these tokens after each but the last
 
 
 class Replay:
@@ -56,6 +59,32 @@ class Replay:
 
     def places(self):
         """What comes of each record behind those that were there before, and what stood before them."""
+        found = self.replayed_places()
+        return found[:1] + [place._replace(within=self.between(earlier.tokens, place.tokens, entries))
+                            for earlier, place, entries in zip(found, found[1:], self.entries())]
+
+    def entries(self):
+        """The entries of each record, an object and a number, by the second implementation."""
+        bank, found = Bank(self.setup), []
+        for record in self.history.records:
+            event, at = read_record(record)
+            before = bank.count
+            happen(bank, event, at)
+            made = [(entry.number, of) for of, some in bank.entries.items() if some and some[-1].number > before
+                    for entry in some if entry.number > before]
+            found.append([(of, number) for number, of in sorted(made)])
+        return found[self.history.before:]
+
+    def between(self, tokens, last, entries):
+        """The tokens after each of these entries but the last, as they turn from those before them into the last ones."""
+        found = []
+        for of, number in entries[:-1]:
+            told = {one for one in self.objects if object_of(*one) == of and last[one] != tokens[one]}
+            tokens = {one: number if one in told else token for one, token in tokens.items()}
+            found.append(tokens)
+        return tuple(found)
+
+    def replayed_places(self):
         events = [read_record(one) for one in self.history.records]
         if not events:
             return [Place(None, self.tokens(self.answered(0, self.polls, "20240101000000")))]
@@ -116,6 +145,12 @@ class Replay:
         """The tokens that polls tell, by user and object."""
         told = [int(token) for reply in replies for token in TOKEN.findall(reply)]
         return dict(zip(self.objects, told, strict=True))
+
+
+def object_of(user, asked):
+    """What a user asks about by a family and an account, of which mail has none."""
+    family, account = asked
+    return Object(family, account or user)
 
 
 def text(at):

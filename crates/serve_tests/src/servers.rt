@@ -1,8 +1,8 @@
 //! The bank as a server: how it opens, and its connections and workers, over links and doorways in memory and over a socket.
 
 mod both;
+mod copies;
 mod crowd;
-mod posts;
 mod sockets;
 
 ghost use Rattle.std.specs.Prelude.{◌≡◌, false, is_some};
@@ -23,7 +23,7 @@ use ofx_ports::{
     Doorway, Gate, Keeper, Link, MemClock, MemDoor, MemKeeper, MemLink, MemSource, OpenGate,
 };
 use ofx_types::{Moment, Note, Status, Told};
-use posts::PostKeeper;
+use copies::{Copies, CopyKeeper};
 use std::alloc::Global;
 use std::marker::Brand;
 use std::process::Abort;
@@ -49,6 +49,11 @@ const WAITING: [(&str, &str); 3] = [
 /// On 31 January 2024 at 12:00:00 the transfer with the id 1 is posted.
 const POST: &[u8] = b"\
     \x01\x02\x00\x00\x00\x00\x65\xba\x36\x40\
+    \x00\x00\x00\x00\x00\x00\x00\x01";
+
+/// On 5 February 2024 at 12:00:00 it is.
+const DUE_POST: &[u8] = b"\
+    \x01\x02\x00\x00\x00\x00\x65\xc0\xcd\xc0\
     \x00\x00\x00\x00\x00\x00\x00\x01";
 
 /// The sample's request of the other user, for the other account.
@@ -212,12 +217,13 @@ fn kept_by_one(rt: &impl Abort, alloc: Global) -> MemKeeper
 fn what_is_due_is_done_before_a_link_is_served(rt: HostRuntime) {
     let alloc = rt.alloc();
     let kept = kept_by_one(&rt, alloc);
-    let (keeper, noted) = PostKeeper::over(alloc, kept).expect(&rt, "a keeper");
-    let opened = opened_from(&rt, alloc, keeper);
+    let copies = Copies::new(Vec::new(alloc));
+    let opened = opened_from(&rt, alloc, CopyKeeper::over(alloc, kept, &copies));
     let clock = MemClock::new(alloc, &[FEBRUARY]).expect(&rt, "a clock");
     let all = served_twice(&rt, alloc, opened, clock, 1);
     same(&rt, all.status, Status(0));
-    assert!(rt; noted.begin_with_post());
+    let records = copies.into_inner();
+    assert!(rt; records.first().is_some_and(|first| first.as_slice() == DUE_POST));
     for worked in &all.ends {
         same(&rt, worked.end.served, 1);
         for link in worked.door.back() {

@@ -1,109 +1,267 @@
-//! Four workers at once, whose peers send transfers and polls.
+//! Four workers at once over sockets of the machine itself, whose peers send transfers and polls.
 
-use super::posts::PostKeeper;
-use super::{all_served, opened_from};
-use crate::connections::{at_noon, posted};
+ghost use Rattle.std.specs.Prelude.{◌≡◌, false, is_some};
+
+use super::copies::{Copies, CopyKeeper};
+use super::sockets::{read_whole, send};
+use super::{all_served, connected, link_of, opened_from};
+use crate::connections::{at_noon, posted, sample_times};
 use crate::same::same;
 use crate::sample::{put, request_with};
 use bank_samples::changes::POLL;
 use bank_samples::transfer::TRANSFER;
-use ofx_ports::{Link, MemDoor, MemKeeper, MemLink, OpenGate};
+use bank_connection::Served;
+use ofx_ports::{Keeper, Link, MemKeeper, MemLink, OpenGate, TcpDoor, TcpLink, listen};
 use ofx_types::Status;
 use std::alloc::Global;
+use std::marker::Brand;
+use std::net::{SocketAddr, TcpStream};
 use std::process::Abort;
+use std::time::Duration;
 
-/// The workers.
-const WORKERS: u32 = 4;
+/// The peers of an account, each of which a worker of its own serves.
+const PEERS: u64 = 2;
 
-/// The transfers that each worker's peer sends. A poll follows each.
-const TRANSFERS: u32 = 10;
+/// The transfers that a peer sends. Two polls for its account follow each.
+const TRANSFERS: u64 = 10;
 
-/// More room than the replies of a link need.
-const ROOM: usize = 65_536;
+/// How long a call of a link waits.
+const WAIT: Duration = Duration::from_secs(10);
 
-/// The sample's request with these changes, as a request of a link.
-fn request_of(rt: &impl Abort, alloc: Global, changes: &[(&str, &str)]) -> Vec<u8> {
-    let framed = request_with(rt, alloc, changes);
-    let (_, file) = framed.split_once("\n").unwrap_or(("", ""));
-    posted(rt, alloc, "1.1", file.as_bytes())
+/// An account of the sample's setup, and what the peers that pay from it send.
+#[derive(Clone, Copy)]
+struct Payer {
+    name: &'static str,
+    amount: &'static str,
+    transfer: &'static [(&'static str, &'static str)],
+    poll: &'static [(&'static str, &'static str)],
 }
 
-/// What a worker's peer sends: transfers of a cent, each with a TRNUID of its own, and a poll after each.
-fn transfers_and_polls(rt: &impl Abort, alloc: Global, worker: u32) -> Vec<u8> {
-    let poll = request_of(rt, alloc, &POLL);
+/// Pays a cent to the other account with each transfer.
+const CHECKING: Payer = Payer {
+    name: "c",
+    amount: "<TRNAMT>0.01",
+    transfer: &[],
+    poll: &[],
+};
+
+/// Pays two cents to the other account with each transfer.
+const SAVINGS: Payer = Payer {
+    name: "s",
+    amount: "<TRNAMT>0.02",
+    transfer: &[
+        (
+            "<ACCTID>1001\r\n<ACCTTYPE>CHECKING\r\n</BANKACCTFROM>\r\n<BANKACCTTO>",
+            "<ACCTID>1002\r\n<ACCTTYPE>SAVINGS\r\n</BANKACCTFROM>\r\n<BANKACCTTO>",
+        ),
+        (
+            "<ACCTID>1002\r\n<ACCTTYPE>SAVINGS\r\n</BANKACCTTO>",
+            "<ACCTID>1001\r\n<ACCTTYPE>CHECKING\r\n</BANKACCTTO>",
+        ),
+    ],
+    poll: &[
+        ("<ACCTID>1001", "<ACCTID>1002"),
+        ("<ACCTTYPE>CHECKING", "<ACCTTYPE>SAVINGS"),
+    ],
+};
+
+/// The balance of CHECKING after all transfers: of 100.00, 20 cents were paid out and 40 were paid in.
+const BALANCE: &str = "<BALAMT>100.20\r\n";
+
+/// The sample's request with these changes and then those, as a request of a link.
+fn request_of(
+    rt: &impl Abort,
+    alloc: Global,
+    version: &str,
+    first: &[(&str, &str)],
+    then: &[(&str, &str)],
+) -> Vec<u8> {
+    let mut changes = Vec::new(alloc);
+    for change in first.iter().chain(then) {
+        changes.push(*change).expect(rt, "room");
+    }
+    let framed = request_with(rt, alloc, &changes);
+    let (_, file) = framed.split_once("\n").unwrap_or(("", ""));
+    posted(rt, alloc, version, file.as_bytes())
+}
+
+/// The poll of a payer.
+fn poll_of(rt: &impl Abort, alloc: Global, version: &str, payer: Payer) -> Vec<u8> {
+    request_of(rt, alloc, version, &POLL, payer.poll)
+}
+
+/// What a peer sends: its transfers, each with a TRNUID of its own and two polls after it. Its last poll ends the connection.
+fn sent_by(rt: &impl Abort, alloc: Global, payer: Payer, peer: u64) -> Vec<u8> {
+    let poll = poll_of(rt, alloc, "1.1", payer);
     let mut bytes = Vec::new(alloc);
-    for number in 0..TRANSFERS {
-        let uid = format!(in alloc; "<TRNUID>w{worker}n{number}").expect(rt, "a uid");
+    for number in 1..=TRANSFERS {
+        let uid = format!(in alloc; "<TRNUID>{}{peer}n{number}", payer.name).expect(rt, "a uid");
         let changes = [
             TRANSFER,
             ("<TRNUID>t1", uid.as_str()),
-            ("<TRNAMT>10.00", "<TRNAMT>0.01"),
+            ("<TRNAMT>10.00", payer.amount),
         ];
-        put(rt, &mut bytes, &request_of(rt, alloc, &changes));
+        let transfer = request_of(rt, alloc, "1.1", &changes, payer.transfer);
+        put(rt, &mut bytes, &transfer);
         put(rt, &mut bytes, &poll);
+        if number != TRANSFERS {
+            put(rt, &mut bytes, &poll);
+        }
     }
+    put(rt, &mut bytes, &poll_of(rt, alloc, "1.0", payer));
     bytes
 }
 
-/// The tokens in replies, in order. A token that is no number is 0.
-fn tokens_in(rt: &impl Abort, alloc: Global, replies: &str) -> Vec<u64> {
-    let mut tokens = Vec::new(alloc);
-    for rest in replies.split("<TOKEN>") {
-        let (token, _) = rest.split_once("\r\n").unwrap_or(("", ""));
-        tokens
-            .push(token.parse::<u64>().unwrap_or(0))
-            .expect(rt, "room");
-    }
-    tokens
+/// The number after the first of these tags, if there is one.
+fn number_after(text: &str, tag: &str) -> Option<u64> {
+    let (_, rest) = text.split_once(tag)?;
+    let (number, _) = rest.split_once("\r\n")?;
+    number.parse::<u64>().ok()
 }
 
-/// Whether no number is below the one before it.
-fn never_fall(numbers: &[u64]) -> bool {
-    let mut last = 0;
-    for number in numbers {
-        if *number < last {
-            return false;
+/// The replies that came over a link, in order.
+fn replies_in<'a>(rt: &impl Abort, alloc: Global, written: &'a str) -> Vec<&'a str> {
+    let mut replies = Vec::new(alloc);
+    for reply in written.split("HTTP/1.1 200 OK\r\n") {
+        replies.push(reply).expect(rt, "room");
+    }
+    replies
+}
+
+/// The numbers after the first of these tags in each of these replies that has one.
+fn numbers_in(rt: &impl Abort, alloc: Global, replies: &[&str], tag: &str) -> Vec<u64> {
+    let mut numbers = Vec::new(alloc);
+    for reply in replies {
+        if let Some(number) = number_after(reply, tag) {
+            numbers.push(number).expect(rt, "room");
         }
-        last = *number;
     }
-    true
+    numbers
 }
 
-/// Each transfer is kept once. No poll of a worker has an older token than the one before it, nor one that no entry has, and the last
-/// has at least the worker's own entries before it.
+/// How many polls these replies answer, where each token is one of these and none is older than what was answered before it.
+fn right_polls(replies: &[&str], known: &[u64]) -> Option<u64> {
+    let mut answered = 0;
+    let mut polls = 0u64;
+    for reply in replies {
+        if let Some(id) = number_after(reply, "<SRVRTID>") {
+            answered = id;
+        }
+        if let Some(token) = number_after(reply, "<TOKEN>") {
+            if token < answered || !known.contains(&token) {
+                return None;
+            }
+            answered = token;
+            polls = polls.saturating_add(1);
+        }
+    }
+    Some(polls)
+}
+
+/// The numbers of the transfers of an account that these peers were answered. Each of them has the right tokens.
+fn judged(rt: &impl Abort, alloc: Global, written: &[Vec<u8>]) -> Vec<u64> {
+    let mut ids = Vec::new(alloc);
+    for bytes in written {
+        let replies = replies_in(rt, alloc, str::from_utf8(bytes).expect(rt, "a text"));
+        for id in numbers_in(rt, alloc, &replies, "<SRVRTID>") {
+            ids.push(id).expect(rt, "room");
+        }
+    }
+    for bytes in written {
+        let replies = replies_in(rt, alloc, str::from_utf8(bytes).expect(rt, "a text"));
+        same(rt, right_polls(&replies, &ids), Some(2 * TRANSFERS));
+    }
+    ids
+}
+
+/// A keeper of these records.
+fn kept_again(rt: &impl Abort, alloc: Global, records: &[Vec<u8>]) -> MemKeeper
+    ensures { is_some result.landed ≡ false }
+{
+    let mut keeper = MemKeeper::new(alloc);
+    for record in records {
+        keeper.append(record).expect(rt, "room");
+    }
+    keeper
+}
+
+/// Links of the peers of an account, who have sent all that they send.
+fn peers_of(
+    rt: &HostRuntime,
+    alloc: Global,
+    address: SocketAddr,
+    payer: Payer,
+) -> Vec<TcpLink<TcpStream>> {
+    let mut links = Vec::new(alloc);
+    for peer in 0..PEERS {
+        let mut link = TcpLink::over(TcpStream::connect(rt, address), WAIT);
+        send(rt, &mut link, &sent_by(rt, alloc, payer, peer));
+        links.push(link).expect(rt, "room");
+    }
+    links
+}
+
+/// What came to these peers.
+fn read_all(rt: &impl Abort, alloc: Global, links: &mut [TcpLink<TcpStream>]) -> Vec<Vec<u8>> {
+    let mut written = Vec::new(alloc);
+    for link in links {
+        written.push(read_whole(rt, alloc, link)).expect(rt, "room");
+    }
+    written
+}
+
+/// What came to the peers of both accounts once all workers of a bank have served them.
+fn served_to_both(rt: &HostRuntime, alloc: Global, copies: &Copies) -> (Vec<Vec<u8>>, Vec<Vec<u8>>) {
+    let listener = listen(rt, 0).expect(rt, "a listener");
+    let address = listener.local_addr().expect(rt, "its address");
+    let mut checking = peers_of(rt, alloc, address, CHECKING);
+    let mut savings = peers_of(rt, alloc, address, SAVINGS);
+    let mut workers = Vec::new(alloc);
+    for _ in 0..2 * PEERS {
+        let door = TcpDoor::at(*rt, listener.try_clone().expect(rt, "a listener"), WAIT);
+        workers.push((door, at_noon(rt, alloc))).expect(rt, "room");
+    }
+    let keeper = CopyKeeper::over(alloc, MemKeeper::new(alloc), copies);
+    let all = all_served(rt, alloc, opened_from(rt, alloc, keeper), workers, &OpenGate, 1);
+    same(rt, all.status, Status(0));
+    drop(all);
+    (
+        read_all(rt, alloc, &mut checking),
+        read_all(rt, alloc, &mut savings),
+    )
+}
+
+/// What a bank that opens from these records replies to polls for both accounts and to the sample's request.
+fn replies_of_opened(rt: &HostRuntime, alloc: Global, records: &[Vec<u8>]) -> MemLink {
+    let mut bytes = poll_of(rt, alloc, "1.1", CHECKING);
+    put(rt, &mut bytes, &poll_of(rt, alloc, "1.1", SAVINGS));
+    put(rt, &mut bytes, &sample_times(rt, alloc, 1));
+    let mut link = link_of(rt, alloc, &bytes);
+    let opened = opened_from(rt, alloc, kept_again(rt, alloc, records));
+    same(
+        rt,
+        connected::<Brand, _>(rt, alloc, opened, &mut link),
+        Served::End(3),
+    );
+    link
+}
+
+/// Each token is that of a transfer of its account, and none is older than what its peer was answered before it. There are as many
+/// records as transfers were sent, and a bank that opens from them has each of these.
 #[test]
 fn four_workers_commit_and_poll_at_once(rt: HostRuntime) {
     let alloc = rt.alloc();
-    let (keeper, noted) = PostKeeper::over(alloc, MemKeeper::new(alloc)).expect(&rt, "a keeper");
-    let mut workers = Vec::new(alloc);
-    for worker in 0..WORKERS {
-        let bytes = transfers_and_polls(&rt, alloc, worker);
-        let mut links = Vec::new(alloc);
-        links
-            .push(MemLink::new(alloc, &bytes, ROOM).expect(&rt, "a link"))
-            .expect(&rt, "room");
-        let door = MemDoor::new(alloc, links, &[]).expect(&rt, "a doorway");
-        workers
-            .push((door, at_noon(&rt, alloc)))
-            .expect(&rt, "room");
-    }
-    let all = all_served(
-        &rt,
-        alloc,
-        opened_from(&rt, alloc, keeper),
-        workers,
-        &OpenGate,
-        0,
-    );
-    same(&rt, all.status, Status(0));
-    same(&rt, noted.count(), u64::from(WORKERS * TRANSFERS));
-    for worked in &all.ends {
-        for link in worked.door.back() {
-            let replies = str::from_utf8(link.held()).expect(&rt, "a text");
-            let tokens = tokens_in(&rt, alloc, replies);
-            let last = tokens.last().copied().unwrap_or(0);
-            assert!(rt; tokens.len() == 1 + TRANSFERS as usize && never_fall(&tokens));
-            assert!(rt; u64::from(TRANSFERS) <= last && last <= u64::from(WORKERS * TRANSFERS));
-        }
-    }
+    let copies = Copies::new(Vec::new(alloc));
+    let (checking, savings) = served_to_both(&rt, alloc, &copies);
+    let records = copies.into_inner();
+    let paid = judged(&rt, alloc, &checking);
+    let paid_back = judged(&rt, alloc, &savings);
+    same(&rt, records.len() as u64, 2 * PEERS * TRANSFERS);
+    same(&rt, paid.len() as u64, PEERS * TRANSFERS);
+    same(&rt, paid_back.len() as u64, PEERS * TRANSFERS);
+    let link = replies_of_opened(&rt, alloc, &records);
+    let written = str::from_utf8(link.held()).expect(&rt, "a text");
+    let tokens = numbers_in(&rt, alloc, &replies_in(&rt, alloc, written), "<TOKEN>");
+    same(&rt, tokens.len(), 2);
+    assert!(&rt; tokens.contains(&(records.len() as u64)) && written.contains(BALANCE));
 }

@@ -22,11 +22,18 @@ fn last_request(rt: &impl Abort, alloc: Global) -> String {
     text.expect(rt, "a request")
 }
 
+/// Sends these bytes at once.
+pub fn send<L: Link>(rt: &impl Abort, link: &mut L, bytes: &[u8]) {
+    if !bytes.is_empty() {
+        same(rt, link.write(bytes).expect(rt, "a write"), bytes.len());
+    }
+}
+
 /// What comes of a link until its peer ends it.
-fn read_whole<L: Link>(rt: &impl Abort, alloc: Global, link: &mut L) -> Vec<u8> {
+pub fn read_whole<L: Link>(rt: &impl Abort, alloc: Global, link: &mut L) -> Vec<u8> {
     let mut bytes = Vec::new(alloc);
-    let mut into = [0u8; 512];
-    for _ in 0..100 {
+    let mut into = [0u8; 4_096];
+    for _ in 0..1_000 {
         let count = link.read(&mut into).expect(rt, "a read");
         if count == 0 {
             break;
@@ -45,14 +52,7 @@ fn a_worker_answers_a_peer_over_a_socket(rt: HostRuntime) {
     let offset = listener.local_addr().expect(&rt, "its address");
     let mut peer = TcpLink::over(TcpStream::connect(&rt, offset), limit);
     let text = last_request(&rt, alloc);
-    let request = text.as_bytes();
-    if !request.is_empty() {
-        same(
-            &rt,
-            peer.write(request).expect(&rt, "a write"),
-            request.len(),
-        );
-    }
+    send(&rt, &mut peer, text.as_bytes());
     let mut workers = Vec::new(alloc);
     let worker = (TcpDoor::at(rt, listener, limit), at_noon(&rt, alloc));
     workers.push(worker).expect(&rt, "room");
