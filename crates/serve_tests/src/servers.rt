@@ -18,12 +18,12 @@ use bank_samples::transfer::TRANSFER;
 use bank_server::{AllEnd, serve_all, serve_connection, serve_open};
 use bank_shared::{Bank, BankName, Opened, Pass};
 use both::BothGate;
+use copies::{Copies, CopyKeeper};
 use ofx_file::OfxPrinter;
 use ofx_ports::{
     Doorway, Gate, Keeper, Link, MemClock, MemDoor, MemKeeper, MemLink, MemSource, OpenGate,
 };
 use ofx_types::{Moment, Note, Status, Told};
-use copies::{Copies, CopyKeeper};
 use std::alloc::Global;
 use std::marker::Brand;
 use std::process::Abort;
@@ -223,7 +223,11 @@ fn what_is_due_is_done_before_a_link_is_served(rt: HostRuntime) {
     let all = served_twice(&rt, alloc, opened, clock, 1);
     same(&rt, all.status, Status(0));
     let records = copies.into_inner();
-    assert!(rt; records.first().is_some_and(|first| first.as_slice() == DUE_POST));
+    assert!(rt;
+        records
+            .first()
+            .is_some_and(|first| first.as_slice() == DUE_POST)
+    );
     for worked in &all.ends {
         same(&rt, worked.end.served, 1);
         for link in worked.door.back() {

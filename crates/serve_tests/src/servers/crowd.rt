@@ -8,9 +8,9 @@ use super::{all_served, connected, link_of, opened_from};
 use crate::connections::{at_noon, posted, sample_times};
 use crate::same::same;
 use crate::sample::{put, request_with};
+use bank_connection::Served;
 use bank_samples::changes::POLL;
 use bank_samples::transfer::TRANSFER;
-use bank_connection::Served;
 use ofx_ports::{Keeper, Link, MemKeeper, MemLink, OpenGate, TcpDoor, TcpLink, listen};
 use ofx_types::Status;
 use std::alloc::Global;
@@ -211,7 +211,11 @@ fn read_all(rt: &impl Abort, alloc: Global, links: &mut [TcpLink<TcpStream>]) ->
 }
 
 /// What came to the peers of both accounts once all workers of a bank have served them.
-fn served_to_both(rt: &HostRuntime, alloc: Global, copies: &Copies) -> (Vec<Vec<u8>>, Vec<Vec<u8>>) {
+fn served_to_both(
+    rt: &HostRuntime,
+    alloc: Global,
+    copies: &Copies,
+) -> (Vec<Vec<u8>>, Vec<Vec<u8>>) {
     let listener = listen(rt, 0).expect(rt, "a listener");
     let address = listener.local_addr().expect(rt, "its address");
     let mut checking = peers_of(rt, alloc, address, CHECKING);
@@ -222,7 +226,14 @@ fn served_to_both(rt: &HostRuntime, alloc: Global, copies: &Copies) -> (Vec<Vec<
         workers.push((door, at_noon(rt, alloc))).expect(rt, "room");
     }
     let keeper = CopyKeeper::over(alloc, MemKeeper::new(alloc), copies);
-    let all = all_served(rt, alloc, opened_from(rt, alloc, keeper), workers, &OpenGate, 1);
+    let all = all_served(
+        rt,
+        alloc,
+        opened_from(rt, alloc, keeper),
+        workers,
+        &OpenGate,
+        1,
+    );
     same(rt, all.status, Status(0));
     drop(all);
     (
