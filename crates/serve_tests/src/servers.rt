@@ -223,11 +223,10 @@ fn what_is_due_is_done_before_a_link_is_served(rt: HostRuntime) {
     let all = served_twice(&rt, alloc, opened, clock, 1);
     same(&rt, all.status, Status(0));
     let records = copies.into_inner();
-    assert!(rt;
-        records
-            .first()
-            .is_some_and(|first| first.as_slice() == DUE_POST)
-    );
+    let Some(first) = records.first() else {
+        panic!(rt; "no record");
+    };
+    assert!(rt; first.as_slice() == DUE_POST);
     for worked in &all.ends {
         same(&rt, worked.end.served, 1);
         for link in worked.door.back() {

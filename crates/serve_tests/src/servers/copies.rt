@@ -45,7 +45,10 @@ impl<'a> Keeper for CopyKeeper<'a> {
     fn append(&mut self, rec: &[u8]) -> Result<(), PutFault> {
         self.kept.append(rec)?;
         // A bank appends under its lock, so nobody else has the copies then.
-        if let (Ok(copy), Some(mut copies)) = (rec.to_vec(self.alloc), self.copies.try_lock()) {
+        let Ok(copy) = rec.to_vec(self.alloc) else {
+            return Ok(());
+        };
+        if let Some(mut copies) = self.copies.try_lock() {
             let _ = copies.push(copy);
         }
         Ok(())

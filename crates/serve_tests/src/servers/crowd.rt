@@ -77,9 +77,8 @@ fn request_of(
     then: &[(&str, &str)],
 ) -> Vec<u8> {
     let mut changes = Vec::new(alloc);
-    for change in first.iter().chain(then) {
-        changes.push(*change).expect(rt, "room");
-    }
+    changes.extend_from_slice(first).expect(rt, "room");
+    changes.extend_from_slice(then).expect(rt, "room");
     let framed = request_with(rt, alloc, &changes);
     let (_, file) = framed.split_once("\n").unwrap_or(("", ""));
     posted(rt, alloc, version, file.as_bytes())
