@@ -159,7 +159,7 @@ def loads_of(tokens, polls):
             least = max(least, newest.index(token))
             most = len(newest) - 1 - newest[::-1].index(token)
             if most < least:
-                raise Wrong("a poll of %r got %d, behind a later token of another object" % (object, token))
+                raise Wrong("a poll of %r got %d, after a later token of another object" % (object, token))
             loads[least].append(Load(poll.number, object, token, most))
     return loads
 
