@@ -5,25 +5,26 @@ ghost use Rattle.ofx_ports.specs.States.{settled_size};
 
 use ofx_ports::{Failed, FetchFault, Gate, Keeper, MemKeeper, PutFault};
 use std::alloc::Global;
+use std::sync::Wait;
 use std::sync::atomic::{AtomicU64, Ordering};
 use std::thread;
-use std::time::Duration;
+use std::time::{Clock, Duration};
 
-/// How long whoever waits sleeps before it looks again.
-const LOOK: Duration = Duration::from_micros(500);
+/// How long whoever waits sleeps before it looks again, in microseconds.
+const LOOK: u64 = 500;
 
 /// How many others are awaited, how many have done, and whether the commit is held.
 #[derive(Drop)]
-pub struct Hold<'a> {
-    rt: &'a HostRuntime,
+pub struct Hold<'a, R: Wait + Clock + Sync> {
+    rt: &'a R,
     awaited: u32,
     done: AtomicU64,
     begun: AtomicU64,
 }
 
-impl<'a> Hold<'a> {
+impl<'a, R: Wait + Clock + Sync> Hold<'a, R> {
     /// Nobody has done, and nothing is held.
-    pub fn new(rt: &'a HostRuntime, awaited: u32) -> Hold<'a> {
+    pub fn new(rt: &'a R, awaited: u32) -> Hold<'a, R> {
         Hold {
             rt,
             awaited,
@@ -40,7 +41,7 @@ impl<'a> Hold<'a> {
     /// One of the others waits until it may begin.
     pub fn await_begun(&self) {
         while self.begun.load(Ordering::SeqCst) == 0 {
-            thread::sleep(self.rt, LOOK);
+            thread::sleep(self.rt, Duration::from_micros(LOOK));
         }
     }
 
@@ -53,25 +54,25 @@ impl<'a> Hold<'a> {
     fn hold(&self) {
         self.begin();
         while self.done.load(Ordering::SeqCst) < u64::from(self.awaited) {
-            thread::sleep(self.rt, LOOK);
+            thread::sleep(self.rt, Duration::from_micros(LOOK));
         }
     }
 }
 
 /// A gate that holds each call, or none.
 #[derive(Drop)]
-pub struct HeldGate<'a> {
-    hold: &'a Hold<'a>,
+pub struct HeldGate<'a, R: Wait + Clock + Sync> {
+    hold: &'a Hold<'a, R>,
     holds: bool,
 }
 
-impl<'a> HeldGate<'a> {
-    pub fn over(hold: &'a Hold<'a>, holds: bool) -> HeldGate<'a> {
+impl<'a, R: Wait + Clock + Sync> HeldGate<'a, R> {
+    pub fn over(hold: &'a Hold<'a, R>, holds: bool) -> HeldGate<'a, R> {
         HeldGate { hold, holds }
     }
 }
 
-impl<'a> Gate for HeldGate<'a> {
+impl<'a, R: Wait + Clock + Sync> Gate for HeldGate<'a, R> {
     fn pass(&self, _call: u64) {
         if self.holds {
             self.hold.hold();
@@ -81,14 +82,14 @@ impl<'a> Gate for HeldGate<'a> {
 
 /// A keeper in memory that holds each append, or none.
 #[derive(Drop)]
-pub struct HeldKeeper<'a> {
+pub struct HeldKeeper<'a, R: Wait + Clock + Sync> {
     kept: MemKeeper,
-    hold: &'a Hold<'a>,
+    hold: &'a Hold<'a, R>,
     holds: bool,
 }
 
-impl<'a> HeldKeeper<'a> {
-    pub fn over(alloc: Global, hold: &'a Hold<'a>, holds: bool) -> HeldKeeper<'a> {
+impl<'a, R: Wait + Clock + Sync> HeldKeeper<'a, R> {
+    pub fn over(alloc: Global, hold: &'a Hold<'a, R>, holds: bool) -> HeldKeeper<'a, R> {
         HeldKeeper {
             kept: MemKeeper::new(alloc),
             hold,
@@ -97,7 +98,7 @@ impl<'a> HeldKeeper<'a> {
     }
 }
 
-impl<'a> Keeper for HeldKeeper<'a> {
+impl<'a, R: Wait + Clock + Sync> Keeper for HeldKeeper<'a, R> {
     ghost records = { λ k. Some k.kept.records };
 
     ghost size = { λ k. settled_size k.kept.records k.kept.landed };

@@ -6,9 +6,10 @@
 
 mod hold;
 
-use crate::hold::{Hold, HeldGate, HeldKeeper};
+use crate::hold::{HeldGate, HeldKeeper, Hold};
 use bank_model::Setup;
 use bank_samples::changes::{NOON, POLL};
+use bank_samples::keys;
 use bank_samples::sample::{SETUP, request_with};
 use bank_samples::transfer::TRANSFER;
 use bank_shared::{Bank, Opened, Pass};
@@ -16,11 +17,11 @@ use bank_signon::{Judgement, judge};
 use ofx_file::OfxPrinter;
 use ofx_types::{RequestFile, UserId};
 use std::alloc::Global;
-use std::hash::RandomState;
 use std::marker::Brand;
-use std::process::ExitCode;
-use std::thread::map_vec;
-use std::time::Instant;
+use std::process::{Abort, ExitCode};
+use std::sync::Wait;
+use std::thread::{Threads, map_vec};
+use std::time::{Clock, Instant};
 
 /// Turns of each kind, of which the best counts.
 const TURNS: u32 = 5;
@@ -45,7 +46,7 @@ const KINDS: [(Kind, &str); 3] = [
 ];
 
 /// The bank that is polled.
-type Shared<'a> = Bank<Brand, HeldKeeper<'a>, OfxPrinter>;
+type Shared<'a, R> = Bank<Brand, HeldKeeper<'a, R>, OfxPrinter>;
 
 /// What one thread does: polls, or the commit that is held.
 #[derive(Drop)]
@@ -66,7 +67,7 @@ fn main(rt: HostRuntime) -> ExitCode {
         let mut best = [0u64; 3];
         for _ in 0..TURNS {
             for (index, (kind, _)) in KINDS.iter().enumerate() {
-                best[index] = best[index].max(turn(&rt, *kind, threads));
+                best[index] = best[index].max(turn(&rt, rt.alloc(), *kind, threads));
             }
         }
         for (index, (_, name)) in KINDS.iter().enumerate() {
@@ -77,25 +78,39 @@ fn main(rt: HostRuntime) -> ExitCode {
 }
 
 /// The polls a second of so many threads.
-fn turn(rt: &HostRuntime, kind: Kind, threads: u32) -> u64 {
-    let alloc = rt.alloc();
+fn turn<R: Abort + Wait + Clock + Threads + Sync>(
+    rt: &R,
+    alloc: Global,
+    kind: Kind,
+    threads: u32,
+) -> u64 {
     let hold = Hold::new(rt, threads);
     let keeper = HeldKeeper::over(alloc, &hold, kind == Kind::InItsAppend);
     let gate = HeldGate::over(&hold, kind == Kind::AtTheGate);
     let setup = Setup::read(alloc, SETUP).expect(rt, "a setup");
-    let keys = RandomState::new(rt).expect(rt, "keys");
-    let opened = Opened::open(alloc, keys, keeper, setup, OfxPrinter).ok().expect(rt, "a bank");
-    let (bank, mut pass): (Shared<'_>, Pass) = Bank::begin(opened);
+    let keys = keys::keys().expect(rt, "keys");
+    let opened = Opened::open(alloc, keys, keeper, setup, OfxPrinter)
+        .ok()
+        .expect(rt, "a bank");
+    let (bank, mut pass) = Bank::<Brand, _, _>::begin(opened);
     let poll = asked(rt, alloc, &bank, &POLL);
     let transfer = asked(rt, alloc, &bank, &[TRANSFER]);
     let mut jobs = Vec::new(alloc);
     for _ in 0..threads {
-        jobs.push(Job { pass: bank.door(&mut pass), is_poller: true }).expect(rt, "room");
+        jobs.push(Job {
+            pass: bank.door(&mut pass),
+            is_poller: true,
+        })
+        .expect(rt, "room");
     }
     if kind == Kind::Alone {
         hold.begin();
     } else {
-        jobs.push(Job { pass, is_poller: false }).expect(rt, "room");
+        jobs.push(Job {
+            pass,
+            is_poller: false,
+        })
+        .expect(rt, "room");
     }
     let run = |job: Job| -> u64 {
         let mut pass = job.pass;
@@ -106,27 +121,44 @@ fn turn(rt: &HostRuntime, kind: Kind, threads: u32) -> u64 {
             nanos
         } else {
             let Asked { user, file } = &transfer;
-            let _ = bank.submit(rt, &mut pass, *user, file, NOON, &gate).expect(rt, "a reply");
+            let _ = bank
+                .submit(rt, &mut pass, *user, file, NOON, &gate)
+                .expect(rt, "a reply");
             0
         }
     };
     let nanos = map_vec(rt, jobs, &run).expect(rt, "room");
-    let longest = nanos.iter().copied().fold(1, |most: u64, one: u64| -> u64 { most.max(one) });
+    let longest = nanos
+        .iter()
+        .copied()
+        .fold(1, |most: u64, one: u64| -> u64 { most.max(one) });
     u64::from(threads) * u64::from(POLLS) * 1_000_000_000 / longest
 }
 
 /// The nanoseconds that a thread's polls take.
-fn polled(rt: &HostRuntime, bank: &Shared<'_>, pass: &mut Pass, poll: &Asked) -> u64 {
+fn polled<R: Abort + Wait + Clock + Sync>(
+    rt: &R,
+    bank: &Shared<'_, R>,
+    pass: &mut Pass,
+    poll: &Asked,
+) -> u64 {
     let start = Instant::now(rt).expect(rt, "a time");
     for _ in 0..POLLS {
-        let reply = bank.poll(pass, poll.user, &poll.file, NOON).expect(rt, "a reply");
+        let reply = bank
+            .poll(pass, poll.user, &poll.file, NOON)
+            .expect(rt, "a reply");
         assert!(rt; reply.len() > 100);
     }
     start.elapsed(rt).expect(rt, "a time").as_nanos() as u64
 }
 
 /// The sample's request with these changes.
-fn asked(rt: &HostRuntime, alloc: Global, bank: &Shared<'_>, changes: &[(&str, &str)]) -> Asked {
+fn asked<R: Abort + Wait + Clock + Sync>(
+    rt: &R,
+    alloc: Global,
+    bank: &Shared<'_, R>,
+    changes: &[(&str, &str)],
+) -> Asked {
     let framed = request_with(alloc, changes).expect(rt, "a request");
     let (_, file) = framed.split_once("\n").unwrap_or(("", ""));
     match judge(alloc, bank.setup(), file.as_bytes()).expect(rt, "a judgement") {

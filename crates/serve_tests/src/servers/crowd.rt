@@ -17,6 +17,8 @@ use std::alloc::Global;
 use std::marker::Brand;
 use std::net::{SocketAddr, TcpStream};
 use std::process::Abort;
+use std::sync::Wait;
+use std::thread::Threads;
 use std::time::Duration;
 
 /// The peers of an account, each of which a worker of its own serves.
@@ -24,9 +26,6 @@ const PEERS: u64 = 2;
 
 /// The transfers that a peer sends. Two polls for its account follow each.
 const TRANSFERS: u64 = 10;
-
-/// How long a call of a link waits.
-const WAIT: Duration = Duration::from_secs(10);
 
 /// An account of the sample's setup, and what the peers that pay from it send.
 #[derive(Clone, Copy)]
@@ -184,18 +183,20 @@ fn kept_again(rt: &impl Abort, alloc: Global, records: &[Vec<u8>]) -> MemKeeper
     keeper
 }
 
-/// Links of the peers of an account, who have sent all that they send.
+/// Links of the peers of an account, who have sent all that they send. A call of a link waits no longer than the limit.
 fn peers_of(
     rt: &HostRuntime,
-    alloc: Global,
+    abort: &impl Abort,
     address: SocketAddr,
+    limit: Duration,
     payer: Payer,
 ) -> Vec<TcpLink<TcpStream>> {
+    let alloc = rt.alloc();
     let mut links = Vec::new(alloc);
     for peer in 0..PEERS {
-        let mut link = TcpLink::over(TcpStream::connect(rt, address), WAIT);
-        send(rt, &mut link, &sent_by(rt, alloc, payer, peer));
-        links.push(link).expect(rt, "room");
+        let mut link = TcpLink::over(TcpStream::connect(rt, address), limit);
+        send(abort, &mut link, &sent_by(abort, alloc, payer, peer));
+        links.push(link).expect(abort, "room");
     }
     links
 }
@@ -210,39 +211,36 @@ fn read_all(rt: &impl Abort, alloc: Global, links: &mut [TcpLink<TcpStream>]) ->
 }
 
 /// What came to the peers of both accounts once all workers of a bank have served them.
-fn served_to_both(
+fn served_to_both<R: Abort + Threads + Wait + Sync>(
     rt: &HostRuntime,
-    alloc: Global,
+    threads: &R,
     copies: &Copies,
 ) -> (Vec<Vec<u8>>, Vec<Vec<u8>>) {
-    let listener = listen(rt, 0).expect(rt, "a listener");
-    let address = listener.local_addr().expect(rt, "its address");
-    let mut checking = peers_of(rt, alloc, address, CHECKING);
-    let mut savings = peers_of(rt, alloc, address, SAVINGS);
+    let alloc = rt.alloc();
+    let limit = Duration::from_secs(10);
+    let listener = listen(rt, 0).expect(threads, "a listener");
+    let address = listener.local_addr().expect(threads, "its address");
+    let mut checking = peers_of(rt, threads, address, limit, CHECKING);
+    let mut savings = peers_of(rt, threads, address, limit, SAVINGS);
     let mut workers = Vec::new(alloc);
     for _ in 0..2 * PEERS {
-        let door = TcpDoor::at(*rt, listener.try_clone().expect(rt, "a listener"), WAIT);
-        workers.push((door, at_noon(rt, alloc))).expect(rt, "room");
+        let listens = listener.try_clone().expect(threads, "a listener");
+        let worker = (TcpDoor::at(*rt, listens, limit), at_noon(threads, alloc));
+        workers.push(worker).expect(threads, "room");
     }
     let keeper = CopyKeeper::over(alloc, MemKeeper::new(alloc), copies);
-    let all = all_served(
-        rt,
-        alloc,
-        opened_from(rt, alloc, keeper),
-        workers,
-        &OpenGate,
-        1,
-    );
-    same(rt, all.status, Status(0));
+    let opened = opened_from(threads, alloc, keeper);
+    let all = all_served(threads, alloc, opened, workers, &OpenGate, 1);
+    same(threads, all.status, Status(0));
     drop(all);
     (
-        read_all(rt, alloc, &mut checking),
-        read_all(rt, alloc, &mut savings),
+        read_all(threads, alloc, &mut checking),
+        read_all(threads, alloc, &mut savings),
     )
 }
 
 /// What a bank that opens from these records replies to polls for both accounts and to the sample's request.
-fn replies_of_opened(rt: &HostRuntime, alloc: Global, records: &[Vec<u8>]) -> MemLink {
+fn replies_of_opened<R: Abort + Wait>(rt: &R, alloc: Global, records: &[Vec<u8>]) -> MemLink {
     let mut bytes = poll_of(rt, alloc, "1.1", CHECKING);
     put(rt, &mut bytes, &poll_of(rt, alloc, "1.1", SAVINGS));
     put(rt, &mut bytes, &sample_times(rt, alloc, 1));
@@ -250,7 +248,7 @@ fn replies_of_opened(rt: &HostRuntime, alloc: Global, records: &[Vec<u8>]) -> Me
     let opened = opened_from(rt, alloc, kept_again(rt, alloc, records));
     same(
         rt,
-        connected::<Brand, _>(rt, alloc, opened, &mut link),
+        connected::<Brand, R>(rt, alloc, opened, &mut link),
         Served::End(3),
     );
     link
@@ -262,7 +260,7 @@ fn replies_of_opened(rt: &HostRuntime, alloc: Global, records: &[Vec<u8>]) -> Me
 fn four_workers_commit_and_poll_at_once(rt: HostRuntime) {
     let alloc = rt.alloc();
     let copies = Copies::new(Vec::new(alloc));
-    let (checking, savings) = served_to_both(&rt, alloc, &copies);
+    let (checking, savings) = served_to_both(&rt, &rt, &copies);
     let records = copies.into_inner();
     let paid = judged(&rt, alloc, &checking);
     let paid_back = judged(&rt, alloc, &savings);
@@ -273,5 +271,5 @@ fn four_workers_commit_and_poll_at_once(rt: HostRuntime) {
     let written = str::from_utf8(link.held()).expect(&rt, "a text");
     let tokens = numbers_in(&rt, alloc, &replies_in(&rt, alloc, written), "<TOKEN>");
     same(&rt, tokens.len(), 2);
-    assert!(&rt; tokens.contains(&(records.len() as u64)) && written.contains(BALANCE));
+    assert!(rt; tokens.contains(&(records.len() as u64)) && written.contains(BALANCE));
 }
