@@ -1,36 +1,27 @@
 -- Workers and their jobs, place by place.
-use Rattle.std.proofs.Common.{◌≡◌, ℕ, List, [], ◌∷◌, ◌++◌, All, length, map, Option, None, Some, refl, sym, ap, ◌∙◌, subst}
+use Rattle.std.proofs.Common.{◌≡◌, ℕ, List, length, map, Option, None, Some, refl, sym, ap, ◌∙◌, subst}
 use Rattle.std.specs.List.{slice_get}
 use Rattle.std.specs.Fn.{Shared, FnReturns}
 use Rattle.std.specs.Fork.{GivesJobs}
 use Rattle.std.proofs.lemmas.List.{length-map}
-use Rattle.std.proofs.lemmas.List.Elements.{All-append, All-cons, All-nil, All-weaker}
 use Rattle.std.specs.Option.{option_map}
 use Rattle.std.proofs.lemmas.Option.{slice_get-map, slice_get_within, get_or_from_slice_get}
-use Rattle.atomic_table.specs.Seated.{TableId}
-use Rattle.bank_model.specs.declared.event.State.{State}
-use Rattle.bank_model.specs.declared.setup.Setup.{Setup}
-use Rattle.token_board.specs.Views.{BoardView, PassView}
-use Rattle.bank_shared.specs.Holds.{IsPassOf}
-use Rattle.bank_server.specs.declared.workers.Job.{Job}
 
 same_some : {A B : Type 0} (f : A → B) (o : Option A) (b : B) → option_map f o ≡ Some b → (a : A) × (o ≡ Some a) × (f a ≡ b)
 same_some f None b e = cc
 same_some f (Some a) b e = (a, refl, cc)
 
 -- a job has the doorway and the clock of the worker at its offset
-pub record IsJobOf {D C : Type 0} (jobs : List (Job D C)) (i : ℕ) (worker : D × C) : Type 0 where
-  pub job : Job D C
+pub record IsJobOf {J D C : Type 0} (door_of : J → D) (clock_of : J → C) (jobs : List J) (i : ℕ) (worker : D × C) : Type 0 where
+  pub job : J
   pub at : slice_get jobs i ≡ Some job
-  pub door : job.door ≡ worker.0
-  pub clock : job.clock ≡ worker.1
+  pub door : door_of job ≡ worker.0
+  pub clock : clock_of job ≡ worker.1
 
-pub job_of : {D C : Type 0} (jobs : List (Job D C)) (workers : List (D × C)) → map (λ job. job.door) jobs ≡ map (λ worker. worker.0) workers
-    → map (λ job. job.clock) jobs ≡ map (λ worker. worker.1) workers
-    → (i : ℕ) (worker : D × C) → slice_get workers i ≡ Some worker → IsJobOf jobs i worker
-job_of {D} {C} jobs workers doors clocks i worker at =
-    let door_of : Job D C → D = λ job. job.door in
-    let clock_of : Job D C → C = λ job. job.clock in
+pub job_of : {J D C : Type 0} (door_of : J → D) (clock_of : J → C) (jobs : List J) (workers : List (D × C)) → map door_of jobs ≡ map (λ worker. worker.0) workers
+    → map clock_of jobs ≡ map (λ worker. worker.1) workers
+    → (i : ℕ) (worker : D × C) → slice_get workers i ≡ Some worker → IsJobOf door_of clock_of jobs i worker
+job_of {J} {D} {C} door_of clock_of jobs workers doors clocks i worker at =
     let first : (D × C) → D = λ w. w.0 in
     let second : (D × C) → C = λ w. w.1 in
     let door_there : option_map door_of (slice_get jobs i) ≡ Some worker.0 =
@@ -42,30 +33,10 @@ job_of {D} {C} jobs workers doors clocks i worker at =
     let one : found.0 ≡ again.0 = cc in
     record { job = found.0; at = found.1; door = found.2; clock = ap clock_of one ∙ again.2 }
 
-pub as_many : {D C : Type 0} (jobs : List (Job D C)) (workers : List (D × C)) → map (λ job. job.door) jobs ≡ map (λ worker. worker.0) workers → length jobs ≡ length workers
-as_many {D} {C} jobs workers doors =
-    let door_of : Job D C → D = λ job. job.door in
+pub as_many : {J D C : Type 0} (door_of : J → D) (jobs : List J) (workers : List (D × C)) → map door_of jobs ≡ map (λ worker. worker.0) workers → length jobs ≡ length workers
+as_many {J} {D} {C} door_of jobs workers doors =
     let first : (D × C) → D = λ w. w.0 in
     sym (length-map jobs door_of) ∙ (ap length doors ∙ length-map workers first)
-
--- ---- what all have
-
-pub all_more : {X : Type 0} (P : X → Type 0) (xs ys : List X) (x : X) → ys ≡ xs ++ x ∷ [] → P x → All P xs → All P ys
-all_more P xs ys x more one all = subst (All P) (sym more) (All-append P xs (x ∷ []) all (All-cons P x [] one (All-nil P)))
-
-pub one_of_all : {X : Type 0} (P : X → Type 0) (xs : List X) (i : ℕ) (x : X) → slice_get xs i ≡ Some x → All P xs → P x
-one_of_all P xs i x at all = subst P (get_or_from_slice_get xs i x x at) (all i x (slice_get_within xs i x at))
-
--- a pass that has seen nothing, and one like it
-pub like_first : (first child : PassView) (table : TableId) → first ≡ (record { table = table; seen = []; mine = []; polled = [] }) → child ≡ (record { table = first.table; seen = first.seen; mine = []; polled = first.polled })
-    → child ≡ (record { table = table; seen = []; mine = []; polled = [] })
-like_first first child table fresh like =
-    like ∙ ap (λ (p : PassView). record { table = p.table; seen = p.seen; mine = []; polled = p.polled }) fresh
-
-pub all_may : {D C : Type 0} (setup : Setup) (opening : State) (board : BoardView) (first : PassView) (jobs : List (Job D C)) → IsPassOf setup opening board first
-    → All (λ (job : Job D C). job.pass ≡ first) jobs → All (λ (job : Job D C). IsPassOf setup opening board job.pass) jobs
-all_may {D} {C} setup opening board first jobs may all =
-    All-weaker (λ (job : Job D C). job.pass ≡ first) (λ (job : Job D C). IsPassOf setup opening board job.pass) (λ job same. subst (IsPassOf setup opening board) (sym same) may) jobs all
 
 -- the call at each place is that of the job there, and gave what is there
 pub each_call : {F J R : Type 0} (g : Shared F (J × Unit {0}) R) (f : F) (js : List J) (rs : List R) → GivesJobs g f js rs

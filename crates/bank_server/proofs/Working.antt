@@ -1,5 +1,5 @@
 -- A worker so far, one turn more, and each of its ends.
-use Rattle.std.proofs.Common.{◌≡◌, ℕ, zero, suc, ◌+◌, ◌<◌, Bool, true, false, List, [], ◌∷◌, ◌++◌, length, map, filter, Option, None, Some, Result, refl, sym, ap, ◌∙◌, subst, arith, length-append, rules}
+use Rattle.std.proofs.Common.{◌≡◌, ℕ, ◌+◌, List, [], ◌∷◌, ◌++◌, length, map, Option, Result, refl, sym, ap, ◌∙◌, subst, arith, length-append, rules}
 use Rattle.std.proofs.lemmas.List.Elements.{filter-append}
 use Rattle.ofx_ports.specs.Known.{Grows, Stays}
 use Rattle.ofx_ports.proofs.KnownLaws.{Grows-trans, Grows-kept}
@@ -11,7 +11,7 @@ use Rattle.bank_server.specs.Connected.{Faces, DoorView, around_link}
 use Rattle.bank_connection.specs.Connection.{Converses}
 use Rattle.http_link.specs.declared.served.Served.{Served}
 use Rattle.http_link.specs.declared.served.ServeError.{ServeError}
-use Rattle.bank_server.specs.Turns.{Turn, DoesDueAt, RunsTurn, AreTurns, links_given, links_back, due_ends, is_missed, missed_in, HasServedAll, HasNoDoor}
+use Rattle.bank_server.specs.Turns.{Turn, DoesDueAt, RunsTurn, AreTurns, links_given, links_back, due_ends, missed_in}
 
 -- so many links were served, and so many due runs missed, and the worker goes on
 pub record SoFar {L : Type 0} (faces : Faces L) (setup : Setup) (before now : DoorView L) (shown shown' : Option (List Moment)) (first caller : CallerView) (served missed : ℕ) : Type 0 where
@@ -26,7 +26,7 @@ turns-more : {L : Type 0} (faces : Faces L) (setup : Setup) (shown mid late : Op
     → AreTurns faces setup shown mid first caller turns → RunsTurn faces setup mid late caller last turn → AreTurns faces setup shown late first last (turns ++ turn ∷ [])
 turns-more faces setup shown mid late first caller last [] turn are takes =
     let from_shown : RunsTurn faces setup shown late caller last turn = subst (λ (m : Option (List Moment)). RunsTurn faces setup m late caller last turn) are.0 takes in
-    (late, last, subst (λ (c : CallerView). RunsTurn faces setup shown late c last turn) are.1 from_shown, refl, refl)
+    (late, last, subst (λ (c : CallerView). RunsTurn faces setup shown late c last turn) are.1 from_shown, (refl, refl))
 turns-more faces setup shown mid late first caller last (one ∷ turns) turn are takes =
     (are.0, are.1, are.2, turns-more faces setup are.0 mid late are.1 caller last turns turn are.3 takes)
 

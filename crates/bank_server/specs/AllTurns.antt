@@ -1,5 +1,5 @@
 -- All workers of a server.
-use Rattle.std.specs.Prelude.{◌≡◌, ℕ, ◌==◌, if◌then◌else◌, List, [], ◌∷◌}
+use Rattle.std.specs.Prelude.{ℕ, ◌==◌, if◌then◌else◌, List, [], ◌∷◌}
 
 -- The first status other than 0, or 0.
 abbrev pub first_other : List ℕ → ℕ

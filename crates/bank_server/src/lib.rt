@@ -6,6 +6,7 @@
 #![tactic(auto)]
 
 mod connection;
+mod jobs;
 mod open;
 mod worker;
 mod workers;

@@ -1,13 +1,13 @@
 //! All workers of a server, each in a thread of its own.
 
-ghost use Rattle.std.specs.Prelude.{◌≡◌, ℕ, [], IfOk, length, map, slice_get, Some, All};
+ghost use Rattle.std.specs.Prelude.{◌≡◌, ℕ, [], IfOk, length, map, slice_get, Some};
 ghost use Rattle.bank_server.specs.Connected.{faces, door_view};
 ghost use Rattle.bank_server.specs.Turns.{Works};
 ghost use Rattle.bank_server.specs.AllTurns.{first_other};
-ghost use Rattle.bank_server.specs.declared.workers.Job.{Job as OneJob};
 ghost use Rattle.bank_shared.specs.Holds.{IsPassOf, caller_of};
 ghost use Rattle.bank_server.specs.declared.workers.Worked.{Worked as OneEnded};
 
+use crate::jobs::{Job, jobs_for};
 use crate::worker::{WorkerEnd, serve_worker};
 use bank_model::Printer;
 use bank_shared::{Bank, BankName, Opened, Pass};
@@ -37,14 +37,6 @@ pub struct AllEnd<D: Drop, C: Drop> {
     pub status: Status,
     /// The workers, in their order.
     pub ends: Vec<Worked<D, C>>,
-}
-
-/// What a worker begins with.
-#[derive(Drop)]
-struct Job<D: Drop, C: Drop> {
-    door: D,
-    clock: C,
-    pass: Pass,
 }
 
 /// Begins the bank and serves it: a worker for each doorway and clock, in a thread of its own where one can be made, as
@@ -102,20 +94,18 @@ fn all_run<
     rt: &R,
     alloc: Global,
     bank: &Bank<N, K, P>,
-    jobs: Vec<Job<D, C>>,
+    jobs: Vec<Job<N, D, C>>,
     gate: &G,
     most: u32,
 ) -> Result<Vec<Worked<D, C>>, OutOfMemory>
-    requires passes { All (λ job. IsPassOf N.setup N.opening N.board job.pass) jobs.items }
     ensures count { IfOk result (λ ends. length ends.items ≡ length jobs.items) }
-    ensures each { IfOk result (λ ends. (i : ℕ) (job : OneJob D C) (worked : OneEnded D C) → slice_get jobs.items i ≡ Some job → slice_get ends.items i ≡ Some worked
+    ensures each { IfOk result (λ ends. (i : ℕ) (job : _) (worked : OneEnded D C) → slice_get jobs.items i ≡ Some job → slice_get ends.items i ≡ Some worked
         → IsPassOf N.setup N.opening N.board worked.pass × Works (faces L.left L.read_faults L.held L.write_faults) N.setup most
         (door_view (D.given job.door) (D.back job.door) (D.faults job.door) (D.closings job.door))
         (door_view (D.given worked.door) (D.back worked.door) (D.faults worked.door) (D.closings worked.door))
         (C.shown job.clock) (C.shown worked.clock) (caller_of N.opening job.pass) (caller_of N.opening worked.pass) worked.end) }
 {
-    let run = |job: Job<D, C>| -> Worked<D, C>
-        requires { IsPassOf N.setup N.opening N.board job.pass }
+    let run = |job: Job<N, D, C>| -> Worked<D, C>
         ensures { IsPassOf N.setup N.opening N.board result.pass × Works (faces L.left L.read_faults L.held L.write_faults) N.setup most
             (door_view (D.given job.door) (D.back job.door) (D.faults job.door) (D.closings job.door))
             (door_view (D.given result.door) (D.back result.door) (D.faults result.door) (D.closings result.door))
@@ -135,55 +125,35 @@ fn run_job<
     D: Doorway<L>,
     C: Clock + Drop,
     G: Gate,
->(bank: &Bank<N, K, P>, rt: &R, alloc: Global, job: Job<D, C>, gate: &G, most: u32) -> Worked<D, C>
-    requires { IsPassOf N.setup N.opening N.board job.pass }
+>(
+    bank: &Bank<N, K, P>,
+    rt: &R,
+    alloc: Global,
+    job: Job<N, D, C>,
+    gate: &G,
+    most: u32,
+) -> Worked<D, C>
     ensures pass { IsPassOf N.setup N.opening N.board result.pass }
     ensures works { Works (faces L.left L.read_faults L.held L.write_faults) N.setup most
         (door_view (D.given job.door) (D.back job.door) (D.faults job.door) (D.closings job.door))
         (door_view (D.given result.door) (D.back result.door) (D.faults result.door) (D.closings result.door))
         (C.shown job.clock) (C.shown result.clock) (caller_of N.opening job.pass) (caller_of N.opening result.pass) result.end }
 {
-    let mut job = job;
+    let Job {
+        mut door,
+        mut clock,
+        mut pass,
+        name: _,
+    } = job;
     let end = serve_worker(
-        bank,
-        rt,
-        alloc,
-        &mut job.pass,
-        &mut job.door,
-        &mut job.clock,
-        gate,
-        most,
+        bank, rt, alloc, &mut pass, &mut door, &mut clock, gate, most,
     );
     Worked {
-        door: job.door,
-        clock: job.clock,
-        pass: job.pass,
+        door,
+        clock,
+        pass,
         end,
     }
-}
-
-/// What each worker begins with: its doorway, its clock and a pass of the bank.
-fn jobs_for<N: BankName, K: Keeper, P: Printer, D: Drop, C: Drop>(
-    alloc: Global,
-    bank: &Bank<N, K, P>,
-    pass: &mut Pass,
-    workers: Vec<(D, C)>,
-) -> Result<Vec<Job<D, C>>, OutOfMemory>
-    requires pass { IsPassOf N.setup N.opening N.board pass.old }
-    requires fresh { pass.old ≡ record { table = N.board.table; seen = []; mine = []; polled = [] } }
-    ensures passes { IfOk result (λ jobs. All (λ job. job.pass ≡ record { table = N.board.table; seen = []; mine = []; polled = [] }) jobs.items) }
-    ensures doors { IfOk result (λ jobs. map (λ job. job.door) jobs.items ≡ map (λ worker. worker.0) workers.items) }
-    ensures clocks { IfOk result (λ jobs. map (λ job. job.clock) jobs.items ≡ map (λ worker. worker.1) workers.items) }
-{
-    let mut jobs = Vec::with_capacity(alloc, workers.len())?;
-    for (door, clock) in workers {
-        jobs.push(Job {
-            door,
-            clock,
-            pass: bank.door(pass),
-        })?;
-    }
-    Ok(jobs)
 }
 
 /// The first status other than 0, or 0.

@@ -11,8 +11,12 @@ const THIRD: ObjectId = ObjectId(2);
 #[test]
 fn a_token_is_the_number_of_the_last_entry(rt: HostRuntime) {
     let (board, writer, mut pass) = board_of(&rt, rt.alloc(), &[0, 7]);
-    let before = [FIRST, SECOND, THIRD].map(|object| board.newest(&mut pass, object));
-    assert!(rt; before == [0, 7, 0]);
+    let before = (
+        board.newest(&mut pass, FIRST),
+        board.newest(&mut pass, SECOND),
+        board.newest(&mut pass, THIRD),
+    );
+    assert!(rt; before == (0, 7, 0));
     let mut scribe = Scribe::new(&rt, &board, writer, pass, 7);
     scribe.publish(8);
     scribe.publish(10);

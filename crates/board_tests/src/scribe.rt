@@ -7,7 +7,7 @@ use bank_model::{Ending, Entry};
 use ofx_types::{Change, ObjectId, TrnUid};
 use std::process::Abort;
 use token_board::laws::{endings_are_claimed, heard_passes_meet};
-use token_board::{Board, Pass, Writer};
+use token_board::{Board, Note, Pass, Writer};
 
 /// The object whose entries are published.
 pub const FIRST: ObjectId = ObjectId(0);
@@ -89,6 +89,15 @@ impl<'a> Scribe<'a> {
         ensures last { self.new.last ≡ self.old.last }
     {
         other.meet(self.board, self.writer.note(self.board));
+    }
+
+    /// A note of what was published, which claims nothing.
+    pub fn note(&mut self) -> Note
+        ensures table { result.table ≡ self.old.board.now.table }
+        ensures claimed { result.claimed ≡ [] }
+        ensures board { self.new.board.now ≡ self.old.board.now }
+    {
+        self.writer.note(self.board)
     }
 
     /// The newest token of an object, as the scribe's pass is told it.

@@ -1,31 +1,33 @@
 //! One thread publishes, and another one loads tokens.
 
-ghost use Rattle.std.specs.Prelude.{◌≡◌};
+ghost use Rattle.std.specs.Prelude.{◌≡◌, []};
 
 use crate::boards::board_of;
 use crate::scribe::{FIRST, Scribe};
 use std::thread;
-use token_board::{Board, Pass};
+use token_board::{Board, Note, Pass};
 
 /// How often each of both does its work.
 const TIMES: u32 = 10_000;
 
-/// Publishes the numbers 1, 2 and so on.
-fn publish_all(mut scribe: Scribe<'_>) -> Scribe<'_>
-    requires { scribe.last ≡ 0 }
-    ensures { result.board.now ≡ scribe.board.now }
+/// Publishes the numbers 1, 2 and so on, and gives a note of all.
+fn publish_all(first: Scribe<'_>) -> Note
+    requires { first.last ≡ 0 }
+    ensures { (result.table ≡ first.entry.board.now.table) × (result.claimed ≡ []) }
 {
+    let mut scribe = first;
     for number in 0..TIMES {
         scribe.publish(u64::from(number) + 1);
     }
-    scribe
+    scribe.note()
 }
 
 /// Loads the token again and again. The last one, and whether none was below the one before.
-fn look_often(board: &Board, mut pass: Pass) -> (Pass, u64, bool)
-    requires { pass.table ≡ board.now.table }
+fn look_often(board: &Board, first: Pass) -> (Pass, u64, bool)
+    requires { first.table ≡ board.now.table }
     ensures { result.0.table ≡ board.now.table }
 {
+    let mut pass = first;
     let mut last = 0;
     let mut rises = true;
     for _ in 0..TIMES {
@@ -42,18 +44,18 @@ fn tokens_that_another_thread_publishes_were_the_newest_once(rt: HostRuntime) {
     let other = pass.split(&board);
     let scribe = Scribe::new(&rt, &board, writer, pass, 0);
     let board = &board;
-    let (mut scribe, (mut other, last, rises)) = thread::join(
+    let (note, (mut other, last, rises)) = thread::join(
         &rt,
-        move || -> Scribe<'_>
+        move || -> Note
             requires { scribe.last ≡ 0 }
-            ensures { result.board.now ≡ scribe.board.now }
+            ensures { (result.table ≡ scribe.entry.board.now.table) × (result.claimed ≡ []) }
         { publish_all(scribe) },
         move || -> (Pass, u64, bool)
             requires { other.table ≡ board.now.table }
-            ensures { result.0.table ≡ board.now.table }
+            ensures { result.0.table ≡ board.entry.now.table }
         { look_often(board, other) },
     );
     assert!(rt; rises && last <= u64::from(TIMES));
-    scribe.tell(&mut other);
+    other.meet(board, note);
     assert!(rt; board.newest(&mut other, FIRST) == u64::from(TIMES));
 }

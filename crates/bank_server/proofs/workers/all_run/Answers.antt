@@ -1,7 +1,6 @@
 use denote.Exit.{Kept, if_kept, unseen}
 use denote.Param.{param, copied}
 use denote.Param.Send.{IsSync, sendable, Quiet, Quiet-if}
-use denote.Ref.{NamedLft}
 use mir.Syntax.{of_param, named}
 use Rattle.std.proofs.Common.{ℕ, rules}
 use Rattle.std.proofs.Crossing.{crosses}
