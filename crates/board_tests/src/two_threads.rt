@@ -1,21 +1,26 @@
 //! One thread publishes, and another one loads tokens.
 
-ghost use Rattle.std.specs.Prelude.{◌≡◌, []};
+ghost use Rattle.std.specs.Prelude.{◌≡◌, ◌<◌, ◌≤◌, [], All, length};
+ghost use Rattle.token_board.specs.Tokens.{numbers_in};
 
 use crate::boards::board_of;
 use crate::scribe::{FIRST, Scribe};
+use std::process::Abort;
 use std::thread;
-use token_board::{Board, Note, Pass};
+use token_board::{Board, Note, Pass, Writer};
 
 /// How often each of both does its work.
 const TIMES: u32 = 10_000;
 
-/// Publishes the numbers 1, 2 and so on, and gives a note of all.
-fn publish_all(first: Scribe<'_>) -> Note
-    requires { first.last ≡ 0 }
-    ensures { (result.table ≡ first.entry.board.now.table) × (result.claimed ≡ []) }
+/// Publishes the numbers 1, 2 and so on at a new board, and gives a note of all.
+fn publish_all(rt: &impl Abort, board: &Board, writer: Writer, pass: Pass) -> Note
+    requires own { (writer.table ≡ board.now.table) × (pass.table ≡ board.now.table) }
+    requires unclaimed { writer.claimed ≡ [] }
+    requires first { 0 < length board.now.start }
+    requires below { All (λ number. number ≤ 0) (numbers_in board.now.start writer.log) }
+    ensures { (result.table ≡ board.now.table) × (result.claimed ≡ []) }
 {
-    let mut scribe = first;
+    let mut scribe = Scribe::new(rt, board, writer, pass, 0);
     for number in 0..TIMES {
         scribe.publish(u64::from(number) + 1);
     }
@@ -42,14 +47,15 @@ fn look_often(board: &Board, first: Pass) -> (Pass, u64, bool)
 fn tokens_that_another_thread_publishes_were_the_newest_once(rt: HostRuntime) {
     let (board, writer, mut pass) = board_of(&rt, rt.alloc(), &[0]);
     let other = pass.split(&board);
-    let scribe = Scribe::new(&rt, &board, writer, pass, 0);
     let board = &board;
+    let runtime = &rt;
     let (note, (mut other, last, rises)) = thread::join(
         &rt,
         move || -> Note
-            requires { scribe.last ≡ 0 }
-            ensures { (result.table ≡ scribe.entry.board.now.table) × (result.claimed ≡ []) }
-        { publish_all(scribe) },
+            requires { (writer.table ≡ board.now.table) × (pass.table ≡ board.now.table) × (writer.claimed ≡ [])
+                × (0 < length board.now.start) × All (λ number. number ≤ 0) (numbers_in board.now.start writer.log) }
+            ensures { (result.table ≡ board.entry.now.table) × (result.claimed ≡ []) }
+        { publish_all(runtime, board, writer, pass) },
         move || -> (Pass, u64, bool)
             requires { other.table ≡ board.now.table }
             ensures { result.0.table ≡ board.entry.now.table }

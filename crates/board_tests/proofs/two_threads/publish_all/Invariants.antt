@@ -3,4 +3,4 @@ use Rattle.board_tests.proofs.two_threads.publish_all.Given as goal
 
 -- the numbers before this one are published, on the same board
 abbrev pub invariant-loop-number : goal.invariant-loop-number
-invariant-loop-number l = (l.scribe.last ≤ l.number) × (l.scribe.board.now ≡ l.fn.first.board.now)
+invariant-loop-number g l = (l.scribe.last ≤ l.number) × (l.scribe.board.now ≡ l.board)

@@ -1,4 +1,4 @@
-use Rattle.std.proofs.Common.{◌≡◌, ◌∙◌, ◌++◌, ◌∷◌, [], List, ℕ, ap}
+use Rattle.std.proofs.Common.{◌∙◌, ◌++◌, ◌∷◌, [], List, ℕ, ap}
 use Rattle.token_board.specs.Tokens.{numbers_in}
 use Rattle.token_board.specs.Views.{WriterView}
 use Rattle.board_tests.proofs.Numbers.{below_more}
