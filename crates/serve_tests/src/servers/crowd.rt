@@ -27,11 +27,10 @@ const PEERS: u64 = 2;
 /// The transfers that a peer sends. Two polls for its account follow each.
 const TRANSFERS: u64 = 10;
 
-/// An account of the sample's setup, and what the peers that pay from it send.
+/// An account of the sample's setup, and what the peers that pay from it send: changes of the sample's request.
 #[derive(Clone, Copy)]
 struct Payer {
     name: &'static str,
-    amount: &'static str,
     transfer: &'static [(&'static str, &'static str)],
     poll: &'static [(&'static str, &'static str)],
 }
@@ -39,16 +38,15 @@ struct Payer {
 /// Pays a cent to the other account with each transfer.
 const CHECKING: Payer = Payer {
     name: "c",
-    amount: "<TRNAMT>0.01",
-    transfer: &[],
+    transfer: &[("<TRNAMT>10.00", "<TRNAMT>0.01")],
     poll: &[],
 };
 
 /// Pays two cents to the other account with each transfer.
 const SAVINGS: Payer = Payer {
     name: "s",
-    amount: "<TRNAMT>0.02",
     transfer: &[
+        ("<TRNAMT>10.00", "<TRNAMT>0.02"),
         (
             "<ACCTID>1001\r\n<ACCTTYPE>CHECKING\r\n</BANKACCTFROM>\r\n<BANKACCTTO>",
             "<ACCTID>1002\r\n<ACCTTYPE>SAVINGS\r\n</BANKACCTFROM>\r\n<BANKACCTTO>",
@@ -67,40 +65,38 @@ const SAVINGS: Payer = Payer {
 /// The balance of CHECKING after all transfers: of 100.00, 20 cents were paid out and 40 were paid in.
 const BALANCE: &str = "<BALAMT>100.20\r\n";
 
-/// The sample's request with these changes and then those, as a request of a link.
-fn request_of(
+/// The file of the sample's request with these changes and then those.
+fn file_of<'x>(
     rt: &impl Abort,
     alloc: Global,
-    version: &str,
-    first: &[(&str, &str)],
-    then: &[(&str, &str)],
-) -> Vec<u8> {
+    first: &'x [(&'x str, &'x str)],
+    then: &'x [(&'x str, &'x str)],
+) -> String {
     let mut changes = Vec::new(alloc);
     changes.extend_from_slice(first).expect(rt, "room");
     changes.extend_from_slice(then).expect(rt, "room");
     let framed = request_with(rt, alloc, &changes);
     let (_, file) = framed.split_once("\n").unwrap_or(("", ""));
-    posted(rt, alloc, version, file.as_bytes())
+    format!(in alloc; "{file}").expect(rt, "room")
 }
 
-/// The poll of a payer.
+/// The poll of a payer, as a request of a link.
 fn poll_of(rt: &impl Abort, alloc: Global, version: &str, payer: Payer) -> Vec<u8> {
-    request_of(rt, alloc, version, &POLL, payer.poll)
+    let file = file_of(rt, alloc, &POLL, payer.poll);
+    posted(rt, alloc, version, file.as_bytes())
 }
 
 /// What a peer sends: its transfers, each with a TRNUID of its own and two polls after it. Its last poll ends the connection.
 fn sent_by(rt: &impl Abort, alloc: Global, payer: Payer, peer: u64) -> Vec<u8> {
     let poll = poll_of(rt, alloc, "1.1", payer);
+    let transfer = file_of(rt, alloc, &[TRANSFER], payer.transfer);
+    let (before, after) = transfer.split_once("<TRNUID>t1").unwrap_or(("", ""));
     let mut bytes = Vec::new(alloc);
     for number in 1..=TRANSFERS {
-        let uid = format!(in alloc; "<TRNUID>{}{peer}n{number}", payer.name).expect(rt, "a uid");
-        let changes = [
-            TRANSFER,
-            ("<TRNUID>t1", uid.as_str()),
-            ("<TRNAMT>10.00", payer.amount),
-        ];
-        let transfer = request_of(rt, alloc, "1.1", &changes, payer.transfer);
-        put(rt, &mut bytes, &transfer);
+        let file = format!(in alloc; "{before}<TRNUID>{}{peer}n{number}{after}", payer.name).expect(
+            rt, "room",
+        );
+        put(rt, &mut bytes, &posted(rt, alloc, "1.1", file.as_bytes()));
         put(rt, &mut bytes, &poll);
         if number != TRANSFERS {
             put(rt, &mut bytes, &poll);
