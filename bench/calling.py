@@ -31,9 +31,9 @@ def put_program(name, to):
 
 
 def lines_of(name):
-    """What the program of this name in bench/ prints. `rt try` builds it, unproved and with checks of memory."""
+    """What the program of this name in bench/ prints, with lines of `rt try`, which builds it unproved and with checks of memory."""
     with tempfile.TemporaryDirectory(prefix=name + "-") as to:
-        done = subprocess.run(["rt", "try", "--seconds", "3600", "--steps", "100000000"], cwd=put_program(name, to),
+        done = subprocess.run(["rt", "try", "--seconds", "3600", "--steps", "1000"], cwd=put_program(name, to),
                               stdin=subprocess.DEVNULL, stdout=subprocess.PIPE, text=True)
     if done.returncode != 0:
         sys.exit("rt try ended with the status %d" % done.returncode)

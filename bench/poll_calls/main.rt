@@ -24,10 +24,10 @@ use std::thread::{Threads, map_vec};
 use std::time::{Clock, Instant};
 
 /// Turns of each kind, of which the best counts.
-const TURNS: u32 = 5;
+const TURNS: u32 = 9;
 
 /// Polls of each thread in a turn.
-const POLLS: u32 = 10_000;
+const POLLS: u32 = 20_000;
 
 const THREADS: [u32; 3] = [1, 4, 16];
 
