@@ -152,5 +152,5 @@ fn a_full_register(rt: HostRuntime) {
     let mut register = loaded(&rt, alloc, &text);
     same(&rt, alloc, &mut register, &FILES_OF_A_FULL_ONE);
     let saved = register.save_text().expect(&rt, "a text");
-    assert!(rt; saved == text);
+    assert!(rt; saved.as_slice() == text.as_slice());
 }
