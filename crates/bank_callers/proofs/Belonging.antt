@@ -24,7 +24,7 @@ use Rattle.bank_model.specs.SetupForm.{IsWithinLimits}
 use Rattle.bank_model.specs.SetupLookups.{account_of}
 use Rattle.bank_model.specs.Ledger.{row_of}
 use Rattle.bank_model.specs.Models.{model_of, waiting_of}
-use Rattle.bank_model.specs.Deeds.{intra_of, recurring_of, letters_of, mail_object, entry_on, entries_after, if_pending, model_entries_on, done, code_of, added, deed_answer}
+use Rattle.bank_model.specs.Deeds.{intra_of, recurring_of, mail_about_of, mail_object, entry_on, entries_after, if_pending, model_entries_on, done, code_of, added, deed_answer}
 use Rattle.bank_model.specs.Due.{posts, spawns_on, spawns, occurrence_date}
 use Rattle.bank_model.specs.Rules.{opening_state, state_after, IsLegal}
 use Rattle.bank_model.proofs.Lists.{all_append}
@@ -47,7 +47,7 @@ recurring_below : (setup : Setup) (name : AcctName) (found : Option AcctId) → 
 recurring_below setup name None within is = let some = within.lines.accounts_low in omega arith
 recurring_below setup name (Some a) within is = let less = account_below setup name a is in omega arith
 
-letters_below : (setup : Setup) (name : AcctName) (found : Option AcctId) → IsWithinLimits setup → account_of setup name ≡ found → (letters_of found).0 < object_count setup
+letters_below : (setup : Setup) (name : AcctName) (found : Option AcctId) → IsWithinLimits setup → account_of setup name ≡ found → (mail_about_of found).0 < object_count setup
 letters_below setup name None within is = let some = within.lines.accounts_low in omega arith
 letters_below setup name (Some a) within is = let less = account_below setup name a is in omega arith
 

@@ -13,7 +13,7 @@ use Rattle.bank_model.specs.declared.entry.Entry.{Entry}
 use Rattle.bank_model.specs.declared.event.State.{State}
 use Rattle.bank_model.specs.declared.log.LogItem.{LogItem}
 use Rattle.bank_model.specs.declared.setup.Setup.{Setup}
-use Rattle.bank_model.specs.Deeds.{intra_of, recurring_of, letters_of, mail_object}
+use Rattle.bank_model.specs.Deeds.{intra_of, recurring_of, mail_about_of, mail_object}
 use Rattle.bank_model.specs.Log.{entries_in}
 use Rattle.bank_model.specs.Objects.{belongs_to, history_of, last_number_from, newest, numbered, object_named}
 use Rattle.bank_model.specs.SetupLookups.{account_of, is_owner, if_owned, own_account}
@@ -151,7 +151,7 @@ are_counted setup user (names.RecIntra account) object known is =
     let less = own_below setup user account of.0 of.1 in
     subst (λ (o : ObjectId). o.0 < object_count setup) of.2 (omega arith)
 are_counted setup user (names.BankMail account) object known is =
-    let of = of_account letters_of (own_account setup user account) object is in
+    let of = of_account mail_about_of (own_account setup user account) object is in
     let less = own_below setup user account of.0 of.1 in
     subst (λ (o : ObjectId). o.0 < object_count setup) of.2 (omega arith)
 are_counted setup user names.Mail object known is =

@@ -136,7 +136,7 @@ pub now_set : (id at : ℕ) (one new : Series) (series : List Series) → IsAt i
 now_set id at one new series is_there same other = named (eqb id other) refl
   where
     named : (b : Bool) → eqb id other ≡ b → series_found other (set series at new) ≡ cond b (Some new) (series_found other series)
-    named true e = subst (λ (n : ℕ). series_found n (set series at new) ≡ Some new) (eqb-true id other e) (find-set (is_named id) series at new is_there.occurrence is_there.within (eq-eqb new.row.id id same))
+    named true e = subst (λ (n : ℕ). series_found n (set series at new) ≡ Some new) (eqb-true id other e) (find-set (is_named id) series at new is_there.index is_there.within (eq-eqb new.row.id id same))
     named false e = find_past (is_named other) series at new one (ap (λ (o : Series). eqb o.row.id other) is_there.element ∙ ap (λ n. eqb n other) (found_id id one series is_there.found) ∙ e) (ap (λ n. eqb n other) same ∙ e)
 
 -- the one of that id is the new one

@@ -5,7 +5,7 @@ use Rattle.ofx_ports.specs.Known.{Grows}
 use Rattle.ofx_types.specs.declared.number.Moment.{Moment}
 use Rattle.bank_model.specs.DueRun.{run_length}
 use Rattle.bank_model.specs.declared.setup.Setup.{Setup}
-use Rattle.bank_callers.specs.Callers.{CallerView}
+use Rattle.bank_callers.specs.Callers.{CallerView, IsRightView}
 use Rattle.bank_connection.specs.Connection.{Converses}
 use Rattle.bank_due.specs.DueRuns.{RunsDue}
 use Rattle.bank_due.specs.declared.fault.DueFault.{DueFault}
@@ -29,10 +29,11 @@ abbrev pub IsDueEnd : Result ℕ DueFault → Type 0
 IsDueEnd (Ok count) = count < run_length
 IsDueEnd (Err fault) = Unit {0}
 
--- The clock is read for a due run, which this is for the caller, and comes to this end.
+-- The clock is read for a due run, which this is for the caller, and comes to this end. What the caller knows after it is right.
 pub record DoesDueAt (setup : Setup) (shown shown' : Option (List Moment)) (before after : CallerView) (at : Moment) (due : Result ℕ DueFault) : Type 0 where
   pub moment : Grows shown shown' (at ∷ [])
   pub runs : RunsDue setup at before after due
+  pub right : IsRightView setup after
   pub ends : IsDueEnd due
 
 -- The clock is read for the due run, and then the link is served, over the log that the caller has seen by then.

@@ -106,7 +106,9 @@ fn missed_due<R: Wait, N: BankName, K: Keeper, P: Printer, C: Clock, G: Gate>(
     ensures one { result ≤ 1 }
 {
     let at = clock.now();
-    match due_run(bank, rt, pass, at, gate) {
+    let run = due_run(bank, rt, pass, at, gate);
+    bank.known(pass);
+    match run {
         Err(DueFault::OutOfMemory) => 1,
         _ => 0,
     }

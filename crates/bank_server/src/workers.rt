@@ -50,7 +50,8 @@ struct Job<D: Drop, C: Drop> {
 /// Begins the bank and serves it: a worker for each doorway and clock, in a thread of its own where one can be made, as
 /// `serve_worker`. Ends when all of them have ended.
 ///
-/// After `OutOfMemory` some workers may not have run.
+/// Each pass that comes back is one of this bank's, and what it has seen of the log is legal. After `OutOfMemory` some workers may
+/// not have run.
 pub fn serve_all<
     N: BankName + Send + Sync,
     R: Threads + Wait + Sync,
@@ -74,7 +75,7 @@ pub fn serve_all<
     requires board { opened.board ≡ N.board }
     ensures count { IfOk result (λ all. length all.ends.items ≡ length workers.items) }
     ensures each { IfOk result (λ all. (i : ℕ) (worker : (D × C)) (worked : OneEnded D C) → slice_get workers.items i ≡ Some worker → slice_get all.ends.items i ≡ Some worked
-        → Works (faces L.left L.read_faults L.held L.write_faults) N.setup most
+        → IsPassOf N.setup N.opening N.board worked.pass × Works (faces L.left L.read_faults L.held L.write_faults) N.setup most
         (door_view (D.given worker.0) (D.back worker.0) (D.faults worker.0) (D.closings worker.0))
         (door_view (D.given worked.door) (D.back worked.door) (D.faults worked.door) (D.closings worked.door))
         (C.shown worker.1) (C.shown worked.clock) (record { opening = N.opening; seen = []; mine = []; polled = [] }) (caller_of N.opening worked.pass) worked.end) }
@@ -108,14 +109,14 @@ fn all_run<
     requires passes { All (λ job. IsPassOf N.setup N.opening N.board job.pass) jobs.items }
     ensures count { IfOk result (λ ends. length ends.items ≡ length jobs.items) }
     ensures each { IfOk result (λ ends. (i : ℕ) (job : OneJob D C) (worked : OneEnded D C) → slice_get jobs.items i ≡ Some job → slice_get ends.items i ≡ Some worked
-        → Works (faces L.left L.read_faults L.held L.write_faults) N.setup most
+        → IsPassOf N.setup N.opening N.board worked.pass × Works (faces L.left L.read_faults L.held L.write_faults) N.setup most
         (door_view (D.given job.door) (D.back job.door) (D.faults job.door) (D.closings job.door))
         (door_view (D.given worked.door) (D.back worked.door) (D.faults worked.door) (D.closings worked.door))
         (C.shown job.clock) (C.shown worked.clock) (caller_of N.opening job.pass) (caller_of N.opening worked.pass) worked.end) }
 {
     let run = |job: Job<D, C>| -> Worked<D, C>
         requires { IsPassOf N.setup N.opening N.board job.pass }
-        ensures { Works (faces L.left L.read_faults L.held L.write_faults) N.setup most
+        ensures { IsPassOf N.setup N.opening N.board result.pass × Works (faces L.left L.read_faults L.held L.write_faults) N.setup most
             (door_view (D.given job.door) (D.back job.door) (D.faults job.door) (D.closings job.door))
             (door_view (D.given result.door) (D.back result.door) (D.faults result.door) (D.closings result.door))
             (C.shown job.clock) (C.shown result.clock) (caller_of N.opening job.pass) (caller_of N.opening result.pass) result.end }
@@ -136,7 +137,8 @@ fn run_job<
     G: Gate,
 >(bank: &Bank<N, K, P>, rt: &R, alloc: Global, job: Job<D, C>, gate: &G, most: u32) -> Worked<D, C>
     requires { IsPassOf N.setup N.opening N.board job.pass }
-    ensures { Works (faces L.left L.read_faults L.held L.write_faults) N.setup most
+    ensures pass { IsPassOf N.setup N.opening N.board result.pass }
+    ensures works { Works (faces L.left L.read_faults L.held L.write_faults) N.setup most
         (door_view (D.given job.door) (D.back job.door) (D.faults job.door) (D.closings job.door))
         (door_view (D.given result.door) (D.back result.door) (D.faults result.door) (D.closings result.door))
         (C.shown job.clock) (C.shown result.clock) (caller_of N.opening job.pass) (caller_of N.opening result.pass) result.end }

@@ -4,7 +4,7 @@ ghost use Rattle.std.specs.Prelude.{◌≡◌, false, [], None, All, OnOk, OnErr
 ghost use Rattle.std.specs.Option.{IfSome, IsSomeAnd, option_map, option_copied};
 ghost use Rattle.ofx_types.specs.Calendar.{IsMoment};
 ghost use Rattle.ofx_ports.specs.Known.{Stays};
-ghost use Rattle.bank_model.specs.LegalLog.{IsWholeLog, ends};
+ghost use Rattle.bank_model.specs.LegalLog.{IsWholeLog, MayHappen, ends};
 ghost use Rattle.bank_model.specs.Log.{endings, entries_in};
 ghost use Rattle.bank_model.specs.Rules.{IsLegal, named};
 ghost use Rattle.bank_model.specs.SetupForm.{IsWithinLimits};
@@ -12,7 +12,7 @@ ghost use Rattle.bank_accounts.specs.HeldAccounts.{AreHeld, HaveSameNumbers};
 ghost use Rattle.bank_ledger.specs.Balanced.{AreBalanced};
 ghost use Rattle.bank_replay.specs.Opening.{RecordsGive};
 ghost use Rattle.bank_engine.specs.Kept.{AreKept};
-ghost use Rattle.bank_engine.specs.Truth.{IsUpTo};
+ghost use Rattle.bank_engine.specs.Truth.{IsTrue, IsUpTo};
 ghost use Rattle.bank_engine.specs.Calls.{Answers, FailsToCommit, FailsToSettle};
 ghost use Rattle.token_board.specs.Publishing.{Meets};
 ghost use Rattle.bank_shared.specs.Calls.{IsOfKeeper, IsSettled};
@@ -114,9 +114,13 @@ impl<N: BankName, K: Keeper, P: Printer> Journal<N, K, P> {
         ensures kept { IfSome N.first (λ first. IsSomeAnd self.now.records
             (AreKept N.setup N.opening first self.now.log self.now.landed self.now.pending)) }
         ensures counts { All (IsUpTo self.now.faults) (endings self.now.log) }
+        ensures all { IsTrue N.setup N.opening N.first self.now }
+        ensures may { IfSome self.now.pending (λ pending. MayHappen self.now.setup self.now.state pending.at pending.event) }
         ensures begins { BeginsAt N.setup N.opening N.board }
     {
         let _ = &self.writer;
+        // For the proof alone: its contract says that what is pending may happen.
+        let _pending = self.engine.pending();
     }
 
     /// The event whose append failed, until it is settled whether its record is stored. Takes no memory.

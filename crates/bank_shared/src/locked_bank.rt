@@ -109,6 +109,8 @@ impl<N: BankName, K: Keeper, P: Printer> LockedBank<N, K, P> {
         ensures refused { IfErr result (IsUncommitted user file.now at
             (Some (caller_of N.opening pass.old)) (Some (caller_of N.opening pass.new))) }
         ensures pass { IsPassOf N.setup N.opening N.board pass.new }
+        ensures seen { MeetsOrStays N.board self.old.log self.new.log pass.old pass.new }
+        ensures met { OnOk result (Meets N.board self.old.log self.new.log pass.old pass.new) }
     {
         tokens_are_the_banks();
         // For the proof alone: its contract says whose setup it is.
@@ -139,6 +141,8 @@ impl<N: BankName, K: Keeper, P: Printer> LockedBank<N, K, P> {
         ensures advanced { IfOk result (IsAdvanced N.setup at (caller_of N.opening pass.old) (caller_of N.opening pass.new)) }
         ensures refused { IfErr result (IsUnadvanced N.setup at (caller_of N.opening pass.old) (caller_of N.opening pass.new)) }
         ensures pass { IsPassOf N.setup N.opening N.board pass.new }
+        ensures seen { MeetsOrStays N.board self.old.log self.new.log pass.old pass.new }
+        ensures met { OnOk result (Meets N.board self.old.log self.new.log pass.old pass.new) }
     {
         tokens_are_the_banks();
         let settled = self.settle(board, pass);

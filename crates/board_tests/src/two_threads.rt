@@ -45,8 +45,8 @@ fn tokens_that_another_thread_publishes_were_the_newest_once(rt: HostRuntime) {
     let (mut scribe, (mut other, last, rises)) = thread::join(
         &rt,
         move || -> Scribe<'_>
-            requires { (scribe.last ≡ 0) × (scribe.board.now ≡ board.now) }
-            ensures { result.board.now ≡ board.now }
+            requires { scribe.last ≡ 0 }
+            ensures { result.board.now ≡ scribe.board.now }
         { publish_all(scribe) },
         move || -> (Pass, u64, bool)
             requires { other.table ≡ board.now.table }

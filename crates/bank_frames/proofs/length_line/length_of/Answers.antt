@@ -12,15 +12,15 @@ returns-then-not-may_be_length-clause-none c n small e =
 pub returns-in-None-clause-none : goal.returns-in-None-clause-none
 returns-in-None-clause-none c n small e = no_digits _ _ c.in-None.ensures (is_text c.args.digits.now n (omega (arith, small, c.requires)) e).all_digits
 
-pub returns-then-n-le-most-clause-some : goal.returns-then-n-le-most-clause-some
-returns-then-n-le-most-clause-some c =
+pub returns-then-n-most-clause-some : goal.returns-then-n-most-clause-some
+returns-then-n-most-clause-some c =
     let form = c.may_be_length.ensures.0 c.if-not-may_be_length.false in
     let read = cond_some _ _ _ (sym c.in-Some.ensures) in
-    let small : number_from 0 c.args.digits.now ≤ 99999999 = omega (arith, read.1, c.if-n-le-most.true, c.requires) in
-    (c.if-n-le-most.true, length_of_text c.args.digits.now form read.0 small ∙ ap decimal read.1)
+    let small : number_from 0 c.args.digits.now ≤ 99999999 = omega (arith, read.1, c.if-n-most.true, c.requires) in
+    (c.if-n-most.true, length_of_text c.args.digits.now form read.0 small ∙ ap decimal read.1)
 
-pub returns-else-n-le-most-clause-none : goal.returns-else-n-le-most-clause-none
-returns-else-n-le-most-clause-none c n small e =
+pub returns-else-n-most-clause-none : goal.returns-else-n-most-clause-none
+returns-else-n-most-clause-none c n small e =
     let text = is_text c.args.digits.now n (omega (arith, small, c.requires)) e in
     let read = cond_some _ _ _ (sym c.in-Some.ensures) in
     omega (arith, read.1, text.value)

@@ -36,9 +36,9 @@ meet-requires-clause-above g c =
 pub invariant_of-self : goal.invariant_of-self
 invariant_of-self g c = (
   true_held g.N.BankName.setup g.N.BankName.opening g.N.BankName.first c.self.inside.engine c.commit_at-committed.new.engine
-    (record { records = g.K.Keeper.records c.self.inside.keeper; landed = g.K.Keeper.landed c.self.inside.keeper; unsettled = g.K.Keeper.unsettled c.self.inside.keeper; faults = g.K.Keeper.faults c.self.inside.keeper })
-    (record { records = g.K.Keeper.records c.commit_at-committed.new.keeper; landed = g.K.Keeper.landed c.commit_at-committed.new.keeper; unsettled = g.K.Keeper.unsettled c.commit_at-committed.new.keeper; faults = g.K.Keeper.faults c.commit_at-committed.new.keeper })
-    c.self.inside.writer c.hear.new.self c.commit_at-committed.new.writer c.note.new.self
+      (record { records = g.K.Keeper.records c.self.inside.keeper; landed = g.K.Keeper.landed c.self.inside.keeper; unsettled = g.K.Keeper.unsettled c.self.inside.keeper; faults = g.K.Keeper.faults c.self.inside.keeper })
+      (record { records = g.K.Keeper.records c.commit_at-committed.new.keeper; landed = g.K.Keeper.landed c.commit_at-committed.new.keeper; unsettled = g.K.Keeper.unsettled c.commit_at-committed.new.keeper; faults = g.K.Keeper.faults c.commit_at-committed.new.keeper })
+      c.self.inside.writer c.hear.new.self c.commit_at-committed.new.writer c.note.new.self
       c.hear.ensures.same.0 c.note.ensures.kept (λ holds. true_committed (λ reply. reply.items) c.commit_at-committed.result g.N.BankName.setup g.N.BankName.opening g.N.BankName.first _ _ c.args.event.now c.args.at
       (ap (λ (v : JournalView). v.pending) c.self.view_is ∙ c.requires.settled) c.commit_at-committed.ensures.answers c.commit_at-committed.ensures.fails holds) c.self.invariant.0,
   record {

@@ -38,9 +38,9 @@ meet-requires-clause-above g c =
 pub invariant_of-self : goal.invariant_of-self
 invariant_of-self g c = (
   true_held g.N.BankName.setup g.N.BankName.opening g.N.BankName.first c.self.inside.engine c.settle_at-settled.new.engine
-    (record { records = g.K.Keeper.records c.self.inside.keeper; landed = g.K.Keeper.landed c.self.inside.keeper; unsettled = g.K.Keeper.unsettled c.self.inside.keeper; faults = g.K.Keeper.faults c.self.inside.keeper })
-    (record { records = g.K.Keeper.records c.settle_at-settled.new.keeper; landed = g.K.Keeper.landed c.settle_at-settled.new.keeper; unsettled = g.K.Keeper.unsettled c.settle_at-settled.new.keeper; faults = g.K.Keeper.faults c.settle_at-settled.new.keeper })
-    c.self.inside.writer c.hear.new.self c.settle_at-settled.new.writer c.note.new.self
+      (record { records = g.K.Keeper.records c.self.inside.keeper; landed = g.K.Keeper.landed c.self.inside.keeper; unsettled = g.K.Keeper.unsettled c.self.inside.keeper; faults = g.K.Keeper.faults c.self.inside.keeper })
+      (record { records = g.K.Keeper.records c.settle_at-settled.new.keeper; landed = g.K.Keeper.landed c.settle_at-settled.new.keeper; unsettled = g.K.Keeper.unsettled c.settle_at-settled.new.keeper; faults = g.K.Keeper.faults c.settle_at-settled.new.keeper })
+      c.self.inside.writer c.hear.new.self c.settle_at-settled.new.writer c.note.new.self
       c.hear.ensures.same.0 c.note.ensures.kept (λ holds. true_unsettled g.N.BankName.setup g.N.BankName.opening g.N.BankName.first _ _ c.in_err-_adopted.field-0.0 c.in_err-_adopted.ensures.fails holds) c.self.invariant.0,
   record {
     own = ap (λ (w : WriterView). w.table) c.note.ensures.kept ∙ (c.settle_at-settled.ensures.published.own ∙ ap (λ (b : BoardView). b.table) c.requires.board);
@@ -53,9 +53,9 @@ invariant_of-self g c = (
 pub invariant_of-self-2 : goal.invariant_of-self-2
 invariant_of-self-2 g c = (
   true_held g.N.BankName.setup g.N.BankName.opening g.N.BankName.first c.self.inside.engine c.settle_at-settled.new.engine
-    (record { records = g.K.Keeper.records c.self.inside.keeper; landed = g.K.Keeper.landed c.self.inside.keeper; unsettled = g.K.Keeper.unsettled c.self.inside.keeper; faults = g.K.Keeper.faults c.self.inside.keeper })
-    (record { records = g.K.Keeper.records c.settle_at-settled.new.keeper; landed = g.K.Keeper.landed c.settle_at-settled.new.keeper; unsettled = g.K.Keeper.unsettled c.settle_at-settled.new.keeper; faults = g.K.Keeper.faults c.settle_at-settled.new.keeper })
-    c.self.inside.writer c.hear.new.self c.settle_at-settled.new.writer c.note.new.self
+      (record { records = g.K.Keeper.records c.self.inside.keeper; landed = g.K.Keeper.landed c.self.inside.keeper; unsettled = g.K.Keeper.unsettled c.self.inside.keeper; faults = g.K.Keeper.faults c.self.inside.keeper })
+      (record { records = g.K.Keeper.records c.settle_at-settled.new.keeper; landed = g.K.Keeper.landed c.settle_at-settled.new.keeper; unsettled = g.K.Keeper.unsettled c.settle_at-settled.new.keeper; faults = g.K.Keeper.faults c.settle_at-settled.new.keeper })
+      c.self.inside.writer c.hear.new.self c.settle_at-settled.new.writer c.note.new.self
       c.hear.ensures.same.0 c.note.ensures.kept (λ holds. true_settled g.N.BankName.setup g.N.BankName.opening g.N.BankName.first _ _ c.in_ok-_adopted._adopted c.in_ok-_adopted.ensures.settled holds) c.self.invariant.0,
   record {
     own = ap (λ (w : WriterView). w.table) c.note.ensures.kept ∙ (c.settle_at-settled.ensures.published.own ∙ ap (λ (b : BoardView). b.table) c.requires.board);
@@ -75,12 +75,14 @@ returns-in_err-_adopted-clause-fails g c =
     c.args.self.now c.self.view_is c.hear.ensures.same.0 c.note.ensures.kept c.in_err-_adopted.ensures.fails)
 
 pub returns-clause-settled : goal.returns-clause-settled
-returns-clause-settled g c =
-    (c.in_ok-_adopted._adopted, carried (λ (old new : JournalView). Settles old new c.in_ok-_adopted._adopted) c.self.inside.engine c.settle_at-settled.new.engine
-    (record { records = g.K.Keeper.records c.self.inside.keeper; landed = g.K.Keeper.landed c.self.inside.keeper; unsettled = g.K.Keeper.unsettled c.self.inside.keeper; faults = g.K.Keeper.faults c.self.inside.keeper })
-    (record { records = g.K.Keeper.records c.settle_at-settled.new.keeper; landed = g.K.Keeper.landed c.settle_at-settled.new.keeper; unsettled = g.K.Keeper.unsettled c.settle_at-settled.new.keeper; faults = g.K.Keeper.faults c.settle_at-settled.new.keeper })
-    c.self.inside.writer c.hear.new.self c.settle_at-settled.new.writer c.note.new.self
-    c.args.self.now c.self.view_is c.hear.ensures.same.0 c.note.ensures.kept c.in_ok-_adopted.ensures.settled)
+returns-clause-settled g c = (
+  c.in_ok-_adopted._adopted,
+  carried (λ (old new : JournalView). Settles old new c.in_ok-_adopted._adopted) c.self.inside.engine c.settle_at-settled.new.engine
+      (record { records = g.K.Keeper.records c.self.inside.keeper; landed = g.K.Keeper.landed c.self.inside.keeper; unsettled = g.K.Keeper.unsettled c.self.inside.keeper; faults = g.K.Keeper.faults c.self.inside.keeper })
+      (record { records = g.K.Keeper.records c.settle_at-settled.new.keeper; landed = g.K.Keeper.landed c.settle_at-settled.new.keeper; unsettled = g.K.Keeper.unsettled c.settle_at-settled.new.keeper; faults = g.K.Keeper.faults c.settle_at-settled.new.keeper })
+      c.self.inside.writer c.hear.new.self c.settle_at-settled.new.writer c.note.new.self
+      c.args.self.now c.self.view_is c.hear.ensures.same.0 c.note.ensures.kept c.in_ok-_adopted.ensures.settled,
+)
 
 pub returns-in_err-_adopted-clause-pass : goal.returns-in_err-_adopted-clause-pass
 returns-in_err-_adopted-clause-pass g c =

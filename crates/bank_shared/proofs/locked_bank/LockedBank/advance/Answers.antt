@@ -60,3 +60,12 @@ returns-in_ok-_reply-in-Some-clause-pass g c =
     is_pass g.N.BankName.setup g.N.BankName.opening g.N.BankName.board c.args.self.now.log c.commit-committed.new.self.log c.args.pass.now c.commit-committed.new.pass c.requires.pass
     (subst (λ (v : JournalView). IsWholeLog g.N.BankName.setup g.N.BankName.opening v.log) c.self-in-Some.view_is c.log_holds-in-Some.ensures.legal)
     (inl (then_meets g.N.BankName.board c.args.self.now.log c.settle-settled.new.self.log c.commit-committed.new.self.log c.args.pass.now c.settle-settled.new.pass c.commit-committed.new.pass c.in_ok-settled.ensures.met c.commit-committed.ensures.pass))
+
+pub returns-in_err-_reply-in-Some-clause-seen : goal.returns-in_err-_reply-in-Some-clause-seen
+returns-in_err-_reply-in-Some-clause-seen g c = inl (then_meets g.N.BankName.board c.args.self.now.log c.settle-settled.new.self.log c.commit-committed.new.self.log c.args.pass.now c.settle-settled.new.pass c.commit-committed.new.pass c.in_ok-settled.ensures.met c.commit-committed.ensures.pass)
+
+pub returns-in_ok-_reply-in-Some-clause-seen : goal.returns-in_ok-_reply-in-Some-clause-seen
+returns-in_ok-_reply-in-Some-clause-seen g c = inl (then_meets g.N.BankName.board c.args.self.now.log c.settle-settled.new.self.log c.commit-committed.new.self.log c.args.pass.now c.settle-settled.new.pass c.commit-committed.new.pass c.in_ok-settled.ensures.met c.commit-committed.ensures.pass)
+
+pub returns-in_ok-_reply-in-Some-clause-met : goal.returns-in_ok-_reply-in-Some-clause-met
+returns-in_ok-_reply-in-Some-clause-met g c = (then_meets g.N.BankName.board c.args.self.now.log c.settle-settled.new.self.log c.commit-committed.new.self.log c.args.pass.now c.settle-settled.new.pass c.commit-committed.new.pass c.in_ok-settled.ensures.met c.commit-committed.ensures.pass)

@@ -4,7 +4,7 @@ use Rattle.bank_model.specs.declared.setup.Setup.{Setup}
 use Rattle.bank_model.specs.LegalLog.{IsWholeLog}
 use Rattle.bank_model.specs.declared.event.Event.TheVariants.{File}
 use Rattle.bank_engine.specs.Views.{JournalView}
-use Rattle.bank_shared.proofs.CallLemmas.{answers_next, fails_next}
+use Rattle.bank_shared.proofs.CallLemmas.{answers_next, fails_next, on_ok}
 use Rattle.bank_shared.proofs.Callers.{committed_if, uncommitted_if, unsettled}
 use Rattle.bank_shared.proofs.Meeting.{is_pass, then_meets}
 use Rattle.bank_shared.proofs.locked_bank.LockedBank.submit.Goals as goal
@@ -51,3 +51,11 @@ returns-clause-pass g c =
     is_pass g.N.BankName.setup g.N.BankName.opening g.N.BankName.board c.args.self.now.log c.answer-answered.new.self.log c.args.pass.now c.answer-answered.new.pass c.requires.pass
     (subst (λ (v : JournalView). IsWholeLog g.N.BankName.setup g.N.BankName.opening v.log) c.self-2.view_is c.log_holds-2.ensures.legal)
     (inl (then_meets g.N.BankName.board c.args.self.now.log c.settle-settled.new.self.log c.answer-answered.new.self.log c.args.pass.now c.settle-settled.new.pass c.answer-answered.new.pass c.in_ok-settled.ensures.met c.answer-answered.ensures.pass))
+
+pub returns-clause-seen : goal.returns-clause-seen
+returns-clause-seen g c = inl (then_meets g.N.BankName.board c.args.self.now.log c.settle-settled.new.self.log c.answer-answered.new.self.log c.args.pass.now c.settle-settled.new.pass c.answer-answered.new.pass c.in_ok-settled.ensures.met c.answer-answered.ensures.pass)
+
+pub returns-clause-met : goal.returns-clause-met
+returns-clause-met g c =
+    on_ok c.answer-answered.result
+    (then_meets g.N.BankName.board c.args.self.now.log c.settle-settled.new.self.log c.answer-answered.new.self.log c.args.pass.now c.settle-settled.new.pass c.answer-answered.new.pass c.in_ok-settled.ensures.met c.answer-answered.ensures.pass)
