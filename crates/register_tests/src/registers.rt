@@ -14,7 +14,7 @@ pub const SAVED: [u8; 89] = [
 ];
 
 /// The register of a text.
-fn loaded(rt: &impl Abort, alloc: Global, text: &[u8]) -> Register {
+pub fn loaded(rt: &impl Abort, alloc: Global, text: &[u8]) -> Register {
     Register::load_text(alloc, text).expect(rt, "a register")
 }
 
