@@ -50,7 +50,7 @@ pub trait Office {
         ensures answered { IfOk result (λ reply. IsCommitted user file.now at reply.items (knows self.old) (knows self.new)) }
         ensures refused { IfErr result (IsUncommitted user file.now at (knows self.old) (knows self.new)) };
 
-    /// Answers the newest tokens to a user's poll, at that moment.
+    /// Answers a user's poll, sent at that moment, with tokens that are no older than what the caller has seen.
     fn look(&mut self, user: UserId, file: &RequestFile, at: Moment) -> Result<Vec<u8>, OutOfMemory>
         requires ready { ready self.old }
         requires known { user.0 < length (setup self.old).users }

@@ -1,8 +1,9 @@
-//! A bank that many callers share: its journal, and all of its accounts behind one lock.
+//! A bank that many callers share: its journal and all of its accounts behind one lock, and beside it the board of tokens.
 //!
 //! The `Journal` has the book and the keeper of the records, and its contracts the log of all that its callers were answered. It
 //! commits an event with its record, and settles an append that failed before the next event is looked at. The `LockedBank` lends
-//! it the accounts that an event names. `Bank` puts the locked bank behind a lock: each of its calls is one of the locked bank's.
+//! it the accounts that an event names. `Bank` puts the locked bank behind a lock: `submit` and `advance` are calls of the locked
+//! bank, and `poll` loads tokens from the board without the lock.
 #![tactic(auto)]
 
 mod advance;
