@@ -26,7 +26,10 @@ def put_program(name, to):
     with open(os.path.join(to, "crates.txt"), "a", encoding="utf-8") as f:
         f.write("\n%s: %s\n" % (name, NEEDS))
     folder = os.path.join(to, "crates", name)
-    shutil.copytree(os.path.join(ROOT, "bench", name), os.path.join(folder, "src"))
+    os.makedirs(os.path.join(folder, "src"))
+    for source in os.listdir(os.path.join(ROOT, "bench", name)):
+        # The gate wants a crate for each .rt file, so these have one more ending.
+        shutil.copyfile(os.path.join(ROOT, "bench", name, source), os.path.join(folder, "src", source.removesuffix(".in")))
     return folder
 
 
