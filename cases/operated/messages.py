@@ -1,11 +1,12 @@
 """Where and why: the second line on the error stream."""
 import fcntl
 import os
+import socket
 import sqlite3
 from contextlib import closing
 
 from operated.case import AT, KINDS, case, request, wants
-from written.rights import heed_rights
+from written.rights import give_up_ports, heed_rights
 
 
 def insert(place, *numbers):
@@ -48,6 +49,19 @@ def setup_lines(place):
             wants(lines[0] == "setup line %d" % line, "told %r" % lines)
             wants(lines[1].startswith("setup: line %d: %s" % (line, told)), "told %r, wanted %r" % (lines, told))
             wants("hunter" not in "".join(lines), "the password is told: %r" % lines)
+    wants(place.files() == ["setup"], "files were made: %s" % place.files())
+
+
+@case
+def setup_without_its_end(place):
+    """a setup whose last line has no line feed"""
+    good = place.text("setup")
+    lines = good.splitlines()
+    for count in range(1, len(lines) + 1):
+        place.write("setup", "\n".join(lines[:count]))
+        for command in (["due", "setup", "bank.db"], ["check", "setup"]):
+            place.tells(3, ["setup line %d" % count,
+                            "setup: line %d: it is the last line, and has no end: put a line feed after it" % count], *command)
     wants(place.files() == ["setup"], "files were made: %s" % place.files())
 
 
@@ -112,6 +126,29 @@ def records_without_rights(place):
     os.chmod(place.path("folder"), 0o700)
     os.chmod(place.path("setup"), 0)
     place.tells(5, ["read failed", "setup: no rights to read it"], "due", "setup", "-", preexec_fn=heed_rights)
+
+
+@case
+def setup_of_another_user(place):
+    """records beside which the setup may not be read"""
+    place.answers("disk:bank.ofx")
+    os.chmod(place.path("bank.ofx.setup"), 0)
+    told = "no rights to read its setup, the file beside it that ends in .setup; it has to be the bank's user's"
+    for words in (["due"], ["check"], ["serve"]):
+        more = ["8080", "1", "1"] if words == ["serve"] else []
+        place.tells(8, ["keeper failed", "disk:bank.ofx: %s" % told], *words, "setup", "disk:bank.ofx", *more,
+                    preexec_fn=heed_rights)
+
+
+@case
+def ports(place):
+    """a port that another program has, and one without the rights to it"""
+    with socket.create_server(("127.0.0.1", 0)) as door:
+        port = door.getsockname()[1]
+        told = "port %d: another program has it; end that first, or take another port" % port
+        place.tells(5, ["read failed", told], "serve", "setup", "-", str(port), "1", "1")
+    told = "port 80: no rights to it; below 1024 they are the system's: take a greater one, with a proxy in front"
+    place.tells(5, ["read failed", told], "serve", "setup", "-", "80", "1", "1", preexec_fn=give_up_ports)
 
 
 @case

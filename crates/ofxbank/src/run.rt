@@ -9,7 +9,7 @@ use crate::keepers::{ON_DISK, Unopened};
 use crate::messages::{plain, report};
 use crate::serve::{Service, served};
 use crate::setup_file::SetupFile;
-use crate::why::{report_open_files, report_why};
+use crate::why::{report_open_files, report_port, report_why};
 use bank_arguments::Command;
 use bank_commands::command_told;
 use bank_opening::report_of_end;
@@ -52,17 +52,20 @@ fn run_bound<R: Threads + Wait + Sync>(
         return report(rt, plain(7));
     };
     let bound = bind_records(rt, files, &setup);
-    let end = match (command, &bound) {
+    let (end, port) = match (command, &bound) {
         (Command::Serve(plan), Ok(())) => {
             let setup = &setup;
             served(threads, rt, Service { plan, files, setup })
         }
-        (Command::Serve(_), Err(unbound)) => unserved(unbound),
-        (_, Ok(())) => answered(*rt, command, files, &setup),
-        (_, Err(_)) => run_over(*rt, command, &setup, &mut Unopened::new()),
+        (Command::Serve(_), Err(unbound)) => (unserved(unbound), None),
+        (_, Ok(())) => (answered(*rt, command, files, &setup), None),
+        (_, Err(_)) => (run_over(*rt, command, &setup, &mut Unopened::new()), None),
     };
     let status = report(rt, end);
-    report_why(rt, end, command, files, &setup, cause_of(bound));
+    match (command, port) {
+        (Command::Serve(plan), Some(fault)) => report_port(rt, plan.port, fault),
+        _ => report_why(rt, end, command, files, &setup, cause_of(bound)),
+    }
     match command {
         // A server has said it when it began to listen.
         Command::Serve(_) => {}

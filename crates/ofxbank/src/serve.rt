@@ -17,6 +17,7 @@ use record_files::on_disk;
 use serve_log::{AccessLog, Level, LoggedDoor, LoggedKeeper};
 use sqlite_keeper::SqliteKeeper;
 use std::hash::RandomState;
+use std::io::ErrorKind;
 use std::marker::Brand;
 use std::net::TcpListener;
 use std::sync::Wait;
@@ -41,20 +42,39 @@ pub struct Service<'a> {
     pub setup: &'a SetupFile,
 }
 
+/// Why a port can't be had.
+#[derive(Clone, Copy)]
+pub enum PortFault {
+    /// Another program has it.
+    Busy,
+    /// The rights to it are missing.
+    NoRights,
+    /// Another cause.
+    Other,
+}
+
+/// The end of a server, and why it couldn't have its port, where that ended it.
+pub type ServiceEnd = (Told, Option<PortFault>);
+
 /// The end of serving a bank over its records: those of a file, or in memory with `-`. The threads are those of `threads`.
 pub fn served<R: Threads + Wait + Sync>(
     threads: &R,
     rt: &HostRuntime,
     service: Service<'_>,
-) -> Told {
+) -> ServiceEnd {
     match service.files.records {
         Some("-") => served_over(threads, rt, service, MemKeeper::new(rt.alloc())),
         Some(path) => match path.strip_prefix(ON_DISK) {
             Some(file) => served_on_disk(threads, rt, service, file),
             None => served_over(threads, rt, service, SqliteKeeper::open(rt, path)),
         },
-        None => plain(2),
+        None => ended(2),
     }
+}
+
+/// The end of a server that had its port, or asked for none.
+fn ended(status: u8) -> ServiceEnd {
+    (plain(status), None)
 }
 
 /// The end of serving over the records in a file on a disk. Where it can't be opened, each call of the keeper fails.
@@ -63,7 +83,7 @@ fn served_on_disk<R: Threads + Wait + Sync>(
     rt: &HostRuntime,
     service: Service<'_>,
     path: &str,
-) -> Told {
+) -> ServiceEnd {
     match on_disk(rt, path) {
         Ok(keeper) => served_over(threads, rt, service, keeper),
         Err(_) => served_over(threads, rt, service, Unopened::new()),
@@ -76,15 +96,15 @@ fn served_over<R: Threads + Wait + Sync, K: Keeper + Send>(
     rt: &HostRuntime,
     service: Service<'_>,
     keeper: K,
-) -> Told
+) -> ServiceEnd
     requires { K.unsettled keeper ≡ false }
 {
     let Ok(keys) = RandomState::new(rt) else {
-        return plain(5);
+        return ended(5);
     };
     let Service { plan, files, setup } = service;
     let Ok(mut setup) = setup.source(rt.alloc()) else {
-        return plain(7);
+        return ended(7);
     };
     let count = keeper.len();
     let journal = AccessLog::new(*rt, log_level(rt));
@@ -92,16 +112,29 @@ fn served_over<R: Threads + Wait + Sync, K: Keeper + Send>(
     match open_shared(rt.alloc(), keys, &mut setup, logged, OfxPrinter) {
         Ok(opened) => {
             let Ok(room) = Vec::with_capacity(rt.alloc(), plan.workers as usize) else {
-                return plain(7);
+                return ended(7);
             };
-            let Ok(workers) = workers_at(rt, journal, plan, room) else {
-                return plain(5);
+            let workers = match workers_at(rt, journal, plan, room) {
+                Ok(workers) => workers,
+                Err(error) => return (plain(5), Some(port_fault(&error))),
             };
             report_listening(rt, plan.port, files.setup, files.records_word(), count);
             report_open_files(rt, files, false);
-            all_served::<Brand, _, _>(threads, rt, opened, workers, plan.most)
+            (
+                all_served::<Brand, _, _>(threads, rt, opened, workers, plan.most),
+                None,
+            )
         }
-        Err((reported, _keeper)) => reported,
+        Err((reported, _keeper)) => (reported, None),
+    }
+}
+
+/// Why a port can't be had, by the error of the system.
+fn port_fault(error: &io::Error) -> PortFault {
+    match error.kind() {
+        ErrorKind::AddrInUse => PortFault::Busy,
+        ErrorKind::PermissionDenied => PortFault::NoRights,
+        _ => PortFault::Other,
     }
 }
 

@@ -2,6 +2,7 @@
 
 use crate::files::Files;
 use crate::keepers::ON_DISK;
+use crate::serve::PortFault;
 use crate::setup_file::SetupFile;
 use bank_arguments::Command;
 use ofx_types::{Note, Told};
@@ -87,11 +88,26 @@ fn report_read(
         Command::Serve(plan) => {
             let port = plan.port;
             eprintln!(rt;
-                "port {port}: no more connections can be taken; another program may have it, rights may be missing, or too many files are open"
+                "port {port}: no more connections can be taken; too many files may be open"
             )
         }
         _ => rt.eprintln("standard input: it can't be read; it may be a folder, or closed"),
     }
+}
+
+/// Says why a port can't be had.
+pub fn report_port(rt: &HostRuntime, port: u16, fault: PortFault) {
+    let _ = match fault {
+        PortFault::Busy => eprintln!(rt;
+            "port {port}: another program has it; end that first, or take another port"
+        ),
+        PortFault::NoRights => eprintln!(rt;
+            "port {port}: no rights to it; below 1024 they are the system's: take a greater one, with a proxy in front"
+        ),
+        PortFault::Other => eprintln!(rt;
+            "port {port}: it can't be had; too many files may be open"
+        ),
+    };
 }
 
 /// Tells why the records failed.

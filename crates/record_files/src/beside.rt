@@ -13,7 +13,7 @@ use std::{fs, io};
 const MODE: u32 = 0o600;
 
 /// The most bytes of a setup.
-const MAX_BYTES: u64 = 262_144;
+pub const MAX_BYTES: u64 = 262_144;
 
 /// Whether the records at this path are bound to a setup, whose text without passwords is `lines`.
 pub fn find_beside(rt: &HostRuntime, path: &str, lines: &str) -> Result<Binding, Cause> {
@@ -22,8 +22,11 @@ pub fn find_beside(rt: &HostRuntime, path: &str, lines: &str) -> Result<Binding,
     };
     match text_of(rt, beside.as_str()) {
         Ok(began) => compared(rt.alloc(), began.as_str(), lines),
-        Err(error) if matches!(error.kind(), ErrorKind::NotFound) => Ok(Binding::Unbound),
-        Err(error) => Err(cause_of(error)),
+        Err(error) => match error.kind() {
+            ErrorKind::NotFound => Ok(Binding::Unbound),
+            ErrorKind::PermissionDenied => Err(Cause::NoRightsBeside),
+            _ => Err(cause_of(error)),
+        },
     }
 }
 

@@ -31,6 +31,8 @@ pub enum Cause {
     Journal,
     /// The rights are missing.
     NoRights,
+    /// The rights to read the setup beside it are missing.
+    NoRightsBeside,
     /// The disk is read-only.
     ReadOnly,
     /// Another program has it open.
@@ -66,6 +68,7 @@ impl Drop for Cause {
             Cause::Cut(_) | Cause::Gap(_) => {}
             Cause::NoFile | Cause::NoPath | Cause::NoFolder | Cause::Folder | Cause::NotPlain => {}
             Cause::SecondName | Cause::Journal | Cause::NoRights | Cause::ReadOnly => {}
+            Cause::NoRightsBeside => {}
             Cause::Held | Cause::NoDatabase | Cause::OtherDatabase | Cause::NoMark => {}
             Cause::Full | Cause::Failed | Cause::NoMemory => {}
         }
@@ -113,6 +116,9 @@ fn words_of(cause: &Cause) -> &'static str {
         Cause::SecondName => "the file has a second name; remove the hard link",
         Cause::Journal => "another program left a -journal beside it; open it with sqlite3 once",
         Cause::NoRights => "no rights to read and write the file, or to make one in its folder",
+        Cause::NoRightsBeside => {
+            "no rights to read its setup, the file beside it that ends in .setup; it has to be the bank's user's"
+        }
         Cause::ReadOnly => "the disk is read-only",
         Cause::Held => "another run or program has it open; end that first",
         Cause::NoDatabase => "it is no SQLite database, or a damaged one",

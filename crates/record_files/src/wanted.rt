@@ -1,8 +1,13 @@
 //! What a line of a setup has to be.
 
+use crate::beside::MAX_BYTES;
+
 /// What a line has to be that is at this number, from 1, and has no form there. It isn't shown, since it may have a
 /// password.
 pub fn wanted_in(setup: &[u8], number: u64) -> &'static str {
+    if has_no_end(setup, number) {
+        return "it is the last line, and has no end: put a line feed after it";
+    }
     match number {
         1 => "it has to be OFXBANK 1",
         2 => "it has to be BANK and the bank's number, a word of 1 to 32 bytes without &, < and >",
@@ -11,6 +16,15 @@ pub fn wanted_in(setup: &[u8], number: u64) -> &'static str {
         5 => "it has to be ENTRIES and a number from 1 to 9999999999",
         _ => wanted_of(line_at(setup, number)),
     }
+}
+
+/// Whether the line of this number, from 1, is the last one, and no LF ends it.
+fn has_no_end(setup: &[u8], number: u64) -> bool {
+    if setup.len() as u64 > MAX_BYTES || matches!(setup.last(), None | Some(b'\n')) {
+        return false;
+    }
+    let before = setup.iter().filter(|byte| **byte == b'\n').count() as u64;
+    number == before.saturating_add(1)
 }
 
 /// What a line of users and accounts has to be, by its first word. None is one that is missing.
